@@ -1,0 +1,191 @@
+//! The decoder.
+
+ghost use Rattle.std.specs.Prelude.{◌≡◌, ◌+◌, ◌-◌, ◌*◌, ◌%◌, ◌^◌, ◌≤◌, ◌<◌, OnOk};
+
+use crate::context::Context;
+use crate::entries::entry_of;
+use crate::learned::Learned;
+use crate::source::{CodeBytes, Heard, Pulled};
+
+/// The source failed, in this call or an earlier one.
+#[derive(Clone, Copy, PartialEq, Eq, Debug)]
+pub struct Stop;
+
+/// A decoder between two pixels.
+#[derive(Drop)]
+pub struct Decoder {
+    /// How far the code's value lies above the place, times 128.
+    code: u32,
+    /// The size of the place, times 128.
+    span: u32,
+    /// The bits that were pulled beyond the doublings.
+    bits: u32,
+    heard: Heard,
+    ghost large: { 0x40_0000 ≤ span },
+    ghost small: { span ≤ 0x80_0000 },
+    ghost whole: { span % 128 ≡ 0 },
+    ghost few: { bits ≤ 23 },
+    ghost aligned: { code % 2 ^ (23 - bits) ≡ 0 },
+    ghost room: { code + 2 ^ (23 - bits) ≤ span },
+}
+
+impl Decoder {
+    ghost use Rattle.std.specs.Prelude.{ℕ, List, [], ◌∷◌, ◌++◌};
+    ghost use Rattle.qm_core.specs.Place.{Place, State, start, renormalised, step};
+    ghost use Rattle.qm_core.specs.Registers.{Registers};
+    ghost use Rattle.qm_core.specs.Answers.{Pulls};
+    ghost use Rattle.qm_core.specs.Standing.{Stands, Fills, Next};
+    ghost use Rattle.qm_core.specs.declared.source.Pulled.{Pulled};
+
+    pub fn start() -> Decoder
+        ensures { Stands result start [] }
+    {
+        Decoder {
+            code: 0,
+            span: 0x80_0000,
+            bits: 0,
+            heard: Heard::More,
+        }
+    }
+
+    #[inline(always)]
+    pub fn next<S: CodeBytes>(
+        &mut self,
+        learned: &mut Learned,
+        cx: Context,
+        source: &mut S,
+    ) -> Result<bool, Stop>
+        requires { S.failed source.old + 1 < 2 ^ 64 }
+        ensures failed { OnOk result (S.failed source.new ≡ S.failed source.old) }
+        ensures next { (p : Place) (answers : List Pulled) → Stands self.old p answers →
+            Next (Pulls S.gives S.failed) source.old source.new
+            (record { place = p; learned = learned.old }) answers cx.number self.new learned.new result }
+    {
+        if self.bits < 16 {
+            self.fill(source)?;
+        }
+        Ok(self.decide(learned, cx))
+    }
+
+    /// Pulls until 16 bits are there, at most two bytes.
+    fn fill<S: CodeBytes>(&mut self, source: &mut S) -> Result<(), Stop>
+        requires few { self.old.bits < 16 }
+        requires count { S.failed source.old + 1 < 2 ^ 64 }
+        ensures bits { OnOk result (16 ≤ self.new.bits) }
+        ensures failed { OnOk result (S.failed source.new ≡ S.failed source.old) }
+        ensures fills { (p : Place) (answers : List Pulled) → Stands self.old p answers →
+            Fills (Pulls S.gives S.failed) source.old source.new p answers self.new result }
+    {
+        self.pull(source)?;
+        if self.bits < 16 {
+            self.pull(source)?;
+        }
+        Ok(())
+    }
+
+    /// Takes the next byte, or 0 after the end.
+    fn pull<S: CodeBytes>(&mut self, source: &mut S) -> Result<(), Stop>
+        requires few { self.old.bits < 16 }
+        requires count { S.failed source.old + 1 < 2 ^ 64 }
+        ensures bits { OnOk result (self.new.bits ≡ self.old.bits + 8) }
+        ensures failed { OnOk result (S.failed source.new ≡ S.failed source.old) }
+        ensures fills { (p : Place) (answers : List Pulled) → Stands self.old p answers →
+            Fills (Pulls S.gives S.failed) source.old source.new p answers self.new result }
+    {
+        match self.heard {
+            Heard::More => match source.pull() {
+                Pulled::Byte(byte) => {
+                    self.take(byte);
+                    Ok(())
+                }
+                Pulled::End => {
+                    self.heard = Heard::Ended;
+                    self.take(0);
+                    Ok(())
+                }
+                Pulled::Fault => {
+                    self.heard = Heard::Stopped;
+                    Err(Stop)
+                }
+            },
+            Heard::Ended => {
+                self.take(0);
+                Ok(())
+            }
+            Heard::Stopped => Err(Stop),
+        }
+    }
+
+    /// Puts a byte behind the bits that are there.
+    fn take(&mut self, byte: u8)
+        requires { self.old.bits < 16 }
+        ensures heard { self.new.heard ≡ self.old.heard }
+        ensures bits { self.new.bits ≡ self.old.bits + 8 }
+        ensures place { (p : Place) (b : List ℕ) → Registers self.old.code self.old.span self.old.bits p b →
+            Registers self.new.code self.new.span self.new.bits p (b ++ byte ∷ []) }
+    {
+        self.code += (byte as u32) << (15 - self.bits);
+        self.bits += 8;
+    }
+
+    /// The pixel, with at least 16 bits there.
+    #[inline(always)]
+    fn decide(&mut self, learned: &mut Learned, cx: Context) -> bool
+        requires { 16 ≤ self.old.bits }
+        ensures heard { self.new.heard ≡ self.old.heard }
+        ensures bits { self.new.bits ≤ self.old.bits }
+        ensures place { (p : Place) (b : List ℕ) → Registers self.old.code self.old.span self.old.bits p b →
+            Registers self.new.code self.new.span self.new.bits
+            (step (record { place = p; learned = learned.old }) cx.number result).place b }
+        ensures learned { (p : Place) → self.old.span ≡ 128 * p.size →
+            learned.new ≡ (step (record { place = p; learned = learned.old }) cx.number result).learned }
+    {
+        let cell = learned.cell(cx);
+        let entry = entry_of(cell);
+        let lower = self.span - entry.span;
+        let favoured = cell % 2 == 1;
+        if self.code < lower {
+            if lower >= 0x40_0000 {
+                self.span = lower;
+                return favoured;
+            }
+            self.narrow(self.code, lower);
+            if lower < entry.span {
+                learned.set(cx, entry.other);
+                !favoured
+            } else {
+                learned.set(cx, entry.favoured);
+                favoured
+            }
+        } else {
+            self.narrow(self.code - lower, entry.span);
+            if lower < entry.span {
+                learned.set(cx, entry.favoured);
+                favoured
+            } else {
+                learned.set(cx, entry.other);
+                !favoured
+            }
+        }
+    }
+
+    /// Goes to a part that is too small, doubled until it is large enough.
+    #[inline(always)]
+    fn narrow(&mut self, code: u32, span: u32)
+        requires bits { 16 ≤ self.old.bits }
+        requires large { 128 ≤ span }
+        requires small { span < 0x40_0000 }
+        requires whole { span % 128 ≡ 0 }
+        requires aligned { code % 2 ^ (23 - self.old.bits) ≡ 0 }
+        requires room { code + 2 ^ (23 - self.old.bits) ≤ span }
+        ensures heard { self.new.heard ≡ self.old.heard }
+        ensures bits { self.new.bits ≤ self.old.bits }
+        ensures place { (p : Place) (b : List ℕ) → Registers code span self.old.bits p b →
+            Registers self.new.code self.new.span self.new.bits (renormalised p) b }
+    {
+        let shift = span.leading_zeros() - 9;
+        self.code = code << shift;
+        self.span = span << shift;
+        self.bits -= shift;
+    }
+}

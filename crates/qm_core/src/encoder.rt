@@ -1,0 +1,363 @@
+//! The encoder.
+
+ghost use Rattle.std.specs.Prelude.{◌≡◌, ◌≢◌, ◌+◌, ◌-◌, ◌*◌, ◌%◌, ◌^◌, ◌≤◌, ◌<◌, List, ℕ, ◌++◌, None, IsTrue, false, true, Err, Ok, [], IsErr, OnOk, nat_lt, not, if◌then◌else◌};
+ghost use Rattle.qm_core.specs.Place.{Place, State, start, step, renormalised, same};
+ghost use Rattle.qm_core.specs.Code.{stuffed};
+ghost use Rattle.qm_core.specs.Coding.{run_bytes, Digits};
+ghost use Rattle.qm_core.specs.Writing.{Writes};
+
+use crate::batch::{Batch, Tail};
+use crate::context::Context;
+use crate::entries::{Entry, entry_of};
+use crate::learned::Learned;
+use crate::sink::{CodeSink, SinkFault};
+
+/// The sink failed in this call, or the encoder failed in an earlier one.
+#[derive(Clone, Copy, PartialEq, Eq, Debug)]
+pub enum CoderFault {
+    Write = 1,
+    Failed = 2,
+}
+
+/// The most events of one encoder.
+pub const MAX_EVENTS: u64 = 0x100_0000_0000_0000;
+
+/// An encoder between two pixels.
+#[derive(Drop)]
+pub struct Encoder {
+    /// The place's low end, less the bytes before, times 128.
+    low: u64,
+    /// The size of the place, times 128.
+    span: u32,
+    /// The bits of `low`, the last seven aside.
+    bits: u32,
+    /// The bytes before, as far as they are not handed on.
+    tail: Tail,
+    events: u64,
+    failed: bool,
+    ghost large: { 0x40_0000 ≤ span },
+    ghost small: { span ≤ 0x80_0000 },
+    ghost whole: { span % 128 ≡ 0 },
+    ghost least: { 16 ≤ bits },
+    ghost most: { bits ≤ 23 },
+    ghost room: { low + span ≤ 2 ^ (bits + 8) },
+    ghost fixed: { tail.held ≡ None → low + span ≤ 2 ^ (bits + 7) },
+    ghost count: { tail.zeros + tail.ones ≤ 2 * events },
+    ghost few: { events ≤ 2 ^ 56 },
+}
+
+/// The registers after doublings.
+#[derive(Drop)]
+struct Doubled {
+    low: u64,
+    span: u32,
+    bits: u32,
+}
+
+/// Doubles until the size is large enough.
+fn raise(low: u64, span: u32, bits: u32) -> Doubled
+    requires large { 128 ≤ span }
+    requires small { span < 0x40_0000 }
+    requires whole { span % 128 ≡ 0 }
+    requires bits { bits ≤ 23 }
+    requires room { low + span ≤ 2 ^ (bits + 8) }
+    ensures large { 0x40_0000 ≤ result.span }
+    ensures small { result.span ≤ 0x80_0000 }
+    ensures whole { result.span % 128 ≡ 0 }
+    ensures more { bits ≤ result.bits }
+    ensures most { result.bits ≤ bits + 15 }
+    ensures room { result.low + result.span ≤ 2 ^ (result.bits + 8) }
+    ensures fixed { low + span ≤ 2 ^ (bits + 7) → result.low + result.span ≤ 2 ^ (result.bits + 7) }
+    ensures digits { (p : Place) (front : List ℕ) → Digits low span bits p front →
+        Digits result.low result.span result.bits (renormalised p) front }
+{
+    let shift = span.leading_zeros() - 9;
+    Doubled {
+        low: low << shift,
+        span: span << shift,
+        bits: bits + shift,
+    }
+}
+
+/// What is left of `low` when its highest byte has gone to the tail, and what is then fixed.
+#[derive(Drop)]
+struct Out {
+    batch: Batch,
+    low: u64,
+}
+
+/// Moves the highest byte of `low` to the tail.
+fn byte_out(tail: &mut Tail, low: u64, span: u32, bits: u32) -> Out
+    requires least { 24 ≤ bits }
+    requires most { bits ≤ 38 }
+    requires small { span ≤ 0x80_0000 }
+    requires some { 1 ≤ span }
+    requires room { low + span ≤ 2 ^ (bits + 8) }
+    requires fixed { tail.old.held ≡ None → low + span ≤ 2 ^ (bits + 7) }
+    requires count { tail.old.zeros + tail.old.ones + 2 < 2 ^ 64 }
+    ensures room { result.low + span ≤ 2 ^ bits }
+    ensures left { result.low < 2 ^ (bits - 1) }
+    ensures fixed { tail.new.held ≡ None → result.low + span ≤ 2 ^ (bits - 1) }
+    ensures count { tail.new.zeros + tail.new.ones ≤ tail.old.zeros + tail.old.ones + 1 }
+    ensures digits { (p : Place) (front : List ℕ) → Digits low span bits p (front ++ run_bytes tail.old.zeros tail.old.held tail.old.ones) →
+        Digits result.low span (bits - 8) p ((front ++ run_bytes result.batch.zeros result.batch.byte result.batch.ones)
+        ++ run_bytes tail.new.zeros tail.new.held tail.new.ones) }
+{
+    let byte = low >> (bits - 1);
+    let batch = tail.put(byte as u16);
+    Out {
+        batch,
+        low: low - (byte << (bits - 1)),
+    }
+}
+
+/// Two batches, and what is then left.
+#[derive(Drop)]
+struct Shifted {
+    first: Batch,
+    second: Batch,
+    low: u64,
+    bits: u32,
+}
+
+/// Moves the bytes above the last 16 bits to the tail.
+fn bytes_out(tail: &mut Tail, low: u64, span: u32, bits: u32) -> Shifted
+    requires least { 24 ≤ bits }
+    requires most { bits ≤ 38 }
+    requires small { span ≤ 0x80_0000 }
+    requires some { 1 ≤ span }
+    requires room { low + span ≤ 2 ^ (bits + 8) }
+    requires fixed { tail.old.held ≡ None → low + span ≤ 2 ^ (bits + 7) }
+    requires count { tail.old.zeros + tail.old.ones + 4 < 2 ^ 64 }
+    ensures least { 16 ≤ result.bits }
+    ensures most { result.bits ≤ 23 }
+    ensures room { result.low + span ≤ 2 ^ (result.bits + 8) }
+    ensures fixed { tail.new.held ≡ None → result.low + span ≤ 2 ^ (result.bits + 7) }
+    ensures count { tail.new.zeros + tail.new.ones ≤ tail.old.zeros + tail.old.ones + 2 }
+    ensures digits { (p : Place) (front : List ℕ) → Digits low span bits p (front ++ run_bytes tail.old.zeros tail.old.held tail.old.ones) →
+        Digits result.low span result.bits p (((front
+        ++ run_bytes result.first.zeros result.first.byte result.first.ones)
+        ++ run_bytes result.second.zeros result.second.byte result.second.ones)
+        ++ run_bytes tail.new.zeros tail.new.held tail.new.ones) }
+{
+    let first = byte_out(tail, low, span, bits);
+    if bits < 32 {
+        let second = Batch {
+            zeros: 0,
+            byte: None,
+            ones: 0,
+        };
+        return Shifted {
+            first: first.batch,
+            second,
+            low: first.low,
+            bits: bits - 8,
+        };
+    }
+    let second = byte_out(tail, first.low, span, bits - 8);
+    Shifted {
+        first: first.batch,
+        second: second.batch,
+        low: second.low,
+        bits: bits - 16,
+    }
+}
+
+/// Writes two batches.
+fn write_both<W: CodeSink>(first: Batch, second: Batch, out: &mut W) -> Result<(), CoderFault>
+    requires { W.failed out.old + 1 < 2 ^ 64 }
+    ensures writes { Writes W.took W.refused W.failed out.old
+        (stuffed (run_bytes first.zeros first.byte first.ones ++ run_bytes second.zeros second.byte second.ones))
+        out.new result }
+    ensures fault { IsErr result → result ≡ Err CoderFault.Write }
+{
+    match first.write(out) {
+        Ok(()) => match second.write(out) {
+            Ok(()) => Ok(()),
+            Err(SinkFault) => Err(CoderFault::Write),
+        },
+        Err(SinkFault) => Err(CoderFault::Write),
+    }
+}
+
+/// Whether two pixels are the same.
+#[inline(always)]
+fn is_same(a: bool, b: bool) -> bool
+    ensures { result ≡ same a b }
+{
+    if a { b } else { !b }
+}
+
+/// Whether a pixel takes the lower part.
+#[inline(always)]
+fn is_lower(is_favoured: bool, lower: u32, upper: u32) -> bool
+    ensures { result ≡ (if nat_lt lower upper then not is_favoured else is_favoured) }
+{
+    if lower < upper {
+        !is_favoured
+    } else {
+        is_favoured
+    }
+}
+
+/// The estimate after a pixel whose part is too small.
+#[inline(always)]
+fn next_cell(is_favoured: bool, entry: Entry) -> u8
+    ensures { result ≡ (if is_favoured then entry.favoured else entry.other) }
+{
+    if is_favoured {
+        entry.favoured
+    } else {
+        entry.other
+    }
+}
+
+impl Encoder {
+    ghost use Rattle.qm_core.specs.Encoding.{CodesAt, Codes, Goes, Put, Finish};
+
+    pub fn start() -> Encoder
+        ensures codes { Codes result start [] }
+        ensures events { result.events ≡ 0 }
+        ensures failed { result.failed ≡ false }
+    {
+        Encoder {
+            low: 0,
+            span: 0x80_0000,
+            bits: 16,
+            tail: Tail {
+                zeros: 0,
+                held: None,
+                ones: 0,
+            },
+            events: 0,
+            failed: false,
+        }
+    }
+
+    pub fn events(&self) -> u64
+        ensures { result ≡ self.now.events }
+    {
+        self.events
+    }
+
+    #[inline(always)]
+    pub fn put<W: CodeSink>(
+        &mut self,
+        learned: &mut Learned,
+        cx: Context,
+        pixel: bool,
+        out: &mut W,
+    ) -> Result<(), CoderFault>
+        requires events { self.old.events < 2 ^ 56 }
+        requires count { W.failed out.old + 1 < 2 ^ 64 }
+        ensures failed { IsTrue self.old.failed → (result ≡ Err CoderFault.Failed) × (out.new ≡ out.old) × (self.new.failed ≡ true) }
+        ensures events { self.old.failed ≡ false → self.new.events ≡ self.old.events + 1 }
+        ensures fault { self.old.failed ≡ false → IsErr result → (result ≡ Err CoderFault.Write) × (self.new.failed ≡ true) }
+        ensures ok { self.old.failed ≡ false → result ≡ Ok tt → self.new.failed ≡ false }
+        ensures same { OnOk result (W.failed out.new ≡ W.failed out.old) }
+        ensures put { (p : Place) (pushed : List ℕ) → self.old.failed ≡ false → Codes self.old p pushed →
+            Put W.took W.refused W.failed out.old out.new (record { place = p; learned = learned.old }) pushed
+            cx.number pixel self.new learned.new result }
+    {
+        if self.failed {
+            return Err(CoderFault::Failed);
+        }
+        self.events += 1;
+        let cell = learned.cell(cx);
+        let entry = entry_of(cell);
+        let lower = self.span - entry.span;
+        let is_favoured = is_same(pixel, cell % 2 == 1);
+        let is_lower = is_lower(is_favoured, lower, entry.span);
+        let low = self.low;
+        if is_lower {
+            if lower >= 0x40_0000 {
+                self.span = lower;
+                return Ok(());
+            }
+            learned.set(cx, next_cell(is_favoured, entry));
+            return self.go(low, lower, out);
+        }
+        learned.set(cx, next_cell(is_favoured, entry));
+        self.go(low + lower as u64, entry.span, out)
+    }
+
+    /// Goes to a part that is too small, doubled until it is large enough.
+    fn go<W: CodeSink>(&mut self, low: u64, span: u32, out: &mut W) -> Result<(), CoderFault>
+        requires large { 128 ≤ span }
+        requires small { span < 0x40_0000 }
+        requires whole { span % 128 ≡ 0 }
+        requires room { low + span ≤ 2 ^ (self.old.bits + 8) }
+        requires fixed { self.old.tail.held ≡ None → low + span ≤ 2 ^ (self.old.bits + 7) }
+        requires count { self.old.tail.zeros + self.old.tail.ones + 2 ≤ 2 * self.old.events }
+        requires failed { self.old.failed ≡ false }
+        requires failures { W.failed out.old + 1 < 2 ^ 64 }
+        ensures events { self.new.events ≡ self.old.events }
+        ensures fault { IsErr result → (result ≡ Err CoderFault.Write) × (self.new.failed ≡ true) }
+        ensures ok { result ≡ Ok tt → self.new.failed ≡ false }
+        ensures same { OnOk result (W.failed out.new ≡ W.failed out.old) }
+        ensures goes { (p : Place) (pushed : List ℕ) → CodesAt low span self.old.bits self.old.tail.zeros self.old.tail.held self.old.tail.ones p pushed →
+            Goes W.took W.refused W.failed out.old out.new (renormalised p) pushed self.new result }
+    {
+        let to = raise(low, span, self.bits);
+        self.span = to.span;
+        if to.bits < 24 {
+            self.low = to.low;
+            self.bits = to.bits;
+            return Ok(());
+        }
+        let shifted = bytes_out(&mut self.tail, to.low, to.span, to.bits);
+        self.low = shifted.low;
+        self.bits = shifted.bits;
+        let written = write_both(shifted.first, shifted.second, out);
+        if written.is_err() {
+            self.failed = true;
+        }
+        written
+    }
+
+    /// Ends the code with the chosen number of the place.
+    pub fn finish<W: CodeSink>(self, out: &mut W) -> Result<(), CoderFault>
+        requires { W.failed out.old + 1 < 2 ^ 64 }
+        ensures failed { IsTrue self.failed → (result ≡ Err CoderFault.Failed) × (out.new ≡ out.old) }
+        ensures fault { self.failed ≡ false → IsErr result → result ≡ Err CoderFault.Write }
+        ensures code { (p : Place) (pushed : List ℕ) → self.failed ≡ false → Codes self p pushed →
+            Finish W.took W.refused W.failed out.old out.new p pushed result }
+    {
+        let Encoder {
+            low,
+            span,
+            bits,
+            mut tail,
+            failed,
+            ..
+        } = self;
+        if failed {
+            return Err(CoderFault::Failed);
+        }
+        let value = chosen(low, span) << (24 - bits);
+        let first = byte_out(&mut tail, value, 128, 24);
+        let second = byte_out(&mut tail, first.low << 8, 128, 24);
+        let third = byte_out(&mut tail, second.low << 8, 128, 24);
+        let rest = tail.settle();
+        write_both(first.batch, second.batch, out)?;
+        write_both(third.batch, rest, out)
+    }
+}
+
+/// The number from `low` up to, not including, `low + span` that the greatest power of two divides.
+fn chosen(low: u64, span: u32) -> u64
+    requires some { 1 ≤ span }
+    requires room { low + span ≤ 2 ^ 40 }
+    ensures from { low ≤ result }
+    ensures below { result < low + span }
+    ensures most_even { (t w : ℕ) → low ≤ w * 2 ^ t → w * 2 ^ t < low + span → (u : ℕ) × (result ≡ u * 2 ^ t) }
+{
+    let top = low + (span as u64 - 1);
+    for cleared in (0..41u32).rev() {
+        let value = (top >> cleared) << cleared;
+        if value >= low {
+            return value;
+        }
+    }
+    top
+}
