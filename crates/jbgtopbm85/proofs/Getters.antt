@@ -1,0 +1,43 @@
+-- What the typed getters of the matches read, as functions of the text.
+use Rattle.std.proofs.Common.{◌≡◌, ◌&&◌, ◌^◌, ℕ, Bool, List, [], ◌∷◌, Option, Some, None, true, false, length, refl, ap, sym, codes, option_and_then, option_map, string_bytes, ◌∙◌}
+use Rattle.std.specs.Prelude.{Result, Ok, Err, nat_lt}
+use Rattle.std.proofs.lemmas.Bool.{ltb-true, lt-ltb}
+use Rattle.std.proofs.lemmas.Slice.Eq.{bytes_eq-Decides}
+use Rattle.std.specs.Option.{option_map_or, unwrap_or}
+use Rattle.std.specs.List.{list_all}
+use Rattle.std.specs.Str.{bytes_eq}
+use Rattle.std.specs.Char.{digit_value}
+use Rattle.std.specs.Str.Parse.{AllDigits, ParsesBool, ParsesUnsigned, digits_value, true_text, without_leading_plus}
+use Rattle.clap.specs.Words.{ReadsOne, Text, first_value, one_text, rows_of}
+use Rattle.clap.proofs.WalkLemmas.{both, first_value-rows, one_text-rows}
+use Rattle.clap.specs.declared.parser.matches.Found.{Found}
+use Rattle.jbgtopbm85.specs.declared.line.Job.{Job}
+use Rattle.jbgtopbm85.specs.Line.{IsJobOf}
+
+-- `get_one::<bool>`, and false where that is `None`
+pub flag_read : {E : Type 0} (G : Text → Result Bool E → Type 0) → ((t : Text) (x : Result Bool E) → G t x → ParsesBool t x)
+    → (o : Option Text) (r : Option Bool) → (o ≡ None → r ≡ None) → ((t : Text) → o ≡ Some t → ReadsOne G t r)
+    → unwrap_or r false ≡ option_map_or (λ t. bytes_eq t (codes "true")) o false
+flag_read G only None r none value = rw (none refl) refl
+flag_read G only (Some t) (Some true) none value =
+    let is : t ≡ true_text = only t (Ok true) (value t refl) in
+    rw is refl
+flag_read G only (Some t) (Some false) none value = rw (only t (Ok false) (value t refl)) refl
+flag_read G only (Some t) None none value = go (bytes_eq t (codes "true")) refl
+  where
+    go : (b : Bool) → bytes_eq t (codes "true") ≡ b → false ≡ bytes_eq t (codes "true")
+    go false e = sym e
+    go true e =
+        let got = value t refl in
+        absurd ((only t (Err got.0) got.1).0 ((bytes_eq-Decides t (codes "true")).0 e))
+
+-- the getters give the job of the matches
+pub job_of : (f : Found) (job : Job)
+    → job.info ≡ option_map_or (λ t. bytes_eq t (codes "true")) (one_text f (codes "info")) false
+    → option_map string_bytes job.input ≡ first_value f (codes "input")
+    → option_map string_bytes job.output ≡ first_value f (codes "output") → IsJobOf (rows_of f) job
+job_of f job info input output = record {
+  info = info ∙ ap (λ (o : Option Text). option_map_or (λ t. bytes_eq t (codes "true")) o false) (one_text-rows f (codes "info"));
+  input = input ∙ first_value-rows f (codes "input");
+  output = output ∙ first_value-rows f (codes "output");
+}

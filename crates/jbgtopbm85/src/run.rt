@@ -1,0 +1,68 @@
+//! Doing a job over lent devices.
+
+ghost use Rattle.std.specs.Prelude.{◌≡◌, ◌≤◌, ◌<◌, ◌+◌, ◌-◌, ◌^◌, OnErr, IsErr};
+ghost use Rattle.std.specs.Io.KnownBytes.{Keeps};
+ghost use Rattle.std.specs.Prelude.{Result, Option, List, ℕ};
+ghost use Rattle.t85_core.specs.declared.fault.Fault.{Fault};
+ghost use Rattle.jbgtopbm85.specs.Run.{Does, ReadsHeader, status};
+
+use crate::line::Job;
+use crate::message::Message;
+use pbm_core::{Input, Output, write_bytes};
+use std::alloc::Global;
+use std::fmt::Write;
+use t85_core::{Fault, Header, info};
+
+/// Does the job, tells a fault to `messages`, and gives the exit status: 0, or 1 after a fault.
+pub fn run<R: Input, W: Output, M: Output>(
+    _alloc: Global,
+    job: &Job,
+    input: &mut R,
+    output: &mut W,
+    messages: &mut M,
+) -> u8
+    requires input { R.failures input.old < 2 ^ 64 - 1 }
+    requires output { W.failures output.old < 2 ^ 64 - 1 }
+    requires messages { M.failures messages.old < 2 ^ 64 - 1 }
+
+    // The engine's outcome is passed on.
+    ensures outcome { (outcome : Result (Unit {0}) Fault) × (result ≡ status outcome) × Does job.now.info
+        (R.remaining input.old) (R.remaining input.new) (R.failures input.old) (R.failures input.new)
+        (W.contents output.old) (W.contents output.new) (W.failures output.old) (W.failures output.new) (W.flushed output.new) outcome }
+
+    // A message is tried once, and only after a fault.
+    ensures quiet { result ≡ 0 → Keeps (M.contents messages.old) (M.contents messages.new) × (M.failures messages.new ≡ M.failures messages.old) }
+    ensures once { M.failures messages.new ≤ M.failures messages.old + 1 }
+{
+    let outcome = if job.info {
+        info(input, output)
+    } else {
+        decode(input)
+    };
+    match outcome {
+        Ok(()) => 0,
+        Err(fault) => {
+            complain(fault, messages);
+            1
+        }
+    }
+}
+
+/// Reads the header; what follows it is not decoded yet.
+fn decode<R: Input>(input: &mut R) -> Result<(), Fault>
+    requires { R.failures input.old < 2 ^ 64 - 1 }
+    ensures { (out : Option (List ℕ)) (writes : ℕ) → ReadsHeader (R.remaining input.old) (R.remaining input.new) (R.failures input.old) (R.failures input.new) out out writes writes result }
+{
+    Header::read(input)?;
+    Err(Fault::NotYet)
+}
+
+/// Writes the line about a fault, in one write where the output takes it.
+fn complain<M: Output>(fault: Fault, messages: &mut M)
+    requires { M.failures messages.old < 2 ^ 64 - 1 }
+    ensures { M.failures messages.new ≤ M.failures messages.old + 1 }
+{
+    let mut message = Message::new();
+    let _ = writeln!(message, "jbgtopbm85: {fault}");
+    let _ = write_bytes(messages, message.as_bytes());
+}

@@ -1,0 +1,341 @@
+//! Command lines and streams through `job` and `run`, with each device failing in turn.
+
+use crate::line::{Job, LineFault};
+use crate::run::run;
+use crate::words::job;
+use pbm_core::trial::{Drip, Pieces};
+use std::alloc::{AllocError, Global};
+use std::test::Fail;
+use t85_core::Fault;
+
+/// How the devices of a run behave.
+#[derive(Clone, Copy)]
+struct Devices {
+    /// The most bytes that a read or a write moves.
+    most: usize,
+    failing_read: Option<u64>,
+    failing_write: Option<u64>,
+    flush_fails: bool,
+}
+
+/// What a run left.
+#[derive(Drop)]
+struct Ran {
+    status: u8,
+    output: Vec<u8>,
+    messages: Vec<u8>,
+}
+
+const SMOOTH: Devices = Devices {
+    most: 4096,
+    failing_read: None,
+    failing_write: None,
+    flush_fails: false,
+};
+
+fn bytes_of(alloc: Global, hex: &str) -> Result<Vec<u8>, AllocError> {
+    let mut bytes = Vec::new(alloc);
+    let mut high: Option<u8> = None;
+    for c in hex.bytes() {
+        let digit = match c {
+            b'0'..=b'9' => c - b'0',
+            b'A'..=b'F' => c - b'A' + 10,
+            _ => continue,
+        };
+        match high {
+            None => high = Some(digit),
+            Some(h) => {
+                bytes.push((h & 15) * 16 + digit)?;
+                high = None;
+            }
+        }
+    }
+    Ok(bytes)
+}
+
+fn run_on(alloc: Global, job: &Job, hex: &str, devices: Devices) -> Result<Ran, AllocError> {
+    let bytes = bytes_of(alloc, hex)?;
+    let most = devices.most.max(1);
+    let mut input = Pieces::new(&bytes, most, devices.failing_read);
+    let mut held = [0; 128];
+    let mut output = Drip::new(&mut held, most, devices.failing_write, devices.flush_fails);
+    let mut told = [0; 128];
+    let mut messages = Drip::new(&mut told, 128, None, false);
+    let status = run(alloc, job, &mut input, &mut output, &mut messages);
+    Ok(Ran {
+        status,
+        output: output.written().to_vec(alloc)?,
+        messages: messages.written().to_vec(alloc)?,
+    })
+}
+
+fn info_job(alloc: Global) -> Result<Job, Fail> {
+    match job(alloc, ["jbgtopbm85", "--info"].as_slice()) {
+        Ok(job) => Ok(job),
+        Err(_) => Err(Fail::from("the line was refused")),
+    }
+}
+
+/// Two stripes of one row, one black pixel wide.
+const TWO_STRIPES: &str = "00000100 00000001 00000002 00000001 00 0000 08 E0 FF02 E0 FF02";
+
+/// Streams, and the line or the text of the fault.
+const STREAMS: [(&str, Result<&str, &str>); 17] = [
+    (TWO_STRIPES, Ok("1 2 1 0 8 2 2 0 0\n")),
+    (
+        "00000100 00000008 00000002 00000001 03 0000 00 F0 FF02 FF06 00000000 0300 F8 FF02",
+        Ok("8 2 1 3 0 2 2 1 0\n"),
+    ),
+    (
+        "00000100 00000008 00000001 00000080 00 0000 08 FF07 00000002 6869 FF02",
+        Ok("8 1 128 0 8 1 1 0 1\n"),
+    ),
+    (
+        "00000100 00000008 00000003 00000080 08 0003 1C FF02",
+        Ok("8 3 128 8 28 3 1 0 0\n"),
+    ),
+    (
+        "00000100 00000001 00000005 00000080 00 0000 20 C0 FF02 FF05 00000001 FF02",
+        Ok("1 5 128 0 32 5 1 0 0\n"),
+    ),
+    (
+        "00000100 00000008 00000001 00000080 00 0000 00 FF02 FF07",
+        Ok("8 1 128 0 0 1 1 0 0\n"),
+    ),
+    (
+        "00000100 00000008 00000001 00000080 00 0000 08",
+        Err("input ends too early"),
+    ),
+    (
+        "00000100 00000008 00000001 00000080 00 0000 08 FF09",
+        Err("unexpected escape code"),
+    ),
+    (
+        "00000100 00000008 00000001 00000080 00 0000 08 FF04",
+        Err("image was aborted"),
+    ),
+    (
+        "00000100 00000008 00000001 00000080 00 0000 08 00 FF05",
+        Err("unexpected escape code"),
+    ),
+    (
+        "00000100 00000001 00000001 00000080 00 0000 00 FF05 00000001 C0 FF02",
+        Err("new height is not allowed"),
+    ),
+    (
+        "00000100 00000001 00000001 00000080 00 0000 00 FF05",
+        Err("new height is not allowed"),
+    ),
+    (
+        "01010201 00000000 00000000 00000000 00 0000 00",
+        Err("reserved bits of the header are set"),
+    ),
+    (
+        "00000100 00000001 00000001 00000080 00 0000",
+        Err("header is shorter than 20 bytes"),
+    ),
+    (
+        "00000100 00100001 00000001 00000080 00 0000 00",
+        Err("image is wider than 1048576"),
+    ),
+    (
+        "00000100 00000008 00000002 00000080 00 0000 00 FF06 00000080 0000",
+        Err("adaptive pixel move is not allowed"),
+    ),
+    (
+        "00000100 00000008 00000002 00000080 00 0000 00 FF06 00000000 0000 FF06",
+        Err("second adaptive pixel move in a stripe"),
+    ),
+];
+
+/// The words, and the status with which they are refused, or what they ask for.
+#[test]
+fn reads_the_words(rt: HostRuntime) -> Result<(), Fail> {
+    let alloc = rt.alloc();
+    let words = ["jbgtopbm85", "--info", "a.jbg", "-"];
+    let Ok(asked) = job(alloc, words.as_slice()) else {
+        return Err(Fail::from("refused"));
+    };
+    assert!(rt; asked.info);
+    let (Some(input), Some(output)) = (&asked.input, &asked.output) else {
+        return Err(Fail::from("no names"));
+    };
+    assert_eq!(rt; input.as_str(), "a.jbg");
+    assert_eq!(rt; output.as_str(), "-");
+    let Ok(plain) = job(alloc, ["jbgtopbm85"].as_slice()) else {
+        return Err(Fail::from("refused"));
+    };
+    assert!(rt; !plain.info && plain.input.is_none() && plain.output.is_none());
+    Ok(())
+}
+
+#[test]
+fn refuses_words(rt: HostRuntime) {
+    let lines = [
+        ("-h", "", 0u8),
+        ("--help", "", 0),
+        ("-x", "", 2),
+        ("--info=1", "", 2),
+        ("--info", "--info", 2),
+    ];
+    for (first, second, status) in lines {
+        let words = ["jbgtopbm85", first, second];
+        let count = if second.is_empty() { 2 } else { 3 };
+        match job(rt.alloc(), &words[..count]) {
+            Ok(_) => panic!(rt; "{first} was taken"),
+            Err(fault) => assert_eq!(rt; fault.status(), status, "{first}"),
+        }
+    }
+    let memory = LineFault::Fault(Fault::OutOfMemory);
+    assert_eq!(rt; memory.status(), 1);
+}
+
+#[test]
+fn tells_each_stream(rt: HostRuntime) -> Result<(), Fail> {
+    let alloc = rt.alloc();
+    let job = info_job(alloc)?;
+    for (hex, answer) in STREAMS {
+        for most in [1, 2, 3, 4095, 4096, 4097] {
+            let ran = run_on(alloc, &job, hex, Devices { most, ..SMOOTH })?;
+            match answer {
+                Ok(line) => {
+                    assert_eq!(rt; ran.status, 0, "{hex}");
+                    assert_eq!(rt; ran.output.as_slice(), line.as_bytes(), "{hex}");
+                    assert!(rt; ran.messages.is_empty(), "{hex}");
+                }
+                Err(text) => {
+                    let said = format!(in alloc; "jbgtopbm85: {text}\n")?;
+                    assert_eq!(rt; ran.status, 1, "{hex}");
+                    assert!(rt; ran.output.is_empty(), "{hex}");
+                    assert_eq!(rt; ran.messages.as_slice(), said.as_bytes(), "{hex}");
+                }
+            }
+        }
+    }
+    Ok(())
+}
+
+/// Comments of more bytes than the buffer holds are passed as well.
+#[test]
+fn passes_a_long_comment(rt: HostRuntime) -> Result<(), Fail> {
+    let alloc = rt.alloc();
+    let job = info_job(alloc)?;
+    let mut hex = String::from_str(
+        alloc,
+        "00000100 00000008 00000001 00000080 00 0000 00 FF07 00001388",
+    )?;
+    for _ in 0..5000u32 {
+        hex.push_str(" 41")?;
+    }
+    hex.push_str(" 60 FF02")?;
+    for most in [1, 2, 3, 4095, 4096, 4097] {
+        let ran = run_on(alloc, &job, &hex, Devices { most, ..SMOOTH })?;
+        assert_eq!(rt; ran.status, 0, "{most}");
+        assert_eq!(rt; ran.output.as_slice(), b"8 1 128 0 0 1 1 0 1\n".as_slice());
+    }
+    Ok(())
+}
+
+/// The header is one read of 20 bytes and the rest one of 6 where reads are large. By single bytes
+/// there are 26 reads, and none after the last end marker.
+#[test]
+fn each_read_fails(rt: HostRuntime) -> Result<(), Fail> {
+    let alloc = rt.alloc();
+    let job = info_job(alloc)?;
+    for (most, reads) in [(1, 26u64), (2, 13), (4096, 2)] {
+        for at in 1..=reads {
+            let devices = Devices {
+                most,
+                failing_read: Some(at),
+                ..SMOOTH
+            };
+            let ran = run_on(alloc, &job, TWO_STRIPES, devices)?;
+            assert_eq!(rt; ran.status, 1, "read {at}");
+            assert!(rt; ran.output.is_empty(), "read {at}");
+            assert_eq!(rt;
+                ran.messages.as_slice(),
+                b"jbgtopbm85: input cannot be read\n".as_slice()
+            );
+        }
+        let devices = Devices {
+            most,
+            failing_read: Some(reads + 1),
+            ..SMOOTH
+        };
+        let ran = run_on(alloc, &job, TWO_STRIPES, devices)?;
+        assert_eq!(rt; ran.status, 0, "no more is read");
+    }
+    Ok(())
+}
+
+#[test]
+fn each_write_fails(rt: HostRuntime) -> Result<(), Fail> {
+    let alloc = rt.alloc();
+    let job = info_job(alloc)?;
+    let line = b"1 2 1 0 8 2 2 0 0\n";
+    for at in 1..=18usize {
+        let devices = Devices {
+            most: 1,
+            failing_write: Some(at as u64),
+            ..SMOOTH
+        };
+        let ran = run_on(alloc, &job, TWO_STRIPES, devices)?;
+        assert_eq!(rt; ran.status, 1, "write {at}");
+        assert_eq!(rt; ran.output.as_slice(), &line[..at - 1], "write {at}");
+        assert_eq!(rt;
+            ran.messages.as_slice(),
+            b"jbgtopbm85: output cannot be written\n".as_slice()
+        );
+    }
+    let devices = Devices {
+        flush_fails: true,
+        ..SMOOTH
+    };
+    let ran = run_on(alloc, &job, TWO_STRIPES, devices)?;
+    assert_eq!(rt; ran.status, 1);
+    assert_eq!(rt; ran.output.as_slice(), line.as_slice());
+    assert_eq!(rt;
+        ran.messages.as_slice(),
+        b"jbgtopbm85: output cannot be written\n".as_slice()
+    );
+    Ok(())
+}
+
+/// A message that can't be written changes no status.
+#[test]
+fn loses_a_message(rt: HostRuntime) -> Result<(), Fail> {
+    let alloc = rt.alloc();
+    let job = info_job(alloc)?;
+    let mut input = Pieces::new(b"", 1, None);
+    let mut held = [0; 8];
+    let mut output = Drip::new(&mut held, 8, None, false);
+    let mut told = [0; 64];
+    let mut messages = Drip::new(&mut told, 8, Some(2), false);
+    let status = run(alloc, &job, &mut input, &mut output, &mut messages);
+    assert_eq!(rt; status, 1);
+    assert_eq!(rt; messages.written(), b"jbgtopbm".as_slice());
+    Ok(())
+}
+
+/// An image isn't decoded yet.
+#[test]
+fn decodes_nothing_yet(rt: HostRuntime) -> Result<(), Fail> {
+    let alloc = rt.alloc();
+    let Ok(job) = job(alloc, ["jbgtopbm85"].as_slice()) else {
+        return Err(Fail::from("refused"));
+    };
+    let ran = run_on(alloc, &job, TWO_STRIPES, SMOOTH)?;
+    assert_eq!(rt; ran.status, 1);
+    assert!(rt; ran.output.is_empty());
+    assert_eq!(rt;
+        ran.messages.as_slice(),
+        b"jbgtopbm85: not built yet\n".as_slice()
+    );
+    let ran = run_on(alloc, &job, "00000200", SMOOTH)?;
+    assert_eq!(rt; ran.status, 1);
+    assert_eq!(rt;
+        ran.messages.as_slice(),
+        b"jbgtopbm85: header is shorter than 20 bytes\n".as_slice()
+    );
+    Ok(())
+}

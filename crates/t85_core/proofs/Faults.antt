@@ -1,0 +1,98 @@
+-- Which faults a header and a body may have.
+use Rattle.std.proofs.Common.{cond, ◌≡◌, ◌≢◌, ◌+◌, ◌||◌, ℕ, Bool, true, false, not, List, [], ◌∷◌, Option, None, Some, length, nat_lt, nat_le, refl, subst}
+use Rattle.std.specs.Prelude.{IfSome, ◌==◌, if◌then◌else◌}
+use Rattle.std.specs.List.{AllByRecursion}
+use Rattle.byteorder.specs.Endian.{big_number}
+use Rattle.t85_core.specs.declared.fault.Fault.{Fault}
+use Rattle.t85_core.specs.declared.fault.Fault.TheVariants.{ShortHeader, ReservedBits, Layers, Planes, ZeroSize, TooWide, MoveRange, PrivateTable, Truncated, BadEscape, Aborted, MoveRefused, SecondMove, LengthRefused, Read, Write, OutOfMemory, NotYet}
+use Rattle.t85_core.specs.Header.{Fields, Refusal, refusals, first_refusal, header_fault}
+use Rattle.t85_core.specs.Refusal.{rest_fault, escape_fault, move_fault, comment_fault, is_legal_move, StripesFault}
+use Rattle.t85_core.specs.Walk.{counted_as, failed_writes}
+use Rattle.t85_core.specs.Info.{IsWalkFault}
+
+abbrev MayBe : Option Fault → Type 0
+MayBe o = IfSome o IsWalkFault
+
+either : (t : Bool) (a b : Option Fault) → MayBe a → MayBe b → MayBe (cond t a b)
+either true a b p q = p
+either false a b p q = q
+
+first_may : (rs : List Refusal) (bytes : List ℕ) → AllByRecursion (λ r. IsWalkFault r.1) rs → MayBe (first_refusal rs bytes)
+first_may [] bytes p = tt
+first_may (r ∷ rs) bytes p = either (r.0 bytes) (Some r.1) (first_refusal rs bytes) p.0 (first_may rs bytes p.1)
+
+header_may : (bytes : List ℕ) → MayBe (header_fault bytes)
+header_may bytes = either (nat_lt (length bytes) 20) (Some ShortHeader) (first_refusal refusals bytes) tt (first_may refusals bytes (tt, (tt, (tt, (tt, (tt, (tt, (tt, tt))))))))
+
+move_may : (h : Fields) (moves : ℕ) (bytes : List ℕ) → MayBe (move_fault h moves bytes)
+move_may h moves bytes =
+    either (not (moves == 0)) (Some SecondMove) (if nat_lt (length bytes) 6 then Some Truncated else if is_legal_move h bytes then None else Some MoveRefused) tt
+    (either (nat_lt (length bytes) 6) (Some Truncated) (if is_legal_move h bytes then None else Some MoveRefused) tt
+    (either (is_legal_move h bytes) None (Some MoveRefused) tt tt))
+
+comment_may : (bytes : List ℕ) → MayBe (comment_fault bytes)
+comment_may bytes =
+    either (nat_lt (length bytes) 4) (Some Truncated) (if nat_lt (length bytes) (4 + big_number 4 bytes) then Some Truncated else None) tt
+    (either (nat_lt (length bytes) (4 + big_number 4 bytes)) (Some Truncated) None tt tt)
+
+escape_may : (h : Fields) (moves : ℕ) (in_code : Bool) (escape : ℕ) (bytes : List ℕ) → MayBe (escape_fault h moves in_code escape bytes)
+escape_may h moves in_code escape bytes =
+    either ((escape == 0) || (escape == 2) || (escape == 3)) None _ tt
+    (either (escape == 4) (Some Aborted) _ tt
+    (either ((escape == 1) || nat_le 8 escape || in_code) (Some BadEscape) _ tt
+    (either (escape == 5) (Some LengthRefused) _ tt
+    (either (escape == 6) (move_fault h moves bytes) (comment_fault bytes) (move_may h moves bytes) (comment_may bytes)))))
+
+rest_may : (h : Fields) (moves : ℕ) (in_code : Bool) (bytes : List ℕ) → MayBe (rest_fault h moves in_code bytes)
+rest_may h moves in_code [] = tt
+rest_may h moves in_code (b ∷ []) = either (b == 255) (Some Truncated) None tt tt
+rest_may h moves in_code (b ∷ escape ∷ bytes) = either (b == 255) (escape_fault h moves in_code escape bytes) None (escape_may h moves in_code escape bytes) tt
+
+pub header_faults : (bytes : List ℕ) (f : Fault) → header_fault bytes ≡ Some f → IsWalkFault f
+header_faults bytes f e = subst (λ o. MayBe o) e (header_may bytes)
+
+pub body_faults : (h : Fields) (count : ℕ) (bytes : List ℕ) (f : Fault) → StripesFault h count bytes f → IsWalkFault f
+body_faults h count bytes f p = subst (λ o. MayBe o) p.tail_has.rest_has (rest_may h _ _ p.tail_has.rest)
+
+pub uncounted : (ending f : Fault) → IsWalkFault (counted_as ending f) → IsWalkFault f
+uncounted ending ShortHeader p = p
+uncounted ending ReservedBits p = p
+uncounted ending Layers p = p
+uncounted ending Planes p = p
+uncounted ending ZeroSize p = p
+uncounted ending TooWide p = p
+uncounted ending MoveRange p = p
+uncounted ending PrivateTable p = p
+uncounted ending Truncated p = p
+uncounted ending BadEscape p = p
+uncounted ending Aborted p = p
+uncounted ending MoveRefused p = p
+uncounted ending SecondMove p = p
+uncounted ending LengthRefused p = p
+uncounted ending Read p = tt
+uncounted ending Write p = p
+uncounted ending OutOfMemory p = p
+uncounted ending NotYet p = p
+
+pub no_write : (f : Fault) → IsWalkFault f → f ≢ Write
+no_write f p e = subst IsWalkFault e p
+
+pub unwritten : (f : Fault) → IsWalkFault f → failed_writes f ≡ 0
+unwritten ShortHeader p = refl
+unwritten ReservedBits p = refl
+unwritten Layers p = refl
+unwritten Planes p = refl
+unwritten ZeroSize p = refl
+unwritten TooWide p = refl
+unwritten MoveRange p = refl
+unwritten PrivateTable p = refl
+unwritten Truncated p = refl
+unwritten BadEscape p = refl
+unwritten Aborted p = refl
+unwritten MoveRefused p = refl
+unwritten SecondMove p = refl
+unwritten LengthRefused p = refl
+unwritten Read p = refl
+unwritten Write p = absurd p
+unwritten OutOfMemory p = refl
+unwritten NotYet p = refl

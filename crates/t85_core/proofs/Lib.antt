@@ -1,0 +1,14 @@
+pub mod Streams
+pub mod Ends
+pub mod Segments
+pub mod Pieces
+pub mod Lists
+pub mod Passed
+pub mod Numerals
+pub mod Known
+pub mod Stuffing
+pub mod Cut
+pub mod Faults
+pub mod Told
+pub mod Unique
+pub mod Held

@@ -1,0 +1,55 @@
+-- What stands behind FF 06 and behind FF 07.
+use Rattle.std.proofs.Common.{cond, ◌&&◌, ◌≡◌, ◌≢◌, ◌<◌, ◌≤◌, ◌+◌, ◌^◌, ◌⊎◌, ℕ, true, false, List, [], ◌∷◌, ◌++◌, length, Some, None, nat_lt, nat_le, nat_eq, ap, ◌∙◌, length-append, arith, inl, inr}
+use Rattle.std.proofs.lemmas.Bool.Decides.{nat_tests}
+use Rattle.byteorder.specs.Endian.{big_bytes, big_number}
+use Rattle.byteorder.specs.Numbers.{big_number-reads_back}
+use Rattle.t85_core.specs.Header.{Fields}
+use Rattle.t85_core.specs.declared.fault.Fault.TheVariants.{Truncated, MoveRefused}
+use Rattle.t85_core.specs.Refusal.{move_fault, comment_fault, is_legal_move}
+
+pub row_of : (row : ℕ) (more : List ℕ) → row < 2 ^ 32 → big_number 4 (big_bytes 4 row ++ more) ≡ row
+row_of row more h = big_number-reads_back 4 row more h
+
+-- whether a move is legal, by its parts
+pub is_legal_move-parts : (h : Fields) (row offset last : ℕ) (more : List ℕ) → row < 2 ^ 32 → is_legal_move h (big_bytes 4 row ++ offset ∷ last ∷ more) ≡ (nat_lt row h.l0 && nat_le offset h.mx && nat_eq last 0)
+is_legal_move-parts h row offset last more small = ap (λ r. nat_lt r h.l0 && nat_le offset h.mx && nat_eq last 0) (row_of row (offset ∷ last ∷ more) small)
+
+illegal : (h : Fields) (row offset last : ℕ) → (h.l0 ≤ row) ⊎ (h.mx < offset) ⊎ (last ≢ 0) → (nat_lt row h.l0 && nat_le offset h.mx && nat_eq last 0) ≡ false
+illegal h row offset last (inl a) = grind (arith, nat_tests)
+illegal h row offset last (inr (inl a)) = grind (arith, nat_tests)
+illegal h row offset last (inr (inr a)) = grind (arith, nat_tests)
+
+pub move_refused : (h : Fields) (row offset last : ℕ) → row < 2 ^ 32 → (h.l0 ≤ row) ⊎ (h.mx < offset) ⊎ (last ≢ 0) → move_fault h 0 (big_bytes 4 row ++ offset ∷ last ∷ []) ≡ Some MoveRefused
+move_refused h row offset last small a =
+    let e = is_legal_move-parts h row offset last [] small ∙ illegal h row offset last a in
+    ap (λ b. cond b None (Some MoveRefused)) e
+
+-- less text than the length says
+pub comment_cut : (n : ℕ) (passed : List ℕ) → n < 2 ^ 32 → length passed < n → comment_fault (big_bytes 4 n ++ passed) ≡ Some Truncated
+comment_cut n passed small short =
+    let bytes : List ℕ = big_bytes 4 n ++ passed in
+    let numbered : nat_lt (length bytes) 4 ≡ false = grind (arith, nat_tests) in
+    let cut : nat_lt (length bytes) (4 + n) ≡ true = grind (arith, nat_tests) in
+    ap (λ b. cond b (Some Truncated) (cond (nat_lt (length bytes) (4 + big_number 4 bytes)) (Some Truncated) None)) numbered
+    ∙ ap (λ m. cond (nat_lt (length bytes) (4 + m)) (Some Truncated) None) (row_of n passed small)
+    ∙ ap (λ b. cond b (Some Truncated) None) cut
+
+-- a whole legal move has no fault
+pub move_whole : (h : Fields) (row offset : ℕ) (more : List ℕ) → row < 2 ^ 32 → row < h.l0 → offset ≤ h.mx → move_fault h 0 (big_bytes 4 row ++ offset ∷ 0 ∷ more) ≡ None
+move_whole h row offset more small low near =
+    let bytes : List ℕ = big_bytes 4 row ++ offset ∷ 0 ∷ more in
+    let long : nat_lt (length bytes) 6 ≡ false = grind (arith, nat_tests) in
+    let legal : (nat_lt row h.l0 && nat_le offset h.mx && nat_eq 0 0) ≡ true = grind (arith, nat_tests) in
+    ap (λ b. cond b (Some Truncated) (cond (is_legal_move h bytes) None (Some MoveRefused))) long
+    ∙ ap (λ b. cond b None (Some MoveRefused)) (is_legal_move-parts h row offset 0 more small ∙ legal)
+
+-- a whole comment has no fault
+pub comment_whole : (text more : List ℕ) → length text < 2 ^ 32 → comment_fault (big_bytes 4 (length text) ++ (text ++ more)) ≡ None
+comment_whole text more small =
+    let bytes : List ℕ = big_bytes 4 (length text) ++ (text ++ more) in
+    let sum = length-append text more in
+    let numbered : nat_lt (length bytes) 4 ≡ false = grind (arith, nat_tests) in
+    let whole : nat_lt (length bytes) (4 + length text) ≡ false = grind (arith, nat_tests) in
+    ap (λ b. cond b (Some Truncated) (cond (nat_lt (length bytes) (4 + big_number 4 bytes)) (Some Truncated) None)) numbered
+    ∙ ap (λ m. cond (nat_lt (length bytes) (4 + m)) (Some Truncated) None) (row_of (length text) (text ++ more) small)
+    ∙ ap (λ b. cond b (Some Truncated) None) whole

@@ -1,0 +1,98 @@
+-- What `info` leaves, whichever way it ends.
+use Rattle.std.proofs.Common.{◌≡◌, inl, ◌≤◌, ◌+◌, ℕ, Bool, true, List, Option, None, Some, Result, Ok, Err, length, sym, subst, arith}
+use Rattle.std.specs.Prelude.{IfSome, OnOk, IfErr}
+use Rattle.std.specs.Io.KnownBytes.{Consumes, Appends}
+use Rattle.std.specs.Result.{IsErrAnd}
+use Rattle.pbm_core.specs.Device.{AppendsBeginning}
+use Rattle.t85_core.specs.declared.fault.Fault.{Fault}
+use Rattle.t85_core.specs.declared.fault.Fault.TheVariants.{ShortHeader, Truncated, Read, Write}
+use Rattle.t85_core.specs.Header.{Fields, HeaderOf, header_fault}
+use Rattle.t85_core.specs.Grammar.{stripe_count}
+use Rattle.t85_core.specs.Refusal.{StripesFault}
+use Rattle.t85_core.specs.Walk.{Ends, CountsWrite, counted_as, failed_reads}
+use Rattle.t85_core.specs.Info.{Informs, HasLine, IsUnfinished}
+use Rattle.t85_core.proofs.Faults.{header_faults, body_faults, uncounted, no_write, unwritten}
+use Rattle.t85_core.proofs.Held.{Keeps-same}
+use Rattle.t85_core.proofs.Known.{refused_header, refused_body, unread_body}
+
+-- the exit of a `?`, for what is said of the whole answer
+pub exit_all : {T : Type 0} (Q : Result T Fault → Type 0) (r : Result T Fault) {e : Fault} → IsErrAnd r (λ y. y ≡ e) → Q (Err e) → Q r
+exit_all Q (Ok x) a p = absurd a
+exit_all Q (Err y) a p = subst (λ z. Q (Err z)) (sym a) p
+
+unread_header : (old new : Option (List ℕ)) (f : Fault) → Ends ShortHeader old new (λ given fault. (length given ≤ 20) × (header_fault given ≡ Some fault)) f → f ≡ Read → (given : List ℕ) × Consumes old new given × IsUnfinished given
+unread_header old new f e read =
+    let has : header_fault e.given ≡ Some ShortHeader = subst (λ x. header_fault e.given ≡ Some (counted_as ShortHeader x)) read e.has_fault.1 in
+    (e.given, e.taken, inl (inl has))
+
+module _ (in_old in_new : Option (List ℕ)) (reads_old reads_new : ℕ) (out : Option (List ℕ)) (writes : ℕ) (flushed : Bool) where
+  -- the header was refused
+  pub told_header : (f : Fault) → Ends ShortHeader in_old in_new (λ given fault. (length given ≤ 20) × (header_fault given ≡ Some fault)) f → reads_new ≡ reads_old + failed_reads f → Informs in_old in_new reads_old reads_new out out writes writes flushed (Err f)
+  told_header f e counted =
+      let may = uncounted ShortHeader f (header_faults e.given (counted_as ShortHeader f) e.has_fault.1) in
+      record {
+        line = tt;
+        flushed_last = tt;
+        refused = λ read _. refused_header in_old in_new f e read;
+        unwritten = λ _. Keeps-same out;
+        among = λ _. may;
+        unread = λ is. unread_header in_old in_new f e (let same : f ≡ Read = cc in same);
+        cut = λ is. absurd (no_write f may (let same : f ≡ Write = cc in same));
+        reads = counted;
+        writes = omega (arith, unwritten f may);
+      }
+
+  -- the body was refused, behind a header that was accepted
+  pub told_body : (mid : Option (List ℕ)) (given : List ℕ) (h : Fields) (count : ℕ) (f : Fault) → length given ≡ 20 → Consumes in_old mid given → HeaderOf given h → count ≡ stripe_count h.yd h.l0
+      → (known : Option (List ℕ)) → Ends Truncated mid known (StripesFault h count) f → (f ≡ Read → known ≡ in_new) → reads_new ≡ reads_old + failed_reads f → Informs in_old in_new reads_old reads_new out out writes writes flushed (Err f)
+  told_body mid given h count f long taken is counted known e drained reads =
+      let may = uncounted Truncated f (body_faults h count e.given (counted_as Truncated f) e.has_fault) in
+      record {
+        line = tt;
+        flushed_last = tt;
+        refused = λ read _. refused_body in_old mid known given h count f long taken is counted e read;
+        unwritten = λ _. Keeps-same out;
+        among = λ _. may;
+        unread = λ same. read_failed (let s : f ≡ Read = cc in s);
+        cut = λ same. absurd (no_write f may (let s : f ≡ Write = cc in s));
+        reads = reads;
+        writes = omega (arith, unwritten f may);
+      }
+    where
+      read_failed : f ≡ Read → (all : List ℕ) × Consumes in_old in_new all × IsUnfinished all
+      read_failed read =
+          let u = unread_body in_old mid known given h count f long taken is counted e read in
+          (u.0, subst (λ k. Consumes in_old k u.0) (drained read) u.1, u.2)
+
+-- the line was to be written
+pub told_line : (in_old in_new : Option (List ℕ)) (reads_old reads_new : ℕ) (out_old out_new : Option (List ℕ)) (writes_old writes_new : ℕ) (flushed : Bool) (r : Result (Unit {0}) Fault) (text : List ℕ) → IfSome in_old (λ bytes. HasLine bytes text)
+    → OnOk r (Appends out_old out_new text) → IfErr r (λ f. f ≡ Write) → IfErr r (λ _. AppendsBeginning out_old out_new text) → OnOk r (flushed ≡ true) → reads_new ≡ reads_old → CountsWrite writes_old writes_new r
+    → Informs in_old in_new reads_old reads_new out_old out_new writes_old writes_new flushed r
+told_line in_old in_new reads_old reads_new out_old out_new writes_old writes_new flushed (Ok u) text known ok err cut last reads writes = record {
+  line = shown in_old known;
+  flushed_last = last;
+  refused = tt;
+  unwritten = tt;
+  among = tt;
+  unread = λ is. absurd (let bot : ⊥ = cc in bot);
+  cut = λ is. absurd (let bot : ⊥ = cc in bot);
+  reads = reads;
+  writes = writes;
+} where
+  shown : (known : Option (List ℕ)) → IfSome known (λ bytes. HasLine bytes text) → IfSome known (λ bytes. (x : List ℕ) × HasLine bytes x × Appends out_old out_new x)
+  shown None h = tt
+  shown (Some bytes) h = (text, h, ok)
+told_line in_old in_new reads_old reads_new out_old out_new writes_old writes_new flushed (Err f) text known ok err cut last reads writes = record {
+  line = tt;
+  flushed_last = tt;
+  refused = λ _ write. absurd (write err);
+  unwritten = λ write. absurd (write err);
+  among = λ write. absurd (write err);
+  unread = λ is. absurd (let bot : ⊥ = cc in bot);
+  cut = λ _. shown in_old known;
+  reads = subst (λ x. reads_new ≡ reads_old + failed_reads x) (sym err) (omega (arith, reads));
+  writes = writes;
+} where
+  shown : (known : Option (List ℕ)) → IfSome known (λ bytes. HasLine bytes text) → IfSome known (λ bytes. (x : List ℕ) × HasLine bytes x × AppendsBeginning out_old out_new x)
+  shown None h = tt
+  shown (Some bytes) h = (text, h, cut)

@@ -1,0 +1,73 @@
+-- What follows the header: for each stripe segments, and a data entity of a code and an end marker (T.82, 6.2.2 to 6.2.6).
+use Rattle.std.specs.Prelude.{ℕ, ◌≡◌, ◌≤◌, ◌<◌, ◌^◌, Bool, true, false, List, [], ◌∷◌, ◌++◌, length, flat_map, count_by, if◌then◌else◌}
+use Rattle.std.specs.List.{AllByRecursion}
+use Rattle.std.specs.Int.{div_ceil}
+use Rattle.byteorder.specs.Endian.{big_bytes}
+use Rattle.qm_core.specs.Code.{stuffed}
+use Rattle.t85_core.specs.Header.{Fields}
+
+-- a segment: a move of the adaptive pixel at a row of the stripe, or a comment
+pub data Segment : Type 0 where
+  Move : (row offset : ℕ) → Segment
+  Comment : (text : List ℕ) → Segment
+
+abbrev pub segment_bytes : Segment → List ℕ
+segment_bytes (Move row offset) = 255 ∷ 6 ∷ big_bytes 4 row ++ offset ∷ 0 ∷ []
+segment_bytes (Comment text) = 255 ∷ 7 ∷ big_bytes 4 (length text) ++ text
+
+abbrev pub is_move : Segment → Bool
+is_move (Move row offset) = true
+is_move (Comment text) = false
+
+abbrev pub is_comment : Segment → Bool
+is_comment (Move row offset) = false
+is_comment (Comment text) = true
+
+-- a move names a row that a stripe may have, and an offset up to the header's greatest; a length has four bytes
+abbrev pub IsLegal : Fields → Segment → Type 0
+IsLegal h (Move row offset) = (row < h.l0) × (offset ≤ h.mx)
+IsLegal h (Comment text) = length text < 2 ^ 32
+
+-- a stripe as it stands in a stream: its segments, the code, and whether it ends in a reset
+pub record Stripe : Type 0 where
+  pub segments : List Segment
+  pub code : List ℕ
+  pub reset : Bool
+
+abbrev pub is_nil : List ℕ → Bool
+is_nil [] = true
+is_nil (b ∷ code) = false
+
+-- the end marker: SDRST, which resets, or SDNORM
+abbrev pub marker_bytes : Bool → List ℕ
+marker_bytes reset = 255 ∷ (if reset then 3 else 2) ∷ []
+
+abbrev pub stripe_bytes : Stripe → List ℕ
+stripe_bytes s = flat_map segment_bytes s.segments ++ (stuffed s.code ++ marker_bytes s.reset)
+
+abbrev pub moves_in : Stripe → ℕ
+moves_in s = count_by is_move s.segments
+
+abbrev pub comments_in : Stripe → ℕ
+comments_in s = count_by is_comment s.segments
+
+-- how many stripes a height makes
+abbrev pub stripe_count : ℕ → ℕ → ℕ
+stripe_count height l0 = div_ceil height l0
+
+-- what a stripe may begin with: legal segments, one move at most, and bytes of a code
+pub record IsBegun (h : Fields) (segments : List Segment) (code : List ℕ) : Type 0 where
+  pub legal : AllByRecursion (IsLegal h) segments
+  pub one_move : count_by is_move segments ≤ 1
+  pub bytes : AllByRecursion (λ b. b < 256) code
+
+abbrev pub AreStripes : Fields → List Stripe → Type 0
+AreStripes h stripes = AllByRecursion (λ s. IsBegun h s.segments s.code) stripes
+
+-- the body is as many stripes as the height makes, and then any bytes
+pub record Parts (h : Fields) (height : ℕ) (body : List ℕ) : Type 0 where
+  pub stripes : List Stripe
+  pub rest : List ℕ
+  pub body_is : body ≡ flat_map stripe_bytes stripes ++ rest
+  pub count : length stripes ≡ stripe_count height h.l0
+  pub each : AreStripes h stripes

@@ -1,0 +1,54 @@
+-- What `info` says of a stream.
+use Rattle.std.specs.Prelude.{◌≡◌, ◌≢◌, ◌⊎◌, ◌-◌, ◌^◌, ⊤, ℕ, Bool, true, List, [], ◌∷◌, length, drop, sum_by, min, Option, IfSome, Result, OnOk, IfErr, IsErrOf}
+use Rattle.std.specs.Io.KnownBytes.{Consumes, Appends, Keeps}
+use Rattle.pbm_core.specs.Device.{AppendsBeginning}
+use Rattle.t85_core.specs.declared.fault.Fault.{Fault}
+use Rattle.t85_core.specs.declared.fault.Fault.TheVariants.{ShortHeader, Truncated, Read, Write, OutOfMemory, NotYet}
+use Rattle.t85_core.specs.Header.{Fields, HeaderOf}
+use Rattle.t85_core.specs.Grammar.{Stripe, Parts, moves_in, comments_in}
+use Rattle.t85_core.specs.Refusal.{StreamFault}
+use Rattle.t85_core.specs.Line.{line_text}
+use Rattle.t85_core.specs.Walk.{CountsRead, CountsWrite}
+
+-- The header's fields, the height in use, the data entities, and the moves and comments before the last of them.
+-- Comments are counted up to 2^64 - 1.
+abbrev pub numbers_of : Fields → ℕ → List Stripe → List ℕ
+numbers_of h height stripes =
+    h.xd ∷ h.yd ∷ h.l0 ∷ h.mx ∷ h.options ∷ height ∷ length stripes ∷ sum_by moves_in stripes ∷ min (sum_by comments_in stripes) (2 ^ 64 - 1) ∷ []
+
+-- the line of a stream that has its parts
+pub record HasLine (bytes text : List ℕ) : Type 0 where
+  pub header : Fields
+  pub header_of : HeaderOf bytes header
+  pub parts : Parts header header.yd (drop 20 bytes)
+  pub text_is : text ≡ line_text (numbers_of header header.yd parts.stripes)
+
+-- the bytes end before the header or the last data entity does
+abbrev pub IsUnfinished : List ℕ → Type 0
+IsUnfinished bytes = StreamFault bytes ShortHeader ⊎ StreamFault bytes Truncated
+
+-- the faults that a stream may have, or that reading it may answer
+abbrev pub IsWalkFault : Fault → Type 0
+IsWalkFault Write = ⊥
+IsWalkFault OutOfMemory = ⊥
+IsWalkFault NotYet = ⊥
+IsWalkFault _ = ⊤
+
+-- What `info` leaves of its input and its output. Of each are given the known bytes and the count of failures, before
+-- the call and after it, and of the output whether it was flushed last.
+pub record Informs (in_old in_new : Option (List ℕ)) (reads_old reads_new : ℕ)
+    (out_old out_new : Option (List ℕ)) (writes_old writes_new : ℕ) (flushed : Bool)
+    (answer : Result (Unit {0}) Fault) : Type 0 where
+  -- a stream that has its parts gives the line
+  pub line : OnOk answer (IfSome in_old (λ bytes. (text : List ℕ) × HasLine bytes text × Appends out_old out_new text))
+  pub flushed_last : OnOk answer (flushed ≡ true)
+  -- each other gives its fault, and nothing is written
+  pub refused : IfErr answer (λ f. f ≢ Read → f ≢ Write → IfSome in_old (λ bytes. StreamFault bytes f))
+  pub unwritten : IfErr answer (λ f. f ≢ Write → Keeps out_old out_new)
+  pub among : IfErr answer (λ f. f ≢ Write → IsWalkFault f)
+  -- a read failed, and what was read up to there is no whole stream
+  pub unread : IsErrOf answer Read → (given : List ℕ) × Consumes in_old in_new given × IsUnfinished given
+  -- a write failed, and what went out is a beginning of the line
+  pub cut : IsErrOf answer Write → IfSome in_old (λ bytes. (text : List ℕ) × HasLine bytes text × AppendsBeginning out_old out_new text)
+  pub reads : CountsRead reads_old reads_new answer
+  pub writes : CountsWrite writes_old writes_new answer

@@ -1,0 +1,10 @@
+pub mod Fault
+pub mod Header
+pub mod Grammar
+pub mod Refusal
+pub mod Walk
+pub mod Piece
+pub mod Line
+pub mod Info
+pub mod Stream
+pub mod Chosen

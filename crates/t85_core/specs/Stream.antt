@@ -1,0 +1,11 @@
+-- The bytes of a stream that is read ahead.
+use Rattle.std.specs.Prelude.{ℕ, ◌-◌, ◌<◌, ◌≢◌, List, take, drop}
+use Rattle.std.specs.List.{AllByRecursion}
+
+-- the bytes from one place of an array up to another, which are held
+abbrev pub held_of : List ℕ → ℕ → ℕ → List ℕ
+held_of bytes at end = take (end - at) (drop at bytes)
+
+-- bytes other than FF
+abbrev pub ArePlain : List ℕ → Type 0
+ArePlain code = AllByRecursion (λ b. (b < 256) × (b ≢ 255)) code

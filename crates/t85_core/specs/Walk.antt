@@ -1,0 +1,38 @@
+-- What a walk has taken from an input, and what it says of it.
+use Rattle.std.specs.Prelude.{◌≡◌, ◌+◌, ℕ, List, Result, Ok, Err, Option}
+use Rattle.std.specs.Io.KnownBytes.{Consumes, IsAtEnd}
+use Rattle.t85_core.specs.declared.fault.Fault.{Fault}
+use Rattle.t85_core.specs.declared.fault.Fault.TheVariants.{Read, Write}
+
+-- how many failed reads a fault tells
+abbrev pub failed_reads : Fault → ℕ
+failed_reads Read = 1
+failed_reads _ = 0
+
+-- how many failed writes a fault tells
+abbrev pub failed_writes : Fault → ℕ
+failed_writes Write = 1
+failed_writes _ = 0
+
+-- The input's count of failures rises by one with the answer Read, and stays with each other.
+abbrev pub CountsRead : {T : Type 0} → ℕ → ℕ → Result T Fault → Type 0
+CountsRead old new (Ok x) = new ≡ old
+CountsRead old new (Err f) = new ≡ old + failed_reads f
+
+-- The output's count of failures rises by one with the answer Write, and stays with each other.
+abbrev pub CountsWrite : {T : Type 0} → ℕ → ℕ → Result T Fault → Type 0
+CountsWrite old new (Ok x) = new ≡ old
+CountsWrite old new (Err f) = new ≡ old + failed_writes f
+
+-- the fault that is told of what came: a failed read counts as the end of the input
+abbrev pub counted_as : Fault → Fault → Fault
+counted_as ending Read = ending
+counted_as ending fault = fault
+
+-- A walk took these bytes and no more, and then answered a fault: the one that they have, where a failed read counts
+-- as the end, or else the end itself was seen.
+pub record Ends (ending : Fault) (old new : Option (List ℕ)) (HasFault : List ℕ → Fault → Type 0) (fault : Fault) : Type 0 where
+  pub given : List ℕ
+  pub taken : Consumes old new given
+  pub has_fault : HasFault given (counted_as ending fault)
+  pub at_end : fault ≡ ending → IsAtEnd new

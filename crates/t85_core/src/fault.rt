@@ -1,0 +1,74 @@
+//! Why a stream is refused, or a call ended early.
+
+ghost use Rattle.std.specs.Prelude.{◌≡◌};
+ghost use Rattle.t85_core.specs.Fault.{number_of};
+
+use thiserror::Error;
+
+#[derive(Clone, Copy, Debug, PartialEq, Eq, Error)]
+pub enum Fault {
+    #[error("header is shorter than 20 bytes")]
+    ShortHeader,
+    #[error("reserved bits of the header are set")]
+    ReservedBits,
+    #[error("differential layers are not supported")]
+    Layers,
+    #[error("number of planes is not one")]
+    Planes,
+    #[error("width, height or stripe length is zero")]
+    ZeroSize,
+    #[error("image is wider than 1048576")]
+    TooWide,
+    #[error("adaptive pixel range is above 127")]
+    MoveRange,
+    #[error("private prediction table is not supported")]
+    PrivateTable,
+    #[error("input ends too early")]
+    Truncated,
+    #[error("unexpected escape code")]
+    BadEscape,
+    #[error("image was aborted")]
+    Aborted,
+    #[error("adaptive pixel move is not allowed")]
+    MoveRefused,
+    #[error("second adaptive pixel move in a stripe")]
+    SecondMove,
+    #[error("new height is not allowed")]
+    LengthRefused,
+    #[error("input cannot be read")]
+    Read,
+    #[error("output cannot be written")]
+    Write,
+    #[error("out of memory")]
+    OutOfMemory,
+    #[error("not built yet")]
+    NotYet,
+}
+
+impl Fault {
+    /// The number under which the fault is documented.
+    pub fn number(&self) -> u8
+        ensures { result ≡ number_of self.now }
+    {
+        match self {
+            Fault::ShortHeader => 1,
+            Fault::ReservedBits => 2,
+            Fault::Layers => 3,
+            Fault::Planes => 4,
+            Fault::ZeroSize => 5,
+            Fault::TooWide => 6,
+            Fault::MoveRange => 7,
+            Fault::PrivateTable => 8,
+            Fault::Truncated => 9,
+            Fault::BadEscape => 10,
+            Fault::Aborted => 11,
+            Fault::MoveRefused => 12,
+            Fault::SecondMove => 13,
+            Fault::LengthRefused => 14,
+            Fault::Read => 17,
+            Fault::Write => 18,
+            Fault::OutOfMemory => 19,
+            Fault::NotYet => 27,
+        }
+    }
+}

@@ -1,0 +1,128 @@
+//! The header: twenty bytes before the first segment.
+
+ghost use Rattle.std.specs.Prelude.{◌≡◌, ◌≢◌, ◌≤◌, ◌<◌, ◌%◌};
+ghost use Rattle.std.specs.Prelude.{◌-◌, ◌^◌, length, OnOk, IfErr};
+ghost use Rattle.std.specs.Io.KnownBytes.{Consumes};
+ghost use Rattle.t85_core.specs.declared.fault.Fault.TheVariants.{ShortHeader};
+ghost use Rattle.t85_core.specs.Walk.{CountsRead, Ends};
+
+use crate::fault::Fault;
+use byteorder::{BigEndian, ByteOrder};
+use pbm_core::{DeviceFailed, Input};
+
+/// What an accepted header says. Its other bytes mean nothing.
+#[derive(Clone, Copy, Debug, PartialEq, Eq)]
+pub struct Header {
+    /// The width.
+    pub xd: u32,
+    /// The height.
+    pub yd: u32,
+    /// The rows of a stripe.
+    pub l0: u32,
+    /// The greatest offset of the adaptive pixel.
+    pub mx: u8,
+    pub options: u8,
+    ghost some_width: { 1 ≤ xd },
+    ghost not_too_wide: { xd ≤ 1048576 },
+    ghost some_height: { 1 ≤ yd },
+    ghost some_rows: { 1 ≤ l0 },
+    ghost in_range: { mx ≤ 127 },
+    ghost no_reserved_bit: { options < 128 },
+    ghost no_private_table: { options % 8 ≢ 6 },
+}
+
+impl Header {
+    ghost use Rattle.std.specs.Prelude.{ℕ, List, ◌-◌, ◌^◌, length, Ok, Err, IfOk, IfErr, MatchResult, OnOk, None, Some};
+    ghost use Rattle.std.specs.Io.KnownBytes.{Consumes, IsAtEnd};
+    ghost use Rattle.t85_core.specs.Walk.{counted_as};
+    ghost use Rattle.t85_core.specs.Header.{HeaderOf, header_fault, header_bytes};
+    ghost use Rattle.t85_core.specs.Chosen.{fields_of};
+
+    /// Reads a header, and no byte after it.
+    pub fn read<R: Input>(input: &mut R) -> Result<Header, Fault>
+        requires { R.failures input.old < 2 ^ 64 - 1 }
+        ensures accepted { IfOk result (λ h. (given : List ℕ) × (length given ≡ 20)
+            × Consumes (R.remaining input.old) (R.remaining input.new) given × HeaderOf given (fields_of h)) }
+        ensures refused { IfErr result (Ends ShortHeader (R.remaining input.old) (R.remaining input.new)
+            (λ given fault. (length given ≤ 20) × (header_fault given ≡ Some fault))) }
+        ensures counts { CountsRead (R.failures input.old) (R.failures input.new) result }
+    {
+        let mut bytes = [0; 20];
+        fill(input, &mut bytes)?;
+        Header::accept(&bytes)
+    }
+
+    /// Judges the twenty bytes.
+    fn accept(bytes: &[u8; 20]) -> Result<Header, Fault>
+        ensures accepted { IfOk result (λ h. HeaderOf bytes.now (fields_of h)) }
+        ensures refused { MatchResult result (λ _. header_fault bytes.now ≡ None) (λ f. header_fault bytes.now ≡ Some f) }
+        ensures judged { IfErr result (λ f. (counted_as ShortHeader f ≡ f) × (f ≢ ShortHeader)) }
+    {
+        let xd = BigEndian::read_u32(&bytes[4..]);
+        let yd = BigEndian::read_u32(&bytes[8..]);
+        let l0 = BigEndian::read_u32(&bytes[12..]);
+        let mx = bytes[16];
+        let options = bytes[19];
+        if bytes[3] != 0 || bytes[18] >= 16 || options >= 128 {
+            return Err(Fault::ReservedBits);
+        }
+        if bytes[0] != 0 || bytes[1] != 0 {
+            return Err(Fault::Layers);
+        }
+        if bytes[2] != 1 {
+            return Err(Fault::Planes);
+        }
+        if xd == 0 || yd == 0 || l0 == 0 {
+            return Err(Fault::ZeroSize);
+        }
+        if xd > 1_048_576 {
+            return Err(Fault::TooWide);
+        }
+        if mx > 127 {
+            return Err(Fault::MoveRange);
+        }
+        if options % 8 == 6 {
+            return Err(Fault::PrivateTable);
+        }
+        Ok(Header {
+            xd,
+            yd,
+            l0,
+            mx,
+            options,
+        })
+    }
+
+    /// The header as bytes, with MY and order 0.
+    pub fn bytes(&self) -> [u8; 20]
+        ensures { result ≡ header_bytes (fields_of self.now) }
+    {
+        let mut bytes = [0; 20];
+        bytes[2] = 1;
+        BigEndian::write_u32(&mut bytes[4..8], self.xd);
+        BigEndian::write_u32(&mut bytes[8..12], self.yd);
+        BigEndian::write_u32(&mut bytes[12..16], self.l0);
+        bytes[16] = self.mx;
+        bytes[19] = self.options;
+        bytes
+    }
+}
+
+/// Fills the buffer from the input, and takes nothing more.
+fn fill<R: Input>(input: &mut R, buf: &mut [u8]) -> Result<(), Fault>
+    requires { R.failures input.old < 2 ^ 64 - 1 }
+    ensures filled { OnOk result (Consumes (R.remaining input.old) (R.remaining input.new) buf.new) }
+    ensures short { IfErr result (Ends ShortHeader (R.remaining input.old) (R.remaining input.new)
+        (λ given fault. (length given < length buf.old) × (fault ≡ ShortHeader))) }
+    ensures counts { CountsRead (R.failures input.old) (R.failures input.new) result }
+{
+    let mut at = 0;
+    while at < buf.len() {
+        match input.read(&mut buf[at..]) {
+            Ok(0) => return Err(Fault::ShortHeader),
+            Ok(n) => at += n,
+            Err(DeviceFailed) => return Err(Fault::Read),
+        }
+    }
+    Ok(())
+}

@@ -1,0 +1,84 @@
+//! A line of decimal numbers.
+
+ghost use Rattle.std.specs.Prelude.{◌≡◌, ◌-◌, ◌*◌, ◌^◌, ◌<◌, ◌≤◌, ◌+◌, ◌∷◌, ◌++◌, [], List, ℕ, length, take, true, OnOk, IfErr};
+ghost use Rattle.std.specs.Fmt.{decimal};
+ghost use Rattle.std.specs.Io.KnownBytes.{Appends};
+ghost use Rattle.t85_core.specs.declared.fault.Fault.TheVariants.{Write};
+ghost use Rattle.pbm_core.specs.Device.{AppendsBeginning};
+ghost use Rattle.t85_core.specs.Walk.{CountsWrite};
+ghost use Rattle.t85_core.specs.Line.{line_text};
+
+use crate::fault::Fault;
+use pbm_core::{Output, write_bytes};
+use std::marker::Model;
+
+/// A line while it is made: room for nine numbers of twenty digits, each with a byte behind it.
+#[derive(Drop)]
+pub struct Line {
+    bytes: [u8; 192],
+    len: usize,
+}
+
+impl Model for Line {
+    ghost Value = { List ℕ };
+
+    ghost view = { λ line. take line.len line.bytes };
+
+    ghost invariant = { λ line. line.len ≤ 192 };
+}
+
+impl Line {
+    /// The numbers, a space between each two, and the end of the line.
+    #[tactic(auto, using(crate::proofs::Numerals::digits))]
+    pub fn of(numbers: &[u64]) -> Line
+        requires { length numbers.now ≤ 9 }
+        ensures { result ≡ line_text numbers.now }
+    {
+        let mut line = Line {
+            bytes: [0; 192],
+            len: 0,
+        };
+        for (i, n) in numbers.iter().enumerate() {
+            line.number(*n);
+            line.push(if i + 1 == numbers.len() { b'\n' } else { b' ' });
+        }
+        line
+    }
+
+    #[tactic(auto, using(crate::proofs::Numerals::digits))]
+    fn number(&mut self, n: u64)
+        requires { length self.old + length (decimal n) ≤ 192 }
+        ensures { self.new ≡ self.old ++ decimal n }
+    {
+        if n >= 10 {
+            self.number(n / 10);
+        }
+        self.push(b'0' + (n % 10) as u8);
+    }
+
+    fn push(&mut self, byte: u8)
+        requires { length self.old < 192 }
+        ensures { self.new ≡ self.old ++ byte ∷ [] }
+    {
+        self.bytes[self.len] = byte;
+        self.len += 1;
+    }
+
+    /// Writes the line, and flushes once.
+    pub fn put<W: Output>(&self, output: &mut W) -> Result<(), Fault>
+        requires { W.failures output.old < 2 ^ 64 - 1 }
+        ensures ok { OnOk result (Appends (W.contents output.old) (W.contents output.new) self.now) }
+        ensures err { IfErr result (λ f. f ≡ Write) }
+        ensures cut { IfErr result (λ _. AppendsBeginning (W.contents output.old) (W.contents output.new) self.now) }
+        ensures flushed { OnOk result (W.flushed output.new ≡ true) }
+        ensures counts { CountsWrite (W.failures output.old) (W.failures output.new) result }
+    {
+        if write_bytes(output, &self.bytes[..self.len]).is_err() {
+            return Err(Fault::Write);
+        }
+        if output.flush().is_err() {
+            return Err(Fault::Write);
+        }
+        Ok(())
+    }
+}

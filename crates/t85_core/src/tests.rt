@@ -1,0 +1,109 @@
+//! What no contract says: texts, and each public call once on outside values.
+
+ghost use Rattle.std.specs.Prelude.{◌<◌};
+
+use super::*;
+use pbm_core::trial::{Drip, Pieces};
+use std::test::Fail;
+
+/// The header of a stream of two typical rows, one black pixel wide, in stripes of one row.
+const HEADER: [u8; 20] = [0, 0, 1, 0, 0, 0, 0, 1, 0, 0, 0, 2, 0, 0, 0, 1, 0, 0, 0, 8];
+
+#[test]
+fn faults_have_numbers_and_texts(rt: HostRuntime) -> Result<(), Fail> {
+    let faults = [
+        (Fault::ShortHeader, 1u8, "header is shorter than 20 bytes"),
+        (
+            Fault::ReservedBits,
+            2,
+            "reserved bits of the header are set",
+        ),
+        (Fault::Layers, 3, "differential layers are not supported"),
+        (Fault::Planes, 4, "number of planes is not one"),
+        (Fault::ZeroSize, 5, "width, height or stripe length is zero"),
+        (Fault::TooWide, 6, "image is wider than 1048576"),
+        (Fault::MoveRange, 7, "adaptive pixel range is above 127"),
+        (
+            Fault::PrivateTable,
+            8,
+            "private prediction table is not supported",
+        ),
+        (Fault::Truncated, 9, "input ends too early"),
+        (Fault::BadEscape, 10, "unexpected escape code"),
+        (Fault::Aborted, 11, "image was aborted"),
+        (Fault::MoveRefused, 12, "adaptive pixel move is not allowed"),
+        (
+            Fault::SecondMove,
+            13,
+            "second adaptive pixel move in a stripe",
+        ),
+        (Fault::LengthRefused, 14, "new height is not allowed"),
+        (Fault::Read, 17, "input cannot be read"),
+        (Fault::Write, 18, "output cannot be written"),
+        (Fault::OutOfMemory, 19, "out of memory"),
+        (Fault::NotYet, 27, "not built yet"),
+    ];
+    for (fault, number, text) in faults {
+        assert_eq!(rt; fault.number(), number, "{text}");
+        let shown = format!(in rt.alloc(); "{fault}")?;
+        assert_eq!(rt; shown.as_str(), text);
+    }
+    Ok(())
+}
+
+#[test]
+fn header_is_read_and_written(rt: HostRuntime) -> Result<(), Fail> {
+    let bytes = [
+        0, 0, 1, 0, 0, 16, 0, 0, 255, 255, 255, 255, 0, 0, 0, 128, 127, 9, 15, 0x7d,
+    ];
+    let mut input = Pieces::new(&bytes, 3, None);
+    let Ok(header) = Header::read(&mut input) else {
+        return Err(Fail::from("refused"));
+    };
+    assert_eq!(rt; header.xd, 1_048_576);
+    assert_eq!(rt; header.yd, 4_294_967_295);
+    assert_eq!(rt; header.l0, 128);
+    assert_eq!(rt; header.mx, 127);
+    assert_eq!(rt; header.options, 0x7d);
+    let written = [
+        0, 0, 1, 0, 0, 16, 0, 0, 255, 255, 255, 255, 0, 0, 0, 128, 127, 0, 0, 0x7d,
+    ];
+    assert_eq!(rt; header.bytes().as_slice(), written.as_slice());
+    Ok(())
+}
+
+#[test]
+fn headers_are_refused_in_order(rt: HostRuntime) -> Result<(), Fail> {
+    // Each line sets one more byte that is refused, and an earlier refusal wins.
+    let mut bytes = HEADER;
+    let steps = [
+        (19, 0x0e, Fault::PrivateTable),
+        (16, 128, Fault::MoveRange),
+        (5, 17, Fault::TooWide),
+        (11, 0, Fault::ZeroSize),
+        (2, 2, Fault::Planes),
+        (1, 1, Fault::Layers),
+        (18, 16, Fault::ReservedBits),
+    ];
+    for (at, byte, fault) in steps {
+        if at < 20 {
+            bytes[at] = byte;
+        }
+        let mut input = Pieces::new(&bytes, 20, None);
+        assert_eq!(rt; Header::read(&mut input), Err(fault), "byte {at}");
+    }
+    Ok(())
+}
+
+#[test]
+fn info_tells_a_line(rt: HostRuntime) {
+    let mut stream = [0; 26];
+    stream[..20].copy_from_slice(&HEADER);
+    stream[20..].copy_from_slice(&[0xe0, 0xff, 2, 0xe0, 0xff, 2]);
+    let mut input = Pieces::new(&stream, 4096, None);
+    let mut held = [0; 64];
+    let mut output = Drip::new(&mut held, 64, None, false);
+    let answer = info(&mut input, &mut output);
+    assert_eq!(rt; answer, Ok(()));
+    assert_eq!(rt; output.written(), b"1 2 1 0 8 2 2 0 0\n".as_slice());
+}
