@@ -1,4 +1,39 @@
+# make            builds every program into bin/ and shows the main job on a real page
+# make test       the gate: every proof, every edit that must fail, every test
+# make turns      makes each allocation of the programs fail in turn
+# make bench      measures; no test is timed
+# make install    copies the programs to $(DESTDIR)$(PREFIX)/bin
+
+PREFIX ?= /usr/local
+PROGRAMS = jbgtopbm85
+
+show: build
+	bin/jbgtopbm85 --info examples/letter.jbg
+
+# A program is proved before it is built.
+build:
+	@mkdir -p bin
+	@for program in $(PROGRAMS); do \
+		echo "proving and building $$program"; \
+		(cd crates/$$program && rt run -- --help) > bin/$$program.log 2>&1 || { cat bin/$$program.log; exit 1; }; \
+		cp crates/$$program/out/$$program bin/$$program; \
+	done
+
 test:
 	rt ci
 
-.PHONY: test
+turns: build
+	tests/turns bin
+
+bench: build
+	bench/info bin/jbgtopbm85
+
+install: build
+	@for program in $(PROGRAMS); do \
+		install -D -m 755 bin/$$program $(DESTDIR)$(PREFIX)/bin/$$program; \
+	done
+
+clean:
+	rm -rf bin crates/*/out
+
+.PHONY: show build test turns bench install clean

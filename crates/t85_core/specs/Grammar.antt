@@ -1,4 +1,4 @@
--- What follows the header: for each stripe segments, and a data entity of a code and an end marker (T.82, 6.2.2 to 6.2.6).
+-- What follows the header: for each stripe segments, and a data entity of a code and an end marker (T.82, 6.2).
 use Rattle.std.specs.Prelude.{ℕ, ◌≡◌, ◌≤◌, ◌<◌, ◌^◌, Bool, true, false, List, [], ◌∷◌, ◌++◌, length, flat_map, count_by, if◌then◌else◌}
 use Rattle.std.specs.List.{AllByRecursion}
 use Rattle.std.specs.Int.{div_ceil}

@@ -1,4 +1,4 @@
--- The header: the twenty bytes before the first segment (T.82, 6.2.1).
+-- The header: the twenty bytes before the first segment (T.82, 6.2).
 use Rattle.std.specs.Prelude.{◌≡◌, ◌≢◌, ◌≤◌, ◌<◌, ◌^◌, ◌%◌, ℕ, Bool, ◌||◌, not, ◌==◌, nat_lt, nat_le, List, [], ◌∷◌, ◌++◌, length, drop, slice_index, Option, Some, None, if◌then◌else◌}
 use Rattle.byteorder.specs.Endian.{big_number, big_bytes}
 use Rattle.t85_core.specs.declared.fault.Fault.{Fault}
