@@ -79,71 +79,88 @@ fn info_job(alloc: Global) -> Result<Job, Fail> {
 /// Two stripes of one row, one black pixel wide.
 const TWO_STRIPES: &str = "00000100 00000001 00000002 00000001 00 0000 08 E0 FF02 E0 FF02";
 
-/// Streams, and the line or the text of the fault.
-const STREAMS: [(&str, Result<&str, &str>); 17] = [
-    (TWO_STRIPES, Ok("1 2 1 0 8 2 2 0 0\n")),
+/// Streams, how many single bytes are asked for (the end of the input is asked for too), and the line or the text of
+/// the fault.
+const STREAMS: [(&str, u64, Result<&str, &str>); 17] = [
+    (TWO_STRIPES, 26, Ok("1 2 1 0 8 2 2 0 0\n")),
     (
         "00000100 00000008 00000002 00000001 03 0000 00 F0 FF02 FF06 00000000 0300 F8 FF02",
+        34,
         Ok("8 2 1 3 0 2 2 1 0\n"),
     ),
     (
         "00000100 00000008 00000001 00000080 00 0000 08 FF07 00000002 6869 FF02",
+        30,
         Ok("8 1 128 0 8 1 1 0 1\n"),
     ),
     (
         "00000100 00000008 00000003 00000080 08 0003 1C FF02",
+        22,
         Ok("8 3 128 8 28 3 1 0 0\n"),
     ),
     (
         "00000100 00000001 00000005 00000080 00 0000 20 C0 FF02 FF05 00000001 FF02",
+        23,
         Ok("1 5 128 0 32 5 1 0 0\n"),
     ),
     (
         "00000100 00000008 00000001 00000080 00 0000 00 FF02 FF07",
+        22,
         Ok("8 1 128 0 0 1 1 0 0\n"),
     ),
     (
         "00000100 00000008 00000001 00000080 00 0000 08",
+        21,
         Err("input ends too early"),
     ),
     (
         "00000100 00000008 00000001 00000080 00 0000 08 FF09",
+        22,
         Err("unexpected escape code"),
     ),
     (
         "00000100 00000008 00000001 00000080 00 0000 08 FF04",
+        22,
         Err("image was aborted"),
     ),
     (
         "00000100 00000008 00000001 00000080 00 0000 08 00 FF05",
+        23,
         Err("unexpected escape code"),
     ),
     (
         "00000100 00000001 00000001 00000080 00 0000 00 FF05 00000001 C0 FF02",
+        22,
         Err("new height is not allowed"),
     ),
     (
         "00000100 00000001 00000001 00000080 00 0000 00 FF05",
+        22,
         Err("new height is not allowed"),
     ),
     (
         "01010201 00000000 00000000 00000000 00 0000 00",
+        20,
         Err("reserved bits of the header are set"),
     ),
     (
         "00000100 00000001 00000001 00000080 00 0000",
+        20,
         Err("header is shorter than 20 bytes"),
     ),
     (
         "00000100 00100001 00000001 00000080 00 0000 00",
+        20,
         Err("image is wider than 1048576"),
     ),
     (
         "00000100 00000008 00000002 00000080 00 0000 00 FF06 00000080 0000",
+        28,
         Err("adaptive pixel move is not allowed"),
     ),
     (
         "00000100 00000008 00000002 00000080 00 0000 00 FF06 00000000 0000 FF06",
+        30,
         Err("second adaptive pixel move in a stripe"),
     ),
 ];
@@ -194,22 +211,10 @@ fn refuses_words(rt: HostRuntime) {
 fn tells_each_stream(rt: HostRuntime) -> Result<(), Fail> {
     let alloc = rt.alloc();
     let job = info_job(alloc)?;
-    for (hex, answer) in STREAMS {
+    for (hex, _, answer) in STREAMS {
         for most in [1, 2, 3, 4095, 4096, 4097] {
             let ran = run_on(alloc, &job, hex, Devices { most, ..SMOOTH })?;
-            match answer {
-                Ok(line) => {
-                    assert_eq!(rt; ran.status, 0, "{hex}");
-                    assert_eq!(rt; ran.output.as_slice(), line.as_bytes(), "{hex}");
-                    assert!(rt; ran.messages.is_empty(), "{hex}");
-                }
-                Err(text) => {
-                    let said = format!(in alloc; "jbgtopbm85: {text}\n")?;
-                    assert_eq!(rt; ran.status, 1, "{hex}");
-                    assert!(rt; ran.output.is_empty(), "{hex}");
-                    assert_eq!(rt; ran.messages.as_slice(), said.as_bytes(), "{hex}");
-                }
-            }
+            assert!(rt; tells(alloc, &ran, answer)?, "{hex}");
         }
     }
     Ok(())
@@ -236,68 +241,99 @@ fn passes_a_long_comment(rt: HostRuntime) -> Result<(), Fail> {
     Ok(())
 }
 
-/// The header is one read of 20 bytes and the rest one of 6 where reads are large. By single bytes
-/// there are 26 reads, and none after the last end marker.
+/// Whether a run has told the line or the text of the fault, and nothing else.
+fn tells(alloc: Global, ran: &Ran, answer: Result<&str, &str>) -> Result<bool, AllocError> {
+    match answer {
+        Ok(line) => Ok(
+            ran.status == 0 && ran.output.as_slice() == line.as_bytes() && ran.messages.is_empty(),
+        ),
+        Err(text) => {
+            let said = format!(in alloc; "jbgtopbm85: {text}\n")?;
+            Ok(
+                ran.status == 1
+                    && ran.output.is_empty()
+                    && ran.messages.as_slice() == said.as_bytes(),
+            )
+        }
+    }
+}
+
+/// Each read of each stream fails in turn, and one read more is never asked for.
 #[test]
 fn each_read_fails(rt: HostRuntime) -> Result<(), Fail> {
     let alloc = rt.alloc();
     let job = info_job(alloc)?;
-    for (most, reads) in [(1, 26u64), (2, 13), (4096, 2)] {
-        for at in 1..=reads {
+    for (hex, reads, answer) in STREAMS {
+        for at in 1..=reads + 1 {
             let devices = Devices {
-                most,
+                most: 1,
                 failing_read: Some(at),
                 ..SMOOTH
             };
-            let ran = run_on(alloc, &job, TWO_STRIPES, devices)?;
-            assert_eq!(rt; ran.status, 1, "read {at}");
-            assert!(rt; ran.output.is_empty(), "read {at}");
-            assert_eq!(rt;
-                ran.messages.as_slice(),
-                b"jbgtopbm85: input cannot be read\n".as_slice()
-            );
+            let ran = run_on(alloc, &job, hex, devices)?;
+            let answer = if at <= reads {
+                Err("input cannot be read")
+            } else {
+                answer
+            };
+            assert!(rt; tells(alloc, &ran, answer)?, "read {at} of {hex}");
         }
-        let devices = Devices {
-            most,
-            failing_read: Some(reads + 1),
-            ..SMOOTH
-        };
-        let ran = run_on(alloc, &job, TWO_STRIPES, devices)?;
-        assert_eq!(rt; ran.status, 0, "no more is read");
     }
     Ok(())
 }
 
+/// Where reads are large, one is for the header and one for what follows.
+#[test]
+fn reads_ahead(rt: HostRuntime) -> Result<(), Fail> {
+    let alloc = rt.alloc();
+    let job = info_job(alloc)?;
+    for at in 1..=3u64 {
+        let devices = Devices {
+            failing_read: Some(at),
+            ..SMOOTH
+        };
+        let ran = run_on(alloc, &job, TWO_STRIPES, devices)?;
+        let answer = if at <= 2 {
+            Err("input cannot be read")
+        } else {
+            Ok("1 2 1 0 8 2 2 0 0\n")
+        };
+        assert!(rt; tells(alloc, &ran, answer)?, "read {at}");
+    }
+    Ok(())
+}
+
+/// Each write of each line fails in turn, and then the flush.
 #[test]
 fn each_write_fails(rt: HostRuntime) -> Result<(), Fail> {
     let alloc = rt.alloc();
     let job = info_job(alloc)?;
-    let line = b"1 2 1 0 8 2 2 0 0\n";
-    for at in 1..=18usize {
+    let said = b"jbgtopbm85: output cannot be written\n";
+    for (hex, _, answer) in STREAMS {
+        let Ok(line) = answer else {
+            continue;
+        };
+        let line = line.as_bytes();
+        for at in 1..=line.len() {
+            let devices = Devices {
+                most: 1,
+                failing_write: Some(at as u64),
+                ..SMOOTH
+            };
+            let ran = run_on(alloc, &job, hex, devices)?;
+            assert_eq!(rt; ran.status, 1, "write {at}");
+            assert_eq!(rt; ran.output.as_slice(), &line[..at - 1], "write {at}");
+            assert_eq!(rt; ran.messages.as_slice(), said.as_slice(), "write {at}");
+        }
         let devices = Devices {
-            most: 1,
-            failing_write: Some(at as u64),
+            flush_fails: true,
             ..SMOOTH
         };
-        let ran = run_on(alloc, &job, TWO_STRIPES, devices)?;
-        assert_eq!(rt; ran.status, 1, "write {at}");
-        assert_eq!(rt; ran.output.as_slice(), &line[..at - 1], "write {at}");
-        assert_eq!(rt;
-            ran.messages.as_slice(),
-            b"jbgtopbm85: output cannot be written\n".as_slice()
-        );
+        let ran = run_on(alloc, &job, hex, devices)?;
+        assert_eq!(rt; ran.status, 1);
+        assert_eq!(rt; ran.output.as_slice(), line);
+        assert_eq!(rt; ran.messages.as_slice(), said.as_slice());
     }
-    let devices = Devices {
-        flush_fails: true,
-        ..SMOOTH
-    };
-    let ran = run_on(alloc, &job, TWO_STRIPES, devices)?;
-    assert_eq!(rt; ran.status, 1);
-    assert_eq!(rt; ran.output.as_slice(), line.as_slice());
-    assert_eq!(rt;
-        ran.messages.as_slice(),
-        b"jbgtopbm85: output cannot be written\n".as_slice()
-    );
     Ok(())
 }
 
