@@ -1,6 +1,7 @@
 //! The decoder.
 
-ghost use Rattle.std.specs.Prelude.{◌≡◌, ◌+◌, ◌-◌, ◌*◌, ◌%◌, ◌^◌, ◌≤◌, ◌<◌, OnOk};
+ghost use Rattle.std.specs.Prelude.{◌≡◌, ◌≢◌, ◌+◌, ◌-◌, ◌*◌, ◌%◌, ◌^◌, ◌≤◌, ◌<◌, ◌↔◌, false, IsTrue, IsErr, OnOk, OnErr};
+ghost use Rattle.qm_core.specs.declared.source.Heard.TheVariants.{Stopped};
 
 use crate::context::Context;
 use crate::entries::entry_of;
@@ -27,6 +28,7 @@ pub struct Decoder {
     ghost few: { bits ≤ 23 },
     ghost aligned: { code % 2 ^ (23 - bits) ≡ 0 },
     ghost room: { code + 2 ^ (23 - bits) ≤ span },
+    ghost stuck: { heard ≡ Stopped → bits < 16 },
 }
 
 impl Decoder {
@@ -34,11 +36,13 @@ impl Decoder {
     ghost use Rattle.qm_core.specs.Place.{Place, State, start, renormalised, step};
     ghost use Rattle.qm_core.specs.Registers.{Registers};
     ghost use Rattle.qm_core.specs.Answers.{Pulls};
-    ghost use Rattle.qm_core.specs.Standing.{Stands, Fills, Next};
+    ghost use Rattle.qm_core.specs.Standing.{has_stopped, Stands, Fills, Next};
     ghost use Rattle.qm_core.specs.declared.source.Pulled.{Pulled};
 
+    /// A decoder at the beginning of a code, of which nothing was pulled.
     pub fn start() -> Decoder
-        ensures { Stands result start [] }
+        ensures stands { Stands result start [] }
+        ensures going { has_stopped result ≡ false }
     {
         Decoder {
             code: 0,
@@ -48,6 +52,9 @@ impl Decoder {
         }
     }
 
+    /// The next pixel, in the context `cx`, and what that context learns of it.
+    ///
+    /// Bytes are pulled first, as far as they decide the pixel and no further. After `End` zeros are taken for them.
     #[inline(always)]
     pub fn next<S: CodeBytes>(
         &mut self,
@@ -56,7 +63,14 @@ impl Decoder {
         source: &mut S,
     ) -> Result<bool, Stop>
         requires { S.failed source.old + 1 < 2 ^ 64 }
-        ensures failed { OnOk result (S.failed source.new ≡ S.failed source.old) }
+        // A decoder that has stopped stays as it is, and pulls nothing.
+        ensures stopped { IsTrue (has_stopped self.old) →
+            IsErr result × (self.new ≡ self.old) × (learned.new ≡ learned.old) × (source.new ≡ source.old) }
+        ensures stops { IsTrue (has_stopped self.new) ↔ IsErr result }
+        ensures same { OnOk result (S.failed source.new ≡ S.failed source.old) }
+        ensures counted { has_stopped self.old ≡ false → OnErr result (S.failed source.new ≡ S.failed source.old + 1) }
+        ensures unchanged { OnErr result (learned.new ≡ learned.old) }
+
         ensures next { (p : Place) (answers : List Pulled) → Stands self.old p answers →
             Next (Pulls S.gives S.failed) source.old source.new
             (record { place = p; learned = learned.old }) answers cx.number self.new learned.new result }
@@ -72,7 +86,10 @@ impl Decoder {
         requires few { self.old.bits < 16 }
         requires count { S.failed source.old + 1 < 2 ^ 64 }
         ensures bits { OnOk result (16 ≤ self.new.bits) }
-        ensures failed { OnOk result (S.failed source.new ≡ S.failed source.old) }
+        ensures stopped { IsTrue (has_stopped self.old) → IsErr result × (self.new ≡ self.old) × (source.new ≡ source.old) }
+        ensures stops { IsTrue (has_stopped self.new) ↔ IsErr result }
+        ensures same { OnOk result (S.failed source.new ≡ S.failed source.old) }
+        ensures counted { has_stopped self.old ≡ false → OnErr result (S.failed source.new ≡ S.failed source.old + 1) }
         ensures fills { (p : Place) (answers : List Pulled) → Stands self.old p answers →
             Fills (Pulls S.gives S.failed) source.old source.new p answers self.new result }
     {
@@ -88,7 +105,10 @@ impl Decoder {
         requires few { self.old.bits < 16 }
         requires count { S.failed source.old + 1 < 2 ^ 64 }
         ensures bits { OnOk result (self.new.bits ≡ self.old.bits + 8) }
-        ensures failed { OnOk result (S.failed source.new ≡ S.failed source.old) }
+        ensures stopped { IsTrue (has_stopped self.old) → IsErr result × (self.new ≡ self.old) × (source.new ≡ source.old) }
+        ensures stops { IsTrue (has_stopped self.new) ↔ IsErr result }
+        ensures same { OnOk result (S.failed source.new ≡ S.failed source.old) }
+        ensures counted { has_stopped self.old ≡ false → OnErr result (S.failed source.new ≡ S.failed source.old + 1) }
         ensures fills { (p : Place) (answers : List Pulled) → Stands self.old p answers →
             Fills (Pulls S.gives S.failed) source.old source.new p answers self.new result }
     {
@@ -118,7 +138,8 @@ impl Decoder {
 
     /// Puts a byte behind the bits that are there.
     fn take(&mut self, byte: u8)
-        requires { self.old.bits < 16 }
+        requires few { self.old.bits < 16 }
+        requires going { self.old.heard ≢ Stopped }
         ensures heard { self.new.heard ≡ self.old.heard }
         ensures bits { self.new.bits ≡ self.old.bits + 8 }
         ensures place { (p : Place) (b : List ℕ) → Registers self.old.code self.old.span self.old.bits p b →

@@ -1,6 +1,6 @@
 //! The encoder.
 
-ghost use Rattle.std.specs.Prelude.{◌≡◌, ◌≢◌, ◌+◌, ◌-◌, ◌*◌, ◌%◌, ◌^◌, ◌≤◌, ◌<◌, List, ℕ, ◌++◌, None, IsTrue, false, true, Err, Ok, [], IsErr, OnOk, nat_lt, not, if◌then◌else◌};
+ghost use Rattle.std.specs.Prelude.{◌≡◌, ◌≢◌, ◌+◌, ◌-◌, ◌*◌, ◌%◌, ◌^◌, ◌≤◌, ◌<◌, List, ℕ, ◌++◌, None, IsTrue, false, true, Err, Ok, [], IsErr, OnOk, OnErr, ◌↔◌, nat_lt, not, if◌then◌else◌};
 ghost use Rattle.qm_core.specs.Place.{Place, State, start, step, renormalised, same};
 ghost use Rattle.qm_core.specs.Code.{stuffed};
 ghost use Rattle.qm_core.specs.Coding.{run_bytes, Digits};
@@ -12,14 +12,16 @@ use crate::entries::{Entry, entry_of};
 use crate::learned::Learned;
 use crate::sink::{CodeSink, SinkFault};
 
-/// The sink failed in this call, or the encoder failed in an earlier one.
+/// Why an encoder did not do what it was asked.
 #[derive(Clone, Copy, PartialEq, Eq, Debug)]
 pub enum CoderFault {
+    /// The sink failed in this call.
     Write = 1,
+    /// The sink failed in an earlier call, and nothing was done.
     Failed = 2,
 }
 
-/// The most events of one encoder.
+/// The most pixels of one encoder.
 pub const MAX_EVENTS: u64 = 0x100_0000_0000_0000;
 
 /// An encoder between two pixels.
@@ -55,6 +57,7 @@ struct Doubled {
 }
 
 /// Doubles until the size is large enough.
+#[inline(always)]
 fn raise(low: u64, span: u32, bits: u32) -> Doubled
     requires large { 128 ≤ span }
     requires small { span < 0x40_0000 }
@@ -87,6 +90,7 @@ struct Out {
 }
 
 /// Moves the highest byte of `low` to the tail.
+#[inline(always)]
 fn byte_out(tail: &mut Tail, low: u64, span: u32, bits: u32) -> Out
     requires least { 24 ≤ bits }
     requires most { bits ≤ 38 }
@@ -121,6 +125,7 @@ struct Shifted {
 }
 
 /// Moves the bytes above the last 16 bits to the tail.
+#[inline(always)]
 fn bytes_out(tail: &mut Tail, low: u64, span: u32, bits: u32) -> Shifted
     requires least { 24 ≤ bits }
     requires most { bits ≤ 38 }
@@ -164,6 +169,7 @@ fn bytes_out(tail: &mut Tail, low: u64, span: u32, bits: u32) -> Shifted
 }
 
 /// Writes two batches.
+#[inline(always)]
 fn write_both<W: CodeSink>(first: Batch, second: Batch, out: &mut W) -> Result<(), CoderFault>
     requires { W.failed out.old + 1 < 2 ^ 64 }
     ensures writes { Writes W.took W.refused W.failed out.old
@@ -202,8 +208,8 @@ fn is_lower(is_favoured: bool, lower: u32, upper: u32) -> bool
 
 /// The estimate after a pixel whose part is too small.
 #[inline(always)]
-fn next_cell(is_favoured: bool, entry: Entry) -> u8
-    ensures { result ≡ (if is_favoured then entry.favoured else entry.other) }
+fn next_cell(is_favoured: bool, entry: &Entry) -> u8
+    ensures { result ≡ (if is_favoured then entry.now.favoured else entry.now.other) }
 {
     if is_favoured {
         entry.favoured
@@ -213,12 +219,13 @@ fn next_cell(is_favoured: bool, entry: Entry) -> u8
 }
 
 impl Encoder {
-    ghost use Rattle.qm_core.specs.Encoding.{CodesAt, Codes, Goes, Put, Finish};
+    ghost use Rattle.qm_core.specs.Encoding.{events_of, has_failed, CodesAt, Codes, Goes, Put, Finish};
 
+    /// An encoder at the beginning of a code, of which nothing was pushed.
     pub fn start() -> Encoder
         ensures codes { Codes result start [] }
-        ensures events { result.events ≡ 0 }
-        ensures failed { result.failed ≡ false }
+        ensures events { events_of result ≡ 0 }
+        ensures going { has_failed result ≡ false }
     {
         Encoder {
             low: 0,
@@ -234,12 +241,16 @@ impl Encoder {
         }
     }
 
+    /// How many pixels were put.
     pub fn events(&self) -> u64
-        ensures { result ≡ self.now.events }
+        ensures { result ≡ events_of self.now }
     {
         self.events
     }
 
+    /// Codes a pixel in the context `cx`, and pushes the bytes of the code that no later pixel can change.
+    ///
+    /// After `Write` the encoder has failed, and what the contexts have learned is of no use.
     #[inline(always)]
     pub fn put<W: CodeSink>(
         &mut self,
@@ -248,14 +259,18 @@ impl Encoder {
         pixel: bool,
         out: &mut W,
     ) -> Result<(), CoderFault>
-        requires events { self.old.events < 2 ^ 56 }
+        requires events { events_of self.old < MAX_EVENTS }
         requires count { W.failed out.old + 1 < 2 ^ 64 }
-        ensures failed { IsTrue self.old.failed → (result ≡ Err CoderFault.Failed) × (out.new ≡ out.old) × (self.new.failed ≡ true) }
-        ensures events { self.old.failed ≡ false → self.new.events ≡ self.old.events + 1 }
-        ensures fault { self.old.failed ≡ false → IsErr result → (result ≡ Err CoderFault.Write) × (self.new.failed ≡ true) }
-        ensures ok { self.old.failed ≡ false → result ≡ Ok tt → self.new.failed ≡ false }
+        // An encoder that has failed stays as it is, and pushes nothing.
+        ensures failed { IsTrue (has_failed self.old) →
+            (result ≡ Err CoderFault.Failed) × (self.new ≡ self.old) × (learned.new ≡ learned.old) × (out.new ≡ out.old) }
+        ensures fails { IsTrue (has_failed self.new) ↔ IsErr result }
+        ensures fault { has_failed self.old ≡ false → IsErr result → result ≡ Err CoderFault.Write }
+        ensures events { has_failed self.old ≡ false → events_of self.new ≡ events_of self.old + 1 }
         ensures same { OnOk result (W.failed out.new ≡ W.failed out.old) }
-        ensures put { (p : Place) (pushed : List ℕ) → self.old.failed ≡ false → Codes self.old p pushed →
+        ensures counted { has_failed self.old ≡ false → OnErr result (W.failed out.new ≡ W.failed out.old + 1) }
+
+        ensures put { (p : Place) (pushed : List ℕ) → has_failed self.old ≡ false → Codes self.old p pushed →
             Put W.took W.refused W.failed out.old out.new (record { place = p; learned = learned.old }) pushed
             cx.number pixel self.new learned.new result }
     {
@@ -268,20 +283,20 @@ impl Encoder {
         let lower = self.span - entry.span;
         let is_favoured = is_same(pixel, cell % 2 == 1);
         let is_lower = is_lower(is_favoured, lower, entry.span);
-        let low = self.low;
         if is_lower {
             if lower >= 0x40_0000 {
                 self.span = lower;
                 return Ok(());
             }
             learned.set(cx, next_cell(is_favoured, entry));
-            return self.go(low, lower, out);
+            return self.go(self.low, lower, out);
         }
         learned.set(cx, next_cell(is_favoured, entry));
-        self.go(low + lower as u64, entry.span, out)
+        self.go(self.low + lower as u64, entry.span, out)
     }
 
     /// Goes to a part that is too small, doubled until it is large enough.
+    #[inline(always)]
     fn go<W: CodeSink>(&mut self, low: u64, span: u32, out: &mut W) -> Result<(), CoderFault>
         requires large { 128 ≤ span }
         requires small { span < 0x40_0000 }
@@ -292,20 +307,52 @@ impl Encoder {
         requires failed { self.old.failed ≡ false }
         requires failures { W.failed out.old + 1 < 2 ^ 64 }
         ensures events { self.new.events ≡ self.old.events }
-        ensures fault { IsErr result → (result ≡ Err CoderFault.Write) × (self.new.failed ≡ true) }
-        ensures ok { result ≡ Ok tt → self.new.failed ≡ false }
+        ensures fault { IsErr result → result ≡ Err CoderFault.Write }
+        ensures fails { IsTrue self.new.failed ↔ IsErr result }
         ensures same { OnOk result (W.failed out.new ≡ W.failed out.old) }
+        ensures counted { OnErr result (W.failed out.new ≡ W.failed out.old + 1) }
         ensures goes { (p : Place) (pushed : List ℕ) → CodesAt low span self.old.bits self.old.tail.zeros self.old.tail.held self.old.tail.ones p pushed →
             Goes W.took W.refused W.failed out.old out.new (renormalised p) pushed self.new result }
     {
         let to = raise(low, span, self.bits);
-        self.span = to.span;
         if to.bits < 24 {
             self.low = to.low;
+            self.span = to.span;
             self.bits = to.bits;
             return Ok(());
         }
-        let shifted = bytes_out(&mut self.tail, to.low, to.span, to.bits);
+        self.shift_out(to.low, to.span, to.bits, out)
+    }
+
+    /// Moves the bytes above the last 16 bits to the tail, and pushes what is then fixed.
+    #[inline(never)]
+    fn shift_out<W: CodeSink>(
+        &mut self,
+        low: u64,
+        span: u32,
+        bits: u32,
+        out: &mut W,
+    ) -> Result<(), CoderFault>
+        requires large { 0x40_0000 ≤ span }
+        requires small { span ≤ 0x80_0000 }
+        requires whole { span % 128 ≡ 0 }
+        requires least { 24 ≤ bits }
+        requires most { bits ≤ 38 }
+        requires room { low + span ≤ 2 ^ (bits + 8) }
+        requires fixed { self.old.tail.held ≡ None → low + span ≤ 2 ^ (bits + 7) }
+        requires count { self.old.tail.zeros + self.old.tail.ones + 2 ≤ 2 * self.old.events }
+        requires failed { self.old.failed ≡ false }
+        requires failures { W.failed out.old + 1 < 2 ^ 64 }
+        ensures events { self.new.events ≡ self.old.events }
+        ensures fault { IsErr result → result ≡ Err CoderFault.Write }
+        ensures fails { IsTrue self.new.failed ↔ IsErr result }
+        ensures same { OnOk result (W.failed out.new ≡ W.failed out.old) }
+        ensures counted { OnErr result (W.failed out.new ≡ W.failed out.old + 1) }
+        ensures goes { (p : Place) (pushed : List ℕ) → CodesAt low span bits self.old.tail.zeros self.old.tail.held self.old.tail.ones p pushed →
+            Goes W.took W.refused W.failed out.old out.new p pushed self.new result }
+    {
+        self.span = span;
+        let shifted = bytes_out(&mut self.tail, low, span, bits);
         self.low = shifted.low;
         self.bits = shifted.bits;
         let written = write_both(shifted.first, shifted.second, out);
@@ -315,12 +362,15 @@ impl Encoder {
         written
     }
 
-    /// Ends the code with the chosen number of the place.
+    /// Ends the code with the chosen number of the place, without an end marker.
     pub fn finish<W: CodeSink>(self, out: &mut W) -> Result<(), CoderFault>
         requires { W.failed out.old + 1 < 2 ^ 64 }
-        ensures failed { IsTrue self.failed → (result ≡ Err CoderFault.Failed) × (out.new ≡ out.old) }
-        ensures fault { self.failed ≡ false → IsErr result → result ≡ Err CoderFault.Write }
-        ensures code { (p : Place) (pushed : List ℕ) → self.failed ≡ false → Codes self p pushed →
+        ensures failed { IsTrue (has_failed self) → (result ≡ Err CoderFault.Failed) × (out.new ≡ out.old) }
+        ensures fault { has_failed self ≡ false → IsErr result → result ≡ Err CoderFault.Write }
+        ensures same { OnOk result (W.failed out.new ≡ W.failed out.old) }
+        ensures counted { has_failed self ≡ false → OnErr result (W.failed out.new ≡ W.failed out.old + 1) }
+
+        ensures code { (p : Place) (pushed : List ℕ) → has_failed self ≡ false → Codes self p pushed →
             Finish W.took W.refused W.failed out.old out.new p pushed result }
     {
         let Encoder {

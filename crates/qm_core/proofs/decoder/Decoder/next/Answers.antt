@@ -1,8 +1,6 @@
-use Rattle.std.proofs.Common.{◌≡◌, ◌≤◌, List, [], ◌++◌, arith, rules, refl, append-nil, sym}
-use Rattle.qm_core.specs.Place.{Place, State, step}
-use Rattle.qm_core.specs.Registers.{Registers}
+use Rattle.std.proofs.Common.{◌≤◌, List, [], ◌++◌, append-nil, sym}
 use Rattle.qm_core.specs.Answers.{Pulls, Gives}
-use Rattle.qm_core.specs.Standing.{Stands, Fills, Next}
+use Rattle.qm_core.specs.Standing.{Stands}
 use Rattle.qm_core.specs.declared.source.Pulled.{Pulled}
 use Rattle.qm_core.proofs.Deciding.{next_ok, next_err}
 use Rattle.qm_core.proofs.decoder.Decoder.next.Goals as goal

@@ -1,0 +1,90 @@
+//! Codes and decodes pixels in pseudo-random contexts, to time the coder.
+//!
+//! The words of the command line are the number of pixels and what is done: 0 draws them alone, 1 codes them too, and
+//! any other number, as none, also decodes them.
+#![tactic(auto)]
+
+ghost use Rattle.std.specs.Prelude.{◌+◌, ◌<◌, ◌^◌};
+
+mod draws;
+mod memory;
+
+use draws::Draws;
+use memory::{MemorySink, MemorySource};
+use qm_core::{Context, Decoder, Encoder, Learned};
+use std::io;
+
+fn number(words: &[String], i: usize, otherwise: u32) -> u32 {
+    match words.get(i) {
+        Some(word) => word.as_str().parse().unwrap_or(otherwise),
+        None => otherwise,
+    }
+}
+
+/// Draws pixels, and adds up what was drawn.
+fn draw(count: u32) -> u32 {
+    let mut draws = Draws::new();
+    let mut sum = 0u32;
+    for _ in 0..count {
+        let (cx, pixel) = draws.next_pixel();
+        sum = sum.wrapping_add(u32::from(cx.number) * 2 + u32::from(pixel));
+    }
+    sum
+}
+
+/// Codes pixels, and tells whether the sink took all bytes.
+fn encode(count: u32, sink: &mut MemorySink) -> bool
+    requires { sink.old.failed + 1 < 2 ^ 64 }
+{
+    let mut encoder = Encoder::start();
+    let mut learned = Learned::new();
+    let mut draws = Draws::new();
+    for _ in 0..count {
+        let (cx, pixel) = draws.next_pixel();
+        if encoder.put(&mut learned, cx, pixel, sink).is_err() {
+            return false;
+        }
+    }
+    encoder.finish(sink).is_ok()
+}
+
+/// Decodes pixels, and counts those that differ from what was drawn.
+fn decode(count: u32, source: &mut MemorySource) -> u32 {
+    let mut decoder = Decoder::start();
+    let mut learned = Learned::new();
+    let mut draws = Draws::new();
+    let mut wrong = 0u32;
+    for _ in 0..count {
+        let (cx, pixel) = draws.next_pixel();
+        if decoder.next(&mut learned, cx, source) != Ok(pixel) {
+            wrong = wrong.wrapping_add(1);
+        }
+    }
+    wrong
+}
+
+fn main(rt: HostRuntime) -> io::Result<()> {
+    let alloc = rt.alloc();
+    let words: Vec<String> = std::env::args(&rt)?.collect(alloc)?;
+    let count = number(words.as_slice(), 1, 100_000);
+    let mode = number(words.as_slice(), 2, 2);
+    if mode == 0 {
+        let sum = draw(count);
+        println!(rt; "drawn {sum}")?;
+        return Ok(());
+    }
+    let mut sink = MemorySink::new(alloc);
+    let all = encode(count, &mut sink);
+    let bytes = sink.bytes();
+    let length = bytes.len();
+    let sum = bytes.iter().fold(
+        0u32,
+        |sum, byte| sum.wrapping_mul(31).wrapping_add(u32::from(*byte)),
+    );
+    println!(rt; "coded {length} bytes, sum {sum}, all {all}")?;
+    if mode > 1 {
+        let wrong = decode(count, &mut MemorySource::new(bytes));
+        println!(rt; "decoded, {wrong} wrong")?;
+    }
+    Ok(())
+}
