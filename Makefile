@@ -1,5 +1,5 @@
 # make            builds every program into bin/ and shows the main job on a real page
-# make test       the gate: every proof, every edit that must fail, every test
+# make test       the gate: every proof, every edit that must fail, every test; ends in `rt ci`
 # make turns      makes each allocation of the programs fail in turn
 # make bench      measures; no test is timed
 # make install    copies the programs to $(DESTDIR)$(PREFIX)/bin
@@ -20,6 +20,7 @@ build:
 	done
 
 test:
+	tools/must-not-compile
 	rt ci
 
 turns: build

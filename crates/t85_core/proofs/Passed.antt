@@ -1,131 +1,201 @@
 -- What was passed of a stripe so far.
-use Rattle.std.proofs.Common.{cond, ◌≡◌, ◌<◌, ◌≤◌, ◌+◌, ◌-◌, ◌^◌, ℕ, Bool, true, false, not, List, [], ◌∷◌, ◌++◌, Option, None, Some, count_by, sum_by, min, refl, sym, ap, ◌∙◌, subst, append-nil, append_assoc, arith}
-use Rattle.std.specs.Prelude.{flat_map}
+use Rattle.std.proofs.Common.{cond, ◌≡◌, ◌≢◌, ◌<◌, ◌≤◌, ◌+◌, ◌-◌, ◌^◌, ℕ, Bool, true, false, List, [], ◌∷◌, ◌++◌, Option, None, Some, count_by, sum_by, min, length, is_some, refl, sym, ap, ◌∙◌, subst, append-nil, append_assoc, arith}
+use Rattle.std.specs.Prelude.{flat_map, option_map}
+use mir.Val.{bool_byte}
 use Rattle.std.specs.List.{AllByRecursion}
-use Rattle.qm_core.specs.Code.{stuffed}
 use Rattle.std.specs.Io.KnownBytes.{Consumes}
 use Rattle.std.proofs.lemmas.List.{length_push}
 use Rattle.std.proofs.lemmas.List.Sums.{sum_by-append}
-use Rattle.t85_core.specs.Header.{Fields}
+use Rattle.qm_core.specs.Code.{stuffed}
 use Rattle.t85_core.specs.declared.fault.Fault.{Fault}
 use Rattle.t85_core.specs.declared.fault.Fault.TheVariants.{Truncated}
+use Rattle.t85_core.specs.declared.walk.Code.{Code}
+use Rattle.t85_core.specs.declared.walk.Code.TheVariants as code
+use Rattle.t85_core.specs.declared.walk.Move as move
+use Rattle.t85_core.specs.Header.{Fields}
 use Rattle.t85_core.specs.Grammar.{Segment, Move, Comment, segment_bytes, is_move, is_comment, is_nil, stripe_bytes, marker_bytes, IsLegal, IsBegun, moves_in, comments_in}
+use Rattle.t85_core.specs.Coding.{move_of}
 use Rattle.t85_core.specs.Refusal.{rest_fault, StripeFault, StripesFault}
 use Rattle.t85_core.specs.Walk.{Ends}
-use Rattle.t85_core.specs.Piece.{PassesSegment, PassesStripe, PassesStripes}
+use Rattle.t85_core.specs.Piece.{code_bytes, IsCode, CodeFault, PassesCode, PassesHead, PassesSegment, PassesStripe, PassesStripes}
+use Rattle.t85_core.specs.declared.walk.Head.{Head}
 use Rattle.t85_core.specs.Stream.{ArePlain}
 use Rattle.t85_core.proofs.Streams.{Consumes-more}
 use Rattle.t85_core.proofs.Ends.{Ends-after}
 use Rattle.t85_core.proofs.Lists.{All-push, All-append, count_push, flat_map_push}
 use Rattle.t85_core.proofs.Stuffing.{stuffed_append, stuffed_plain}
 
--- segments, and then bytes of the code
-pub record HasPassed (h : Fields) (old new : Option (List ℕ)) (moves comments : ℕ) (in_code : Bool) : Type 0 where
+-- a move as the grammar sees it
+abbrev pub pair_of : move.Move → ℕ × ℕ
+pair_of to = (to.row, to.offset)
+
+-- segments of a stripe, and the move among them
+pub record HasPassed (h : Fields) (old new : Option (List ℕ)) (at : Option move.Move) (comments : ℕ) : Type 0 where
   pub segments : List Segment
-  pub code : List ℕ
-  pub begun : IsBegun h segments code
-  pub counted : moves ≡ count_by is_move segments
+  pub begun : IsBegun h segments []
+  pub move_is : option_map pair_of at ≡ move_of segments
+  pub counted : cond (is_some at) 1 0 ≡ count_by is_move segments
   pub told : comments ≡ min (count_by is_comment segments) (2 ^ 64 - 1)
-  pub coded : in_code ≡ not (is_nil code)
-  pub taken : Consumes old new (flat_map segment_bytes segments ++ stuffed code)
+  pub taken : Consumes old new (flat_map segment_bytes segments)
 
 Consumes-none : (a : Option (List ℕ)) → Consumes a a []
 Consumes-none None = tt
 Consumes-none (Some xs) = refl
 
-pub passed_none : (h : Fields) (a : Option (List ℕ)) → HasPassed h a a 0 0 false
+pub passed_none : (h : Fields) (a : Option (List ℕ)) → HasPassed h a a None 0
 passed_none h a = record {
   segments = [];
-  code = [];
   begun = record { legal = tt; one_move = omega arith; bytes = tt };
+  move_is = refl;
   counted = refl;
   told = refl;
-  coded = refl;
   taken = Consumes-none a;
 }
 
--- before a code byte the code is empty
-no_code : (code : List ℕ) → not (is_nil code) ≡ false → code ≡ []
-no_code [] e = refl
-no_code (b ∷ code) e = cc
+move_of_push : (segments : List Segment) (s : Segment) → count_by is_move segments ≡ 0 → move_of (segments ++ s ∷ []) ≡ move_of (s ∷ [])
+move_of_push [] s none = refl
+move_of_push (Move row offset ∷ segments) s none = absurd (let e = sum_by-append (λ y. cond (is_move y) 1 0) (Move row offset ∷ []) segments in omega (arith, none, e))
+move_of_push (Comment text ∷ segments) s none = move_of_push segments s (let e = sum_by-append (λ y. cond (is_move y) 1 0) (Comment text ∷ []) segments in omega (arith, none, e))
 
-is_nil_more : (code : List ℕ) (b : ℕ) (more : List ℕ) → not (is_nil (code ++ b ∷ more)) ≡ true
-is_nil_more [] b more = refl
-is_nil_more (x ∷ xs) b more = refl
+move_of_comment : (segments : List Segment) (text : List ℕ) → move_of (segments ++ Comment text ∷ []) ≡ move_of segments
+move_of_comment [] text = refl
+move_of_comment (Move row offset ∷ segments) text = refl
+move_of_comment (Comment other ∷ segments) text = move_of_comment segments text
 
--- a byte of the code, and plain bytes behind it
-pub passed_code : {h : Fields} {a b d : Option (List ℕ)} {moves comments : ℕ} {in_code : Bool} (c : Option (List ℕ)) (byte : ℕ) (plain : List ℕ) → byte < 256 → ArePlain plain → Consumes b c (stuffed (byte ∷ [])) → Consumes c d plain → HasPassed h a b moves comments in_code → HasPassed h a d moves comments true
-passed_code {h} {a} {b} {d} c byte plain fits each taken further p =
-    let front : List ℕ = flat_map segment_bytes p.segments in
-    let both : stuffed (byte ∷ []) ++ plain ≡ stuffed (byte ∷ plain) = ap (λ u. stuffed (byte ∷ []) ++ u) (sym (stuffed_plain plain each)) ∙ sym (stuffed_append (byte ∷ []) plain) in
-    let joined : front ++ stuffed p.code ++ (stuffed (byte ∷ []) ++ plain) ≡ front ++ stuffed (p.code ++ byte ∷ plain) =
-    append_assoc front (stuffed p.code) (stuffed (byte ∷ []) ++ plain) ∙ ap (λ z. front ++ (stuffed p.code ++ z)) both ∙ ap (λ z. front ++ z) (sym (stuffed_append p.code (byte ∷ plain))) in
+pub passed_move : {h : Fields} {a b c : Option (List ℕ)} {at : Option move.Move} {comments : ℕ} (to : move.Move) → HasPassed h a b at comments → is_some at ≡ false → PassesSegment h b c (Move to.row to.offset) → HasPassed h a c (Some to) comments
+passed_move {h} {a} {b} {c} {at} {comments} to p none s =
+    let segment : Segment = Move to.row to.offset in
+    let zero_moves : count_by is_move p.segments ≡ 0 = sym p.counted ∙ ap (λ t. cond t 1 0) none in
+    let count = count_push is_move p.segments segment in
+    let comments_all = count_push is_comment p.segments segment in
     record {
-      segments = p.segments;
-      code = p.code ++ byte ∷ plain;
-      begun = record { legal = p.begun.legal; one_move = p.begun.one_move; bytes = All-append (λ x. x < 256) p.code (byte ∷ plain) p.begun.bytes (fits, below plain each) };
-      counted = p.counted;
-      told = p.told;
-      coded = sym (is_nil_more p.code byte plain);
-      taken = subst (λ z. Consumes a d z) joined (Consumes-more a b d (front ++ stuffed p.code) (stuffed (byte ∷ []) ++ plain) p.taken (Consumes-more b c d (stuffed (byte ∷ [])) plain taken further));
+      segments = p.segments ++ segment ∷ [];
+      begun = record { legal = All-push (IsLegal h) p.segments segment p.begun.legal s.legal; one_move = omega (arith, zero_moves, count); bytes = tt };
+      move_is = sym (move_of_push p.segments segment zero_moves);
+      counted = omega (arith, zero_moves, count);
+      told = omega (arith, p.told, comments_all);
+      taken = subst (λ z. Consumes a c z) (sym (flat_map_push segment_bytes p.segments segment)) (Consumes-more a b c _ _ p.taken s.taken);
     }
-  where
-    below : (xs : List ℕ) → ArePlain xs → AllByRecursion (λ x. x < 256) xs
-    below [] p = tt
-    below (x ∷ xs) p = (p.0.0, below xs p.1)
 
--- where no code byte came, what was passed is segments
-before_code : {h : Fields} {a b : Option (List ℕ)} {moves comments : ℕ} {in_code : Bool} (p : HasPassed h a b moves comments in_code) → in_code ≡ false → Consumes a b (flat_map segment_bytes p.segments)
-before_code {h} {a} {b} p e =
-    subst (λ z. Consumes a b z) (ap (λ code. flat_map segment_bytes p.segments ++ stuffed code) (no_code p.code (sym p.coded ∙ e)) ∙ append-nil _) p.taken
-
-with_segment : {h : Fields} {a b c : Option (List ℕ)} {moves comments : ℕ} {in_code : Bool} (more_comments : ℕ) (p : HasPassed h a b moves comments in_code) (segment : Segment) → PassesSegment h in_code b c segment → moves + cond (is_move segment) 1 0 ≤ 1 → more_comments ≡ min (comments + cond (is_comment segment) 1 0) (2 ^ 64 - 1) → HasPassed h a c (moves + cond (is_move segment) 1 0) more_comments in_code
-with_segment {h} {a} {b} {c} {moves} {comments} more_comments p segment s few told =
-    let segments : List Segment = p.segments ++ segment ∷ [] in
-    let counted : moves + cond (is_move segment) 1 0 ≡ count_by is_move segments = ap (λ n. n + cond (is_move segment) 1 0) p.counted ∙ sym (count_push is_move p.segments segment) in
+pub passed_comment : {h : Fields} {a b c : Option (List ℕ)} {at : Option move.Move} {comments : ℕ} (more_comments : ℕ) (text : List ℕ) → HasPassed h a b at comments → PassesSegment h b c (Comment text) → more_comments ≡ min (comments + 1) (2 ^ 64 - 1) → HasPassed h a c at more_comments
+passed_comment {h} {a} {b} {c} {at} {comments} more_comments text p s told =
+    let segment : Segment = Comment text in
+    let count = count_push is_move p.segments segment in
+    let comments_all = count_push is_comment p.segments segment in
     record {
-      segments = segments;
+      segments = p.segments ++ segment ∷ [];
+      begun = record { legal = All-push (IsLegal h) p.segments segment p.begun.legal s.legal; one_move = omega (arith, p.begun.one_move, count); bytes = tt };
+      move_is = p.move_is ∙ sym (move_of_comment p.segments text);
+      counted = omega (arith, p.counted, count);
+      told = omega (arith, p.told, comments_all, told);
+      taken = subst (λ z. Consumes a c z) (sym (flat_map_push segment_bytes p.segments segment)) (Consumes-more a b c _ _ p.taken s.taken);
+    }
+
+-- what was passed, and what the code begins with
+pub head_passed : {h : Fields} {a b c : Option (List ℕ)} {at : Option move.Move} {comments : ℕ} (first : Code) → HasPassed h a b at comments → IsCode first → Consumes b c (code_bytes first) → PassesHead h a c (record { at = at; comments = comments; code = first })
+head_passed {h} {a} {b} {c} first p is taken = record {
+  segments = p.segments;
+  begun = p.begun;
+  move_is = p.move_is;
+  moves_are = p.counted;
+  comments_are = p.told;
+  code_is = is;
+  taken = Consumes-more a b c _ _ p.taken taken;
+}
+
+-- what was passed, and a rest with a fault before the code
+pub cut_head : {h : Fields} {a b c : Option (List ℕ)} {at : Option move.Move} {comments : ℕ} {f : Fault} → HasPassed h a b at comments → Ends Truncated b c (λ given fault. rest_fault h (cond (is_some at) 1 0) false given ≡ Some fault) f → Ends Truncated a c (StripeFault h) f
+cut_head {h} p e =
+    Ends-after (flat_map segment_bytes p.segments) p.taken (λ given fault has. record {
+      segments = p.segments;
       code = [];
-      begun = record { legal = All-push (IsLegal h) p.segments segment p.begun.legal s.legal; one_move = subst (λ n. n ≤ 1) counted few; bytes = tt };
-      counted = counted;
-      told = omega (arith, p.told, told, count_push is_comment p.segments segment);
-      coded = s.before_code;
-      taken = subst (λ z. Consumes a c z) (sym (append-nil _ ∙ flat_map_push segment_bytes p.segments segment)) (Consumes-more a b c _ _ (before_code p s.before_code) s.taken);
-    }
-
-pub passed_move : {h : Fields} {a b c : Option (List ℕ)} {moves comments : ℕ} {in_code : Bool} {row offset : ℕ} → HasPassed h a b moves comments in_code → moves ≡ 0 → PassesSegment h in_code b c (Move row offset) → HasPassed h a c (moves + 1) comments in_code
-passed_move {comments = comments} {row = row} {offset = offset} p none s = with_segment comments p (Move row offset) s (omega arith) (omega (arith, p.told))
-
-pub passed_comment : {h : Fields} {a b c : Option (List ℕ)} {moves comments : ℕ} {in_code : Bool} {text : List ℕ} (more_comments : ℕ) → HasPassed h a b moves comments in_code → PassesSegment h in_code b c (Comment text) → more_comments ≡ min (comments + 1) (2 ^ 64 - 1) → HasPassed h a c moves more_comments in_code
-passed_comment {h} {a} {b} {c} {moves} {comments} {in_code} {text} more_comments p s told =
-    let one : moves ≤ 1 = omega (arith, p.counted, p.begun.one_move) in
-    let e : moves + 0 ≡ moves = omega arith in
-    subst (λ n. HasPassed h a c n more_comments in_code) e (with_segment more_comments p (Comment text) s (omega arith) told)
-
--- what was passed, and the end marker
-pub whole_stripe : {h : Fields} {a b c : Option (List ℕ)} {moves comments : ℕ} {in_code : Bool} (reset : Bool) → Consumes b c (marker_bytes reset) → HasPassed h a b moves comments in_code → PassesStripe h a c moves comments
-whole_stripe {h} {a} {b} {c} reset taken p =
-    let front : List ℕ = flat_map segment_bytes p.segments in
-    record {
-      stripe = record { segments = p.segments; code = p.code; reset = reset };
-      whole = p.begun;
-      moves_are = p.counted;
-      comments_are = p.told;
-      taken = subst (λ z. Consumes a c z) (append_assoc front (stuffed p.code) (marker_bytes reset)) (Consumes-more a b c (front ++ stuffed p.code) (marker_bytes reset) p.taken taken);
-    }
-
--- what was passed, and a rest with a fault
-pub cut_stripe : {h : Fields} {a b c : Option (List ℕ)} {moves comments : ℕ} {in_code : Bool} {f : Fault} → HasPassed h a b moves comments in_code → Ends Truncated b c (λ given fault. rest_fault h moves in_code given ≡ Some fault) f → Ends Truncated a c (StripeFault h) f
-cut_stripe {h} {moves = moves} {in_code = in_code} p e =
-    let front : List ℕ = flat_map segment_bytes p.segments in
-    Ends-after (front ++ stuffed p.code) p.taken (λ given fault has. record {
-      segments = p.segments;
-      code = p.code;
       rest = given;
-      bytes_are = append_assoc front (stuffed p.code) given;
+      bytes_are = refl;
       begun = p.begun;
-      rest_has = subst (λ n. rest_fault h n (not (is_nil p.code)) given ≡ Some fault) p.counted (subst (λ t. rest_fault h moves t given ≡ Some fault) p.coded has);
+      rest_has = subst (λ n. rest_fault h n false given ≡ Some fault) p.counted has;
     }) e
+
+byte_of : (t : Bool) → bool_byte t ≡ cond t 1 0
+byte_of true = refl
+byte_of false = refl
+
+-- how many moves a head has
+pub moves_of : {h : Fields} {a b : Option (List ℕ)} {head : Head} (n : ℕ) (t : Bool) → n ≡ bool_byte t → t ≡ is_some head.at → (p : PassesHead h a b head) → n ≡ count_by is_move p.segments
+moves_of n t e k p = e ∙ byte_of t ∙ ap (λ u. cond u 1 0) k ∙ p.moves_are
+
+-- a head whose code is empty is a stripe
+pub empty_stripe : {h : Fields} {a c : Option (List ℕ)} {head : Head} (reset : Bool) → head.code ≡ code.Marker reset → (p : PassesHead h a c head) (moves : ℕ) → moves ≡ count_by is_move p.segments → PassesStripe h a c moves head.comments
+empty_stripe {h} {a} {c} reset is p moves counted = record {
+  stripe = record { segments = p.segments; code = []; reset = reset };
+  whole = p.begun;
+  moves_are = counted;
+  comments_are = p.comments_are;
+  taken = subst (λ k. Consumes a c (flat_map segment_bytes p.segments ++ code_bytes k)) is p.taken;
+}
+
+-- a head whose code has begun, and the rest of the code
+pub long_stripe : {h : Fields} {a c : Option (List ℕ)} {head : Head} (b : Option (List ℕ)) (byte : ℕ) (reset : Bool) → head.code ≡ code.Byte byte → (p : PassesHead h a b head) → PassesCode b c reset → (moves : ℕ) → moves ≡ count_by is_move p.segments → PassesStripe h a c moves head.comments
+long_stripe {h} {a} {c} b byte reset is p q moves counted =
+    let front : List ℕ = flat_map segment_bytes p.segments in
+    let small : byte < 256 = subst IsCode is p.code_is in
+    let joined : (front ++ stuffed (byte ∷ [])) ++ (stuffed q.code ++ marker_bytes reset) ≡ front ++ (stuffed (byte ∷ q.code) ++ marker_bytes reset) =
+    append_assoc front (stuffed (byte ∷ [])) (stuffed q.code ++ marker_bytes reset)
+    ∙ ap (λ z. front ++ z) (sym (append_assoc (stuffed (byte ∷ [])) (stuffed q.code) (marker_bytes reset)) ∙ ap (λ z. z ++ marker_bytes reset) (sym (stuffed_append (byte ∷ []) q.code))) in
+    record {
+      stripe = record { segments = p.segments; code = byte ∷ q.code; reset = reset };
+      whole = record { legal = p.begun.legal; one_move = p.begun.one_move; bytes = (small, q.bytes) };
+      moves_are = counted;
+      comments_are = p.comments_are;
+      taken = subst (λ z. Consumes a c z) joined (Consumes-more a b c _ _ (subst (λ k. Consumes a b (front ++ code_bytes k)) is p.taken) q.taken);
+    }
+
+-- a head whose code has begun, and a fault in the code
+pub cut_code : {h : Fields} {a b c : Option (List ℕ)} {head : Head} {f : Fault} (byte : ℕ) → head.code ≡ code.Byte byte → PassesHead h a b head → Ends Truncated b c CodeFault f → Ends Truncated a c (StripeFault h) f
+cut_code {h} {a} {b} {c} {head} byte is p e =
+    let front : List ℕ = flat_map segment_bytes p.segments in
+    let small : byte < 256 = subst IsCode is p.code_is in
+    Ends-after (front ++ stuffed (byte ∷ [])) (subst (λ k. Consumes a b (front ++ code_bytes k)) is p.taken) (λ given fault has. record {
+      segments = p.segments;
+      code = byte ∷ has.code;
+      rest = has.rest;
+      bytes_are = ap (λ z. (front ++ stuffed (byte ∷ [])) ++ z) has.bytes_are ∙ append_assoc front (stuffed (byte ∷ [])) (stuffed has.code ++ has.rest)
+          ∙ ap (λ z. front ++ z) (sym (append_assoc (stuffed (byte ∷ [])) (stuffed has.code) has.rest) ∙ ap (λ z. z ++ has.rest) (sym (stuffed_append (byte ∷ []) has.code)));
+      begun = record { legal = p.begun.legal; one_move = p.begun.one_move; bytes = (small, has.small) };
+      rest_has = has.rest_has h (count_by is_move p.segments);
+    }) e
+
+-- bytes of a code so far
+pub record HasSkipped (old new : Option (List ℕ)) : Type 0 where
+  pub code : List ℕ
+  pub bytes : AllByRecursion (λ b. b < 256) code
+  pub taken : Consumes old new (stuffed code)
+
+pub skipped_none : (a : Option (List ℕ)) → HasSkipped a a
+skipped_none a = record { code = []; bytes = tt; taken = Consumes-none a }
+
+below : (xs : List ℕ) → ArePlain xs → AllByRecursion (λ x. x < 256) xs
+below [] p = tt
+below (x ∷ xs) p = (p.0.0, below xs p.1)
+
+pub skipped_plain : {a b c : Option (List ℕ)} (plain : List ℕ) → HasSkipped a b → ArePlain plain → Consumes b c plain → HasSkipped a c
+skipped_plain {a} {b} {c} plain p each taken = record {
+  code = p.code ++ plain;
+  bytes = All-append (λ x. x < 256) p.code plain p.bytes (below plain each);
+  taken = subst (λ z. Consumes a c z) (ap (λ z. stuffed p.code ++ z) (sym (stuffed_plain plain each)) ∙ sym (stuffed_append p.code plain)) (Consumes-more a b c _ _ p.taken taken);
+}
+
+pub skipped_byte : {a b c : Option (List ℕ)} (byte : ℕ) → HasSkipped a b → byte < 256 → Consumes b c (stuffed (byte ∷ [])) → HasSkipped a c
+skipped_byte {a} {b} {c} byte p small taken = record {
+  code = p.code ++ byte ∷ [];
+  bytes = All-push (λ x. x < 256) p.code byte p.bytes small;
+  taken = subst (λ z. Consumes a c z) (sym (stuffed_append p.code (byte ∷ []))) (Consumes-more a b c _ _ p.taken taken);
+}
+
+pub code_ends : {a b c : Option (List ℕ)} (reset : Bool) → HasSkipped a b → Consumes b c (marker_bytes reset) → PassesCode a c reset
+code_ends {a} {b} {c} reset p taken = record { code = p.code; bytes = p.bytes; taken = Consumes-more a b c _ _ p.taken taken }
+
+pub code_cut : {a b c : Option (List ℕ)} {f : Fault} → HasSkipped a b → Ends Truncated b c (λ given fault. (h : Fields) (moves : ℕ) → rest_fault h moves true given ≡ Some fault) f → Ends Truncated a c CodeFault f
+code_cut p e = Ends-after (stuffed p.code) p.taken (λ given fault has. record { code = p.code; rest = given; bytes_are = refl; small = p.bytes; rest_has = has }) e
 
 pub stripes_none : (h : Fields) (a : Option (List ℕ)) → PassesStripes h 0 a a 0 0
 stripes_none h a = record { stripes = []; count_is = refl; each = tt; moves_are = refl; comments_are = refl; taken = Consumes-none a }

@@ -8,3 +8,10 @@ pub mod Line
 pub mod Info
 pub mod Stream
 pub mod Chosen
+pub mod Coding
+pub mod Denotes
+pub mod Fixed
+pub mod Image
+pub mod Carried
+pub mod CoderLaws
+pub mod StreamLaws

@@ -1,6 +1,6 @@
 //! The walk over a stream's segments and data entities, without decoding.
 
-ghost use Rattle.std.specs.Prelude.{◌≡◌, ◌≤◌, ◌+◌, ◌-◌, ◌^◌, ◌<◌, ◌++◌, ◌∷◌, [], List, ℕ, length, OnOk, IfOk, IfErr, IsErrOf, Some};
+ghost use Rattle.std.specs.Prelude.{◌≡◌, ◌≤◌, ◌+◌, ◌-◌, ◌^◌, ◌<◌, ◌++◌, ◌∷◌, [], List, ℕ, length, OnOk, IfOk, IfErr, IsErrOf, Some, false, if◌then◌else◌};
 ghost use Rattle.std.specs.Io.KnownBytes.{Consumes};
 ghost use Rattle.byteorder.specs.Endian.{big_bytes};
 ghost use Rattle.t85_core.specs.declared.fault.Fault.TheVariants.{Truncated, Read};
@@ -9,7 +9,7 @@ ghost use Rattle.t85_core.specs.Walk.{CountsRead, Ends};
 ghost use Rattle.t85_core.specs.Refusal.{rest_fault, move_fault, comment_fault, StripeFault, StripesFault};
 ghost use Rattle.t85_core.specs.Info.{Informs};
 ghost use Rattle.t85_core.specs.Line.{line_text};
-ghost use Rattle.t85_core.specs.Piece.{Passes, PassesStripe, PassesStripes};
+ghost use Rattle.t85_core.specs.Piece.{code_bytes, IsCode, Passes, PassesHead, PassesCode, RestFault, CodeFault, PassesStripe, PassesStripes};
 
 use crate::fault::Fault;
 use crate::header::Header;
@@ -25,16 +25,37 @@ struct Passed {
     comments: u64,
 }
 
-/// What stands at one place of a stripe.
+/// A move of the adaptive template pixel: at a row of the stripe, to an offset.
 #[derive(Clone, Copy)]
-pub enum Piece {
-    /// An ATMOVE to an offset, which takes effect at a row of the stripe.
-    Move(u32, u8),
-    Comment,
-    /// A code byte.
-    Code(u8),
+pub struct Move {
+    pub row: u32,
+    pub offset: u8,
+}
+
+/// What a code goes on with.
+#[derive(Clone, Copy)]
+pub enum Code {
+    Byte(u8),
     /// An end marker, and whether it resets.
     Marker(bool),
+}
+
+/// What stands at one place before a code.
+#[derive(Clone, Copy)]
+pub enum Piece {
+    Move(Move),
+    Comment,
+    /// The code begins.
+    Code(Code),
+}
+
+/// The segments of a stripe, and what its code begins with.
+#[derive(Clone, Copy)]
+pub struct Head {
+    pub at: Option<Move>,
+    /// Counted up to 2^64 - 1.
+    pub comments: u64,
+    pub code: Code,
 }
 
 const STUFF: u8 = 0;
@@ -113,33 +134,88 @@ fn skip_stripe<S: Stream>(header: &Header, stream: &mut S) -> Result<Passed, Fau
     ensures same_source { S.source stream.new ≡ S.source stream.old }
     ensures counts { CountsRead (S.failures stream.old) (S.failures stream.new) result }
 {
-    let mut moves = 0;
+    let head = read_head(header, stream)?;
+    match head.code {
+        Code::Byte(_) => {
+            skip_code(stream)?;
+        }
+        Code::Marker(_) => {}
+    }
+    Ok(Passed {
+        moves: u32::from(head.at.is_some()),
+        comments: head.comments,
+    })
+}
+
+/// Reads the segments of a stripe, and what its code begins with.
+pub fn read_head<S: Stream>(header: &Header, stream: &mut S) -> Result<Head, Fault>
+    requires { S.failures stream.old < 2 ^ 64 - 1 }
+    ensures ok { IfOk result (PassesHead (fields_of header.now) (S.known stream.old) (S.known stream.new)) }
+    ensures err { IfErr result (Ends Truncated (S.known stream.old) (S.known stream.new) (StripeFault (fields_of header.now))) }
+    ensures drained { IsErrOf result Read → S.known stream.new ≡ S.beyond stream.new }
+    ensures same_source { S.source stream.new ≡ S.source stream.old }
+    ensures counts { CountsRead (S.failures stream.old) (S.failures stream.new) result }
+{
+    let mut at = None;
     let mut comments = 0u64;
-    let mut in_code = false;
     'pieces: loop {
-        match next_piece(header, moves, in_code, stream)? {
-            Piece::Move(_, _) => moves += 1,
+        match next_piece(header, at.is_some(), stream)? {
+            Piece::Move(to) => at = Some(to),
             Piece::Comment => comments = comments.saturating_add(1),
-            Piece::Code(_) => {
-                in_code = true;
-                stream.skip_plain();
-            }
-            Piece::Marker(_) => return Ok(Passed { moves, comments }),
+            Piece::Code(code) => return Ok(Head { at, comments, code }),
         }
     }
 }
 
-/// Reads a segment, a code byte or an end marker.
-fn next_piece<S: Stream>(
-    header: &Header,
-    moves: u32,
-    in_code: bool,
-    stream: &mut S,
-) -> Result<Piece, Fault>
+/// Skips what is left of a code that has begun, and its end marker. Answers whether that resets.
+pub fn skip_code<S: Stream>(stream: &mut S) -> Result<bool, Fault>
     requires { S.failures stream.old < 2 ^ 64 - 1 }
-    ensures ok { IfOk result (Passes (fields_of header.now) moves in_code (S.known stream.old) (S.known stream.new)) }
+    ensures ok { IfOk result (PassesCode (S.known stream.old) (S.known stream.new)) }
+    ensures err { IfErr result (Ends Truncated (S.known stream.old) (S.known stream.new) CodeFault) }
+    ensures drained { IsErrOf result Read → S.known stream.new ≡ S.beyond stream.new }
+    ensures same_source { S.source stream.new ≡ S.source stream.old }
+    ensures counts { CountsRead (S.failures stream.old) (S.failures stream.new) result }
+{
+    'code: loop {
+        stream.skip_plain();
+        match next_code(stream)? {
+            Code::Byte(_) => {}
+            Code::Marker(reset) => return Ok(reset),
+        }
+    }
+}
+
+/// Reads a byte of a code that has begun, or its end marker.
+pub fn next_code<S: Stream>(stream: &mut S) -> Result<Code, Fault>
+    requires { S.failures stream.old < 2 ^ 64 - 1 }
+    ensures ok { IfOk result (λ code. IsCode code × Consumes (S.known stream.old) (S.known stream.new) (code_bytes code)) }
+    ensures err { IfErr result (Ends Truncated (S.known stream.old) (S.known stream.new) RestFault) }
+    ensures drained { IsErrOf result Read → S.known stream.new ≡ S.beyond stream.new }
+    ensures same_source { S.source stream.new ≡ S.source stream.old }
+    ensures counts { CountsRead (S.failures stream.old) (S.failures stream.new) result }
+    ensures lowers { OnOk result (S.left stream.new < S.left stream.old) }
+    ensures no_more { S.left stream.new ≤ S.left stream.old }
+{
+    let first = stream.next()?;
+    if first != ESCAPE {
+        return Ok(Code::Byte(first));
+    }
+    let escape = stream.next()?;
+    match escape {
+        STUFF => Ok(Code::Byte(ESCAPE)),
+        SDNORM => Ok(Code::Marker(false)),
+        SDRST => Ok(Code::Marker(true)),
+        ABORT => Err(Fault::Aborted),
+        _ => Err(Fault::BadEscape),
+    }
+}
+
+/// Reads a segment, or what the code begins with.
+fn next_piece<S: Stream>(header: &Header, moved: bool, stream: &mut S) -> Result<Piece, Fault>
+    requires { S.failures stream.old < 2 ^ 64 - 1 }
+    ensures ok { IfOk result (Passes (fields_of header.now) moved (S.known stream.old) (S.known stream.new)) }
     ensures err { IfErr result (Ends Truncated (S.known stream.old) (S.known stream.new)
-        (λ given fault. rest_fault (fields_of header.now) moves in_code given ≡ Some fault)) }
+        (λ given fault. rest_fault (fields_of header.now) (if moved then 1 else 0) false given ≡ Some fault)) }
     ensures drained { IsErrOf result Read → S.known stream.new ≡ S.beyond stream.new }
     ensures same_source { S.source stream.new ≡ S.source stream.old }
     ensures counts { CountsRead (S.failures stream.old) (S.failures stream.new) result }
@@ -147,27 +223,21 @@ fn next_piece<S: Stream>(
 {
     let first = stream.next()?;
     if first != ESCAPE {
-        return Ok(Piece::Code(first));
+        return Ok(Piece::Code(Code::Byte(first)));
     }
     let escape = stream.next()?;
     match escape {
-        STUFF => return Ok(Piece::Code(ESCAPE)),
-        SDNORM => return Ok(Piece::Marker(false)),
-        SDRST => return Ok(Piece::Marker(true)),
-        ABORT => return Err(Fault::Aborted),
-        _ => {}
-    }
-    if in_code {
-        return Err(Fault::BadEscape);
-    }
-    match escape {
+        STUFF => Ok(Piece::Code(Code::Byte(ESCAPE))),
+        SDNORM => Ok(Piece::Code(Code::Marker(false))),
+        SDRST => Ok(Piece::Code(Code::Marker(true))),
+        ABORT => Err(Fault::Aborted),
         NEWLEN => Err(Fault::LengthRefused),
         ATMOVE => {
-            if moves > 0 {
+            if moved {
                 return Err(Fault::SecondMove);
             }
-            let (row, offset) = read_move(header, stream)?;
-            Ok(Piece::Move(row, offset))
+            let to = read_move(header, stream)?;
+            Ok(Piece::Move(to))
         }
         COMMENT => {
             skip_comment(stream)?;
@@ -177,11 +247,11 @@ fn next_piece<S: Stream>(
     }
 }
 
-/// Reads what follows the two bytes of an ATMOVE, and judges it: a row of the stripe, and an offset.
-fn read_move<S: Stream>(header: &Header, stream: &mut S) -> Result<(u32, u8), Fault>
+/// Reads what follows the two bytes of an ATMOVE, and judges it.
+fn read_move<S: Stream>(header: &Header, stream: &mut S) -> Result<Move, Fault>
     requires { S.failures stream.old < 2 ^ 64 - 1 }
-    ensures ok { IfOk result (λ move. (move.0 < header.now.l0) × (move.1 ≤ header.now.mx)
-        × Consumes (S.known stream.old) (S.known stream.new) (big_bytes 4 move.0 ++ move.1 ∷ 0 ∷ [])) }
+    ensures ok { IfOk result (λ to. (to.row < header.now.l0) × (to.offset ≤ header.now.mx)
+        × Consumes (S.known stream.old) (S.known stream.new) (big_bytes 4 to.row ++ to.offset ∷ 0 ∷ [])) }
     ensures err { IfErr result (Ends Truncated (S.known stream.old) (S.known stream.new)
         (λ given fault. move_fault (fields_of header.now) 0 given ≡ Some fault)) }
     ensures drained { IsErrOf result Read → S.known stream.new ≡ S.beyond stream.new }
@@ -195,7 +265,7 @@ fn read_move<S: Stream>(header: &Header, stream: &mut S) -> Result<(u32, u8), Fa
     if row >= header.l0 || offset > header.mx || last != 0 {
         return Err(Fault::MoveRefused);
     }
-    Ok((row, offset))
+    Ok(Move { row, offset })
 }
 
 /// Skips what follows the two bytes of a COMMENT.

@@ -1,81 +1,61 @@
-use Rattle.std.proofs.Common.{◌≢◌, [], ◌∷◌, refl, ◌∙◌, arith}
+use Rattle.std.proofs.Common.{◌≢◌, [], ◌∷◌, refl, ◌∙◌, cond, true, false, arith}
 use Rattle.t85_core.specs.Chosen.{fields_of}
 use Rattle.t85_core.specs.declared.fault.Fault.TheVariants.{Aborted, BadEscape, LengthRefused, SecondMove}
 use Rattle.t85_core.proofs.Streams.{Consumes-more}
 use Rattle.t85_core.proofs.Ends.{exit}
-use Rattle.t85_core.proofs.Pieces.{escape_taken, escape_in_code, unknown_escape, second_move, first_move, fault_at_escape, fault_after_escape}
+use Rattle.t85_core.proofs.Pieces.{escape_taken, unknown_escape, second_move, fault_at_escape, fault_after_escape}
 use Rattle.t85_core.proofs.walk.next_piece.Goals as goal
 
 pub returns-in-4-clause-err : goal.returns-in-4-clause-err
 returns-in-4-clause-err g c =
-    fault_at_escape (fields_of c.args.header.now) c.args.moves c.args.in_code c.in_ok-escape.escape Aborted
+    fault_at_escape (fields_of c.args.header.now) (cond c.args.moved 1 0) false c.in_ok-escape.escape Aborted
     (escape_taken _ _ _ _ _ c.in_ok-first.ensures.ok c.if-first.false c.in_ok-escape.ensures.ok) refl (λ h. cc) (rw c.in-4.is refl)
 
-pub returns-then-in_code-clause-err : goal.returns-then-in_code-clause-err
-returns-then-in_code-clause-err g c =
-    let escape = c.in_ok-escape.escape in
-    let other : (escape ≢ 0) × (escape ≢ 2) × (escape ≢ 3) × (escape ≢ 4) = (omega arith, omega arith, omega arith, omega arith) in
-    fault_at_escape (fields_of c.args.header.now) c.args.moves c.args.in_code c.in_ok-escape.escape BadEscape
+pub returns-then-moved-clause-err : goal.returns-then-moved-clause-err
+returns-then-moved-clause-err g c =
+    fault_at_escape (fields_of c.args.header.now) (cond c.args.moved 1 0) false c.in_ok-escape.escape SecondMove
     (escape_taken _ _ _ _ _ c.in_ok-first.ensures.ok c.if-first.false c.in_ok-escape.ensures.ok) refl (λ h. cc)
-    (rw c.if-in_code.true (escape_in_code (fields_of c.args.header.now) c.args.moves escape [] other.0 other.1 other.2 other.3))
+    (rw (c.in-6.is, c.if-moved.true) refl)
 
-pub returns-then-moves-gt0-clause-err : goal.returns-then-moves-gt0-clause-err
-returns-then-moves-gt0-clause-err g c =
-    fault_at_escape (fields_of c.args.header.now) c.args.moves c.args.in_code c.in_ok-escape.escape SecondMove
-    (escape_taken _ _ _ _ _ c.in_ok-first.ensures.ok c.if-first.false c.in_ok-escape.ensures.ok) refl (λ h. cc)
-    (rw (c.in-6.is, c.if-in_code.false) (second_move (fields_of c.args.header.now) c.args.moves [] c.if-moves-gt0.true))
-
-pub returns-in_err-row-in-6-clause-err : goal.returns-in_err-row-in-6-clause-err
-returns-in_err-row-in-6-clause-err g c =
-    exit _ _ c.from_residual-in_err-row-in-6.ensures.1
-    (fault_after_escape (fields_of c.args.header.now) c.args.moves c.args.in_code c.in_ok-escape.escape _ _
+pub returns-in_err-to-in-6-clause-err : goal.returns-in_err-to-in-6-clause-err
+returns-in_err-to-in-6-clause-err g c =
+    exit _ _ c.from_residual-in_err-to-in-6.ensures.1
+    (fault_after_escape (fields_of c.args.header.now) (cond c.args.moved 1 0) false c.in_ok-escape.escape _ _
     (escape_taken _ _ _ _ _ c.in_ok-first.ensures.ok c.if-first.false c.in_ok-escape.ensures.ok)
-    (λ given fault p. rw (c.in-6.is, c.if-in_code.false) (first_move (fields_of c.args.header.now) c.args.moves given c.if-moves-gt0.false ∙ p))
-    c.in_err-row-in-6.ensures.err)
+    (λ given fault p. rw (c.in-6.is, c.if-moved.false) p)
+    c.in_err-to-in-6.ensures.err)
 
 pub returns-in_err-skip_comment-in-7-clause-err : goal.returns-in_err-skip_comment-in-7-clause-err
 returns-in_err-skip_comment-in-7-clause-err g c =
     exit _ _ c.from_residual-in_err-skip_comment-in-7.ensures.1
-    (fault_after_escape (fields_of c.args.header.now) c.args.moves c.args.in_code c.in_ok-escape.escape _ _
+    (fault_after_escape (fields_of c.args.header.now) (cond c.args.moved 1 0) false c.in_ok-escape.escape _ _
     (escape_taken _ _ _ _ _ c.in_ok-first.ensures.ok c.if-first.false c.in_ok-escape.ensures.ok)
-    (λ given fault p. rw (c.in-7.is, c.if-in_code.false) p)
+    (λ given fault p. rw c.in-7.is p)
     c.in_err-skip_comment-in-7.ensures.err)
 
 pub returns-in-5-clause-err : goal.returns-in-5-clause-err
 returns-in-5-clause-err g c =
-    fault_at_escape (fields_of c.args.header.now) c.args.moves c.args.in_code c.in_ok-escape.escape LengthRefused
+    fault_at_escape (fields_of c.args.header.now) (cond c.args.moved 1 0) false c.in_ok-escape.escape LengthRefused
     (escape_taken _ _ _ _ _ c.in_ok-first.ensures.ok c.if-first.false c.in_ok-escape.ensures.ok) refl (λ h. cc)
-    (rw (c.in-5.is, c.if-in_code.false) refl)
+    (rw c.in-5.is refl)
 
-pub returns-in_ok-row-in-6-clause-ok : goal.returns-in_ok-row-in-6-clause-ok
-returns-in_ok-row-in-6-clause-ok g c =
-    let move = c.in_ok-row-in-6.ensures.ok in
-    let taken = escape_taken _ _ _ _ _ c.in_ok-first.ensures.ok c.if-first.false c.in_ok-escape.ensures.ok in (
-      omega arith,
-      record {
-        legal = (move.0, move.1);
-        before_code = c.if-in_code.false;
-        taken = Consumes-more _ _ _ (255 ∷ 6 ∷ []) _ (rw c.in-6.is at taken) move.2;
-      },
-    )
+pub returns-in_ok-to-in-6-clause-ok : goal.returns-in_ok-to-in-6-clause-ok
+returns-in_ok-to-in-6-clause-ok g c =
+    let to = c.in_ok-to-in-6.ensures.ok in
+    let taken = escape_taken _ _ _ _ _ c.in_ok-first.ensures.ok c.if-first.false c.in_ok-escape.ensures.ok in
+    (c.if-moved.false, record { legal = (to.0, to.1); taken = Consumes-more _ _ _ (255 ∷ 6 ∷ []) _ (rw c.in-6.is at taken) to.2 })
 
 pub returns-in_ok-skip_comment-in-7-clause-ok : goal.returns-in_ok-skip_comment-in-7-clause-ok
 returns-in_ok-skip_comment-in-7-clause-ok g c =
     let comment = c.in_ok-skip_comment-in-7.ensures.ok in
-    let taken = escape_taken _ _ _ _ _ c.in_ok-first.ensures.ok c.if-first.false c.in_ok-escape.ensures.ok in (
-      comment.0,
-      record {
-        legal = comment.1;
-        before_code = c.if-in_code.false;
-        taken = Consumes-more _ _ _ (255 ∷ 7 ∷ []) _ (rw c.in-7.is at taken) comment.2;
-      },
-    )
+    let taken = escape_taken _ _ _ _ _ c.in_ok-first.ensures.ok c.if-first.false c.in_ok-escape.ensures.ok in
+    (comment.0, record { legal = comment.1; taken = Consumes-more _ _ _ (255 ∷ 7 ∷ []) _ (rw c.in-7.is at taken) comment.2 })
 
-pub returns-in_default-escape-clause-err : goal.returns-in_default-escape-clause-err
-returns-in_default-escape-clause-err g c =
+pub returns-in_default-clause-err : goal.returns-in_default-clause-err
+returns-in_default-clause-err g c =
     let escape = c.in_ok-escape.escape in
     let other : (escape ≢ 0) × (escape ≢ 2) × (escape ≢ 3) × (escape ≢ 4) = (omega arith, omega arith, omega arith, omega arith) in
     let more : (escape ≢ 5) × (escape ≢ 6) × (escape ≢ 7) = (omega arith, omega arith, omega arith) in
-    fault_at_escape (fields_of c.args.header.now) c.args.moves c.args.in_code c.in_ok-escape.escape BadEscape
+    fault_at_escape (fields_of c.args.header.now) (cond c.args.moved 1 0) false c.in_ok-escape.escape BadEscape
     (escape_taken _ _ _ _ _ c.in_ok-first.ensures.ok c.if-first.false c.in_ok-escape.ensures.ok) refl (λ h. cc)
-    (rw c.if-in_code.false (unknown_escape (fields_of c.args.header.now) c.args.moves escape [] other.0 other.1 other.2 other.3 more.0 more.1 more.2))
+    (unknown_escape (fields_of c.args.header.now) (cond c.args.moved 1 0) escape [] other.0 other.1 other.2 other.3 more.0 more.1 more.2)

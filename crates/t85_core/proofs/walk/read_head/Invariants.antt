@@ -1,11 +1,11 @@
 use Rattle.std.proofs.Common.{◌≡◌}
 use Rattle.t85_core.specs.Chosen.{fields_of}
 use Rattle.t85_core.proofs.Passed.{HasPassed}
-use Rattle.t85_core.proofs.walk.skip_stripe.Given as goal
+use Rattle.t85_core.proofs.walk.read_head.Given as goal
 
 abbrev pub invariant-pieces : goal.invariant-pieces
 invariant-pieces g l = record {
-  passed : HasPassed (fields_of l.header) (g.S.Stream.known l.fn.stream) (g.S.Stream.known l.stream) l.moves l.comments l.in_code;
+  passed : HasPassed (fields_of l.header) (g.S.Stream.known l.fn.stream) (g.S.Stream.known l.stream) l.at l.comments;
   same_source : g.S.Stream.source l.stream ≡ g.S.Stream.source l.fn.stream;
   unfailed : g.S.Stream.failures l.stream ≡ g.S.Stream.failures l.fn.stream;
 }

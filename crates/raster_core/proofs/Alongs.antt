@@ -1,0 +1,98 @@
+-- The pixels of a byte, decoded one after another.
+use Rattle.std.proofs.Common.{◌≡◌, ℕ, ◌+◌, ◌-◌, ◌*◌, ◌/◌, ◌%◌, ◌^◌, ◌<◌, Bool, true, false, List, [], ◌∷◌, ◌++◌, length, refl, sym, ◌∙◌, ap, arith, subst, append_assoc, Ok, Err}
+use Rattle.std.specs.Prelude.{Result, OnErr}
+use Rattle.std.proofs.lemmas.List.{length-append, append-nil}
+use mir.Val.{bool_byte}
+use Rattle.qm_core.specs.Place.{Place, Event, Estimate, after}
+use Rattle.qm_core.specs.Standing.{Stands, Next}
+use Rattle.qm_core.specs.declared.source.Pulled.{Pulled}
+use Rattle.qm_core.specs.declared.decoder.Decoder.{Decoder}
+use Rattle.qm_core.specs.declared.decoder.Stop.{Stop}
+use Rattle.raster_core.specs.Lines.{Lines, Mode, context_at, pixel_events}
+use Rattle.raster_core.specs.Registers.{bit, before, past_bits, AreAt}
+use Rattle.raster_core.specs.Decoding.{Decodes}
+use Rattle.raster_core.specs.Decoded.{with_row, PixelsSoFar, Along, StopsAlong}
+use Rattle.raster_core.proofs.Before.{some_past, second_in, above_in}
+use Rattle.raster_core.proofs.Runs.{decodes_next, decodes_stop}
+use Rattle.raster_core.proofs.Causal.{pixel_events_more, past_next}
+
+pub along_none : {S : Type 0} (pull : S → Pulled → S → Type 0) (old : S) (mode : Mode) (offset second above past : ℕ) (d : Decoder) (learned : List Estimate) →
+    Along pull old old mode offset second above past d learned 0 past d learned
+along_none {S} pull old mode offset second above past d learned = λ from first s answers lines done so_far s2 a2.
+    record {
+      pixels = [];
+      count = refl;
+      so_far = subst (λ row. PixelsSoFar pull from old mode offset first s answers lines row past d learned) (sym (append-nil done)) so_far;
+    }
+
+-- the registers at a pixel of the byte
+registers_at : (lines : Lines) (second above past offset n : ℕ) (done pixels : List Bool) → n < 8 → length pixels ≡ n →
+    second ≡ before lines.second (length done + 16) 24 → above ≡ before lines.above (length done + 16) 24 → past ≡ before (done ++ pixels) (length (done ++ pixels)) (past_bits offset) →
+    AreAt (with_row lines (done ++ pixels)) offset (second / 2 ^ 7 * 2 ^ n) (above / 2 ^ 6 * 2 ^ n) past (length (done ++ pixels))
+registers_at lines second above past offset n done pixels h count s a p =
+    let long : length (done ++ pixels) ≡ length done + length pixels = length-append done pixels in
+    let e : length (done ++ pixels) + ((7 - n) + 2) ≡ length done + 9 = omega arith in
+    let f : length (done ++ pixels) + ((7 - n) + 3) ≡ length done + 10 = omega arith in
+    let back : 7 - (7 - n) ≡ n = omega arith in
+    record {
+      left = 7 - n;
+      few = omega arith;
+      second_is = rw (e, back, second_in lines.second second (length done) s) refl;
+      above_is = rw (f, back, above_in lines.above above (length done) a) refl;
+      past_is = p;
+    }
+
+pub along_next : {S : Type 0} (pull : S → Pulled → S → Type 0) (old mid to : S) (mode : Mode) (offset second above past₀ : ℕ) (d₀ : Decoder) (learned₀ : List Estimate)
+    (n past past' : ℕ) (d d' : Decoder) (learned learned' : List Estimate) (cx : ℕ) (result : Result Bool Stop) (pixel : Bool) →
+    n < 8 → result ≡ Ok pixel → past' ≡ past % 2 ^ (past_bits offset - 1) * 2 + bit pixel →
+    ((lines : Lines) (x : ℕ) → AreAt lines offset (second / 2 ^ 7 * 2 ^ n) (above / 2 ^ 6 * 2 ^ n) past x → cx ≡ context_at mode lines offset x) →
+    ((p : Place) (answers : List Pulled) → Stands d p answers → Next pull mid to (record { place = p; learned = learned }) answers cx d' learned' result) →
+    Along pull old mid mode offset second above past₀ d₀ learned₀ n past d learned →
+    Along pull old to mode offset second above past₀ d₀ learned₀ (n + 1) past' d' learned'
+along_next {S} pull old mid to mode offset second above past₀ d₀ learned₀ n past past' d d' learned learned' cx result pixel few is past_is context next along = λ from first s answers lines done so_far s2 a2.
+    let m = along from first s answers lines done so_far s2 a2 in
+    let at = registers_at lines second above past offset n done m.pixels few m.count s2 a2 m.so_far.past_is in
+    let here : cx ≡ context_at mode (with_row lines (done ++ m.pixels)) offset (length (done ++ m.pixels)) = context (with_row lines (done ++ m.pixels)) (length (done ++ m.pixels)) at in
+    let t = decodes_next pull from mid to s answers m.so_far.more (first ++ pixel_events mode (with_row lines (done ++ m.pixels)) offset) d d' learned learned' cx result pixel is m.so_far.decodes
+    (next (after s (first ++ pixel_events mode (with_row lines (done ++ m.pixels)) offset)).place (answers ++ m.so_far.more) m.so_far.decodes.stands) in
+    let assoc : (done ++ m.pixels) ++ pixel ∷ [] ≡ done ++ (m.pixels ++ pixel ∷ []) = append_assoc done m.pixels (pixel ∷ []) in
+    let e₁ : record { context = cx; pixel = pixel } ∷ [] ≡ record { context = context_at mode (with_row lines (done ++ m.pixels)) offset (length (done ++ m.pixels)); pixel = pixel } ∷ [] =
+    one_event cx _ pixel here in
+    let e : (first ++ pixel_events mode (with_row lines (done ++ m.pixels)) offset) ++ record { context = cx; pixel = pixel } ∷ [] ≡ first ++ pixel_events mode (with_row lines ((done ++ m.pixels) ++ pixel ∷ [])) offset =
+    append_assoc first (pixel_events mode (with_row lines (done ++ m.pixels)) offset) (record { context = cx; pixel = pixel } ∷ [])
+    ∙ (ap (λ es. first ++ (pixel_events mode (with_row lines (done ++ m.pixels)) offset ++ es)) e₁
+    ∙ ap (λ es. first ++ es) (sym (pixel_events_more mode lines offset (done ++ m.pixels) pixel))) in
+    let p : past' ≡ before ((done ++ m.pixels) ++ pixel ∷ []) (length ((done ++ m.pixels) ++ pixel ∷ [])) (past_bits offset) = past_is ∙ subst (λ w. past % 2 ^ (past_bits offset - 1) * 2 + bit pixel ≡ before ((done ++ m.pixels) ++ pixel ∷ []) (length ((done ++ m.pixels) ++ pixel ∷ [])) w) (some_past offset) (past_next (done ++ m.pixels) pixel past (past_bits offset - 1) (m.so_far.past_is ∙ ap (λ w. before (done ++ m.pixels) (length (done ++ m.pixels)) w) (sym (some_past offset)))) in
+    let whole : PixelsSoFar pull from to mode offset first s answers lines ((done ++ m.pixels) ++ pixel ∷ []) past' d' learned' =
+    record { past_is = p; more = t.0; decodes = subst (λ es. Decodes pull from to s answers t.0 es d' learned') e t.1 } in
+    record {
+      pixels = m.pixels ++ pixel ∷ [];
+      count = length-append m.pixels (pixel ∷ []) ∙ ap (λ k. k + 1) m.count;
+      so_far = subst (λ row. PixelsSoFar pull from to mode offset first s answers lines row past' d' learned') assoc whole;
+    }
+  where
+    one_event : (c k : ℕ) (b : Bool) → c ≡ k → (let e : List Event = record { context = c; pixel = b } ∷ [] in e) ≡ record { context = k; pixel = b } ∷ []
+    one_event c k b h = cc
+
+pub along_stop : {S : Type 0} (pull : S → Pulled → S → Type 0) (old mid to : S) (mode : Mode) (offset second above past₀ : ℕ) (d₀ : Decoder) (learned₀ : List Estimate)
+    (n all past : ℕ) (d d' : Decoder) (learned learned' : List Estimate) (cx : ℕ) (result : Result Bool Stop) (fault : Stop) →
+    n < all → result ≡ Err fault →
+    ((p : Place) (answers : List Pulled) → Stands d p answers → Next pull mid to (record { place = p; learned = learned }) answers cx d' learned' result) →
+    Along pull old mid mode offset second above past₀ d₀ learned₀ n past d learned →
+    StopsAlong pull old to mode offset second above past₀ d₀ learned₀ all d'
+along_stop {S} pull old mid to mode offset second above past₀ d₀ learned₀ n all past d d' learned learned' cx result fault few is next along = λ from first s answers lines done so_far s2 a2.
+    let m = along from first s answers lines done so_far s2 a2 in
+    let t = decodes_stop pull from mid to s answers m.so_far.more (first ++ pixel_events mode (with_row lines (done ++ m.pixels)) offset) d d' learned learned' cx result fault is m.so_far.decodes
+    (next (after s (first ++ pixel_events mode (with_row lines (done ++ m.pixels)) offset)).place (answers ++ m.so_far.more) m.so_far.decodes.stands) in
+    let long : length (done ++ m.pixels) ≡ length done + length m.pixels = length-append done m.pixels in
+    let count = m.count in
+    record { done = done ++ m.pixels; few = omega arith; more = t.0; stops = t.1 }
+
+-- a fact of what is left, at an `Err`
+pub exit_err : {T E : Type 0} (r : Result T E) (P : Type 0) → P → OnErr r P
+exit_err (Ok x) P h = tt
+exit_err (Err e) P h = h
+
+pub bit_byte : (b : Bool) → bool_byte b ≡ bit b
+bit_byte true = refl
+bit_byte false = refl

@@ -1,0 +1,136 @@
+-- The first number of a range with the greatest value.
+use Rattle.std.proofs.Common.{◌≡◌, ℕ, zero, suc, ◌+◌, ◌<◌, ◌≤◌, Bool, true, false, ◌&&◌, List, [], ◌∷◌, refl, sym, ◌∙◌, ap, subst, arith, Option, None, Some, replicate, get_or, inl, inr, ◌⊎◌, cond}
+use Rattle.std.specs.Prelude.{find, nat_le}
+use Rattle.std.specs.List.{list_all}
+use Rattle.std.proofs.lemmas.Bool.Decides.{nat_tests}
+use Rattle.std.specs.Prelude.{◌-◌, ◌*◌, ◌/◌, length, nat_lt, if◌then◌else◌, option_and_then}
+use Rattle.raster_core.specs.Lines.{Lines, numbers_from}
+use Rattle.raster_core.specs.Offset.{agreement, chosen_offset}
+use Rattle.raster_core.specs.Counts.{Counts, least_lag}
+use Rattle.raster_core.specs.declared.tally.Tally.{Tally}
+
+pub zeros : (n k : ℕ) → ◌≡◌ {A = ℕ} (get_or (replicate n 0) k 0) 0
+zeros zero k = refl
+zeros (suc n) zero = refl
+zeros (suc n) (suc k) = zeros n k
+
+pub le_cases : (a b : ℕ) → a ≤ b → (a ≡ b) ⊎ (a < b)
+le_cases a b h = grind arith
+
+pub find_first : (p : ℕ → Bool) (k n b : ℕ) → k ≤ b → b < k + n → p b ≡ true → ((u : ℕ) → k ≤ u → u < b → p u ≡ false) →
+    find p (numbers_from k n) ≡ Some b
+find_first p k zero b low high hit miss = absurd (omega arith)
+find_first p k (suc n) b low high hit miss =
+    elim (le_cases k b low) [
+      | inl e ↦
+          let here : p k ≡ true = ap p e ∙ hit in
+          ap (λ t. cond t (Some k) (find p (numbers_from (k + 1) n))) here ∙ ap Some e
+      | inr lt ↦
+          let here : p k ≡ false = miss k (omega arith) lt in
+          let rest : find p (numbers_from (k + 1) n) ≡ Some b =
+          find_first p (k + 1) n b (omega arith) (omega arith) hit (λ u from below. miss u (omega arith) below) in
+          ap (λ t. cond t (Some k) (find p (numbers_from (k + 1) n))) here ∙ rest
+    ]
+
+pub all_true : (q : ℕ → Bool) (k n : ℕ) → ((u : ℕ) → k ≤ u → u < k + n → q u ≡ true) → list_all q (numbers_from k n) ≡ true
+all_true q k zero h = refl
+all_true q k (suc n) h =
+    ap (λ t. t && list_all q (numbers_from (k + 1) n)) (h k (omega arith) (omega arith))
+    ∙ all_true q (k + 1) n (λ u from below. h u (omega arith) (omega arith))
+
+pub one_false : (q : ℕ → Bool) (k n u : ℕ) → k ≤ u → u < k + n → q u ≡ false → list_all q (numbers_from k n) ≡ false
+one_false q k zero u low high miss = absurd (omega arith)
+one_false q k (suc n) u low high miss =
+    elim (le_cases k u low) [
+      | inl e ↦ ap (λ t. t && list_all q (numbers_from (k + 1) n)) (ap q e ∙ miss)
+      | inr lt ↦
+          ap (λ t. q k && t) (one_false q (k + 1) n u (omega arith) (omega arith) miss) ∙ and_false (q k)
+    ]
+  where
+    and_false : (b : Bool) → b && false ≡ false
+    and_false true = refl
+    and_false false = refl
+
+-- the first that none beats
+pub best_found : (f : ℕ → ℕ) (k n b : ℕ) → k ≤ b → b < k + n →
+    ((u : ℕ) → k ≤ u → u < k + n → f u ≤ f b) → ((u : ℕ) → k ≤ u → u < b → f u < f b) →
+    find (λ t. list_all (λ u. nat_le (f u) (f t)) (numbers_from k n)) (numbers_from k n) ≡ Some b
+best_found f k n b low high most first =
+    find_first (λ t. list_all (λ u. nat_le (f u) (f t)) (numbers_from k n)) k n b low high
+    (all_true (λ u. nat_le (f u) (f b)) k n (λ u from below. let h : f u ≤ f b = most u from below in is_le (f u) (f b) h))
+    (λ t from below.
+    one_false (λ u. nat_le (f u) (f t)) k n b low high
+    (let h : f t < f b = first t from below in is_not_le (f b) (f t) h))
+  where
+    is_le : (x y : ℕ) → x ≤ y → nat_le x y ≡ true
+    is_le x y h = grind (arith, nat_tests)
+
+    is_not_le : (x y : ℕ) → y < x → nat_le x y ≡ false
+    is_not_le x y h = grind (arith, nat_tests)
+
+-- the offset that is chosen, where the best lag is known
+pub chosen_is : (two_line : Bool) (most width current : ℕ) (stripe : List Lines) (b : ℕ) →
+    least_lag two_line ≤ b → b ≤ most →
+    ((u : ℕ) → least_lag two_line ≤ u → u ≤ most → agreement stripe u ≤ agreement stripe b) →
+    ((u : ℕ) → least_lag two_line ≤ u → u < b → agreement stripe u < agreement stripe b) →
+    chosen_offset two_line most width stripe current
+    ≡ (if nat_lt (width * length stripe / 8) (agreement stripe b - agreement stripe current) then Some b else None)
+chosen_is two_line most width current stripe b low high greatest first =
+    ap (option_and_then (λ t. if nat_lt (width * length stripe / 8) (agreement stripe t - agreement stripe current) then Some t else None))
+    (best_found (agreement stripe) (least_lag two_line) (most + 1 - least_lag two_line) b low (omega arith)
+    (λ u from below. greatest u from (omega arith)) first)
+
+pub gains : (a b : ℕ) (x : ℕ) → a < b → ◌≡◌ {A = Option ℕ} (if nat_lt a b then Some x else None) (Some x)
+gains a b x h = let e : nat_lt a b ≡ true = is_lt a b h in ap (λ t. if t then Some x else None) e
+  where
+    is_lt : (x y : ℕ) → x < y → nat_lt x y ≡ true
+    is_lt x y h = grind (arith, nat_tests)
+
+pub gains_not : (a b : ℕ) (x : ℕ) → b ≤ a → ◌≡◌ {A = Option ℕ} (if nat_lt a b then Some x else None) None
+gains_not a b x h = let e : nat_lt a b ≡ false = is_not_lt a b h in ap (λ t. if t then Some x else None) e
+  where
+    is_not_lt : (x y : ℕ) → y ≤ x → nat_lt x y ≡ false
+    is_not_lt x y h = grind (arith, nat_tests)
+
+-- the same for a tally: what its counts say of the best lag, and whether it gains
+pub record IsBest (t : Tally) (b : ℕ) : Type 0 where
+  pub low : least_lag t.two_line ≤ b
+  pub high : b ≤ t.most
+  pub greatest : (u : ℕ) → least_lag t.two_line ≤ u → u ≤ t.most → get_or t.counts u 0 ≤ get_or t.counts b 0
+  pub first : (u : ℕ) → least_lag t.two_line ≤ u → u < b → get_or t.counts u 0 < get_or t.counts b 0
+
+threshold : (t : Tally) (width current : ℕ) (rows : List Lines) → Counts t width current rows → width * length rows / 8 ≡ t.width * t.rows / 8
+threshold t width current [] k =
+    let none : t.rows ≡ 0 = k.number in
+    ap (λ n. n / 8) (nothing width ∙ sym (nothing t.width) ∙ ap (λ n. t.width * n) (sym none))
+  where
+    nothing : (x : ℕ) → ◌≡◌ {A = ℕ} (x * 0) 0
+    nothing x = omega arith
+threshold t width current (r ∷ rows) k =
+    let some : 0 < length (r ∷ rows) = omega arith in
+    let w : t.width ≡ width = k.width_is some in
+    ap (λ n. n / 8) (ap (λ x. x * length (r ∷ rows)) (sym w) ∙ ap (λ n. t.width * n) (sym k.number))
+
+chosen_by : (t : Tally) (width current : ℕ) (rows : List Lines) (b : ℕ) → Counts t width current rows → IsBest t b →
+    chosen_offset t.two_line t.most width rows current
+    ≡ (if nat_lt (t.width * t.rows / 8) (get_or t.counts b 0 - t.held) then Some b else None)
+chosen_by t width current rows b k h =
+    chosen_is t.two_line t.most width current rows b h.low h.high
+    (λ u from to. subst2 ◌≤◌ (k.each u from to) (k.each b h.low h.high) (h.greatest u from to))
+    (λ u from below. subst2 ◌<◌ (k.each u from (omega (arith, h.high))) (k.each b h.low h.high) (h.first u from below))
+    ∙ ap (λ x. if nat_lt x (agreement rows b - agreement rows current) then Some b else None) (threshold t width current rows k)
+    ∙ ap (λ x. if nat_lt (t.width * t.rows / 8) (x - agreement rows current) then Some b else None) (sym (k.each b h.low h.high))
+    ∙ ap (λ x. if nat_lt (t.width * t.rows / 8) (get_or t.counts b 0 - x) then Some b else None) (sym k.held)
+  where
+    subst2 : (R : ℕ → ℕ → Type 0) {a b x y : ℕ} → a ≡ x → b ≡ y → R a b → R x y
+    subst2 R {a} {b} {x} {y} e f r = subst (λ (z : ℕ). R x z) f (subst (λ (z : ℕ). R z b) e r)
+
+pub chosen_some : (t : Tally) (width current : ℕ) (rows : List Lines) (b : ℕ) → Counts t width current rows → IsBest t b →
+    t.width * t.rows / 8 < get_or t.counts b 0 - t.held → Some b ≡ chosen_offset t.two_line t.most width rows current
+chosen_some t width current rows b k h gain =
+    sym (chosen_by t width current rows b k h ∙ gains (t.width * t.rows / 8) (get_or t.counts b 0 - t.held) b gain)
+
+pub chosen_none : (t : Tally) (width current : ℕ) (rows : List Lines) (b : ℕ) → Counts t width current rows → IsBest t b →
+    get_or t.counts b 0 - t.held ≤ t.width * t.rows / 8 → None ≡ chosen_offset t.two_line t.most width rows current
+chosen_none t width current rows b k h gain =
+    sym (chosen_by t width current rows b k h ∙ gains_not (t.width * t.rows / 8) (get_or t.counts b 0 - t.held) b gain)

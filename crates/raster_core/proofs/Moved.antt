@@ -1,0 +1,22 @@
+-- Tests of const parameters, and offsets.
+use Rattle.std.proofs.Common.{◌≡◌, ℕ, zero, suc, ◌≤◌, Bool, true, false, not, refl, sym, ◌∙◌, ap, arith, eqb}
+use Rattle.std.proofs.lemmas.Bool.Decides.{nat_tests}
+use Rattle.raster_core.specs.Registers.{is_moved}
+
+pub set_is : (n : ℕ) (b : Bool) → (n ≡ 0 → ⊥) → not (eqb n 0) ≡ b → b ≡ true
+set_is zero b h e = absurd (h refl)
+set_is (suc n) b h e =
+    let test : eqb (suc n) 0 ≡ false = grind (arith, nat_tests) in
+    sym e ∙ ap not test
+
+pub clear_is : (n : ℕ) (b : Bool) → n ≡ 0 → not (eqb n 0) ≡ b → b ≡ false
+clear_is zero b h e = sym e
+clear_is (suc n) b h e = absurd (omega (arith, h))
+
+pub moved_some : (offset : ℕ) → is_moved offset ≡ true → 1 ≤ offset
+moved_some zero h = cc
+moved_some (suc t) h = omega arith
+
+pub nominal_none : (offset : ℕ) → is_moved offset ≡ false → offset ≡ 0
+nominal_none zero h = refl
+nominal_none (suc t) h = cc

@@ -1,0 +1,208 @@
+-- Rows in bytes, rows in words.
+use Rattle.std.proofs.Common.{◌≡◌, ℕ, zero, suc, ◌+◌, ◌-◌, ◌*◌, ◌/◌, ◌%◌, ◌^◌, ◌<◌, ◌≤◌, Bool, true, false, List, [], ◌∷◌, length, refl, sym, ◌∙◌, ap, arith, map, get_or, add-zero, ◌⊎◌, inl, inr, lit<}
+use Rattle.std.specs.Prelude.{bit_or, bit_and, ◌==◌, nat_lt, if◌then◌else◌}
+use Rattle.std.proofs.lemmas.Nat.{or_shifted, pow-add, div-mul-add, and_mask}
+use Rattle.std.proofs.lemmas.Nat.Bits.{ones_shl}
+use Rattle.std.proofs.Math.Nat.{mod-eq_of_lt, mul-add-mod_self_right, zero-div, pow-le-pow_right, pow-suc}
+use Rattle.std.proofs.lemmas.Bool.Decides.{nat_tests}
+use Rattle.raster_core.specs.Raster.{pixel_at}
+use Rattle.raster_core.specs.Lines.{numbers_from, binary}
+use Rattle.raster_core.specs.Packed.{packed_row, row_bytes}
+use Rattle.raster_core.specs.Words.{word, led, is_within}
+use Rattle.raster_core.specs.Registers.{bit}
+use Rattle.raster_core.proofs.Shifts.{word_cat, word_same, word_lt}
+
+length_map : {A : Type 0} (f : ℕ → A) (a n : ℕ) → length (map f (numbers_from a n)) ≡ n
+length_map f a zero = refl
+length_map f a (suc n) = let e : length (map f (numbers_from (a + 1) n)) ≡ n = length_map f (a + 1) n in ap suc e
+
+-- the value of n bits, the highest first, is the word
+pub binary_is : (p : ℕ → Bool) (a n : ℕ) → binary (map p (numbers_from a n)) ≡ word p a n
+unfolding word
+binary_is p a zero = refl
+binary_is p a (suc n) =
+    let both : word p a (1 + n) ≡ word p a 1 * 2 ^ n + word p (a + 1) n = word_cat p a 1 n in
+    let s : 1 + n ≡ suc n = omega arith in
+    let one : bit (p a) ≡ word p a 1 = sym (ap (λ k. 0 * 2 + bit (p k)) (add-zero a) ∙ start (bit (p a))) in
+    top (p a) (map p (numbers_from (a + 1) n))
+    ∙ ap (λ k. bit (p a) * 2 ^ k + binary (map p (numbers_from (a + 1) n))) (length_map p (a + 1) n)
+    ∙ ap (λ x. bit (p a) * 2 ^ n + x) (binary_is p (a + 1) n)
+    ∙ ap (λ x. x * 2 ^ n + word p (a + 1) n) one
+    ∙ sym both ∙ ap (word p a) s
+  where
+    start : (k : ℕ) → 0 * 2 + k ≡ k
+    start k = omega arith
+
+    top : (b : Bool) (bits : List Bool) → binary (b ∷ bits) ≡ bit b * 2 ^ length bits + binary bits
+    top true bits = omega arith
+    top false bits = omega arith
+
+get_mapped : (f : ℕ → ℕ) (a n i : ℕ) → i < n → get_or (map f (numbers_from a n)) i 0 ≡ f (a + i)
+get_mapped f a zero i h = absurd (omega (arith, h))
+get_mapped f a (suc n) zero h = ap f (sym (add-zero a))
+get_mapped f a (suc n) (suc i) h = get_mapped f (a + 1) n i (omega arith) ∙ ap f (moved a i)
+  where
+    moved : (x y : ℕ) → (x + 1) + y ≡ x + suc y
+    moved x y = omega arith
+
+get_past : (xs : List ℕ) (i : ℕ) → length xs ≤ i → get_or xs i 0 ≡ 0
+get_past [] i h = refl
+get_past (x ∷ xs) zero h = absurd (omega (arith, h))
+get_past (x ∷ xs) (suc i) h = get_past xs i (omega arith)
+
+pixel_past : (xs : List Bool) (i : ℕ) → length xs ≤ i → pixel_at xs i ≡ false
+pixel_past [] i h = refl
+pixel_past (x ∷ xs) zero h = absurd (omega (arith, h))
+pixel_past (x ∷ xs) (suc i) h = pixel_past xs i (omega arith)
+
+white : (p : ℕ → Bool) (a n : ℕ) → ((i : ℕ) → i < n → p (a + i) ≡ false) → word p a n ≡ 0
+unfolding word
+white p a zero h = refl
+white p a (suc n) h =
+    ap (λ x. x * 2 + bit (p (a + n))) (white p a n (λ i lt. h i (omega arith))) ∙ ap (λ b. 0 * 2 + bit b) (h n (omega arith))
+
+-- a byte of the row is eight of its pixels
+pub byte_is : (line : List Bool) (j : ℕ) → get_or (packed_row line) j 0 ≡ word (pixel_at line) (8 * j) 8
+byte_is line j =
+    elim (cases j (row_bytes (length line))) [
+      | inl lt ↦ get_mapped (λ k. binary (map (pixel_at line) (numbers_from (8 * k) 8))) 0 (row_bytes (length line)) j lt
+          ∙ ap (λ k. binary (map (pixel_at line) (numbers_from (8 * k) 8))) (start j)
+          ∙ binary_is (pixel_at line) (8 * j) 8
+      | inr past ↦
+          let n : length (packed_row line) ≡ row_bytes (length line) = length_map (λ k. binary (map (pixel_at line) (numbers_from (8 * k) 8))) 0 (row_bytes (length line)) in
+          get_past (packed_row line) j (omega (arith, n, past))
+          ∙ sym (white (pixel_at line) (8 * j) 8 (λ i lt. pixel_past line (8 * j + i) (beyond i (length line) past)))
+    ]
+  where
+    cases : (a b : ℕ) → (a < b) ⊎ (b ≤ a)
+    cases a b = grind arith
+
+    start : (k : ℕ) → 0 + k ≡ k
+    start k = omega arith
+
+    beyond : (i n : ℕ) → row_bytes n ≤ j → n ≤ 8 * j + i
+    beyond i n h = omega (arith, h)
+
+-- one byte more of a word
+pub one_byte : (p : ℕ → Bool) (a k w b : ℕ) → k + 8 ≤ 64 → w ≡ word p a k → b ≡ word p (a + k) 8 → bit_or (w * 2 ^ 8 % 2 ^ 64) b ≡ word p a (k + 8)
+one_byte p a k w b h e f =
+    ap (λ x. bit_or (x * 2 ^ 8 % 2 ^ 64) b) e
+    ∙ ap (λ x. bit_or x b) (mod-eq_of_lt (fits (word p a k) k (word_lt p a k) h))
+    ∙ ap (bit_or (word p a k * 2 ^ 8)) f
+    ∙ or_shifted (word p a k) 8 (word p (a + k) 8) (word_lt p (a + k) 8)
+    ∙ sym (word_cat p a k 8)
+  where
+    fits : (x n : ℕ) → x < 2 ^ n → n + 8 ≤ 64 → x * 2 ^ 8 < 2 ^ 64
+    fits x n lt le =
+        let up : 2 ^ (n + 8) ≡ 2 ^ n * 2 ^ 8 = pow-add 2 n 8 in
+        let most : 2 ^ (n + 8) ≤ 2 ^ 64 = pow-le-pow_right (lit< tt) le in
+        omega (arith, lt, up, most)
+
+-- a byte in its place of the led row
+pub byte_led : (line : List Bool) (place i b : ℕ) → 2 ≤ place → i < 8 → b ≡ get_or (packed_row line) (8 * (place - 2) + i) 0 →
+    b ≡ word (led line) (64 * place + 8 * i) 8
+byte_led line place i b h lt e =
+    e ∙ byte_is line (8 * (place - 2) + i)
+    ∙ word_same (pixel_at line) (led line) (8 * (8 * (place - 2) + i)) (64 * place + 8 * i) 8 (λ j lt. here j)
+  where
+    after : (x : ℕ) → 128 ≤ x → nat_lt x 128 ≡ false
+    after x h = grind (arith, nat_tests)
+
+    here : (j : ℕ) → pixel_at line (8 * (8 * (place - 2) + i) + j) ≡ led line (64 * place + 8 * i + j)
+    here j =
+        let e : 64 * place + 8 * i + j - 128 ≡ 8 * (8 * (place - 2) + i) + j = omega (arith, h) in
+        let t : nat_lt (64 * place + 8 * i + j) 128 ≡ false = after (64 * place + 8 * i + j) (omega (arith, h)) in
+        ap (pixel_at line) (sym e) ∙ sym (ap (λ b. if b then false else pixel_at line (64 * place + 8 * i + j - 128)) t)
+
+pub led_white : (line : List Bool) (place : ℕ) → place < 2 → 0 ≡ word (led line) (64 * place) 64
+led_white line place h = sym (white (led line) (64 * place) 64 (λ i lt. before (64 * place + i) (omega arith)))
+  where
+    early : (x : ℕ) → x < 128 → nat_lt x 128 ≡ true
+    early x h = grind (arith, nat_tests)
+
+    before : (x : ℕ) → x < 128 → led line x ≡ false
+    before x lt = ap (λ b. if b then false else pixel_at line (x - 128)) (early x lt)
+
+pub nothing : (p : ℕ → Bool) (a : ℕ) → 0 ≡ word p a 0
+unfolding word
+nothing p a = refl
+
+black : (p : ℕ → Bool) (a n : ℕ) → ((i : ℕ) → i < n → p (a + i) ≡ true) → word p a n + 1 ≡ 2 ^ n
+unfolding word
+black p a zero h = refl
+black p a (suc n) h =
+    let rest : word p a n + 1 ≡ 2 ^ n = black p a n (λ i lt. h i (omega arith)) in
+    let last : bit (p (a + n)) ≡ 1 = ap bit (h n (omega arith)) in
+    let up : 2 ^ suc n ≡ 2 ^ n * 2 = pow-suc 2 n in
+    omega (arith, rest, last, up)
+
+inside : (w x : ℕ) → x < w → is_within w x ≡ true
+inside w x h = grind (arith, nat_tests)
+
+outside : (w x : ℕ) → w ≤ x → is_within w x ≡ false
+outside w x h = grind (arith, nat_tests)
+
+pub mask_full : (w a : ℕ) → a + 64 ≤ w → 2 ^ 64 - 1 ≡ word (is_within w) a 64
+mask_full w a h =
+    let e : word (is_within w) a 64 + 1 ≡ 2 ^ 64 = black (is_within w) a 64 (λ i lt. inside w (a + i) (omega (arith, h))) in
+    omega (arith, e)
+
+pub mask_none : (w a : ℕ) → w ≤ a → 0 ≡ word (is_within w) a 64
+mask_none w a h = sym (white (is_within w) a 64 (λ i lt. outside w (a + i) (omega (arith, h))))
+
+pub mask_part : (w a : ℕ) → a < w → w < a + 64 → (2 ^ 64 - 1) * 2 ^ (64 - (w - a)) % 2 ^ 64 ≡ word (is_within w) a 64
+mask_part w a h k =
+    let cat : word (is_within w) a ((w - a) + (64 - (w - a))) ≡ word (is_within w) a (w - a) * 2 ^ (64 - (w - a)) + word (is_within w) (a + (w - a)) (64 - (w - a)) =
+    word_cat (is_within w) a (w - a) (64 - (w - a)) in
+    let ones : word (is_within w) a (w - a) + 1 ≡ 2 ^ (w - a) = black (is_within w) a (w - a) (λ i lt. inside w (a + i) (omega (arith, h, lt))) in
+    let none : word (is_within w) (a + (w - a)) (64 - (w - a)) ≡ 0 = white (is_within w) (a + (w - a)) (64 - (w - a)) (λ i lt. outside w (a + (w - a) + i) (omega (arith, h))) in
+    let n : (w - a) + (64 - (w - a)) ≡ 64 = omega (arith, h, k) in
+    let all : 2 ^ (w - a) * 2 ^ (64 - (w - a)) ≡ 2 ^ 64 = sym (pow-add 2 (w - a) (64 - (w - a))) ∙ ap (λ x. 2 ^ x) n in
+    let shl : (2 ^ 64 - 1) * 2 ^ (64 - (w - a)) % 2 ^ 64 ≡ 2 ^ 64 - 2 ^ (64 - (w - a)) = ones_shl 64 (64 - (w - a)) (omega arith) in
+    shl ∙ collected (2 ^ (w - a)) (2 ^ (64 - (w - a))) (word (is_within w) a (w - a)) (2 ^ 64) all ones
+    ∙ sym (ap (λ x. word (is_within w) a (w - a) * 2 ^ (64 - (w - a)) + x) none)
+    ∙ sym cat ∙ ap (word (is_within w) a) n
+  where
+    collected : (d s x m : ℕ) → d * s ≡ m → x + 1 ≡ d → m - s ≡ x * s + 0
+    collected d s x m all e =
+        let both : (x + 1) * s ≡ m = ap (λ y. y * s) e ∙ all in
+        omega (arith, both)
+
+-- ---- one pixel of a byte
+
+upper : (q : ℕ → Bool) (g n s : ℕ) → s ≤ n → word q g n / 2 ^ s ≡ word q g (n - s)
+upper q g n s h =
+    let e : word q g ((n - s) + s) ≡ word q g (n - s) * 2 ^ s + word q (g + (n - s)) s = word_cat q g (n - s) s in
+    let m : (n - s) + s ≡ n = omega (arith, h) in
+    ap (λ k. word q g k / 2 ^ s) (sym m) ∙ ap (λ x. x / 2 ^ s) e ∙ div-mul-add (word q g (n - s)) (2 ^ s) (word q (g + (n - s)) s) (word_lt q (g + (n - s)) s)
+
+last_pixel : (q : ℕ → Bool) (g n : ℕ) → word q g (suc n) % 2 ≡ bit (q (g + n))
+unfolding word
+last_pixel q g n = mul-add-mod_self_right (word q g n) 2 (bit (q (g + n))) ∙ mod-eq_of_lt (small (q (g + n)))
+  where
+    small : (b : Bool) → bit b < 2
+    small true = lit< tt
+    small false = lit< tt
+
+bit_test : (b : Bool) → (bit b == 1) ≡ b
+bit_test true = refl
+bit_test false = refl
+
+pub pixel_is : (line : List Bool) (x : ℕ) → (bit_and (get_or (packed_row line) (x / 8) 0 / 2 ^ (7 - x % 8)) 1 == 1) ≡ pixel_at line x
+pixel_is line x =
+    let low : 7 - x % 8 ≤ 8 = omega arith in
+    let n : 8 - (7 - x % 8) ≡ suc (x % 8) = omega arith in
+    let at : 8 * (x / 8) + x % 8 ≡ x = omega arith in
+    ap (λ y. bit_and (y / 2 ^ (7 - x % 8)) 1 == 1) (byte_is line (x / 8))
+    ∙ ap (λ y. bit_and y 1 == 1) (upper (pixel_at line) (8 * (x / 8)) 8 (7 - x % 8) low)
+    ∙ ap (λ k. bit_and (word (pixel_at line) (8 * (x / 8)) k) 1 == 1) n
+    ∙ ap (λ y. y == 1) (and_mask (word (pixel_at line) (8 * (x / 8)) (suc (x % 8))) 1)
+    ∙ ap (λ y. y == 1) (last_pixel (pixel_at line) (8 * (x / 8)) (x % 8))
+    ∙ bit_test (pixel_at line (8 * (x / 8) + x % 8))
+    ∙ ap (pixel_at line) at
+
+pub pixel_behind : (line : List Bool) (x : ℕ) → length (packed_row line) ≤ x / 8 → pixel_at line x ≡ false
+pixel_behind line x h = sym (pixel_is line x) ∙ ap (λ y. bit_and (y / 2 ^ (7 - x % 8)) 1 == 1) (get_past (packed_row line) (x / 8) h) ∙ zero_byte (7 - x % 8)
+  where
+    zero_byte : (k : ℕ) → (bit_and (0 / 2 ^ k) 1 == 1) ≡ false
+    zero_byte k = ap (λ y. bit_and y 1 == 1) (zero-div (2 ^ k))

@@ -1,0 +1,171 @@
+-- What the words of a row agree in, and what its pixels do.
+use Rattle.std.proofs.Common.{◌≡◌, ℕ, zero, suc, ◌+◌, ◌-◌, ◌*◌, ◌<◌, ◌≤◌, Bool, true, false, ◌&&◌, List, [], ◌∷◌, ◌++◌, length, refl, sym, ◌∙◌, ap, arith, cond, ◌⊎◌, inl, inr, add-zero}
+use Rattle.std.specs.Prelude.{nat_lt, ◌==◌, if◌then◌else◌, count_by}
+use Rattle.std.specs.List.{AllByRecursion}
+use Rattle.std.proofs.lemmas.Bool.Decides.{nat_tests}
+use Rattle.std.proofs.lemmas.List.Sums.{sum_by-cons, sum_by_push}
+use Rattle.qm_core.specs.Place.{same}
+use Rattle.raster_core.specs.Raster.{pixel_at, pixel_left}
+use Rattle.raster_core.specs.Lines.{Lines, adaptive, numbers_from}
+use Rattle.raster_core.specs.Offset.{agreements, agreement}
+use Rattle.raster_core.specs.Words.{led, is_within, agreed_from, part_agreement}
+use Rattle.raster_core.proofs.Shifts.{count_same, count_cat}
+
+is_lt : (x y : ℕ) → x < y → nat_lt x y ≡ true
+is_lt x y h = grind (arith, nat_tests)
+
+is_not_lt : (x y : ℕ) → y ≤ x → nat_lt x y ≡ false
+is_not_lt x y h = grind (arith, nat_tests)
+
+pub order : (a b : ℕ) → (a < b) ⊎ (b ≤ a)
+order a b = grind arith
+
+led_at : (row : List Bool) (y x : ℕ) → y ≡ x + 128 → led row y ≡ pixel_at row x
+led_at row y x e =
+    let at : y - 128 ≡ x = omega (arith, e) in
+    ap (λ b. if b then false else pixel_at row (y - 128)) (is_not_lt y 128 (omega (arith, e))) ∙ ap (pixel_at row) at
+
+led_left : (row : List Bool) (y x lag : ℕ) → y + lag ≡ x + 128 → led row y ≡ pixel_left row x lag
+led_left row y x lag e =
+    elim (order x lag) [
+      | inl lt ↦
+          ap (λ b. if b then false else pixel_at row (y - 128)) (is_lt y 128 (omega (arith, e, lt)))
+          ∙ sym (ap (λ b. if b then false else pixel_at row (x - lag)) (is_lt x lag lt))
+      | inr le ↦
+          let at : y - 128 ≡ x - lag = omega (arith, e, le) in
+          ap (λ b. if b then false else pixel_at row (y - 128)) (is_not_lt y 128 (omega (arith, e, le)))
+          ∙ ap (pixel_at row) at
+          ∙ sym (ap (λ b. if b then false else pixel_at row (x - lag)) (is_not_lt x lag le))
+    ]
+
+adaptive_left : (lines : Lines) (lag x : ℕ) → 1 ≤ lag → adaptive lines lag x ≡ pixel_left lines.row x lag
+adaptive_left lines lag x h = ap (λ b. if b then pixel_at lines.above (x + 2) else pixel_left lines.row x lag) (moved lag h)
+  where
+    moved : (k : ℕ) → 1 ≤ k → (k == 0) ≡ false
+    moved k h = grind (arith, nat_tests)
+
+three : {a a' b b' c c' : Bool} → a ≡ a' → b ≡ b' → c ≡ c' → a && same b c ≡ (a' && same b' c')
+three {a} {a'} {b} {b'} {c} {c'} e f g = ap (λ x. x && same b c) e ∙ ap (λ x. a' && same x c) f ∙ ap (λ x. a' && same b' x) g
+
+pub row_part : (lines : Lines) (width lag k n : ℕ) → 1 ≤ lag → lag ≤ 127 →
+    agreed_from (led lines.row) (led lines.row) (is_within width) (64 * k + 128) (64 * k + 128 - lag) (64 * k) n ≡ part_agreement lines width lag (64 * k) n
+unfolding agreed_from part_agreement
+row_part lines width lag k n low high =
+    count_same
+    (λ i. is_within width (64 * k + i) && same (led lines.row (64 * k + 128 + i)) (led lines.row ((64 * k + 128 - lag) + i)))
+    (λ x. is_within width x && same (pixel_at lines.row x) (adaptive lines lag x))
+    0 (64 * k) n
+    (λ i lt. three
+    (ap (λ j. is_within width (64 * k + j)) (start i))
+    (led_at lines.row (64 * k + 128 + (0 + i)) (64 * k + i) (at_one (64 * k) i))
+    (led_left lines.row ((64 * k + 128 - lag) + (0 + i)) (64 * k + i) lag (at_other (64 * k) i lag high)
+    ∙ sym (adaptive_left lines lag (64 * k + i) low)))
+  where
+    start : (x : ℕ) → 0 + x ≡ x
+    start x = omega arith
+
+    at_one : (b i : ℕ) → b + 128 + (0 + i) ≡ (b + i) + 128
+    at_one b i = omega arith
+
+    at_other : (b i t : ℕ) → t ≤ 127 → ((b + 128 - t) + (0 + i)) + t ≡ (b + i) + 128
+    at_other b i t h = omega arith
+
+pub nominal_part : (lines : Lines) (width k n : ℕ) →
+    agreed_from (led lines.row) (led lines.above) (is_within width) (64 * k + 128) (64 * (k + 2) + 64 - 62) (64 * k) n ≡ part_agreement lines width 0 (64 * k) n
+unfolding agreed_from part_agreement
+nominal_part lines width k n =
+    count_same
+    (λ i. is_within width (64 * k + i) && same (led lines.row (64 * k + 128 + i)) (led lines.above ((64 * (k + 2) + 64 - 62) + i)))
+    (λ x. is_within width x && same (pixel_at lines.row x) (adaptive lines 0 x))
+    0 (64 * k) n
+    (λ i lt. three
+    (ap (λ j. is_within width (64 * k + j)) (start i))
+    (led_at lines.row (64 * k + 128 + (0 + i)) (64 * k + i) (at_one k i))
+    (led_at lines.above ((64 * (k + 2) + 64 - 62) + (0 + i)) ((64 * k + i) + 2) (at_other k i)))
+  where
+    start : (x : ℕ) → 0 + x ≡ x
+    start x = omega arith
+
+    at_one : (k i : ℕ) → 64 * k + 128 + (0 + i) ≡ (64 * k + i) + 128
+    at_one k i = omega arith
+
+    at_other : (k i : ℕ) → (64 * (k + 2) + 64 - 62) + (0 + i) ≡ ((64 * k + i) + 2) + 128
+    at_other k i = omega arith
+
+pub part_none : (lines : Lines) (width offset first : ℕ) → part_agreement lines width offset first 0 ≡ 0
+unfolding part_agreement
+part_none lines width offset first = refl
+
+pub part_more : (lines : Lines) (width offset n k : ℕ) →
+    part_agreement lines width offset 0 (n + k) ≡ part_agreement lines width offset 0 n + part_agreement lines width offset n k
+unfolding part_agreement
+part_more lines width offset n k =
+    count_cat (λ x. is_within width x && same (pixel_at lines.row x) (adaptive lines offset x)) 0 n k
+    ∙ ap (λ y. count_by (λ x. is_within width x && same (pixel_at lines.row x) (adaptive lines offset x)) (numbers_from 0 n)
+    + count_by (λ x. is_within width x && same (pixel_at lines.row x) (adaptive lines offset x)) (numbers_from y k)) (start n)
+  where
+    start : (x : ℕ) → 0 + x ≡ x
+    start x = omega arith
+
+count_none : (f : ℕ → Bool) (a n : ℕ) → ((i : ℕ) → i < n → f (a + i) ≡ false) → count_by f (numbers_from a n) ≡ 0
+count_none f a zero h = refl
+count_none f a (suc n) h =
+    let first : f a ≡ false = ap f (sym (add-zero a)) ∙ h 0 (omega arith) in
+    sum_by-cons (λ x. cond (f x) 1 0) a (numbers_from (a + 1) n)
+    ∙ ap (λ t. cond t 1 0 + count_by f (numbers_from (a + 1) n)) first
+    ∙ ap (λ x. 0 + x) (count_none f (a + 1) n (λ i lt. ap f (shifted a i) ∙ h (i + 1) (omega arith)))
+  where
+    shifted : (x i : ℕ) → (x + 1) + i ≡ x + (i + 1)
+    shifted x i = omega arith
+
+-- the whole row
+pub part_all : (lines : Lines) (width offset n : ℕ) → length lines.row ≡ width → width ≤ n →
+    part_agreement lines width offset 0 n ≡ agreements offset lines
+unfolding part_agreement
+part_all lines width offset n e h =
+    ap (λ k. count_by f (numbers_from 0 k)) (whole n h)
+    ∙ count_cat f 0 width (n - width)
+    ∙ ap (λ x. x + count_by f (numbers_from (0 + width) (n - width)))
+    (count_same f g 0 0 width (λ i lt. ap (λ b. b && g (0 + i)) (is_lt (0 + i) width (omega arith))))
+    ∙ ap (λ x. count_by g (numbers_from 0 width) + x)
+    (count_none f (0 + width) (n - width) (λ i lt. ap (λ b. b && g (0 + width + i)) (is_not_lt (0 + width + i) width (omega arith))))
+    ∙ add-zero (count_by g (numbers_from 0 width))
+    ∙ ap (λ k. count_by g (numbers_from 0 k)) (sym e)
+  where
+    g : ℕ → Bool
+    g = λ x. same (pixel_at lines.row x) (adaptive lines offset x)
+
+    f : ℕ → Bool
+    f = λ x. is_within width x && same (pixel_at lines.row x) (adaptive lines offset x)
+
+    whole : (n : ℕ) → width ≤ n → n ≡ width + (n - width)
+    whole n h = omega arith
+
+-- a row more of a stripe
+pub agreement_push : (rows : List Lines) (lines : Lines) (offset : ℕ) → agreement (rows ++ lines ∷ []) offset ≡ agreement rows offset + agreements offset lines
+agreement_push rows lines offset = sum_by_push (agreements offset) rows lines
+
+pub all_push : (P : Lines → Type 0) (rows : List Lines) (lines : Lines) → AllByRecursion P rows → P lines → AllByRecursion P (rows ++ lines ∷ [])
+all_push P [] lines h p = (p, tt)
+all_push P (r ∷ rows) lines h p = (h.0, all_push P rows lines h.1 p)
+
+pub length_push : (rows : List Lines) (lines : Lines) → length (rows ++ lines ∷ []) ≡ length rows + 1
+length_push [] lines = refl
+length_push (r ∷ rows) lines = let e : length (rows ++ lines ∷ []) ≡ length rows + 1 = length_push rows lines in omega (arith, e)
+
+-- ---- a pixel more
+
+one_pixel : (lines : Lines) (width offset x : ℕ) → x < width →
+    part_agreement lines width offset x 1 ≡ cond (same (pixel_at lines.row x) (adaptive lines offset x)) 1 0
+unfolding part_agreement
+one_pixel lines width offset x h =
+    ap (λ b. 0 + cond (b && same (pixel_at lines.row x) (adaptive lines offset x)) 1 0) (is_lt x width h)
+    ∙ start (cond (same (pixel_at lines.row x) (adaptive lines offset x)) 1 0)
+  where
+    start : (k : ℕ) → 0 + k ≡ k
+    start k = omega arith
+
+pub part_one : (lines : Lines) (width offset x : ℕ) → x < width →
+    part_agreement lines width offset 0 (x + 1) ≡ part_agreement lines width offset 0 x + cond (same (pixel_at lines.row x) (adaptive lines offset x)) 1 0
+part_one lines width offset x h =
+    part_more lines width offset x 1 ∙ ap (λ y. part_agreement lines width offset 0 x + y) (one_pixel lines width offset x h)

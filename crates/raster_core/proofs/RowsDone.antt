@@ -1,0 +1,296 @@
+-- A row that was decoded, or at which the source stopped.
+use Rattle.std.proofs.Common.{◌≡◌, ◌≢◌, ℕ, ◌<◌, ◌≤◌, Bool, true, false, ◌⊎◌, inl, inr, List, [], ◌∷◌, ◌++◌, length, refl, sym, ◌∙◌, ap, arith, subst, append_assoc, Ok, Err}
+use Rattle.std.specs.Prelude.{Result, IsErr, IsTrue, if◌then◌else◌, ◌&&◌}
+use Rattle.std.proofs.lemmas.List.{append-nil}
+use Rattle.qm_core.specs.Place.{Place, IsPlace, State, Event, Estimate, step, after, same}
+use Rattle.qm_core.specs.Code.{Lies, wanted_bytes}
+use Rattle.qm_core.specs.Answers.{bytes_of, Agrees}
+use Rattle.qm_core.specs.Standing.{Stands}
+use Rattle.qm_core.specs.declared.source.Pulled.{Pulled}
+use Rattle.qm_core.specs.declared.decoder.Decoder.{Decoder}
+use Rattle.qm_core.specs.declared.decoder.Stop.{Stop}
+use Rattle.qm_core.specs.Laws.{PartForever}
+use Rattle.qm_core.specs.Runs.{AnswersLie}
+use Rattle.raster_core.specs.Lines.{Lines, Mode, context_at, pixel_events, pseudo_event, IsLegalFlag, same_row}
+use Rattle.raster_core.specs.Modes.{mode_of}
+use Rattle.raster_core.specs.Packed.{packed_row, Held, HasLines}
+use Rattle.raster_core.specs.Decoding.{Decodes, AreEnough}
+use Rattle.raster_core.specs.Decoded.{with_row, PixelsSoFar, PixelsStop, RowPixels}
+use Rattle.raster_core.specs.RowDecoded.{first_events, events_after, FirstDecoded, FirstStopped, RowIs, IsUndecided, RowDecoded}
+use Rattle.raster_core.specs.Registers.{past_bits}
+use Rattle.raster_core.specs.declared.shape.Shape.{Shape}
+use Rattle.raster_core.specs.declared.shape.Kept.{Kept}
+use Rattle.raster_core.proofs.Causal.{pixel_events_more, pixel_events_front}
+use Rattle.raster_core.proofs.Firsts.{same_self}
+use Rattle.raster_core.proofs.Before.{before_none}
+
+-- ---- two rows of which one stops short
+
+-- Either one row goes on behind the other, or they part somewhere.
+data Parting (xs ys : List Bool) : Type 0 where
+  goes_on : (y : Bool) (rest : List Bool) → ys ≡ xs ++ y ∷ rest → Parting xs ys
+  parts : (common : List Bool) (x y : Bool) (r s : List Bool) → x ≢ y → xs ≡ common ++ x ∷ r → ys ≡ common ++ y ∷ s → Parting xs ys
+
+same_pixel : (x y : Bool) → (x ≡ y) ⊎ (x ≢ y)
+same_pixel true true = inl refl
+same_pixel true false = inr (λ e. cc)
+same_pixel false true = inr (λ e. cc)
+same_pixel false false = inl refl
+
+parting : (xs ys : List Bool) → length xs < length ys → Parting xs ys
+parting [] [] h = absurd (omega arith)
+parting [] (y ∷ ys) h = goes_on y ys refl
+parting (x ∷ xs) [] h = absurd (omega arith)
+parting (x ∷ xs) (y ∷ ys) h =
+    elim (same_pixel x y) [
+      | inl e ↦ elim (parting xs ys (omega arith)) [
+        | goes_on z rest is ↦ goes_on z rest (cc)
+        | parts common a b r s ne p q ↦ parts (x ∷ common) a b r s ne (cc) (cc)
+      ]
+      | inr ne ↦ parts [] x y xs ys ne refl refl
+    ]
+
+events_through : (mode : Mode) (lines : Lines) (offset : ℕ) (first : List Event) (xs : List Bool) (b : Bool) (rest : List Bool) → (more : List Event) ×
+    (first ++ pixel_events mode (with_row lines (xs ++ b ∷ rest)) offset
+    ≡ (first ++ pixel_events mode (with_row lines xs) offset) ++ record { context = context_at mode (with_row lines xs) offset (length xs); pixel = b } ∷ more)
+events_through mode lines offset first xs b rest =
+    let f = pixel_events_front mode lines offset (xs ++ b ∷ []) rest in
+    let e : pixel_events mode (with_row lines (xs ++ b ∷ rest)) offset ≡ pixel_events mode (with_row lines xs) offset ++ record { context = context_at mode (with_row lines xs) offset (length xs); pixel = b } ∷ f.0 =
+    ap (λ row. pixel_events mode (with_row lines row) offset) (sym (append_assoc xs (b ∷ []) rest))
+    ∙ (f.1 ∙ (ap (λ es. es ++ f.0) (pixel_events_more mode lines offset xs b)
+    ∙ append_assoc (pixel_events mode (with_row lines xs) offset) (record { context = context_at mode (with_row lines xs) offset (length xs); pixel = b } ∷ []) f.0)) in
+    (f.0, ap (λ es. first ++ es) e ∙ sym (append_assoc first (pixel_events mode (with_row lines xs) offset) (record { context = context_at mode (with_row lines xs) offset (length xs); pixel = b } ∷ f.0)))
+
+enough_later : (xs ys : List Event) (n : ℕ) (s : State) → AreEnough n s (xs ++ ys) → AreEnough n (after s xs) ys
+enough_later [] ys n s h = h
+enough_later (e ∷ xs) ys n s h = enough_later xs ys n (step s e.context e.pixel) h.1
+
+-- the bytes that came agree with the answers
+agrees_bytes : (answers : List Pulled) → Agrees answers (bytes_of answers)
+agrees_bytes answers = record { rest = []; is = sym (append-nil (bytes_of answers)); bytes = tt; ended = λ _. refl }
+
+-- A row that begins otherwise has no events that keep the bytes inside; one that goes on wants more of them.
+pub short_row : PartForever → (mode : Mode) (lines : Lines) (offset : ℕ) (first : List Event) (s : State) (done row : List Bool) (c : List ℕ) (count : ℕ) → IsPlace s.place → length done < length row →
+    Lies c (after s (first ++ pixel_events mode (with_row lines done) offset)).place → count < wanted_bytes (after s (first ++ pixel_events mode (with_row lines done) offset)).place.doublings →
+    Lies c (after s (first ++ pixel_events mode (with_row lines row) offset)).place → AreEnough count s (first ++ pixel_events mode (with_row lines row) offset) → ⊥
+short_row apart mode lines offset first s done row c count place h inside short lies enough =
+    elim (parting done row h) [
+      | goes_on y rest is ↦
+          let t = events_through mode lines offset first done y rest in
+          let e : AreEnough count s ((first ++ pixel_events mode (with_row lines done) offset) ++ record { context = context_at mode (with_row lines done) offset (length done); pixel = y } ∷ t.0) =
+          subst (λ es. AreEnough count s es) (ap (λ r. first ++ pixel_events mode (with_row lines r) offset) is ∙ t.1) enough in
+          let l = enough_later (first ++ pixel_events mode (with_row lines done) offset) _ count s e in
+          let w : wanted_bytes (after s (first ++ pixel_events mode (with_row lines done) offset)).place.doublings ≤ count = l.0 in
+          omega arith
+      | parts common x y r q ne p₁ p₂ ↦
+          let t₁ = events_through mode lines offset first common x r in
+          let t₂ = events_through mode lines offset first common y q in
+          apart (first ++ pixel_events mode (with_row lines common) offset) t₁.0 t₂.0 s (context_at mode (with_row lines common) offset (length common)) x y c place ne
+          (subst (λ es. Lies c (after s es).place) (ap (λ r. first ++ pixel_events mode (with_row lines r) offset) p₁ ∙ t₁.1) inside)
+          (subst (λ es. Lies c (after s es).place) (ap (λ r. first ++ pixel_events mode (with_row lines r) offset) p₂ ∙ t₂.1) lies)
+    ]
+
+-- ---- the source stopped
+
+-- before the row's pixels
+pub undecided_first : (shape : Shape) (kept : Kept) (s : State) (answers : List Pulled) (lines : Lines) → IsTrue shape.typical →
+    length (bytes_of answers) < wanted_bytes s.place.doublings → IsUndecided shape kept s answers lines
+undecided_first shape kept s answers lines typical short = λ row flag wide legal lies enough.
+    let e : AreEnough (length (bytes_of answers)) s ((pseudo_event (mode_of shape) kept.previous_typical flag ∷ []) ++ (if flag then [] else pixel_events (mode_of shape) (with_row lines row) kept.offset)) =
+    subst (λ b. AreEnough (length (bytes_of answers)) s ((if b then pseudo_event (mode_of shape) kept.previous_typical flag ∷ [] else []) ++ (if flag then [] else pixel_events (mode_of shape) (with_row lines row) kept.offset))) typical enough in
+    let w : wanted_bytes s.place.doublings ≤ length (bytes_of answers) = e.0 in
+    omega arith
+
+flags_apart : (b : Bool) → same b false ≡ same b true → ⊥
+flags_apart true e = cc
+flags_apart false e = cc
+
+-- at a pixel of a plain row
+pub undecided_row : AnswersLie → PartForever → (shape : Shape) (kept : Kept) (s : State) (answers : List Pulled) (lines : Lines) (done : List Bool) (d : Decoder) → IsPlace s.place → length done < shape.width →
+    Stands d (after s (first_events (mode_of shape) kept.previous_typical false ++ pixel_events (mode_of shape) (with_row lines done) kept.offset)).place answers →
+    length (bytes_of answers) < wanted_bytes (after s (first_events (mode_of shape) kept.previous_typical false ++ pixel_events (mode_of shape) (with_row lines done) kept.offset)).place.doublings →
+    IsUndecided shape kept s answers lines
+undecided_row lie apart shape kept s answers lines done d place few stands short = λ row flag wide legal lies enough. by_flag row flag wide legal lies enough
+  where
+    inside : Lies (bytes_of answers) (after s (first_events (mode_of shape) kept.previous_typical false ++ pixel_events (mode_of shape) (with_row lines done) kept.offset)).place
+    inside = lie d _ answers (bytes_of answers) stands (agrees_bytes answers)
+
+    typical_row : (row : List Bool) (t : Bool) → t ≡ shape.typical → IsTrue (t && same_row row lines.above) →
+        Lies (bytes_of answers) (after s (first_events (mode_of shape) kept.previous_typical true ++ [])).place → ⊥
+    typical_row row false e legal lies = cc
+    typical_row row true e legal lies =
+        let e₁ : Lies (bytes_of answers) (after s ((pseudo_event (mode_of shape) kept.previous_typical true ∷ []) ++ [])).place =
+        subst (λ b. Lies (bytes_of answers) (after s ((if b then pseudo_event (mode_of shape) kept.previous_typical true ∷ [] else []) ++ [])).place) (sym e) lies in
+        let e₂ : Lies (bytes_of answers) (after s ((pseudo_event (mode_of shape) kept.previous_typical false ∷ []) ++ pixel_events (mode_of shape) (with_row lines done) kept.offset)).place =
+        subst (λ b. Lies (bytes_of answers) (after s ((if b then pseudo_event (mode_of shape) kept.previous_typical false ∷ [] else []) ++ pixel_events (mode_of shape) (with_row lines done) kept.offset)).place) (sym e) inside in
+        apart [] (pixel_events (mode_of shape) (with_row lines done) kept.offset) [] s (pseudo_event (mode_of shape) kept.previous_typical true).context (same kept.previous_typical false) (same kept.previous_typical true)
+        (bytes_of answers) place (flags_apart kept.previous_typical) e₂ e₁
+
+    by_flag : (row : List Bool) (flag : Bool) → length row ≡ shape.width → IsLegalFlag (mode_of shape) (with_row lines row) flag →
+        Lies (bytes_of answers) (after s (events_after shape kept (with_row lines row) flag)).place →
+        AreEnough (length (bytes_of answers)) s (events_after shape kept (with_row lines row) flag) → ⊥
+    by_flag row true wide legal lies enough = typical_row row shape.typical refl (legal refl) lies
+    by_flag row false wide legal lies enough =
+        let longer : length done < length row = omega arith in
+        short_row apart (mode_of shape) lines kept.offset (first_events (mode_of shape) kept.previous_typical false) s done row (bytes_of answers) (length (bytes_of answers)) place longer inside short lies enough
+
+-- ---- the row is decoded
+
+pub same_row_self : (row : List Bool) → same_row row row ≡ true
+same_row_self [] = refl
+same_row_self (b ∷ row) = rw (same_self b, same_row_self row) refl
+
+-- what is known of a run of a row's events
+pub row_is : AnswersLie → {S : Type 0} (pull : S → Pulled → S → Type 0) (from to : S) (shape : Shape) (kept kept' : Kept) (s : State) (answers more : List Pulled) (lines : Lines) (row : List Bool) (flag : Bool)
+    (window : Held) (d : Decoder) (learned : List Estimate) → length row ≡ shape.width → IsLegalFlag (mode_of shape) (with_row lines row) flag → HasLines window (with_row lines row) →
+    kept'.offset ≡ kept.offset → kept'.previous_typical ≡ flag →
+    Decodes pull from to s answers more (events_after shape kept (with_row lines row) flag) d learned →
+    RowIs shape kept kept' s (answers ++ more) lines window learned d
+row_is lie pull from to shape kept kept' s answers more lines row flag window d learned wide legal lines_are offset_is flag_is h =
+    record {
+      row = row;
+      flag = flag;
+      wide = wide;
+      legal = legal;
+      inside = λ c a. lie d _ (answers ++ more) c h.stands a;
+      lines_are = lines_are;
+      offset_is = offset_is;
+      flag_is = flag_is;
+      stands = h.stands;
+      taught = h.taught;
+      enough = h.enough;
+    }
+
+-- a row has events
+pub some_events : (shape : Shape) (kept : Kept) (lines : Lines) (row : List Bool) → length row ≡ shape.width → 1 ≤ shape.width → events_after shape kept (with_row lines row) false ≡ [] → ⊥
+some_events shape kept lines row wide some none = by_typical shape.typical none
+  where
+    plain : (r : List Bool) → 1 ≤ length r → pixel_events (mode_of shape) (with_row lines r) kept.offset ≡ [] → ⊥
+    plain [] h e = omega arith
+    plain (b ∷ r) h e = cc
+
+    by_typical : (t : Bool) → (if t then pseudo_event (mode_of shape) kept.previous_typical false ∷ [] else []) ++ pixel_events (mode_of shape) (with_row lines row) kept.offset ≡ [] → ⊥
+    by_typical true e = cc
+    by_typical false e = plain row (omega (arith, wide)) e
+
+-- ---- the ends of a call
+
+is_err : (e : Stop) → IsErr {T = Unit {0}} {E = Stop} (Err e)
+is_err e = refl
+
+not_err : (x : Unit {0}) → IsErr {T = Unit {0}} {E = Stop} (Ok x) → ⊥
+not_err x h = cc
+
+no_false : false ≡ true → ⊥
+no_false e = cc
+
+pub stop_first : {S : Type 0} (pull : S → Pulled → S → Type 0) (from to : S) (shape : Shape) (kept kept' : Kept) (p : Place) (learned learned' : List Estimate) (answers : List Pulled) (lines : Lines)
+    (window : Held) (d : Decoder) (result : Result (Unit {0}) Stop) → IsErr result → FirstStopped pull from to (mode_of shape) p learned answers d →
+    RowDecoded pull from to shape kept kept' (record { place = p; learned = learned }) answers lines window learned' d result
+stop_first pull from to shape kept kept' p learned learned' answers lines window d (Ok x) err f = absurd (not_err x err)
+stop_first pull from to shape kept kept' p learned learned' answers lines window d (Err e) err f =
+    record {
+      more = f.more;
+      gives = f.stops.gives;
+      ok = tt;
+      stop = ((λ _. f.stops.stopped), (λ _. is_err e));
+      undecided = λ _. undecided_first shape kept (record { place = p; learned = learned }) (answers ++ f.more) lines f.typical f.stops.short;
+      stays = (p, f.stops.stays);
+    }
+
+pub stop_pixels : AnswersLie → PartForever → {S : Type 0} (pull : S → Pulled → S → Type 0) (from to : S) (shape : Shape) (kept kept' : Kept) (s : State) (learned' : List Estimate) (answers : List Pulled) (lines : Lines)
+    (window : Held) (d : Decoder) (result : Result (Unit {0}) Stop) → IsErr result →
+    PixelsStop pull from to (mode_of shape) kept.offset (first_events (mode_of shape) kept.previous_typical false) s answers lines shape.width d →
+    RowDecoded pull from to shape kept kept' s answers lines window learned' d result
+stop_pixels lie apart pull from to shape kept kept' s learned' answers lines window d (Ok x) err f = absurd (not_err x err)
+stop_pixels lie apart pull from to shape kept kept' s learned' answers lines window d (Err e) err f =
+    record {
+      more = f.more;
+      gives = f.stops.gives;
+      ok = tt;
+      stop = ((λ _. f.stops.stopped), (λ _. is_err e));
+      undecided = λ place. undecided_row lie apart shape kept s (answers ++ f.more) lines f.done d place f.few f.stops.stays f.stops.short;
+      stays = (_, f.stops.stays);
+    }
+
+pub begin_pixels : {S : Type 0} (pull : S → Pulled → S → Type 0) (from to : S) (shape : Shape) (previous : Bool) (offset : ℕ) (p : Place) (learned learned' : List Estimate) (answers : List Pulled) (lines : Lines) (d : Decoder) →
+    (f : FirstDecoded pull from to (mode_of shape) previous false p learned answers d learned') →
+    PixelsSoFar pull from to (mode_of shape) offset (first_events (mode_of shape) previous false) (record { place = p; learned = learned }) answers lines [] 0 d learned'
+begin_pixels pull from to shape previous offset p learned learned' answers lines d f =
+    record {
+      past_is = sym (before_none [] (past_bits offset));
+      more = f.more;
+      decodes = subst (λ es. Decodes pull from to (record { place = p; learned = learned }) answers f.more es d learned') (sym (append-nil (first_events (mode_of shape) previous false))) f.decodes;
+    }
+
+pub done_plain : AnswersLie → {S : Type 0} (pull : S → Pulled → S → Type 0) (from to : S) (shape : Shape) (kept kept' : Kept) (s : State) (learned : List Estimate) (answers : List Pulled) (lines : Lines) (current : List ℕ)
+    (window : Held) (d : Decoder) → 1 ≤ shape.width → kept'.offset ≡ kept.offset → kept'.previous_typical ≡ false →
+    ((row : List Bool) → length row ≡ shape.width → current ≡ packed_row row → HasLines window (with_row lines row)) →
+    RowPixels pull from to (mode_of shape) kept.offset (first_events (mode_of shape) kept.previous_typical false) s answers lines shape.width current d learned →
+    RowDecoded pull from to shape kept kept' s answers lines window learned d (Ok tt)
+done_plain lie pull from to shape kept kept' s learned answers lines current window d some offset_is flag_is has r =
+    record {
+      more = r.more;
+      gives = r.decodes.gives;
+      ok = row_is lie pull from to shape kept kept' s answers r.more lines r.row false window d learned r.wide (λ e. absurd (no_false e)) (has r.row r.wide r.packed) offset_is flag_is r.decodes;
+      stop = ((λ e. absurd (not_err tt e)), (λ e. absurd (some_events shape kept lines r.row r.wide some (r.decodes.going e))));
+      undecided = tt;
+      stays = tt;
+    }
+
+pub done_typical : AnswersLie → {S : Type 0} (pull : S → Pulled → S → Type 0) (from to : S) (shape : Shape) (kept kept' : Kept) (p : Place) (learned learned' : List Estimate) (answers : List Pulled) (lines : Lines)
+    (window : Held) (d : Decoder) → shape.typical ≡ true → kept'.offset ≡ kept.offset → kept'.previous_typical ≡ true → length lines.above ≡ shape.width →
+    HasLines window (with_row lines lines.above) →
+    FirstDecoded pull from to (mode_of shape) kept.previous_typical true p learned answers d learned' →
+    RowDecoded pull from to shape kept kept' (record { place = p; learned = learned }) answers lines window learned' d (Ok tt)
+done_typical lie {S} pull from to shape kept kept' p learned learned' answers lines window d typical offset_is flag_is wide has f =
+    record {
+      more = f.more;
+      gives = f.decodes.gives;
+      ok = row_is lie pull from to shape kept kept' (record { place = p; learned = learned }) answers f.more lines lines.above true window d learned' wide legal has offset_is flag_is
+          (subst (λ es. Decodes pull from to (record { place = p; learned = learned }) answers f.more es d learned') (sym (append-nil (first_events (mode_of shape) kept.previous_typical true))) f.decodes);
+      stop = ((λ e. absurd (not_err tt e)), (λ e. absurd (some_first shape.typical typical (f.decodes.going e))));
+      undecided = tt;
+      stays = tt;
+    }
+  where
+    legal : IsLegalFlag (mode_of shape) (with_row lines lines.above) true
+    legal = λ _. rw (typical, same_row_self lines.above) refl
+
+    some_first : (t : Bool) → t ≡ true → (if t then pseudo_event (mode_of shape) kept.previous_typical true ∷ [] else []) ≡ [] → ⊥
+    some_first true e h = cc
+    some_first false e h = cc
+
+-- the same for equal states
+pub carried : {S : Type 0} {pull : S → Pulled → S → Type 0} {from : S} {shape : Shape} {kept kept' : Kept} {s : State} {answers : List Pulled} {lines : Lines} {result : Result (Unit {0}) Stop}
+    (width : ℕ) (above second : List ℕ) (to to' : S) (current current' : List ℕ) (learned learned' : List Estimate) (d d' : Decoder) →
+    to' ≡ to → current' ≡ current → learned' ≡ learned → d' ≡ d →
+    RowDecoded pull from to shape kept kept' s answers lines (record { width = width; current = current; above = above; second = second }) learned d result →
+    RowDecoded pull from to' shape kept kept' s answers lines (record { width = width; current = current'; above = above; second = second }) learned' d' result
+carried {S} {pull} {from} {shape} {kept} {kept'} {s} {answers} {lines} {result} width above second to to' current current' learned learned' d d' a b e f h =
+    subst (λ x. RowDecoded pull from x shape kept kept' s answers lines (record { width = width; current = current'; above = above; second = second }) learned' d' result) (sym a)
+    (subst (λ x. RowDecoded pull from to shape kept kept' s answers lines (record { width = width; current = x; above = above; second = second }) learned' d' result) (sym b)
+    (subst (λ x. RowDecoded pull from to shape kept kept' s answers lines (record { width = width; current = current; above = above; second = second }) x d' result) (sym e)
+    (subst (λ x. RowDecoded pull from to shape kept kept' s answers lines (record { width = width; current = current; above = above; second = second }) learned x result) (sym f) h)))
+
+-- the same for a window that holds the same
+pub moved : {S : Type 0} {pull : S → Pulled → S → Type 0} {from to : S} {shape : Shape} {kept kept' : Kept} {s : State} {learned : List Estimate} {answers : List Pulled} {lines : Lines}
+    {d : Decoder} {result : Result (Unit {0}) Stop} (width width' : ℕ) (current above second above' second' : List ℕ) →
+    RowDecoded pull from to shape kept kept' s answers lines (record { width = width; current = current; above = above; second = second }) learned d result →
+    width' ≡ width → above' ≡ above → second' ≡ second →
+    RowDecoded pull from to shape kept kept' s answers lines (record { width = width'; current = current; above = above'; second = second' }) learned d result
+moved {S} {pull} {from} {to} {shape} {kept} {kept'} {s} {learned} {answers} {lines} {d} {result} width width' current above second above' second' h w e f =
+    subst (λ n. RowDecoded pull from to shape kept kept' s answers lines (record { width = n; current = current; above = above'; second = second' }) learned d result) (sym w)
+    (subst (λ a. RowDecoded pull from to shape kept kept' s answers lines (record { width = width; current = current; above = a; second = second' }) learned d result) (sym e)
+    (subst (λ a. RowDecoded pull from to shape kept kept' s answers lines (record { width = width; current = current; above = above; second = a }) learned d result) (sym f) h))
+
+pub same_lines : (w v : Held) (lines : Lines) → w.width ≡ v.width → v.current ≡ w.current → v.above ≡ w.above → v.second ≡ w.second → HasLines w lines → HasLines v lines
+same_lines w v lines e c a s h =
+    record {
+      row_is = c ∙ h.row_is;
+      above_is = a ∙ h.above_is;
+      second_is = s ∙ h.second_is;
+      row_wide = h.row_wide ∙ e;
+      above_wide = h.above_wide ∙ e;
+      second_wide = h.second_wide ∙ e;
+    }

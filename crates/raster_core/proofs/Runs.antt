@@ -1,0 +1,116 @@
+-- Events decoded one after another.
+use Rattle.std.proofs.Common.{◌≡◌, ℕ, ◌+◌, ◌<◌, ◌≤◌, Bool, List, [], ◌∷◌, ◌++◌, length, refl, sym, ◌∙◌, ap, arith, subst, Ok, Err, append_assoc}
+use Rattle.std.specs.Prelude.{Result, IsErr}
+use Rattle.std.proofs.lemmas.List.{append-nil, length-append}
+use Rattle.qm_core.specs.Place.{State, Event, Estimate, step, after}
+use Rattle.qm_core.specs.Code.{wanted_bytes}
+use Rattle.qm_core.specs.Answers.{bytes_of, heard_of}
+use Rattle.qm_core.specs.Standing.{Stands, Next}
+use Rattle.qm_core.specs.declared.source.Pulled.{Pulled}
+use Rattle.qm_core.specs.declared.source.Pulled.TheVariants.{Byte, End, Fault}
+use Rattle.qm_core.specs.declared.source.Heard.TheVariants.{More, Stopped}
+use Rattle.qm_core.specs.declared.decoder.Decoder.{Decoder}
+use Rattle.qm_core.specs.declared.decoder.Stop.{Stop}
+use Rattle.raster_core.specs.Decoding.{Decodes, Stops, AreEnough}
+use Rattle.raster_core.proofs.Joins.{bytes_of-append, length-bytes_of, Gives-append}
+
+pub after_append : (s : State) (xs ys : List Event) → after s (xs ++ ys) ≡ after (after s xs) ys
+after_append s [] ys = refl
+after_append s (x ∷ xs) ys = after_append (step s x.context x.pixel) xs ys
+
+heard_front : (xs ys : List Pulled) → heard_of (xs ++ ys) ≡ More → heard_of xs ≡ More
+heard_front [] ys h = refl
+heard_front (Byte b ∷ xs) ys h = heard_front xs ys h
+heard_front (End ∷ xs) ys h = h
+heard_front (Fault ∷ xs) ys h = h
+
+-- a fault is an answer without a byte
+stopped_bytes : (xs : List Pulled) → heard_of xs ≡ Stopped → length (bytes_of xs) < length xs
+stopped_bytes [] h = cc
+stopped_bytes (Byte b ∷ xs) h = let r = stopped_bytes xs h in omega (arith, r)
+stopped_bytes (End ∷ xs) h = cc
+stopped_bytes (Fault ∷ xs) h = let r = few xs in omega (arith, r)
+  where
+    few : (ys : List Pulled) → length (bytes_of ys) ≤ length ys
+    few [] = omega arith
+    few (Byte b ∷ ys) = let r = few ys in omega (arith, r)
+    few (End ∷ ys) = let r = few ys in omega (arith, r)
+    few (Fault ∷ ys) = let r = few ys in omega (arith, r)
+
+pub enough_more : (events : List Event) (m n : ℕ) (s : State) → m ≤ n → AreEnough m s events → AreEnough n s events
+enough_more [] m n s l h = tt
+enough_more (e ∷ events) m n s l h =
+    let a : wanted_bytes s.place.doublings ≤ m = h.0 in
+    (omega (arith, a), enough_more events m n (step s e.context e.pixel) l h.1)
+
+pub enough_append : (xs ys : List Event) (n : ℕ) (s : State) → AreEnough n s xs → AreEnough n (after s xs) ys → AreEnough n s (xs ++ ys)
+enough_append [] ys n s h k = k
+enough_append (e ∷ xs) ys n s h k = (h.0, enough_append xs ys n (step s e.context e.pixel) h.1 k)
+
+no_err : (pixel : Bool) → IsErr {T = Bool} {E = Stop} (Ok pixel) → ⊥
+no_err pixel h = cc
+
+pub decodes_none : {S : Type 0} (pull : S → Pulled → S → Type 0) (from : S) (s : State) (answers : List Pulled) (d : Decoder) →
+    Stands d s.place answers → Decodes pull from from s answers [] [] d s.learned
+decodes_none pull from s answers d h =
+    record { gives = refl; stands = rw append-nil h; taught = refl; enough = λ _. tt; going = λ _. refl }
+
+pub decodes_next : {S : Type 0} (pull : S → Pulled → S → Type 0) (from mid to : S) (s : State) (answers more : List Pulled) (events : List Event)
+    (d d' : Decoder) (learned learned' : List Estimate) (cx : ℕ) (result : Result Bool Stop) (pixel : Bool) → result ≡ Ok pixel →
+    Decodes pull from mid s answers more events d learned →
+    Next pull mid to (record { place = (after s events).place; learned = learned }) (answers ++ more) cx d' learned' result →
+    (more' : List Pulled) × Decodes pull from to s answers more' (events ++ record { context = cx; pixel = pixel } ∷ []) d' learned'
+decodes_next {S} pull from mid to s answers more events d d' learned learned' cx result pixel is h n =
+    let at : Next pull mid to (after s events) (answers ++ more) cx d' learned' (Ok pixel) =
+    subst (λ r. Next pull mid to (after s events) (answers ++ more) cx d' learned' r) is
+    (subst (λ l. Next pull mid to (record { place = (after s events).place; learned = l }) (answers ++ more) cx d' learned' result) h.taught n) in
+    let last : after s (events ++ record { context = cx; pixel = pixel } ∷ []) ≡ step (after s events) cx pixel = after_append s events (record { context = cx; pixel = pixel } ∷ []) in
+    (more ++ at.more, parts at last)
+  where
+    parts : (at : Next pull mid to (after s events) (answers ++ more) cx d' learned' (Ok pixel)) →
+        after s (events ++ record { context = cx; pixel = pixel } ∷ []) ≡ step (after s events) cx pixel →
+        Decodes pull from to s answers (more ++ at.more) (events ++ record { context = cx; pixel = pixel } ∷ []) d' learned'
+    parts at last =
+        let assoc : (answers ++ more) ++ at.more ≡ answers ++ (more ++ at.more) = append_assoc answers more at.more in
+        record {
+          gives = Gives-append pull from mid to more at.more h.gives at.gives;
+          stands = rw (last, ← assoc) at.stands;
+          taught = rw last at.taught;
+          enough = λ going.
+              let going' : heard_of ((answers ++ more) ++ at.more) ≡ More = subst (λ a. heard_of a ≡ More) (sym assoc) going in
+              let size : length (bytes_of ((answers ++ more) ++ at.more)) ≡ wanted_bytes (after s events).place.doublings = length-bytes_of ((answers ++ more) ++ at.more) going' ∙ at.asked.enough going' in
+              let bytes : length (bytes_of ((answers ++ more) ++ at.more)) ≡ length (bytes_of (answers ++ more)) + length (bytes_of at.more) =
+              ap length (bytes_of-append (answers ++ more) at.more) ∙ length-append (bytes_of (answers ++ more)) (bytes_of at.more) in
+              let grown : length (bytes_of (answers ++ more)) ≤ length (bytes_of ((answers ++ more) ++ at.more)) = omega arith in
+              let here : wanted_bytes (after s events).place.doublings ≤ length (bytes_of ((answers ++ more) ++ at.more)) = omega arith in
+              subst (λ a. AreEnough (length (bytes_of a)) s (events ++ record { context = cx; pixel = pixel } ∷ [])) assoc
+              (enough_append events (record { context = cx; pixel = pixel } ∷ []) _ s
+              (enough_more events _ _ s grown (h.enough (heard_front (answers ++ more) at.more going')))
+              (here, tt));
+          going = λ stopped. absurd (no_err pixel (at.stop.1 (subst (λ a. heard_of a ≡ Stopped) (sym assoc) stopped)));
+        }
+
+pub decodes_stop : {S : Type 0} (pull : S → Pulled → S → Type 0) (from mid to : S) (s : State) (answers more : List Pulled) (events : List Event)
+    (d d' : Decoder) (learned learned' : List Estimate) (cx : ℕ) (result : Result Bool Stop) (fault : Stop) → result ≡ Err fault →
+    Decodes pull from mid s answers more events d learned →
+    Next pull mid to (record { place = (after s events).place; learned = learned }) (answers ++ more) cx d' learned' result →
+    (more' : List Pulled) × Stops pull from to s answers more' events d'
+decodes_stop {S} pull from mid to s answers more events d d' learned learned' cx result fault is h n =
+    let at : Next pull mid to (after s events) (answers ++ more) cx d' learned' (Err fault) =
+    subst (λ r. Next pull mid to (after s events) (answers ++ more) cx d' learned' r) is
+    (subst (λ l. Next pull mid to (record { place = (after s events).place; learned = l }) (answers ++ more) cx d' learned' result) h.taught n) in
+    (more ++ at.more, parts at)
+  where
+    parts : (at : Next pull mid to (after s events) (answers ++ more) cx d' learned' (Err fault)) → Stops pull from to s answers (more ++ at.more) events d'
+    parts at =
+        let assoc : (answers ++ more) ++ at.more ≡ answers ++ (more ++ at.more) = append_assoc answers more at.more in
+        let stopped : heard_of ((answers ++ more) ++ at.more) ≡ Stopped = at.stop.0 refl in
+        let few = stopped_bytes ((answers ++ more) ++ at.more) stopped in
+        let most = at.asked.no_more in
+        let short : length (bytes_of ((answers ++ more) ++ at.more)) < wanted_bytes (after s events).place.doublings = omega arith in
+        record {
+          gives = Gives-append pull from mid to more at.more h.gives at.gives;
+          stopped = rw (← assoc) stopped;
+          short = rw (← assoc) short;
+          stays = rw (← assoc) at.unchanged.1;
+        }

@@ -1,0 +1,359 @@
+-- Pixels in words.
+use Rattle.std.proofs.Common.{◌≡◌, ℕ, zero, suc, ◌+◌, ◌-◌, ◌*◌, ◌/◌, ◌%◌, ◌^◌, ◌<◌, ◌≤◌, Bool, true, false, ◌++◌, ◌&&◌, not, ◌∷◌, refl, sym, ◌∙◌, ap, arith, cond, add-zero, lit<, lit≤, ◌⊎◌, inl, inr}
+use Rattle.std.specs.Prelude.{bit_and, bit_or, bit_xor, count_ones, count_by}
+use Rattle.std.proofs.Math.Nat.{pow-suc, mul-add-mod_self_right, mod-eq_of_lt, mul-le-mul_right}
+use lib.Count.{ones, ones_in}
+use Rattle.std.proofs.lemmas.Nat.{pow-add, div-mul-add, and_block, xor_block, ones_cat, pow_pos, or_shifted, mul-mod_first}
+use Rattle.std.proofs.lemmas.List.Sums.{sum_by-cons, sum_by-append}
+use Rattle.raster_core.proofs.Choosing.{le_cases}
+use Rattle.qm_core.specs.Place.{same}
+use Rattle.raster_core.specs.Lines.{numbers_from}
+use Rattle.raster_core.specs.Words.{word, agreed_from}
+use Rattle.raster_core.specs.Registers.{bit}
+
+pub order : (a b : ℕ) → (a < b) ⊎ (b ≤ a)
+order a b = grind arith
+
+pow_two : (n : ℕ) → 2 ^ suc n ≡ 2 ^ n * 2
+pow_two n = pow-suc 2 n
+
+regroup : (a p b c : ℕ) → (a * p + b) * 2 + c ≡ a * (p * 2) + (b * 2 + c)
+regroup a p b c = omega arith
+
+pub bit_lt : (b : Bool) → bit b < 2 ^ 1
+bit_lt true = lit< tt
+bit_lt false = lit< tt
+
+pub word_lt : (p : ℕ → Bool) (f n : ℕ) → word p f n < 2 ^ n
+unfolding word
+word_lt p f zero = lit< tt
+word_lt p f (suc n) =
+    let h : word p f n < 2 ^ n = word_lt p f n in
+    let b : bit (p (f + n)) < 2 = bit_lt (p (f + n)) in
+    let d : 2 ^ suc n ≡ 2 ^ n * 2 = pow_two n in
+    omega (arith, h, b, d)
+
+-- two words one behind the other
+pub word_cat : (p : ℕ → Bool) (f m n : ℕ) → word p f (m + n) ≡ word p f m * 2 ^ n + word p (f + m) n
+unfolding word
+word_cat p f m zero = ap (word p f) (add-zero m) ∙ grind arith
+word_cat p f m (suc n) =
+    let e : word p f (m + n) ≡ word p f m * 2 ^ n + word p (f + m) n = word_cat p f m n in
+    let s : m + suc n ≡ suc (m + n) = omega arith in
+    let q : f + (m + n) ≡ (f + m) + n = omega arith in
+    ap (word p f) s ∙ ap (λ x. x * 2 + bit (p (f + (m + n)))) e ∙ ap (λ y. (word p f m * 2 ^ n + word p (f + m) n) * 2 + bit (p y)) q
+    ∙ regroup (word p f m) (2 ^ n) (word p (f + m) n) (bit (p ((f + m) + n)))
+    ∙ ap (λ x. word p f m * x + (word p (f + m) n * 2 + bit (p ((f + m) + n)))) (sym (pow_two n))
+
+-- the same pixels, the same word
+pub word_same : (p q : ℕ → Bool) (f g n : ℕ) → ((i : ℕ) → i < n → p (f + i) ≡ q (g + i)) → word p f n ≡ word q g n
+unfolding word
+word_same p q f g zero h = refl
+word_same p q f g (suc n) h =
+    let rest : word p f n ≡ word q g n = word_same p q f g n (λ i lt. h i (omega arith)) in
+    ap (λ x. x * 2 + bit (p (f + n))) rest ∙ ap (λ b. word q g n * 2 + bit b) (h n (omega arith))
+
+and_bit : (a b : Bool) → bit_and (bit a) (bit b) ≡ bit (a && b)
+and_bit true true = refl
+and_bit true false = refl
+and_bit false b = refl
+
+xor_bit : (a b : Bool) → bit_xor (bit a) (bit b) ≡ bit (not (same a b))
+xor_bit true true = refl
+xor_bit true false = refl
+xor_bit false true = refl
+xor_bit false false = refl
+
+not_bit : (a : Bool) → 1 - bit a ≡ bit (not a)
+not_bit true = refl
+not_bit false = refl
+
+ones_bit : (a : Bool) → count_ones (bit a) ≡ cond a 1 0
+unfolding ones ones_in
+ones_bit true = refl
+ones_bit false = refl
+
+pub word_and : (p q : ℕ → Bool) (f g n : ℕ) → bit_and (word p f n) (word q g n) ≡ word (λ i. p (f + i) && q (g + i)) 0 n
+unfolding word
+word_and p q f g zero = refl
+word_and p q f g (suc n) =
+    and_block 1 (word p f n) (word q g n) (bit (p (f + n))) (bit (q (g + n))) (bit_lt (p (f + n))) (bit_lt (q (g + n)))
+    ∙ ap (λ x. x * 2 + bit_and (bit (p (f + n))) (bit (q (g + n)))) (word_and p q f g n)
+    ∙ ap (λ x. word (λ i. p (f + i) && q (g + i)) 0 n * 2 + x) (and_bit (p (f + n)) (q (g + n)))
+    ∙ ap (λ k. word (λ i. p (f + i) && q (g + i)) 0 n * 2 + bit (p (f + k) && q (g + k))) (sym (zero_add n))
+  where
+    zero_add : (k : ℕ) → 0 + k ≡ k
+    zero_add k = omega arith
+
+pub word_xor : (p q : ℕ → Bool) (f g n : ℕ) → bit_xor (word p f n) (word q g n) ≡ word (λ i. not (same (p (f + i)) (q (g + i)))) 0 n
+unfolding word
+word_xor p q f g zero = refl
+word_xor p q f g (suc n) =
+    xor_block 1 (word p f n) (word q g n) (bit (p (f + n))) (bit (q (g + n))) (bit_lt (p (f + n))) (bit_lt (q (g + n)))
+    ∙ ap (λ x. x * 2 + bit_xor (bit (p (f + n))) (bit (q (g + n)))) (word_xor p q f g n)
+    ∙ ap (λ x. word (λ i. not (same (p (f + i)) (q (g + i)))) 0 n * 2 + x) (xor_bit (p (f + n)) (q (g + n)))
+    ∙ ap (λ k. word (λ i. not (same (p (f + i)) (q (g + i)))) 0 n * 2 + bit (not (same (p (f + k)) (q (g + k))))) (sym (zero_add n))
+  where
+    zero_add : (k : ℕ) → 0 + k ≡ k
+    zero_add k = omega arith
+
+pub word_not : (p : ℕ → Bool) (f n : ℕ) → 2 ^ n - 1 - word p f n ≡ word (λ i. not (p i)) f n
+unfolding word
+word_not p f zero = refl
+word_not p f (suc n) =
+    let e : 2 ^ n - 1 - word p f n ≡ word (λ i. not (p i)) f n = word_not p f n in
+    let lt : word p f n < 2 ^ n = word_lt p f n in
+    let b : 1 - bit (p (f + n)) ≡ bit (not (p (f + n))) = not_bit (p (f + n)) in
+    let c : bit (p (f + n)) < 2 = bit_lt (p (f + n)) in
+    let d : 2 ^ suc n ≡ 2 ^ n * 2 = pow_two n in
+    omega (arith, e, lt, b, c, d)
+
+-- how many of the pixels are black
+pub word_ones : (p : ℕ → Bool) (f n : ℕ) → count_ones (word p f n) ≡ count_by p (numbers_from f n)
+unfolding word
+word_ones p f zero = ones_bit false
+word_ones p f (suc n) =
+    let both : word p f (1 + n) ≡ word p f 1 * 2 ^ n + word p (f + 1) n = word_cat p f 1 n in
+    let one : word p f 1 ≡ bit (p f) = ap (λ k. 0 * 2 + bit (p k)) (add-zero f) ∙ omega arith in
+    let s : suc n ≡ 1 + n = omega arith in
+    ap (λ k. count_ones (word p f k)) s
+    ∙ ap count_ones both
+    ∙ ones_cat n (word p f 1) (word p (f + 1) n) (word_lt p (f + 1) n)
+    ∙ ap (λ x. count_ones x + count_ones (word p (f + 1) n)) one
+    ∙ ap (λ x. x + count_ones (word p (f + 1) n)) (ones_bit (p f))
+    ∙ ap (λ x. cond (p f) 1 0 + x) (word_ones p (f + 1) n)
+    ∙ sym (sum_by-cons (λ x. cond (p x) 1 0) f (numbers_from (f + 1) n))
+
+-- ---- two words, joined
+
+second_part : (q : ℕ → Bool) (g s : ℕ) → s ≤ 64 → word q g 64 / 2 ^ s ≡ word q g (64 - s)
+second_part q g s h =
+    let e : word q g ((64 - s) + s) ≡ word q g (64 - s) * 2 ^ s + word q (g + (64 - s)) s = word_cat q g (64 - s) s in
+    let n : (64 - s) + s ≡ 64 = omega arith in
+    let lt : word q (g + (64 - s)) s < 2 ^ s = word_lt q (g + (64 - s)) s in
+    ap (λ k. word q g k / 2 ^ s) (sym n) ∙ ap (λ x. x / 2 ^ s) e ∙ div-mul-add (word q g (64 - s)) (2 ^ s) (word q (g + (64 - s)) s) lt
+
+modded : (a b s p m : ℕ) → s * p ≡ m → b < s → 0 < p → ((a * s + b) * p) % m ≡ b * p
+modded a b s p m e lt pos =
+    let parts : (a * s + b) * p ≡ a * (s * p) + b * p = omega arith in
+    let small : b * p < m = below (omega (arith, mul-le-mul_right p (up lt))) in
+    ap (λ x. x % m) (parts ∙ ap (λ x. a * x + b * p) e) ∙ mul-add-mod_self_right a m (b * p) ∙ mod-eq_of_lt small
+  where
+    up : b < s → b + 1 ≤ s
+    up h = omega arith
+
+    below : (b + 1) * p ≤ s * p → b * p < m
+    below h = omega (arith, h, e, pos)
+
+twice : (w p m : ℕ) → w * 2 % m * p % m ≡ w * (2 * p) % m
+twice w p m =
+    let e : w * 2 * p ≡ w * (2 * p) = omega arith in
+    mul-mod_first (w * 2) p m ∙ ap (λ x. x % m) e
+
+first_part : (q : ℕ → Bool) (g s : ℕ) → s < 64 → word q g 64 * 2 ^ 1 % 2 ^ 64 * 2 ^ (63 - s) % 2 ^ 64 ≡ word q (g + (64 - s)) s * 2 ^ (64 - s)
+first_part q g s h =
+    let e : word q g ((64 - s) + s) ≡ word q g (64 - s) * 2 ^ s + word q (g + (64 - s)) s = word_cat q g (64 - s) s in
+    let n : (64 - s) + s ≡ 64 = omega arith in
+    let lt : word q (g + (64 - s)) s < 2 ^ s = word_lt q (g + (64 - s)) s in
+    let up : 2 * 2 ^ (63 - s) ≡ 2 ^ (64 - s) = doubled (63 - s) ∙ ap (λ k. 2 ^ k) (one_more s h) in
+    let all : 2 ^ s * 2 ^ (64 - s) ≡ 2 ^ 64 = sym (pow-add 2 s (64 - s)) ∙ ap (λ k. 2 ^ k) (whole s h) in
+    twice (word q g 64) (2 ^ (63 - s)) (2 ^ 64)
+    ∙ ap (λ x. word q g 64 * x % 2 ^ 64) up
+    ∙ ap (λ k. word q g k * 2 ^ (64 - s) % 2 ^ 64) (sym n)
+    ∙ ap (λ x. x * 2 ^ (64 - s) % 2 ^ 64) e
+    ∙ modded (word q g (64 - s)) (word q (g + (64 - s)) s) (2 ^ s) (2 ^ (64 - s)) (2 ^ 64) all lt (pow_pos (64 - s))
+  where
+    doubled : (k : ℕ) → 2 * 2 ^ k ≡ 2 ^ suc k
+    doubled k = let e : 2 ^ suc k ≡ 2 ^ k * 2 = pow_two k in omega (arith, e)
+
+    one_more : (t : ℕ) → t < 64 → suc (63 - t) ≡ 64 - t
+    one_more t lt = omega arith
+
+    whole : (t : ℕ) → t < 64 → t + (64 - t) ≡ 64
+    whole t lt = omega arith
+
+pub joined_is : (q : ℕ → Bool) (g s : ℕ) → s < 64 →
+    bit_or (word q g 64 * 2 ^ 1 % 2 ^ 64 * 2 ^ (63 - s) % 2 ^ 64) (word q (g + 64) 64 / 2 ^ s) ≡ word q (g + 64 - s) 64
+joined_is q g s h =
+    let n : s + (64 - s) ≡ 64 = omega arith in
+    let at : g + (64 - s) ≡ g + 64 - s = omega arith in
+    let next : (g + (64 - s)) + s ≡ g + 64 = omega arith in
+    ap (λ x. bit_or x (word q (g + 64) 64 / 2 ^ s)) (first_part q g s h)
+    ∙ ap (λ x. bit_or (word q (g + (64 - s)) s * 2 ^ (64 - s)) x) (second_part q (g + 64) s (omega arith))
+    ∙ or_shifted (word q (g + (64 - s)) s) (64 - s) (word q (g + 64) (64 - s)) (word_lt q (g + 64) (64 - s))
+    ∙ ap (λ k. word q (g + (64 - s)) s * 2 ^ (64 - s) + word q k (64 - s)) (sym next)
+    ∙ sym (word_cat q (g + (64 - s)) s (64 - s))
+    ∙ ap (word q (g + (64 - s))) n
+    ∙ ap (λ k. word q k 64) at
+
+-- ---- agreements
+
+kept_same : (m s : Bool) → m && not (not s) ≡ (m && s)
+kept_same true true = refl
+kept_same true false = refl
+kept_same false s = refl
+
+start : (k : ℕ) → 0 + k ≡ k
+start k = omega arith
+
+-- a count by places, from elsewhere
+pub count_same : (f g : ℕ → Bool) (a b n : ℕ) → ((i : ℕ) → i < n → f (a + i) ≡ g (b + i)) → count_by f (numbers_from a n) ≡ count_by g (numbers_from b n)
+count_same f g a b zero h = refl
+count_same f g a b (suc n) h =
+    let first : f a ≡ g b = ap f (sym (add-zero a)) ∙ h 0 (omega arith) ∙ ap g (add-zero b) in
+    sum_by-cons (λ x. cond (f x) 1 0) a (numbers_from (a + 1) n)
+    ∙ ap (λ t. cond t 1 0 + count_by f (numbers_from (a + 1) n)) first
+    ∙ ap (λ x. cond (g b) 1 0 + x) (count_same f g (a + 1) (b + 1) n (λ i lt. ap f (shifted a i) ∙ h (i + 1) (omega arith) ∙ ap g (sym (shifted b i))))
+    ∙ sym (sum_by-cons (λ x. cond (g x) 1 0) b (numbers_from (b + 1) n))
+  where
+    shifted : (x i : ℕ) → (x + 1) + i ≡ x + (i + 1)
+    shifted x i = omega arith
+
+pub numbers_cat : (a n k : ℕ) → numbers_from a (n + k) ≡ numbers_from a n ++ numbers_from (a + n) k
+numbers_cat a zero k = ap (numbers_from a) (start k) ∙ ap (λ x. numbers_from x k) (sym (add-zero a))
+numbers_cat a (suc n) k =
+    ap (numbers_from a) (later n k) ∙ ap (λ xs. a ∷ xs) (numbers_cat (a + 1) n k ∙ ap (λ x. numbers_from (a + 1) n ++ numbers_from x k) (moved a n))
+  where
+    later : (x y : ℕ) → suc x + y ≡ suc (x + y)
+    later x y = omega arith
+
+    moved : (x y : ℕ) → (x + 1) + y ≡ x + suc y
+    moved x y = omega arith
+
+pub count_cat : (f : ℕ → Bool) (a n k : ℕ) → count_by f (numbers_from a (n + k)) ≡ count_by f (numbers_from a n) + count_by f (numbers_from (a + n) k)
+count_cat f a n k = ap (count_by f) (numbers_cat a n k) ∙ sum_by-append (λ x. cond (f x) 1 0) (numbers_from a n) (numbers_from (a + n) k)
+
+agreed_word_n : (p q m : ℕ → Bool) (a b c n : ℕ) →
+    count_ones (bit_and (word m c n) (2 ^ n - 1 - bit_xor (word p a n) (word q b n))) ≡ agreed_from p q m a b c n
+unfolding agreed_from
+agreed_word_n p q m a b c n =
+    ap (λ x. count_ones (bit_and (word m c n) (2 ^ n - 1 - x))) (word_xor p q a b n)
+    ∙ ap (λ x. count_ones (bit_and (word m c n) x)) (word_not (λ i. not (same (p (a + i)) (q (b + i)))) 0 n)
+    ∙ ap count_ones (word_and m (λ i. not (not (same (p (a + i)) (q (b + i))))) c 0 n)
+    ∙ ap count_ones (word_same (λ i. m (c + i) && not (not (same (p (a + (0 + i))) (q (b + (0 + i)))))) (λ i. m (c + i) && same (p (a + i)) (q (b + i))) 0 0 n
+    (λ i lt. here (0 + i)))
+    ∙ word_ones (λ i. m (c + i) && same (p (a + i)) (q (b + i))) 0 n
+  where
+    here : (i : ℕ) → m (c + i) && not (not (same (p (a + (0 + i))) (q (b + (0 + i))))) ≡ (m (c + i) && same (p (a + i)) (q (b + i)))
+    here i =
+        kept_same (m (c + i)) (same (p (a + (0 + i))) (q (b + (0 + i))))
+        ∙ ap (λ k. m (c + i) && same (p (a + k)) (q (b + k))) (start i)
+
+pub agreed_word_is : (p q m : ℕ → Bool) (a b c : ℕ) →
+    count_ones (bit_and (word m c 64) (2 ^ 64 - 1 - bit_xor (word p a 64) (word q b 64))) ≡ agreed_from p q m a b c 64
+agreed_word_is p q m a b c = agreed_word_n p q m a b c 64
+
+-- more places
+pub agreed_more : (p q m : ℕ → Bool) (a b c n k : ℕ) →
+    agreed_from p q m a b c (n + k) ≡ agreed_from p q m a b c n + agreed_from p q m (a + n) (b + n) (c + n) k
+unfolding agreed_from
+agreed_more p q m a b c n k =
+    count_cat (λ i. m (c + i) && same (p (a + i)) (q (b + i))) 0 n k
+    ∙ ap (λ x. count_by (λ i. m (c + i) && same (p (a + i)) (q (b + i))) (numbers_from 0 n) + x)
+    (count_same (λ i. m (c + i) && same (p (a + i)) (q (b + i))) (λ i. m ((c + n) + i) && same (p ((a + n) + i)) (q ((b + n) + i))) (0 + n) 0 k
+    (λ i lt. ap (λ z. m z && same (p (a + ((0 + n) + i))) (q (b + ((0 + n) + i)))) (place c n i)
+    ∙ ap (λ z. m ((c + n) + (0 + i)) && same (p z) (q (b + ((0 + n) + i)))) (place a n i)
+    ∙ ap (λ z. m ((c + n) + (0 + i)) && same (p ((a + n) + (0 + i))) (q z)) (place b n i)))
+  where
+    place : (x y i : ℕ) → x + ((0 + y) + i) ≡ (x + y) + (0 + i)
+    place x y i = omega arith
+
+pub agreed_none : (p q m : ℕ → Bool) (a b c : ℕ) → agreed_from p q m a b c 0 ≡ 0
+unfolding agreed_from
+agreed_none p q m a b c = refl
+
+-- ---- a word's left neighbour moves in, a pixel at a time
+
+pub begun : (q : ℕ → Bool) (g s : ℕ) → s < 64 → word q g 64 / 2 ^ s ≡ word q g (64 - s)
+begun q g s h = second_part q g s (omega (arith, h))
+
+pub far_next : (q : ℕ → Bool) (g d : ℕ) → d < 64 → word q g (64 - d) / 2 ≡ word q g (64 - (d + 1))
+far_next q g d h =
+    let e : word q g ((63 - d) + 1) ≡ word q g (63 - d) * 2 ^ 1 + word q (g + (63 - d)) 1 = word_cat q g (63 - d) 1 in
+    let n : 64 - d ≡ (63 - d) + 1 = omega arith in
+    let m : 63 - d ≡ 64 - (d + 1) = omega arith in
+    ap (λ k. word q g k / 2) n ∙ ap (λ x. x / 2) e ∙ div-mul-add (word q g (63 - d)) 2 (word q (g + (63 - d)) 1) (word_lt q (g + (63 - d)) 1) ∙ ap (word q g) m
+
+pub near_next : (q : ℕ → Bool) (g d : ℕ) → d < 64 →
+    bit_or (word q g (64 - d) * 2 ^ 63 % 2 ^ 64) (word q (g + 64 - d) 64 / 2 ^ 1) ≡ word q (g + 64 - (d + 1)) 64
+near_next q g d h =
+    let e : word q g ((63 - d) + 1) ≡ word q g (63 - d) * 2 ^ 1 + word q (g + (63 - d)) 1 = word_cat q g (63 - d) 1 in
+    let n : 64 - d ≡ (63 - d) + 1 = omega arith in
+    let last : word q (g + (63 - d)) 1 < 2 ^ 1 = word_lt q (g + (63 - d)) 1 in
+    ap (λ k. bit_or (word q g k * 2 ^ 63 % 2 ^ 64) (word q (g + 64 - d) 64 / 2 ^ 1)) n
+    ∙ ap (λ x. bit_or (x * 2 ^ 63 % 2 ^ 64) (word q (g + 64 - d) 64 / 2 ^ 1)) e
+    ∙ ap (λ x. bit_or x (word q (g + 64 - d) 64 / 2 ^ 1)) (modded (word q g (63 - d)) (word q (g + (63 - d)) 1) 2 (2 ^ 63) (2 ^ 64) refl last (lit< tt))
+    ∙ ap (bit_or (word q (g + (63 - d)) 1 * 2 ^ 63)) (second_part q (g + 64 - d) 1 (lit≤ tt))
+    ∙ or_shifted (word q (g + (63 - d)) 1) 63 (word q (g + 64 - d) 63) (word_lt q (g + 64 - d) 63)
+    ∙ ap (λ k. word q (g + (63 - d)) 1 * 2 ^ 63 + word q k 63) (beside g d h)
+    ∙ sym (word_cat q (g + (63 - d)) 1 63)
+    ∙ ap (λ k. word q k 64) (one_left g d h)
+  where
+    beside : (g d : ℕ) → d < 64 → g + 64 - d ≡ g + (63 - d) + 1
+    beside g d h = omega arith
+
+    one_left : (g d : ℕ) → d < 64 → g + (63 - d) ≡ g + 64 - (d + 1)
+    one_left g d h = omega arith
+
+-- ---- white words
+
+dark : (p : ℕ → Bool) (f n : ℕ) → word p f n ≡ 0 → (i : ℕ) → i < n → p (f + i) ≡ false
+unfolding word
+dark p f zero e i lt = absurd (omega (arith, lt))
+dark p f (suc n) e i lt =
+    let rest : word p f n ≡ 0 = omega (arith, e) in
+    let last : bit (p (f + n)) ≡ 0 = omega (arith, e) in
+    elim (le_cases i n (omega (arith, lt))) [
+      | inl eq ↦ ap (λ k. p (f + k)) eq ∙ white_bit (p (f + n)) last
+      | inr below ↦ dark p f n rest i below
+    ]
+  where
+    white_bit : (b : Bool) → bit b ≡ 0 → b ≡ false
+    white_bit true e = absurd (omega (arith, e))
+    white_bit false e = refl
+
+all_dark : (p : ℕ → Bool) (place : ℕ) → word p place 64 ≡ 0 → word p (place + 64) 64 ≡ 0 → word p (place + 128) 64 ≡ 0 →
+    (i : ℕ) → i < 192 → p (place + i) ≡ false
+all_dark p place one two three i lt =
+    elim (order i 64) [
+      | inl h ↦ dark p place 64 one i h
+      | inr h ↦ elim (order i 128) [
+        | inl k ↦ ap p (at i 64 h) ∙ dark p (place + 64) 64 two (i - 64) (omega (arith, k))
+        | inr k ↦ ap p (at i 128 k) ∙ dark p (place + 128) 64 three (i - 128) (omega (arith, lt))
+      ]
+    ]
+  where
+    at : (i k : ℕ) → k ≤ i → place + i ≡ place + k + (i - k)
+    at i k h = omega (arith, h)
+
+white_n : (p m : ℕ → Bool) (place c lag n : ℕ) → ((i : ℕ) → i < 192 → p (place + i) ≡ false) → lag ≤ 127 → n ≤ 64 →
+    count_ones (word m c n) ≡ agreed_from p p m (place + 128) (place + 128 - lag) c n
+unfolding agreed_from
+white_n p m place c lag n h high le =
+    word_ones m c n
+    ∙ count_same m (λ i. m (c + i) && same (p (place + 128 + i)) (p ((place + 128 - lag) + i))) c 0 n (λ i lt. sym (here i lt))
+  where
+    kept : (b : Bool) → b && true ≡ b
+    kept true = refl
+    kept false = refl
+
+    one_at : (i : ℕ) → place + 128 + (0 + i) ≡ place + (128 + i)
+    one_at i = omega arith
+
+    other_at : (i : ℕ) → (place + 128 - lag) + (0 + i) ≡ place + (128 - lag + i)
+    other_at i = omega (arith, high)
+
+    start : (i : ℕ) → 0 + i ≡ i
+    start i = omega arith
+
+    here : (i : ℕ) → i < n → m (c + (0 + i)) && same (p (place + 128 + (0 + i))) (p ((place + 128 - lag) + (0 + i))) ≡ m (c + i)
+    here i lt =
+        let one : p (place + 128 + (0 + i)) ≡ false = ap p (one_at i) ∙ h (128 + i) (omega (arith, lt, le)) in
+        let other : p ((place + 128 - lag) + (0 + i)) ≡ false = ap p (other_at i) ∙ h (128 - lag + i) (omega (arith, lt, le)) in
+        ap (λ x. m (c + (0 + i)) && same x (p ((place + 128 - lag) + (0 + i)))) one
+        ∙ ap (λ x. m (c + (0 + i)) && same false x) other
+        ∙ kept (m (c + (0 + i))) ∙ ap (λ k. m (c + k)) (start i)
+
+pub white_agreed : (p m : ℕ → Bool) (place c lag : ℕ) → word p place 64 ≡ 0 → word p (place + 64) 64 ≡ 0 → word p (place + 128) 64 ≡ 0 → lag ≤ 127 →
+    count_ones (word m c 64) ≡ agreed_from p p m (place + 128) (place + 128 - lag) c 64
+white_agreed p m place c lag one two three high = white_n p m place c lag 64 (all_dark p place one two three) high (lit≤ tt)

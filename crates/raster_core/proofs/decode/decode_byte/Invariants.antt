@@ -1,0 +1,19 @@
+use Rattle.std.proofs.Common.{◌≡◌, ◌+◌, ◌*◌, ◌/◌, ◌^◌, ◌<◌}
+use Rattle.std.specs.Prelude.{IsTrue}
+use Rattle.qm_core.specs.Answers.{Pulls}
+use Rattle.qm_core.specs.Standing.{has_stopped}
+use Rattle.raster_core.specs.Modes.{mode_of}
+use Rattle.raster_core.specs.Decoded.{Along}
+use Rattle.raster_core.proofs.decode.decode_byte.Given as goal
+
+abbrev pub invariant-loop-j : goal.invariant-loop-j
+invariant-loop-j g l = record {
+  same : g.S.CodeBytes.failed l.source ≡ g.S.CodeBytes.failed l.fn.source;
+  going : has_stopped l.decoder ≡ has_stopped l.fn.decoder;
+  stuck : IsTrue (has_stopped l.fn.decoder) → (l._j ≡ 0) × (l.decoder ≡ l.fn.decoder) × (l.source ≡ l.fn.source);
+  second : l.second ≡ l.second_bytes / 2 ^ 7 * 2 ^ l._j;
+  above : l.above ≡ l.above_bytes / 2 ^ 6 * 2 ^ l._j;
+  second_small : l.second < 2 ^ (17 + l._j);
+  above_small : l.above < 2 ^ (18 + l._j);
+  along : Along (Pulls g.S.CodeBytes.gives g.S.CodeBytes.failed) l.fn.source l.source (mode_of l.fn.shape) l.offset l.second_bytes l.above_bytes l.fn.before l.fn.decoder l.fn.learned l._j l.past l.decoder l.learned;
+}

@@ -1,0 +1,35 @@
+use Rattle.std.proofs.Common.{◌≡◌, ℕ, ◌+◌, ◌-◌, ◌*◌, ◌∙◌, ap, arith, get_or}
+use Rattle.raster_core.specs.Packed.{packed_row}
+use Rattle.raster_core.specs.Words.{led, word}
+use Rattle.raster_core.proofs.Packs.{led_white, nothing, one_byte, byte_led}
+use Rattle.raster_core.proofs.words.word_at.Goals as goal
+
+pub returns-then-place-lt2 : goal.returns-then-place-lt2
+returns-then-place-lt2 c line e = led_white line c.args.place (omega arith)
+
+pub inside-init : goal.inside-init
+inside-init c line e = nothing (led line) (64 * c.args.place)
+
+pub across-init : goal.across-init
+across-init c line e = nothing (led line) (64 * c.args.place)
+
+next : (i : ℕ) → 8 * i + 8 ≡ 8 * (i + 1)
+next i = omega arith
+
+pub inside-preserved : goal.inside-preserved
+inside-preserved c line e =
+    let i : ℕ = c.inside.i in
+    let byte : c.from.result ≡ get_or (packed_row line) (8 * (c.args.place - 2) + i) 0 =
+    c.from.ensures ∙ ap (λ xs. get_or xs (8 * (c.args.place - 2) + i) 0) e in
+    one_byte (led line) (64 * c.args.place) (8 * i) c.inside.word c.from.result (omega (arith, c.inside-test.true))
+    (c.inside.invariant line e) (byte_led line c.args.place i c.from.result c.if-place-lt2.false c.inside-test.true byte)
+    ∙ ap (word (led line) (64 * c.args.place)) (next i)
+
+pub across-preserved : goal.across-preserved
+across-preserved c line e =
+    let i : ℕ = c.across.i in
+    let byte : c.from-in-across.result ≡ get_or (packed_row line) (8 * (c.args.place - 2) + i) 0 =
+    c.from-in-across.ensures ∙ c.byte_at.ensures.byte ∙ ap (λ xs. get_or xs (8 * (c.args.place - 2) + i) 0) e in
+    one_byte (led line) (64 * c.args.place) (8 * i) c.across.word c.from-in-across.result (omega (arith, c.across-test.true))
+    (c.across.invariant line e) (byte_led line c.args.place i c.from-in-across.result c.if-place-lt2.false c.across-test.true byte)
+    ∙ ap (word (led line) (64 * c.args.place)) (next i)

@@ -1,0 +1,14 @@
+pub mod Raster
+pub mod Lines
+pub mod Registers
+pub mod Packed
+pub mod Rows
+pub mod Modes
+pub mod Decoding
+pub mod Decoded
+pub mod RowDecoded
+pub mod Encoded
+pub mod RowEncoded
+pub mod Offset
+pub mod Words
+pub mod Counts

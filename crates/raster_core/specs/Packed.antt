@@ -1,0 +1,42 @@
+-- Rows in bytes.
+use Rattle.std.specs.Prelude.{ℕ, ◌*◌, ◌≡◌, ◌==◌, Bool, List, length, map, if◌then◌else◌}
+use Rattle.std.specs.Int.{div_ceil}
+use Rattle.raster_core.specs.Raster.{pixel_at, white_row}
+use Rattle.raster_core.specs.Lines.{Lines, numbers_from, binary}
+
+abbrev pub row_bytes : ℕ → ℕ
+row_bytes width = div_ceil width 8
+
+-- a row in bytes, its first pixel highest, and white behind its last
+abbrev pub packed_row : List Bool → List ℕ
+packed_row row = map (λ k. binary (map (pixel_at row) (numbers_from (8 * k) 8))) (numbers_from 0 (row_bytes (length row)))
+
+-- what a window holds: a row in bytes and the two above it
+pub record Held : Type 0 where
+  pub width : ℕ
+  pub current : List ℕ
+  pub above : List ℕ
+  pub second : List ℕ
+
+-- it holds these lines, with white padding
+pub record HasLines (w : Held) (lines : Lines) : Type 0 where
+  pub row_is : w.current ≡ packed_row lines.row
+  pub above_is : w.above ≡ packed_row lines.above
+  pub second_is : w.second ≡ packed_row lines.second
+  pub row_wide : length lines.row ≡ w.width
+  pub above_wide : length lines.above ≡ w.width
+  pub second_wide : length lines.second ≡ w.width
+
+-- three white rows
+abbrev pub white_lines : ℕ → Lines
+white_lines width = record { row = white_row width; above = white_row width; second = white_row width }
+
+-- the row k above the current one
+abbrev pub row_of : Held → ℕ → List ℕ
+row_of w k = if k == 0 then w.current else if k == 1 then w.above else w.second
+
+-- the two rows above the current one are the same in both
+pub record SameAbove (old new : Held) : Type 0 where
+  pub width_is : new.width ≡ old.width
+  pub above_is : new.above ≡ old.above
+  pub second_is : new.second ≡ old.second

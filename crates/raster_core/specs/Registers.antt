@@ -1,0 +1,35 @@
+-- The pixels that registers hold.
+use Rattle.std.specs.Prelude.{ℕ, zero, suc, ◌+◌, ◌*◌, ◌≡◌, ◌-◌, ◌^◌, ◌≤◌, Bool, true, false, List}
+use Rattle.raster_core.specs.Raster.{pixel_at}
+use Rattle.raster_core.specs.Lines.{Lines}
+
+abbrev pub bit : Bool → ℕ
+bit true = 1
+bit false = 0
+
+-- the number that the k pixels before x are in base 2, the nearest lowest; white left and right of the row
+unfoldable pub before : List Bool → ℕ → ℕ → ℕ
+before row x zero = 0
+before row zero (suc k) = 0
+before row (suc x) (suc k) = 2 * before row x k + bit (pixel_at row x)
+
+-- whether an offset moves the adaptive pixel away from its nominal place
+abbrev pub is_moved : ℕ → Bool
+is_moved zero = false
+is_moved (suc t) = true
+
+-- how many of the pixels before it a pixel's register has: a moved adaptive pixel may be 127 pixels away
+abbrev pub past_bits : ℕ → ℕ
+past_bits zero = 64
+past_bits (suc t) = 128
+
+-- The registers of a pixel at x. Of the row above they have the pixels up to the second one behind the pixel's byte, of
+-- the row above that those up to the first one behind it, and both go along with the pixels of the byte by shifts to
+-- the left. Of the row itself they have the pixels before it.
+pub record AreAt (lines : Lines) (offset second above past x : ℕ) : Type 0 where
+  -- how many pixels of the byte come after it
+  pub left : ℕ
+  pub few : left ≤ 7
+  pub second_is : second ≡ before lines.second (x + (left + 2)) 17 * 2 ^ (7 - left)
+  pub above_is : above ≡ before lines.above (x + (left + 3)) 18 * 2 ^ (7 - left)
+  pub past_is : past ≡ before lines.row x (past_bits offset)

@@ -1,0 +1,139 @@
+//! At how many pixels of a word a row agrees with its adaptive pixel.
+
+ghost use Rattle.std.specs.Prelude.{ℕ, ◌+◌, ◌-◌, ◌*◌, ◌^◌, ◌≡◌, ◌≤◌, ◌<◌, Bool, slice_index};
+ghost use Rattle.raster_core.specs.Lines.{Lines};
+ghost use Rattle.raster_core.specs.Packed.{packed_row};
+ghost use Rattle.raster_core.specs.Words.{word as pixels_word, led, is_within, agreed_from, part_agreement};
+
+use crate::words::{agreed_word, joined, word_at};
+
+/// The 64 pixels that are `lag` to the left of the last word of three.
+fn left_by(lag: usize, second: u64, before: u64, word: u64) -> u64
+    requires { lag ≤ 127 }
+    ensures { (p : ℕ → Bool) (place : ℕ) → second ≡ pixels_word p place 64 →
+        before ≡ pixels_word p (place + 64) 64
+        → word ≡ pixels_word p (place + 128) 64 → result ≡ pixels_word p (place + 128 - lag) 64 }
+{
+    if lag < 64 {
+        joined(before, word, lag as u32)
+    } else {
+        joined(second, before, lag as u32 - 64)
+    }
+}
+
+/// At how many of the mask's pixels in word `k` of a row the adaptive pixel at `offset` is the same
+/// one.
+pub(crate) fn held_in(
+    above: &[u8],
+    k: usize,
+    offset: u8,
+    second: u64,
+    before: u64,
+    word: u64,
+    mask: u64,
+) -> u64
+    requires k { k < 2 ^ 27 }
+    requires offset { offset ≤ 127 }
+    ensures agreed { (lines : Lines) (width : ℕ) → above.now ≡ packed_row lines.above
+        → second ≡ pixels_word (led lines.row) (64 * k) 64 →
+        before ≡ pixels_word (led lines.row) (64 * k + 64) 64
+        → word ≡ pixels_word (led lines.row) (64 * k + 128) 64 →
+        mask ≡ pixels_word (is_within width) (64 * k) 64
+        → result ≡ part_agreement lines width offset (64 * k) 64 }
+    ensures small { result ≤ 64 }
+{
+    if offset == 0 {
+        agreed_word(
+            mask,
+            word,
+            joined(word_at(above, k + 2), word_at(above, k + 3), 62),
+        )
+    } else {
+        agreed_word(mask, word, left_by(offset as usize, second, before, word))
+    }
+}
+
+/// Counts the pixels of a word at each lag from `least` to `most`; `second` and `before` are the
+/// words to its left.
+pub(crate) fn add_word(
+    counts: &mut [u64; 128],
+    least: usize,
+    most: usize,
+    second: u64,
+    before: u64,
+    word: u64,
+    mask: u64,
+)
+    requires least { 1 ≤ least }
+    requires least_small { least < 64 }
+    requires most { most ≤ 127 }
+    requires room { (lag : ℕ) → slice_index counts.old lag + 128 < 2 ^ 64 }
+    ensures counts { (p m : ℕ → Bool) (place c : ℕ) → second ≡ pixels_word p place 64 →
+        before ≡ pixels_word p (place + 64) 64
+        → word ≡ pixels_word p (place + 128) 64 → mask ≡ pixels_word m c 64
+        → (lag : ℕ) → least ≤ lag → lag ≤ most
+        → slice_index counts.new lag ≡ slice_index counts.old lag + agreed_from p p m (place + 128)
+        (place + 128 - lag) c 64 }
+    ensures room { (lag : ℕ) → slice_index counts.new lag ≤ slice_index counts.old lag + 64 }
+{
+    let end = most + 1;
+    if second | before | word == 0 {
+        add_all(counts, least, end, mask.count_ones());
+    } else if end <= 64 {
+        add_lags(counts, least, end, least as u32, before, word, word, mask);
+    } else {
+        add_lags(counts, least, 64, least as u32, before, word, word, mask);
+        add_lags(counts, 64, end, 0, second, before, word, mask);
+    }
+}
+
+/// Counts the pixels of a word at the lags from `from` up to `end`, which are the shifts from
+/// `shift` on of the words `first` and `next`.
+fn add_lags(
+    counts: &mut [u64; 128],
+    from: usize,
+    end: usize,
+    shift: u32,
+    first: u64,
+    next: u64,
+    word: u64,
+    mask: u64,
+)
+    requires end { end ≤ 128 }
+    requires shift { shift < 64 }
+    requires fits { end + shift ≤ from + 64 }
+    requires room { (lag : ℕ) → slice_index counts.old lag + 64 < 2 ^ 64 }
+    ensures counts { (p m : ℕ → Bool) (place a c : ℕ) → first ≡ pixels_word p place 64 →
+        next ≡ pixels_word p (place + 64) 64
+        → word ≡ pixels_word p a 64 → mask ≡ pixels_word m c 64
+        → (lag : ℕ) → from ≤ lag → lag < end
+        → slice_index counts.new lag ≡ slice_index counts.old lag + agreed_from p p m a (place + 64
+        + from - (shift + lag)) c 64 }
+    ensures below { (lag : ℕ) → lag < from →
+        slice_index counts.new lag ≡ slice_index counts.old lag }
+    ensures above { (lag : ℕ) → end ≤ lag →
+        slice_index counts.new lag ≡ slice_index counts.old lag }
+    ensures room { (lag : ℕ) → slice_index counts.new lag ≤ slice_index counts.old lag + 64 }
+{
+    let mut near = joined(first, next, shift);
+    let mut far = first >> shift;
+    for lag in from..end {
+        counts[lag] += agreed_word(mask, word, near);
+        near = far << 63 | near >> 1;
+        far >>= 1;
+    }
+}
+
+/// Adds the same number at each lag from `from` up to `end`.
+fn add_all(counts: &mut [u64; 128], from: usize, end: usize, more: u32)
+    requires end { end ≤ 128 }
+    requires more { more ≤ 64 }
+    requires room { (lag : ℕ) → slice_index counts.old lag + 64 < 2 ^ 64 }
+    ensures counts { (lag : ℕ) → from ≤ lag → lag < end →
+        slice_index counts.new lag ≡ slice_index counts.old lag + more }
+    ensures room { (lag : ℕ) → slice_index counts.new lag ≤ slice_index counts.old lag + 64 }
+{
+    for lag in from..end {
+        counts[lag] += u64::from(more);
+    }
+}

@@ -1,0 +1,12 @@
+//! Bytes of a row.
+
+ghost use Rattle.std.specs.Prelude.{◌≡◌, ◌<◌, slice_index};
+
+/// A byte of a row, and 0 behind its last.
+#[inline(always)]
+pub(crate) fn byte_at(row: &[u8], i: usize) -> u32
+    ensures byte { result ≡ slice_index row.now i }
+    ensures small { result < 256 }
+{
+    if i < row.len() { u32::from(row[i]) } else { 0 }
+}

@@ -1,0 +1,90 @@
+//! Contexts from registers that go along the row.
+
+ghost use Rattle.std.specs.Prelude.{◌≡◌, ℕ, ◌+◌, ◌-◌, ◌*◌, ◌%◌, ◌^◌, ◌≤◌, Bool};
+ghost use Rattle.raster_core.specs.Lines.{Lines, context_at};
+ghost use Rattle.raster_core.specs.Registers.{AreAt, bit, is_moved, past_bits};
+
+use qm_core::Context;
+
+/// Calls a function at the const parameters that say the template, and whether the adaptive pixel
+/// is moved.
+macro_rules! by_template {
+    ($function:ident, $shape:expr, $offset:expr, ($($argument:expr),*)) => {
+        match ($shape.two_line, $offset == 0) {
+            (false, true) => $function::<_, false, false>($($argument),*),
+            (true, true) => $function::<_, true, false>($($argument),*),
+            (false, false) => $function::<_, false, true>($($argument),*),
+            (true, false) => $function::<_, true, true>($($argument),*),
+        }
+    };
+}
+
+pub(crate) use by_template;
+
+/// The context of a pixel by the registers of `AreAt`, with the adaptive pixel in its nominal
+/// place.
+#[inline(always)]
+fn nominal_context<const TWO_LINE: bool>(second: u32, above: u32, past: u128) -> Context
+    ensures { (typical : Bool) (lines : Lines) (x : ℕ) → AreAt lines 0 second above past x →
+        result.number ≡ context_at (record { two_line = TWO_LINE; typical = typical }) lines 0 x }
+{
+    let number = if TWO_LINE {
+        (above >> 7) % 64 * 16 + (past % 16) as u32
+    } else {
+        (second >> 7) % 8 * 128 + (above >> 7) % 32 * 4 + (past % 4) as u32
+    };
+    Context::of(number as u16)
+}
+
+/// The same with a moved adaptive pixel.
+#[inline(always)]
+fn moved_context<const TWO_LINE: bool>(offset: u8, second: u32, above: u32, past: u128) -> Context
+    requires some { 1 ≤ offset }
+    requires offset { offset ≤ 127 }
+    ensures { (typical : Bool) (lines : Lines) (x : ℕ) → AreAt lines offset second above past x →
+        result.number ≡ context_at (record { two_line = TWO_LINE; typical = typical }) lines offset
+        x }
+{
+    let adaptive = ((past >> (offset - 1)) % 2) as u32;
+    let number = if TWO_LINE {
+        (above >> 8) % 32 * 32 + adaptive * 16 + (past % 16) as u32
+    } else {
+        (second >> 7) % 8 * 128 + (above >> 8) % 16 * 8 + adaptive * 4 + (past % 4) as u32
+    };
+    Context::of(number as u16)
+}
+
+/// The context of a pixel, with the adaptive pixel wherever it stands.
+#[inline(always)]
+pub(crate) fn context_of<const TWO_LINE: bool, const MOVED: bool>(
+    offset: u8,
+    second: u32,
+    above: u32,
+    past: u128,
+) -> Context
+    requires offset { offset ≤ 127 }
+    requires moved { MOVED ≡ is_moved offset }
+    ensures { (typical : Bool) (lines : Lines) (x : ℕ) → AreAt lines offset second above past x →
+        result.number ≡ context_at (record { two_line = TWO_LINE; typical = typical }) lines offset
+        x }
+{
+    if MOVED {
+        moved_context::<TWO_LINE>(offset, second, above, past)
+    } else {
+        nominal_context::<TWO_LINE>(second, above, past)
+    }
+}
+
+/// The pixels before the next one. While the adaptive pixel is in its nominal place, 64 of them
+/// serve.
+#[inline(always)]
+pub(crate) fn past_and<const MOVED: bool>(past: u128, pixel: bool) -> u128
+    ensures { (offset : ℕ) → MOVED ≡ is_moved offset →
+        result ≡ past % 2 ^ (past_bits offset - 1) * 2 + bit pixel }
+{
+    if MOVED {
+        past % 0x8000_0000_0000_0000_0000_0000_0000_0000 * 2 + u128::from(pixel)
+    } else {
+        u128::from((past % 0x8000_0000_0000_0000) as u64 * 2 + u64::from(pixel))
+    }
+}

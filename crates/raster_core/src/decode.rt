@@ -1,0 +1,303 @@
+//! Decoding a row.
+
+ghost use Rattle.std.specs.Prelude.{◌≡◌, ℕ, ◌+◌, ◌-◌, ◌*◌, ◌^◌, ◌<◌, ◌≤◌, ◌↔◌, length, List, IsTrue, IsErr, OnOk, OnErr, IfOk, false, true};
+ghost use Rattle.std.specs.Int.{div_ceil};
+ghost use Rattle.qm_core.specs.Answers.{Pulls};
+ghost use Rattle.qm_core.specs.Place.{Place};
+ghost use Rattle.qm_core.specs.Standing.{Stands, has_stopped};
+ghost use Rattle.qm_core.specs.declared.source.Pulled.{Pulled};
+ghost use Rattle.raster_core.specs.Decoded.{Along, StopsAlong, RowAlong, RowStops};
+ghost use Rattle.raster_core.specs.Lines.{Lines};
+ghost use Rattle.raster_core.specs.Modes.{mode_of};
+ghost use Rattle.raster_core.specs.Packed.{HasLines, SameAbove};
+ghost use Rattle.raster_core.specs.Registers.{is_moved};
+ghost use Rattle.raster_core.specs.RowDecoded.{FirstDecoded, FirstStopped, RowDecoded};
+ghost use Rattle.raster_core.specs.Rows.{held, width_of};
+
+use crate::bytes::byte_at;
+use crate::context::{by_template, context_of, past_and};
+use crate::shape::{Kept, Shape};
+use crate::window::Window;
+use qm_core::{CodeBytes, Context, Decoder, Learned, Stop, laws};
+
+/// Decodes n pixels of a byte. The registers `second_bytes` and `above_bytes` have the byte before,
+/// the byte and the one behind it of the two rows above, `before` and the result the last pixels of
+/// the row.
+#[inline(always)]
+fn decode_byte<S: CodeBytes, const TWO_LINE: bool, const MOVED: bool>(
+    shape: Shape,
+    offset: u8,
+    second_bytes: u32,
+    above_bytes: u32,
+    before: u128,
+    n: u32,
+    learned: &mut Learned,
+    decoder: &mut Decoder,
+    source: &mut S,
+) -> Result<u128, Stop>
+    requires count { S.failed source.old + 1 < 2 ^ 64 }
+    requires offset { offset ≤ 127 }
+    requires template { TWO_LINE ≡ shape.two_line }
+    requires moved { MOVED ≡ is_moved offset }
+    requires second { second_bytes < 2 ^ 24 }
+    requires above { above_bytes < 2 ^ 24 }
+    requires some { 1 ≤ n }
+    requires few { n ≤ 8 }
+    ensures stopped { IsTrue (has_stopped decoder.old) → IsErr result ×
+        (decoder.new ≡ decoder.old) × (source.new ≡ source.old) }
+    ensures stops { IsTrue (has_stopped decoder.new) ↔ IsErr result }
+    ensures same { OnOk result (S.failed source.new ≡ S.failed source.old) }
+    ensures counted { has_stopped decoder.old ≡ false →
+        OnErr result (S.failed source.new ≡ S.failed source.old + 1) }
+    ensures ok { IfOk result (λ past. Along (Pulls S.gives S.failed) source.old source.new
+        (mode_of shape) offset second_bytes above_bytes before
+        decoder.old learned.old n past decoder.new learned.new) }
+    ensures err { OnErr result (StopsAlong (Pulls S.gives S.failed) source.old source.new
+        (mode_of shape) offset second_bytes above_bytes before
+        decoder.old learned.old n decoder.new) }
+{
+    let mut second = second_bytes >> 7;
+    let mut above = above_bytes >> 6;
+    let mut past = before;
+    for _j in 0..n {
+        let cx = context_of::<TWO_LINE, MOVED>(offset, second, above, past);
+        let pixel = decoder.next(learned, cx, source)?;
+        past = past_and::<MOVED>(past, pixel);
+        second *= 2;
+        above *= 2;
+    }
+    Ok(past)
+}
+
+/// Decodes the pixels of a plain row.
+fn decode_bytes<S: CodeBytes, const TWO_LINE: bool, const MOVED: bool>(
+    shape: Shape,
+    offset: u8,
+    current: &mut [u8],
+    above: &[u8],
+    second: &[u8],
+    learned: &mut Learned,
+    decoder: &mut Decoder,
+    source: &mut S,
+) -> Result<(), Stop>
+    requires count { S.failed source.old + 1 < 2 ^ 64 }
+    requires offset { offset ≤ 127 }
+    requires template { TWO_LINE ≡ shape.two_line }
+    requires moved { MOVED ≡ is_moved offset }
+    requires some { 1 ≤ shape.width }
+    requires long { length current.old ≡ div_ceil shape.width 8 }
+    ensures stopped { IsTrue (has_stopped decoder.old) → IsErr result ×
+        (decoder.new ≡ decoder.old) × (source.new ≡ source.old) }
+    ensures stops { IsTrue (has_stopped decoder.new) ↔ IsErr result }
+    ensures same { OnOk result (S.failed source.new ≡ S.failed source.old) }
+    ensures counted { has_stopped decoder.old ≡ false →
+        OnErr result (S.failed source.new ≡ S.failed source.old + 1) }
+    ensures ok { OnOk result (RowAlong (Pulls S.gives S.failed) source.old source.new
+        (mode_of shape) offset above.now second.now
+        decoder.old learned.old shape.width current.new decoder.new learned.new) }
+    ensures err { OnErr result (RowStops (Pulls S.gives S.failed) source.old source.new
+        (mode_of shape) offset above.now second.now
+        decoder.old learned.old shape.width decoder.new) }
+{
+    let mut above_bytes = byte_at(above, 0);
+    let mut second_bytes = byte_at(second, 0);
+    let mut past = 0u128;
+    let mut left = shape.width;
+    for i in 0..current.len() {
+        above_bytes = above_bytes % 0x1_0000 * 256 + byte_at(above, i + 1);
+        second_bytes = second_bytes % 0x1_0000 * 256 + byte_at(second, i + 1);
+        let n = left.min(8);
+        past = decode_byte::<_, TWO_LINE, MOVED>(
+            shape,
+            offset,
+            second_bytes,
+            above_bytes,
+            past,
+            n,
+            learned,
+            decoder,
+            source,
+        )?;
+        current[i] = ((((past % 256) as u32) << (8 - n)) % 256) as u8;
+        left -= n;
+    }
+    Ok(())
+}
+
+/// Decodes the pixels of a plain row, in whichever template.
+fn decode_pixels<S: CodeBytes>(
+    shape: Shape,
+    offset: u8,
+    current: &mut [u8],
+    above: &[u8],
+    second: &[u8],
+    learned: &mut Learned,
+    decoder: &mut Decoder,
+    source: &mut S,
+) -> Result<(), Stop>
+    requires count { S.failed source.old + 1 < 2 ^ 64 }
+    requires offset { offset ≤ 127 }
+    requires some { 1 ≤ shape.width }
+    requires long { length current.old ≡ div_ceil shape.width 8 }
+    ensures stopped { IsTrue (has_stopped decoder.old) → IsErr result ×
+        (decoder.new ≡ decoder.old) × (source.new ≡ source.old) }
+    ensures stops { IsTrue (has_stopped decoder.new) ↔ IsErr result }
+    ensures same { OnOk result (S.failed source.new ≡ S.failed source.old) }
+    ensures counted { has_stopped decoder.old ≡ false →
+        OnErr result (S.failed source.new ≡ S.failed source.old + 1) }
+    ensures ok { OnOk result (RowAlong (Pulls S.gives S.failed) source.old source.new
+        (mode_of shape) offset above.now second.now
+        decoder.old learned.old shape.width current.new decoder.new learned.new) }
+    ensures err { OnErr result (RowStops (Pulls S.gives S.failed) source.old source.new
+        (mode_of shape) offset above.now second.now
+        decoder.old learned.old shape.width decoder.new) }
+{
+    by_template!(
+        decode_bytes,
+        shape,
+        offset,
+        (
+            shape, offset, current, above, second, learned, decoder, source
+        )
+    )
+}
+
+/// Decodes the pixel before a row: whether the row is typical.
+fn decode_flag<S: CodeBytes>(
+    shape: Shape,
+    previous: bool,
+    learned: &mut Learned,
+    decoder: &mut Decoder,
+    source: &mut S,
+) -> Result<bool, Stop>
+    requires count { S.failed source.old + 1 < 2 ^ 64 }
+    requires typical { shape.typical ≡ true }
+    ensures stopped { IsTrue (has_stopped decoder.old) → IsErr result ×
+        (decoder.new ≡ decoder.old) × (source.new ≡ source.old) }
+    ensures stops { IsTrue (has_stopped decoder.new) ↔ IsErr result }
+    ensures same { OnOk result (S.failed source.new ≡ S.failed source.old) }
+    ensures counted { has_stopped decoder.old ≡ false →
+        OnErr result (S.failed source.new ≡ S.failed source.old + 1) }
+    ensures ok { IfOk result (λ flag. (p : Place) (answers : List Pulled) →
+        Stands decoder.old p answers →
+        FirstDecoded (Pulls S.gives S.failed) source.old source.new (mode_of shape) previous flag p
+        learned.old answers decoder.new learned.new) }
+    ensures err { OnErr result ((p : Place) (answers : List Pulled) → Stands decoder.old p answers →
+        FirstStopped (Pulls S.gives S.failed) source.old source.new (mode_of shape) p learned.old
+        answers decoder.new) }
+{
+    let number = if shape.two_line { 0x195 } else { 0x0e5 };
+    let pixel = decoder.next(learned, Context::of(number), source)?;
+    Ok(if pixel { previous } else { !previous })
+}
+
+/// Decodes a row below two others, which stay as they are.
+fn decode_below<S: CodeBytes>(
+    shape: Shape,
+    kept: &mut Kept,
+    current: &mut [u8],
+    above: &mut [u8],
+    second: &mut [u8],
+    learned: &mut Learned,
+    decoder: &mut Decoder,
+    source: &mut S,
+) -> Result<(), Stop>
+    requires count { S.failed source.old + 1 < 2 ^ 64 }
+    requires offset { kept.old.offset ≤ 127 }
+    requires some { 1 ≤ shape.width }
+    requires current { length current.old ≡ div_ceil shape.width 8 }
+    requires above { length above.old ≡ div_ceil shape.width 8 }
+    ensures stopped { IsTrue (has_stopped decoder.old) → IsErr result ×
+        (decoder.new ≡ decoder.old) × (source.new ≡ source.old) }
+    ensures stops { IsTrue (has_stopped decoder.new) ↔ IsErr result }
+    ensures same { OnOk result (S.failed source.new ≡ S.failed source.old) }
+    ensures counted { has_stopped decoder.old ≡ false →
+        OnErr result (S.failed source.new ≡ S.failed source.old + 1) }
+    ensures offset { OnOk result (kept.new.offset ≡ kept.old.offset) }
+    ensures above { above.new ≡ above.old }
+    ensures second { second.new ≡ second.old }
+    ensures row { (p : Place) (answers : List Pulled) (lines : Lines) →
+        Stands decoder.old p answers →
+        HasLines (record {
+          width = shape.width;
+          current = current.old;
+          above = above.old;
+          second =
+              second.old;
+        }) lines →
+        RowDecoded (Pulls S.gives S.failed) source.old source.new shape kept.old kept.new
+        (record { place = p; learned = learned.old }) answers lines
+        (record {
+          width = shape.width;
+          current = current.new;
+          above = above.old;
+          second = second.old;
+        }) learned.new decoder.new result }
+{
+    // What the proof cites of the coder.
+    laws::answers_lie();
+    laws::apart();
+    let mut flag = false;
+    if shape.typical {
+        flag = decode_flag(shape, kept.previous_typical, learned, decoder, source)?;
+    }
+    if flag {
+        current.copy_from_slice(above);
+    } else {
+        decode_pixels(
+            shape,
+            kept.offset,
+            current,
+            above,
+            second,
+            learned,
+            decoder,
+            source,
+        )?;
+    }
+    kept.previous_typical = flag;
+    Ok(())
+}
+
+/// Decodes the current row of a window, below the two above it.
+///
+/// After `Stop` the current row, `kept` and what was learned are unspecified, and the decoder stays
+/// stopped.
+pub fn decode_row<S: CodeBytes>(
+    shape: Shape,
+    kept: &mut Kept,
+    window: &mut Window,
+    learned: &mut Learned,
+    decoder: &mut Decoder,
+    source: &mut S,
+) -> Result<(), Stop>
+    requires count { S.failed source.old + 1 < 2 ^ 64 }
+    requires offset { kept.old.offset ≤ 127 }
+    requires width { width_of window.old ≡ shape.width }
+    requires some { 1 ≤ shape.width }
+    ensures stopped { IsTrue (has_stopped decoder.old) → IsErr result ×
+        (decoder.new ≡ decoder.old) × (source.new ≡ source.old) }
+    ensures stops { IsTrue (has_stopped decoder.new) ↔ IsErr result }
+    ensures same { OnOk result (S.failed source.new ≡ S.failed source.old) }
+    ensures counted { has_stopped decoder.old ≡ false →
+        OnErr result (S.failed source.new ≡ S.failed source.old + 1) }
+    ensures offset { OnOk result (kept.new.offset ≡ kept.old.offset) }
+    ensures above { SameAbove (held window.old) (held window.new) }
+
+    ensures row { (p : Place) (answers : List Pulled) (lines : Lines) →
+        Stands decoder.old p answers → HasLines (held window.old) lines →
+        RowDecoded (Pulls S.gives S.failed) source.old source.new shape kept.old kept.new
+        (record { place = p; learned = learned.old }) answers lines (held window.new) learned.new
+        decoder.new result }
+{
+    decode_below(
+        shape,
+        kept,
+        window.current,
+        window.above,
+        window.second,
+        learned,
+        decoder,
+        source,
+    )
+}

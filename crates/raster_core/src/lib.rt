@@ -1,0 +1,23 @@
+//! Rows of a raster, coded and decoded, and the offset that would have served a stripe best.
+//!
+//! The image is the lowest-resolution layer of ITU-T T.82, within the limits of ITU-T T.85.
+#![tactic(auto)]
+
+mod agreement;
+mod bytes;
+mod context;
+mod decode;
+mod encode;
+mod shape;
+mod tally;
+mod window;
+mod words;
+
+pub use decode::decode_row;
+pub use encode::encode_row;
+pub use shape::{Kept, Shape};
+pub use tally::Tally;
+pub use window::{Window, window_bytes};
+
+#[cfg(test)]
+mod tests;

@@ -1,0 +1,126 @@
+//! Which offset of the adaptive pixel would have served a stripe best.
+
+ghost use Rattle.std.specs.Prelude.{ℕ, ◌+◌, ◌*◌, ◌^◌, ◌≡◌, ◌≤◌, slice_index};
+
+use crate::agreement::{add_word, held_in};
+use crate::window::Window;
+use crate::words::{mask_at, word_at};
+
+/// For each lag that may be chosen, at how many pixels of the rows so far the pixel so far to the
+/// left is the same one. It keeps counts, and no rows.
+#[derive(Drop)]
+pub struct Tally {
+    two_line: bool,
+    most: u8,
+    width: u32,
+    rows: u32,
+    counts: [u64; 128],
+    /// The same for the adaptive pixel as it stood.
+    held: u64,
+    ghost in_reach: { most ≤ 127 },
+    ghost counts_fit: { (lag : ℕ) → slice_index counts lag ≤ 2 ^ 32 * rows },
+    ghost held_fits: { held ≤ 2 ^ 32 * rows },
+}
+
+impl Tally {
+    ghost use Rattle.std.specs.Prelude.{◌<◌, ◌-◌, [], ◌∷◌, ◌++◌, List};
+    ghost use Rattle.raster_core.specs.Counts.{Counts, is_two_line, most_of, rows_of};
+    ghost use Rattle.raster_core.specs.Lines.{Lines};
+    ghost use Rattle.raster_core.specs.Offset.{chosen_offset};
+    ghost use Rattle.raster_core.specs.Packed.{HasLines};
+    ghost use Rattle.raster_core.specs.Rows.{held as rows_held, width_of};
+
+    /// A tally of no rows. The lags that may be chosen are those from 5 (two lines) or 3 (three
+    /// lines) to `most`.
+    pub fn new(two_line: bool, most: u8) -> Tally
+        requires { most ≤ 127 }
+        ensures counts { (width current : ℕ) → Counts result width current [] }
+        ensures rows { rows_of result ≡ 0 }
+        ensures two_line { is_two_line result ≡ two_line }
+        ensures most { most_of result ≡ most }
+    {
+        Tally {
+            two_line,
+            most,
+            width: 0,
+            rows: 0,
+            counts: [0; 128],
+            held: 0,
+        }
+    }
+
+    /// Takes all rows off again.
+    pub fn restart(&mut self)
+        ensures counts { (width current : ℕ) → Counts self.new width current [] }
+        ensures rows { rows_of self.new ≡ 0 }
+        ensures two_line { is_two_line self.new ≡ is_two_line self.old }
+        ensures most { most_of self.new ≡ most_of self.old }
+    {
+        *self = Tally::new(self.two_line, self.most);
+    }
+
+    /// Counts the current row of a window, typical or not, that was coded with the adaptive pixel
+    /// at this offset. Between two restarts width and offset stay the same.
+    pub fn add_row(&mut self, window: &Window, width: u32, offset: u8)
+        requires width { width_of window.now ≡ width }
+        requires offset { offset ≤ 127 }
+        requires rows { rows_of self.old < 2 ^ 32 - 1 }
+        ensures counts { (rows : List Lines) (lines : Lines) → Counts self.old width offset rows →
+            HasLines (rows_held window.now) lines
+            → Counts self.new width offset (rows ++ lines ∷ []) }
+        ensures rows { rows_of self.new ≡ rows_of self.old + 1 }
+        ensures two_line { is_two_line self.new ≡ is_two_line self.old }
+        ensures most { most_of self.new ≡ most_of self.old }
+    {
+        let least: usize = if self.two_line { 5 } else { 3 };
+        let most = self.most as usize;
+        let words = (width as usize).div_ceil(64);
+        let row = window.row(0);
+        let above = window.row(1);
+        let mut counts = self.counts;
+        let mut held = self.held;
+        let mut second = 0;
+        let mut before = 0;
+        for k in 0..words {
+            let word = word_at(row, k + 2);
+            let mask = mask_at(width, k);
+            held += held_in(above, k, offset, second, before, word, mask);
+            add_word(&mut counts, least, most, second, before, word, mask);
+            second = before;
+            before = word;
+        }
+        let rows = self.rows + 1;
+        *self = Tally {
+            two_line: self.two_line,
+            most: self.most,
+            width,
+            rows,
+            counts,
+            held,
+        };
+    }
+
+    /// The least lag with the greatest count, where it agrees at more than an eighth of the pixels
+    /// more than `offset` did.
+    pub fn choose(&self, offset: u8) -> Option<u8>
+        ensures { (width : ℕ) (rows : List Lines) → Counts self.now width offset rows
+            → result ≡ chosen_offset (is_two_line self.now) (most_of self.now) width rows offset }
+    {
+        let least: u8 = if self.two_line { 5 } else { 3 };
+        if self.most < least {
+            return None;
+        }
+        let mut best = least;
+        for lag in least + 1..self.most + 1 {
+            if self.counts[lag as usize] > self.counts[best as usize] {
+                best = lag;
+            }
+        }
+        let eighth = self.width as u64 * self.rows as u64 / 8;
+        if self.counts[best as usize].saturating_sub(self.held) > eighth {
+            Some(best)
+        } else {
+            None
+        }
+    }
+}

@@ -1,0 +1,687 @@
+//! Codes of rasters worked out by hand, and rows of every kind against a model that goes by
+//! coordinates.
+
+ghost use Rattle.std.specs.Prelude.{◌≡◌, ◌+◌, ◌<◌, ◌≤◌, ◌^◌, length};
+
+use crate::{Kept, Shape, Tally, Window, decode_row, encode_row, window_bytes};
+use qm_core::{
+    CodeBytes, CodeSink, CoderFault, Context, Decoder, Encoder, Learned, Pulled, SinkFault, Stop,
+};
+use std::alloc::Global;
+use std::process::Abort;
+use std::test::Fail;
+
+/// A sink that keeps what it takes.
+#[derive(Drop)]
+struct Taken {
+    bytes: Vec<u8>,
+}
+
+impl CodeSink for Taken {
+    ghost took = { λ _ _ _. Unit {0} };
+
+    ghost refused = { λ _ _. Unit {0} };
+
+    ghost failed = { λ _. 0 };
+
+    fn push(&mut self, byte: u8) -> Result<(), SinkFault> {
+        let _ = self.bytes.push(byte);
+        Ok(())
+    }
+
+    fn failures(&self) -> u64 {
+        0
+    }
+}
+
+/// A sink that takes nothing.
+#[derive(Drop)]
+struct Full {
+    failed: u64,
+}
+
+impl CodeSink for Full {
+    ghost took = { λ _ _ _. Unit {0} };
+
+    ghost refused = { λ _ _. Unit {0} };
+
+    ghost failed = { λ s. s.failed };
+
+    fn push(&mut self, _byte: u8) -> Result<(), SinkFault> {
+        self.failed += 1;
+        Err(SinkFault)
+    }
+
+    fn failures(&self) -> u64 {
+        self.failed
+    }
+}
+
+/// A source of stuffed bytes. After them it answers End, or a fault.
+#[derive(Drop)]
+struct Given<'a> {
+    bytes: &'a [u8],
+    ends: bool,
+    failed: u64,
+}
+
+impl<'a> Given<'a> {
+    fn new(bytes: &'a [u8], ends: bool) -> Given<'a>
+        ensures { result.failed ≡ 0 }
+    {
+        Given {
+            bytes,
+            ends,
+            failed: 0,
+        }
+    }
+}
+
+impl CodeBytes for Given<'_> {
+    ghost gives = { λ _ _ _. Unit {0} };
+
+    ghost failed = { λ s. s.failed };
+
+    fn pull(&mut self) -> Pulled {
+        match self.bytes.split_first() {
+            Some((255, rest)) => {
+                self.bytes = match rest.split_first() {
+                    Some((_, rest)) => rest,
+                    None => rest,
+                };
+                Pulled::Byte(255)
+            }
+            Some((byte, rest)) => {
+                self.bytes = rest;
+                Pulled::Byte(*byte)
+            }
+            None => {
+                if self.ends {
+                    Pulled::End
+                } else {
+                    self.failed += 1;
+                    Pulled::Fault
+                }
+            }
+        }
+    }
+
+    fn failures(&self) -> u64 {
+        self.failed
+    }
+}
+
+const START: Kept = Kept {
+    offset: 0,
+    previous_typical: false,
+};
+
+fn shape(width: u32, two_line: bool, typical: bool) -> Shape
+    ensures { result.width ≡ width }
+{
+    Shape {
+        width,
+        two_line,
+        typical,
+    }
+}
+
+/// Writes the current row.
+fn write_row(rt: &impl Abort, window: &mut Window, row: &[u8]) {
+    assert_eq!(rt; row.len(), window.current.len());
+    window.current.copy_from_slice(row);
+}
+
+/// Whether this is row k of a window.
+fn is_row(window: &Window, k: u8, row: &[u8]) -> bool {
+    k < 3 && window.row(k) == row
+}
+
+/// Codes rows of a shape, from white above, and goes on with `encoder`.
+fn put_rows(
+    rt: &impl Abort,
+    shape: Shape,
+    kept: &mut Kept,
+    window: &mut Window,
+    rows: &[&[u8]],
+    learned: &mut Learned,
+    encoder: &mut Encoder,
+    out: &mut Taken,
+) {
+    for row in rows {
+        window.turn();
+        write_row(rt, window, row);
+        assert_eq!(rt; window.width(), shape.width);
+        assert!(rt; kept.offset <= 127);
+        assert!(rt; shape.width >= 1);
+        assert!(rt; encoder.events() < 0x1000_0000_0000);
+        let done = encode_row(shape, kept, &*window, learned, encoder, out);
+        assert!(rt; done == Ok(()));
+    }
+}
+
+/// The code of rows in one stripe.
+fn code(
+    rt: &impl Abort,
+    alloc: Global,
+    shape: Shape,
+    offset: u8,
+    rows: &[&[u8]],
+) -> Result<Vec<u8>, Fail> {
+    let mut bytes = vec![in alloc; 0xaau8; window_bytes(shape.width)]?;
+    let mut window = Window::over(bytes.as_mut_slice(), shape.width);
+    let mut out = Taken {
+        bytes: Vec::new(alloc),
+    };
+    let mut encoder = Encoder::start();
+    let mut learned = Learned::new();
+    let mut kept = Kept {
+        offset,
+        previous_typical: false,
+    };
+    put_rows(
+        rt,
+        shape,
+        &mut kept,
+        &mut window,
+        rows,
+        &mut learned,
+        &mut encoder,
+        &mut out,
+    );
+    assert!(rt; encoder.finish(&mut out) == Ok(()));
+    Ok(out.bytes)
+}
+
+/// Whether a code gives these rows in one stripe.
+fn gives(
+    rt: &impl Abort,
+    alloc: Global,
+    shape: Shape,
+    offset: u8,
+    code: &[u8],
+    rows: &[&[u8]],
+) -> Result<bool, Fail> {
+    let mut bytes = vec![in alloc; 0xaau8; window_bytes(shape.width)]?;
+    let mut window = Window::over(bytes.as_mut_slice(), shape.width);
+    let mut source = Given::new(code, true);
+    let mut decoder = Decoder::start();
+    let mut learned = Learned::new();
+    let mut kept = Kept {
+        offset,
+        previous_typical: false,
+    };
+    for row in rows {
+        window.turn();
+        assert_eq!(rt; window.width(), shape.width);
+        assert!(rt; kept.offset <= 127);
+        assert!(rt; shape.width >= 1);
+        assert_eq!(rt; source.failures(), 0);
+        let done = decode_row(
+            shape,
+            &mut kept,
+            &mut window,
+            &mut learned,
+            &mut decoder,
+            &mut source,
+        );
+        if done != Ok(()) || !is_row(&window, 0, row) {
+            return Ok(false);
+        }
+    }
+    Ok(true)
+}
+
+/// Rows, their shape, the offset, and their code, by hand.
+#[test]
+fn codes_by_hand(rt: HostRuntime) -> Result<(), Fail> {
+    let white: &[u8] = &[0x00];
+    let black: &[u8] = &[0xff];
+    let one: &[u8] = &[0x80];
+    let two: &[u8] = &[0xc0];
+    let three: &[u8] = &[0xe0];
+    let cases: [(Shape, u8, &[&[u8]], &[u8]); 11] = [
+        (shape(8, false, false), 0, &[white], &[0x60]),
+        (shape(1, false, false), 0, &[one], &[0xc0]),
+        (shape(1, false, true), 0, &[one], &[0xe0]),
+        (shape(8, false, false), 0, &[black], &[0xf0]),
+        (shape(8, false, true), 0, &[black], &[0xf8]),
+        (
+            shape(3, false, false),
+            0,
+            &[three, three, three],
+            &[0xff, 0x00, 0xc0],
+        ),
+        (shape(8, false, true), 0, &[white, white, white], &[]),
+        (shape(3, false, false), 0, &[white, white], &[0x60]),
+        (shape(2, true, false), 0, &[two, two, two], &[0xf8]),
+        (shape(2, false, false), 0, &[two, two, two], &[0xfe]),
+        (shape(8, false, false), 3, &[black], &[0xf8]),
+    ];
+    for (shape, offset, rows, expected) in cases {
+        let found = code(&rt, rt.alloc(), shape, offset, rows)?;
+        assert_eq!(rt; found.as_slice(), expected);
+        assert!(rt; gives(&rt, rt.alloc(), shape, offset, expected, rows)?);
+    }
+    Ok(())
+}
+
+/// The contexts of black rasters, row by row, by hand.
+#[test]
+fn contexts_by_hand(rt: HostRuntime) -> Result<(), Fail> {
+    let black: &[u8] = &[0xff];
+    let two: &[u8] = &[0xc0];
+    let three: &[u8] = &[0xe0];
+    let cases: [(Shape, u8, &[&[u8]], &[u16]); 4] = [
+        (
+            shape(3, false, false),
+            0,
+            &[three, three, three],
+            &[
+                0x000, 0x001, 0x003, 0x01c, 0x039, 0x073, 0x19c, 0x3b9, 0x373,
+            ],
+        ),
+        (
+            shape(2, false, false),
+            0,
+            &[two, two, two],
+            &[0x000, 0x001, 0x018, 0x031, 0x198, 0x331],
+        ),
+        (
+            shape(2, true, false),
+            0,
+            &[two, two, two],
+            &[0x000, 0x001, 0x060, 0x0c1, 0x060, 0x0c1],
+        ),
+        (
+            shape(8, false, false),
+            3,
+            &[black, black],
+            &[
+                0x000, 0x001, 0x003, 0x007, 0x007, 0x007, 0x007, 0x007, 0x018, 0x039, 0x07b, 0x07f,
+                0x07f, 0x07f, 0x07f, 0x077,
+            ],
+        ),
+    ];
+    for (shape, offset, rows, contexts) in cases {
+        let found = code(&rt, rt.alloc(), shape, offset, rows)?;
+        let mut out = Taken {
+            bytes: Vec::new(rt.alloc()),
+        };
+        let mut encoder = Encoder::start();
+        let mut learned = Learned::new();
+        for n in contexts {
+            assert!(rt; *n < 1024 && encoder.events() < 1000);
+            assert!(rt; encoder.put(&mut learned, Context::of(*n), true, &mut out) == Ok(()));
+        }
+        assert!(rt; encoder.finish(&mut out) == Ok(()));
+        assert_eq!(rt; found.as_slice(), out.bytes.as_slice());
+    }
+    Ok(())
+}
+
+/// Two stripes of a black row each: the tally of the first moves the adaptive pixel of the second
+/// by 3.
+#[test]
+fn moves_between_stripes(rt: HostRuntime) -> Result<(), Fail> {
+    let black: &[u8] = &[0xff];
+    let shape = shape(8, false, false);
+    let mut bytes = vec![in rt.alloc(); 0u8; window_bytes(8)]?;
+    let mut window = Window::over(bytes.as_mut_slice(), 8);
+    let mut kept = START;
+    let mut learned = Learned::new();
+    let mut tally = Tally::new(false, 3);
+    assert_eq!(rt; tally.choose(0), None);
+    for (offset, expected, next) in [(0, 0xf0, Some(3)), (3, 0xf8, None)] {
+        kept.offset = offset;
+        let mut out = Taken {
+            bytes: Vec::new(rt.alloc()),
+        };
+        let mut encoder = Encoder::start();
+        put_rows(
+            &rt,
+            shape,
+            &mut kept,
+            &mut window,
+            &[black],
+            &mut learned,
+            &mut encoder,
+            &mut out,
+        );
+        assert!(rt; encoder.finish(&mut out) == Ok(()));
+        assert_eq!(rt; out.bytes.as_slice(), [expected].as_slice());
+        tally.restart();
+        assert_eq!(rt; window.width(), 8);
+        tally.add_row(&window, 8, offset);
+        // Five pixels of each row have a black one 3 to the left.
+        assert_eq!(rt; tally.choose(offset), next);
+    }
+    Ok(())
+}
+
+/// What a tally chooses after one row of 8 below another.
+fn choice(
+    rt: &impl Abort,
+    alloc: Global,
+    two_line: bool,
+    most: u8,
+    above: u8,
+    row: u8,
+    offset: u8,
+) -> Result<Option<u8>, Fail> {
+    let mut bytes = vec![in alloc; 0u8; window_bytes(8)]?;
+    let mut window = Window::over(bytes.as_mut_slice(), 8);
+    write_row(rt, &mut window, &[above]);
+    window.turn();
+    write_row(rt, &mut window, &[row]);
+    assert!(rt; most <= 127 && offset <= 127 && window.width() == 8);
+    let mut tally = Tally::new(two_line, most);
+    tally.add_row(&window, 8, offset);
+    Ok(tally.choose(offset))
+}
+
+#[test]
+fn offsets_by_hand(rt: HostRuntime) -> Result<(), Fail> {
+    let cases = [
+        // Five pixels agree at lag 3 and none in the nominal place.
+        (false, 127, 0x00, 0xff, 0, Some(3)),
+        // Below a black row six agree in the nominal place.
+        (false, 127, 0xff, 0xff, 0, None),
+        // At lag 5, the least with two lines, three agree.
+        (true, 127, 0x00, 0xff, 0, Some(5)),
+        // No lag is within reach.
+        (false, 2, 0x00, 0xff, 0, None),
+        (true, 4, 0x00, 0xff, 0, None),
+        // Seven agree in the nominal place, and no more at any lag.
+        (false, 127, 0x00, 0x80, 0, None),
+        // Six agree at lag 4, and three at lag 3.
+        (false, 4, 0x33, 0xcc, 3, Some(4)),
+        // Six agree at lag 3. A gain of one is an eighth of the pixels, and no more than that; a
+        // gain of two is more.
+        (false, 3, 0x0c, 0x80, 0, None),
+        (false, 3, 0x1c, 0x80, 0, Some(3)),
+    ];
+    for (two_line, most, above, row, offset, expected) in cases {
+        let found = choice(&rt, rt.alloc(), two_line, most, above, row, offset)?;
+        assert!(rt; found == expected, "at {row}, {most}");
+    }
+    Ok(())
+}
+
+/// Zeros follow the end of a code: the second row is not white.
+#[test]
+fn decodes_past_the_end(rt: HostRuntime) -> Result<(), Fail> {
+    let first: &[u8] = &[0xff];
+    let second: &[u8] = &[0x32];
+    assert!(rt;
+        gives(
+            &rt,
+            rt.alloc(),
+            shape(8, false, false),
+            0,
+            &[0xf0],
+            &[first, second]
+        )?
+    );
+    Ok(())
+}
+
+/// A row that equals the one above may be coded as plain.
+#[test]
+fn decodes_an_equal_plain_row(rt: HostRuntime) -> Result<(), Fail> {
+    let white: &[u8] = &[0x00];
+    assert!(rt; gives(&rt, rt.alloc(), shape(8, false, true), 0, &[0xb0], &[white])?);
+    Ok(())
+}
+
+/// Three bytes decide the first row, and the sixth pixel of the second wants a fourth.
+#[test]
+fn stops_in_the_second_row(rt: HostRuntime) -> Result<(), Fail> {
+    let shape = shape(8, false, false);
+    let mut bytes = vec![in rt.alloc(); 0u8; window_bytes(8)]?;
+    let mut window = Window::over(bytes.as_mut_slice(), 8);
+    let mut source = Given::new(&[0xf0, 0x00, 0x00], false);
+    let mut decoder = Decoder::start();
+    let mut learned = Learned::new();
+    let mut kept = START;
+    assert_eq!(rt; window.width(), 8);
+    let first = decode_row(
+        shape,
+        &mut kept,
+        &mut window,
+        &mut learned,
+        &mut decoder,
+        &mut source,
+    );
+    assert!(rt; first == Ok(()));
+    assert!(rt; is_row(&window, 0, &[0xff]));
+    assert_eq!(rt; source.failures(), 0);
+    window.turn();
+    for failures in [1, 1] {
+        assert!(rt; window.width() == 8 && source.failures() < 10 && kept.offset == 0);
+        let stopped = decode_row(
+            shape,
+            &mut kept,
+            &mut window,
+            &mut learned,
+            &mut decoder,
+            &mut source,
+        );
+        assert!(rt; stopped == Err(Stop));
+        assert_eq!(rt; source.failures(), failures);
+        assert!(rt; is_row(&window, 1, &[0xff]));
+    }
+    Ok(())
+}
+
+/// A sink that takes nothing is met once: from then on the encoder has failed.
+#[test]
+fn fails_once(rt: HostRuntime) -> Result<(), Fail> {
+    let shape = shape(8, false, false);
+    let mut bytes = vec![in rt.alloc(); 0u8; window_bytes(8)]?;
+    let mut window = Window::over(bytes.as_mut_slice(), 8);
+    let mut out = Full { failed: 0 };
+    let mut encoder = Encoder::start();
+    let mut learned = Learned::new();
+    let mut kept = START;
+    let mut faults = 0u32;
+    for n in 0..200u32 {
+        window.turn();
+        write_row(&rt, &mut window, &[(n * 37 % 256) as u8]);
+        assert!(rt; window.width() == 8 && kept.offset == 0);
+        assert!(rt; encoder.events() < 10000 && out.failures() < 10 && faults < 1000);
+        let done = encode_row(
+            shape,
+            &mut kept,
+            &window,
+            &mut learned,
+            &mut encoder,
+            &mut out,
+        );
+        match done {
+            Ok(()) => assert_eq!(rt; faults, 0),
+            Err(CoderFault::Write) => {
+                assert_eq!(rt; faults, 0);
+                faults += 1;
+            }
+            Err(CoderFault::Failed) => assert_eq!(rt; faults, 1),
+        }
+        kept = START;
+    }
+    assert_eq!(rt; faults, 1);
+    assert_eq!(rt; out.failures(), 1);
+    Ok(())
+}
+
+#[test]
+fn turns_and_clears(rt: HostRuntime) -> Result<(), Fail> {
+    let mut bytes = [0xaa; 6];
+    assert_eq!(rt; window_bytes(9), 6);
+    assert_eq!(rt; window_bytes(1_048_576), 393_216);
+    let mut window = Window::over(&mut bytes, 9);
+    assert_eq!(rt; window.width(), 9);
+    for k in 0..3u8 {
+        assert!(rt; is_row(&window, k, &[0, 0]));
+    }
+    for byte in [1, 2, 3, 4] {
+        window.turn();
+        write_row(&rt, &mut window, &[byte, 0]);
+    }
+    assert!(rt; is_row(&window, 0, &[4, 0]));
+    assert!(rt; is_row(&window, 1, &[3, 0]));
+    assert!(rt; is_row(&window, 2, &[2, 0]));
+    window.clear();
+    for k in 0..3u8 {
+        assert!(rt; is_row(&window, k, &[0, 0]));
+    }
+    Ok(())
+}
+
+/// The pixel of a row that stands so far to the right of x, or so far to the left; white outside of
+/// it.
+fn pixel(row: &[u8], width: u32, x: u32, right: u32, left: u32) -> bool {
+    let end = x.saturating_add(right);
+    if end < left || end - left >= width {
+        return false;
+    }
+    let at = end - left;
+    match row.get((at / 8) as usize) {
+        Some(byte) => (*byte >> (7 - at % 8)) % 2 == 1,
+        None => false,
+    }
+}
+
+/// The context of x by the coordinates of its ten pixels.
+fn context_by_coordinates(shape: Shape, offset: u8, rows: [&[u8]; 3], x: u32) -> u16
+    ensures { result < 1024 }
+{
+    let [row, above, second] = rows;
+    let width = shape.width;
+    let adaptive = if offset == 0 {
+        pixel(above, width, x, 2, 0)
+    } else {
+        pixel(row, width, x, 0, u32::from(offset))
+    };
+    let pixels = if shape.two_line {
+        [
+            pixel(above, width, x, 0, 3),
+            pixel(above, width, x, 0, 2),
+            pixel(above, width, x, 0, 1),
+            pixel(above, width, x, 0, 0),
+            pixel(above, width, x, 1, 0),
+            adaptive,
+            pixel(row, width, x, 0, 4),
+            pixel(row, width, x, 0, 3),
+            pixel(row, width, x, 0, 2),
+            pixel(row, width, x, 0, 1),
+        ]
+    } else {
+        [
+            pixel(second, width, x, 0, 1),
+            pixel(second, width, x, 0, 0),
+            pixel(second, width, x, 1, 0),
+            pixel(above, width, x, 0, 2),
+            pixel(above, width, x, 0, 1),
+            pixel(above, width, x, 0, 0),
+            pixel(above, width, x, 1, 0),
+            adaptive,
+            pixel(row, width, x, 0, 2),
+            pixel(row, width, x, 0, 1),
+        ]
+    };
+    let mut number = 0u16;
+    for pixel in pixels {
+        number = number % 512 * 2 + u16::from(pixel);
+    }
+    number % 1024
+}
+
+/// A row of pixels without order, that ends in white padding.
+fn row_of(alloc: Global, width: u32, seed: u32) -> Result<Vec<u8>, Fail> {
+    let mut bytes = Vec::new(alloc);
+    let mut state = seed;
+    for i in 0..width.div_ceil(8) {
+        state = state.wrapping_mul(1_664_525).wrapping_add(1_013_904_223);
+        let byte = (state >> 24) as u8;
+        let padding = if i == width / 8 { 8 - width % 8 } else { 0 };
+        bytes.push(byte >> padding << padding)?;
+    }
+    Ok(bytes)
+}
+
+/// Whether three rows without order have the code that the model gives, and come back from it.
+fn meets_model(rt: &impl Abort, alloc: Global, shape: Shape, offset: u8) -> Result<bool, Fail> {
+    let first = row_of(alloc, shape.width, 1)?;
+    let second = row_of(alloc, shape.width, 2)?;
+    let third = row_of(alloc, shape.width, 3)?;
+    let white = row_of(alloc, 0, 0)?;
+    let rows: [&[u8]; 5] = [
+        white.as_slice(),
+        white.as_slice(),
+        first.as_slice(),
+        second.as_slice(),
+        third.as_slice(),
+    ];
+    let mut out = Taken {
+        bytes: Vec::new(alloc),
+    };
+    let mut encoder = Encoder::start();
+    let mut learned = Learned::new();
+    for y in 2..5usize {
+        for x in 0..shape.width {
+            let context = context_by_coordinates(
+                shape,
+                offset,
+                [rows[y], rows[y - 1], rows[y - 2]],
+                x,
+            );
+            assert!(rt; encoder.events() < 0x1000_0000_0000);
+            let black = pixel(rows[y], shape.width, x, 0, 0);
+            let done = encoder.put(&mut learned, Context::of(context), black, &mut out);
+            assert!(rt; done == Ok(()));
+        }
+    }
+    assert!(rt; encoder.finish(&mut out) == Ok(()));
+    let found = code(rt, alloc, shape, offset, &rows[2..])?;
+    Ok(
+        found.as_slice() == out.bytes.as_slice()
+            && gives(rt, alloc, shape, offset, found.as_slice(), &rows[2..])?,
+    )
+}
+
+/// Widths about a byte's edges, in the nominal place and a moved one.
+#[test]
+fn widths_meet_the_model(rt: HostRuntime) -> Result<(), Fail> {
+    for width in [1, 2, 7, 8, 9, 15, 16, 17] {
+        for two_line in [false, true] {
+            for offset in [0, 5] {
+                let shape = shape(width, two_line, false);
+                let met = meets_model(&rt, rt.alloc(), shape, offset)?;
+                assert!(rt; met, "at {width}, {offset}");
+            }
+        }
+    }
+    Ok(())
+}
+
+/// The greatest width.
+#[test]
+fn widest_meets_the_model(rt: HostRuntime) -> Result<(), Fail> {
+    for two_line in [false, true] {
+        let shape = shape(1_048_576, two_line, false);
+        assert!(rt; meets_model(&rt, rt.alloc(), shape, 0)?);
+    }
+    Ok(())
+}
+
+/// Each offset, with the left edge inside its reach.
+#[test]
+fn offsets_meet_the_model(rt: HostRuntime) -> Result<(), Fail> {
+    for offset in 1..128u8 {
+        for two_line in [false, true] {
+            let met = meets_model(&rt, rt.alloc(), shape(150, two_line, false), offset)?;
+            assert!(rt; met, "at {offset}");
+        }
+    }
+    Ok(())
+}
