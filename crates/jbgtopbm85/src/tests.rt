@@ -264,22 +264,26 @@ fn each_read_fails(rt: HostRuntime) -> Result<(), Fail> {
     let alloc = rt.alloc();
     let job = info_job(alloc)?;
     for (hex, reads, answer) in STREAMS {
-        for at in 1..=reads + 1 {
-            let devices = Devices {
-                most: 1,
-                failing_read: Some(at),
-                ..SMOOTH
-            };
-            let ran = run_on(alloc, &job, hex, devices)?;
-            let answer = if at <= reads {
-                Err("input cannot be read")
-            } else {
-                answer
-            };
-            assert!(rt; tells(alloc, &ran, answer)?, "read {at} of {hex}");
+        for at in 0..reads {
+            let ran = run_on(alloc, &job, hex, failing_read(at + 1))?;
+            assert!(rt;
+                tells(alloc, &ran, Err("input cannot be read"))?,
+                "{at} reads of {hex}"
+            );
         }
+        let ran = run_on(alloc, &job, hex, failing_read(reads.saturating_add(1)))?;
+        assert!(rt; tells(alloc, &ran, answer)?, "{hex}");
     }
     Ok(())
+}
+
+/// Single bytes, with the read of this number failing.
+fn failing_read(at: u64) -> Devices {
+    Devices {
+        most: 1,
+        failing_read: Some(at),
+        ..SMOOTH
+    }
 }
 
 /// Where reads are large, one is for the header and one for what follows.
