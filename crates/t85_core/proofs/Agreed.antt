@@ -5,7 +5,7 @@ use Rattle.std.specs.List.{AllByRecursion}
 use Rattle.std.proofs.lemmas.Bool.{lt-ltb, cases_lt}
 use Rattle.std.proofs.lemmas.Bool.Decides.{nat_tests}
 use Rattle.std.proofs.Math.Nat.{div-mul-le_self, lt_of_mul-lt-mul_right}
-use Rattle.raster_core.specs.Raster.{Raster, row_above, white_row}
+use Rattle.raster_core.specs.Raster.{row_above, white_row}
 use Rattle.raster_core.specs.Lines.{Mode, row_events, numbers_from, IsLegalFlag}
 use Rattle.t85_core.specs.Coding.{Coding, top_of, offset_of, previous_of, flag_of, events_of_row, events_of, learned_at, begun, HasLegalFlags, is_fresh}
 use Rattle.t85_core.specs.Denotes.{EachLies}

@@ -1,5 +1,5 @@
 -- Codings with the same first rows agree on all that they say of them.
-use Rattle.std.proofs.Common.{◌≡◌, ℕ, zero, suc, ◌+◌, ◌-◌, ◌*◌, ◌/◌, ◌<◌, ◌≤◌, Bool, true, false, List, [], ◌∷◌, ◌++◌, length, refl, sym, ◌∙◌, ap, arith, Option, None}
+use Rattle.std.proofs.Common.{◌≡◌, ℕ, zero, suc, ◌+◌, ◌-◌, ◌*◌, ◌/◌, ◌<◌, ◌≤◌, Bool, false, List, ◌++◌, length, refl, sym, ◌∙◌, ap, arith, Option, None}
 use Rattle.std.specs.Prelude.{slice_index_or, if◌then◌else◌, nat_lt, ◌==◌, flat_map, filter_map, min}
 use Rattle.std.specs.List.{cons_option}
 use Rattle.std.proofs.Math.Nat.{div-mul-le_self}

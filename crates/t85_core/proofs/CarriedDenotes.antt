@@ -1,17 +1,17 @@
 -- Stripes that a decoder ran through to the image's last row denote the raster of their rows.
-use Rattle.std.proofs.Common.{◌≡◌, ℕ, zero, suc, ◌+◌, ◌-◌, ◌*◌, ◌<◌, ◌≤◌, ◌^◌, nat_eq, Bool, true, false, List, [], ◌∷◌, ◌++◌, length, map, refl, sym, ◌∙◌, ap, subst, arith, Option, None, length-append}
-use Rattle.std.specs.Prelude.{slice_index_or, if◌then◌else◌, ◌==◌, flat_map, filter_map, min}
+use Rattle.std.proofs.Common.{◌≡◌, ℕ, ◌+◌, ◌-◌, ◌*◌, ◌<◌, ◌≤◌, nat_eq, Bool, true, false, List, [], ◌∷◌, ◌++◌, length, map, refl, sym, ◌∙◌, ap, subst, arith, None, length-append}
+use Rattle.std.specs.Prelude.{slice_index_or, if◌then◌else◌, flat_map, filter_map, min}
 use Rattle.std.specs.List.{AllByRecursion}
 use Rattle.std.proofs.lemmas.Bool.Decides.{nat_tests}
 use Rattle.std.proofs.lemmas.Grind.{div_ceil_times}
 use Rattle.std.proofs.lemmas.List.{length-map}
 use Rattle.qm_core.specs.Code.{Lies}
-use Rattle.raster_core.specs.Raster.{Raster, IsRaster, row_above, white_row}
+use Rattle.raster_core.specs.Raster.{white_row}
 use Rattle.raster_core.specs.Lines.{numbers_from, IsLegalFlag}
 use Rattle.t85_core.specs.Header.{Fields, IsAccepted}
-use Rattle.t85_core.specs.Grammar.{Stripe, stripe_bytes, stripe_count, AreStripes, Parts}
-use Rattle.t85_core.specs.Coding.{Coding, HasLegalFlags, lines_of, flag_of, moved_at, last_or, place_of, mode_of, move_of}
-use Rattle.t85_core.specs.Denotes.{coding_in, EachLies, DenotesAt}
+use Rattle.t85_core.specs.Grammar.{Stripe, stripe_bytes, stripe_count, AreStripes}
+use Rattle.t85_core.specs.Coding.{Coding, lines_of, flag_of, moved_at, last_or, place_of, mode_of, move_of}
+use Rattle.t85_core.specs.Denotes.{coding_in, DenotesAt}
 use Rattle.t85_core.specs.Carried.{Carry, begin, first_carry, StripesRun}
 use Rattle.t85_core.proofs.Joined.{row_above_top}
 use Rattle.t85_core.proofs.Lists.{All-append}

@@ -1,16 +1,14 @@
 -- What a decoder carries is what the definitions look up in the whole image.
-use Rattle.std.proofs.Common.{◌≡◌, ◌≢◌, ℕ, zero, suc, ◌+◌, ◌-◌, ◌*◌, ◌/◌, ◌%◌, ◌<◌, ◌≤◌, ◌⊎◌, inl, inr, nat_eq, Bool, true, false, List, [], ◌∷◌, ◌++◌, length, map, refl, sym, ◌∙◌, ap, subst, arith, Option, None, Some, length-append}
-use Rattle.std.specs.Prelude.{slice_index_or, unwrap_or, if◌then◌else◌, ◌==◌, flat_map, filter_map, min, option_and_then}
-use Rattle.std.proofs.lemmas.Bool.{cases_lt}
+use Rattle.std.proofs.Common.{◌≡◌, ◌≢◌, ℕ, zero, suc, ◌+◌, ◌-◌, ◌*◌, ◌/◌, ◌%◌, ◌<◌, ◌≤◌, nat_eq, Bool, true, false, List, [], ◌∷◌, length, refl, sym, ◌∙◌, ap, subst, arith, Option, None, Some}
+use Rattle.std.specs.Prelude.{slice_index_or, unwrap_or, if◌then◌else◌, ◌==◌, flat_map, filter_map, option_and_then}
 use Rattle.std.proofs.lemmas.Bool.Decides.{nat_tests}
-use Rattle.qm_core.specs.Place.{Event, State, Estimate, after, fresh}
-use Rattle.qm_core.specs.Code.{Lies}
-use Rattle.raster_core.specs.Raster.{Raster, row_above, white_row}
-use Rattle.raster_core.specs.Lines.{Mode, Lines, row_events, numbers_from, IsLegalFlag}
-use Rattle.t85_core.specs.Coding.{Coding, fresh_stripe, top_of, lines_of, moved_at, offset_of, last_or, previous_of, flag_of, events_of_row, learned_at, place_of, begun}
-use Rattle.t85_core.specs.Carried.{Between, Carry, offset_at, lines_with, after_row, begin, end_of, first_carry, Run, IsNext}
+use Rattle.qm_core.specs.Place.{after}
+use Rattle.raster_core.specs.Raster.{row_above, white_row}
+use Rattle.raster_core.specs.Lines.{Lines, row_events, numbers_from, IsLegalFlag}
+use Rattle.t85_core.specs.Coding.{Coding, fresh_stripe, top_of, lines_of, moved_at, offset_of, last_or, previous_of, flag_of, events_of_row, learned_at, begun}
+use Rattle.t85_core.specs.Carried.{Between, Carry, offset_at, lines_with, after_row, begin, Run}
 use Rattle.t85_core.proofs.Elements.{Continues, continues_first, continues_rest}
-use Rattle.t85_core.proofs.Joined.{one_row_more, one_more_move, fresh_le, stripe_at, top_in, row_above_step, row_above_top, row_here}
+use Rattle.t85_core.proofs.Joined.{one_row_more, one_more_move, fresh_le, stripe_at, top_in, row_above_step, row_here}
 
 -- ---- what stands before a row, where all above row t is white
 

@@ -96,3 +96,6 @@ unwritten Read p = refl
 unwritten Write p = absurd p
 unwritten OutOfMemory p = refl
 unwritten NotYet p = refl
+
+pub rest_faults : (h : Fields) (moves : ℕ) (in_code : Bool) (bytes : List ℕ) (f : Fault) → rest_fault h moves in_code bytes ≡ Some f → IsWalkFault f
+rest_faults h moves in_code bytes f e = subst (λ o. MayBe o) e (rest_may h moves in_code bytes)

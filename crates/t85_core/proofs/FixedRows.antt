@@ -1,5 +1,5 @@
 -- A broken body fixes one fault and one list of rows.
-use Rattle.std.proofs.Common.{◌≡◌, ℕ, suc, ◌+◌, ◌*◌, ◌<◌, ◌≤◌, Bool, false, List, [], ◌∷◌, ◌++◌, length, sym, ◌∙◌, subst, arith}
+use Rattle.std.proofs.Common.{◌≡◌, ℕ, suc, ◌+◌, ◌*◌, ◌<◌, ◌≤◌, Bool, false, List, length, sym, ◌∙◌, subst, arith}
 use Rattle.std.proofs.lemmas.Grind.{div_ceil_times}
 use Rattle.std.proofs.Math.Nat.{mul-le-mul_right}
 use Rattle.t85_core.specs.Header.{Fields, IsAccepted}
@@ -20,7 +20,7 @@ begun_length stripes segments code = let e = length-push stripes (record { segme
 begun_are : (h : Fields) (stripes : List Stripe) (segments : List Segment) (code : List ℕ) → AreStripes h stripes → IsBegun h segments code → AreStripes h (begun_stripes stripes segments code)
 begun_are h stripes segments code each begun = All-push (λ s. IsBegun h s.segments s.code) stripes (record { segments = segments; code = code; reset = false }) each begun
 
-begins_within : (height l n : ℕ) → 0 < l → n < stripe_count height l → n * l < height
+pub begins_within : (height l n : ℕ) → 0 < l → n < stripe_count height l → n * l < height
 begins_within height l n some few =
     let up : suc n * l ≤ stripe_count height l * l = mul-le-mul_right l few in
     let t = div_ceil_times height l some in

@@ -1,15 +1,15 @@
 -- What a coder carries from row to row is what the definitions look up.
-use Rattle.std.proofs.Common.{◌≡◌, ℕ, zero, suc, ◌+◌, ◌-◌, ◌*◌, ◌/◌, ◌<◌, ◌≤◌, Bool, true, false, List, [], ◌∷◌, ◌++◌, length, refl, sym, ◌∙◌, ap, arith, Option, None, Some, append-nil, add-zero}
-use Rattle.std.specs.Prelude.{slice_index_or, unwrap_or, if◌then◌else◌, nat_lt, ◌==◌, flat_map, filter_map, min}
+use Rattle.std.proofs.Common.{◌≡◌, ℕ, zero, suc, ◌+◌, ◌-◌, ◌*◌, ◌/◌, ◌<◌, ◌≤◌, true, false, List, [], ◌∷◌, ◌++◌, refl, sym, ◌∙◌, ap, arith, Option, None, Some, append-nil, add-zero}
+use Rattle.std.specs.Prelude.{slice_index_or, unwrap_or, if◌then◌else◌, nat_lt, flat_map, filter_map}
 use Rattle.std.specs.List.{cons_option}
 use Rattle.std.proofs.lemmas.Grind.{flat_map-append}
 use Rattle.std.proofs.lemmas.List.Elements.{filter_map-append}
 use Rattle.std.proofs.Math.Nat.{div-mul-le_self, mul-le-mul_right, div-eq_of_lt-le}
 use Rattle.std.proofs.lemmas.Bool.Decides.{nat_tests}
-use Rattle.qm_core.specs.Place.{Event, State, after, step, fresh}
+use Rattle.qm_core.specs.Place.{Event, State, after, step}
 use Rattle.raster_core.specs.Raster.{Raster, row_above, white_row}
-use Rattle.raster_core.specs.Lines.{Mode, Lines, lines_at, row_events, numbers_from}
-use Rattle.t85_core.specs.Coding.{Coding, is_fresh, fresh_stripe, top_of, lines_of, moved_at, offset_of, last_or, previous_of, flag_of, events_of_row, events_of, rows_of, learned_at, place_of, begun}
+use Rattle.raster_core.specs.Lines.{numbers_from}
+use Rattle.t85_core.specs.Coding.{Coding, is_fresh, fresh_stripe, top_of, last_or, events_of_row}
 
 -- ---- events, one row after another
 

@@ -115,7 +115,7 @@ stable_escape h moves in_code escape =
     (stable_cond (escape == 5) _ _ (stable_constant (Some LengthRefused))
     (stable_cond (escape == 6) (move_fault h moves) comment_fault (stable_move h moves) stable_comment))))
 
-stable_rest : (h : Fields) (moves : ℕ) (in_code : Bool) → IsStable (rest_fault h moves in_code)
+pub stable_rest : (h : Fields) (moves : ℕ) (in_code : Bool) → IsStable (rest_fault h moves in_code)
 stable_rest h moves in_code [] more f e = inl cc
 stable_rest h moves in_code (b ∷ []) more f e = inl (two_tests (b == 255) false f e)
 stable_rest h moves in_code (b ∷ escape ∷ bytes) more f e =
@@ -147,17 +147,17 @@ stable_stripes h count bytes more f p = went (stable_stripe h p.tail more f p.ta
     tail_has = e;
   })
 
-counted-other : (ending f : Fault) → f ≢ Read → counted_as ending f ≡ f
+pub counted-other : (ending f : Fault) → f ≢ Read → counted_as ending f ≡ f
 counted-other ending Read h = absurd (h refl)
 counted-other ending f h = refl
 
 -- where the header is refused
-pub refused_header : (old new : Option (List ℕ)) (f : Fault) → Ends ShortHeader old new (λ given fault. (length given ≤ 20) × (header_fault given ≡ Some fault)) f → f ≢ Read → IfSome old (λ bytes. StreamFault bytes f)
-refused_header None new f e other = tt
-refused_header (Some bytes) None f e other = absurd e.taken
-refused_header (Some bytes) (Some left) f e other =
+pub header_known : (old new : Option (List ℕ)) (f : Fault) → Ends ShortHeader old new (λ given fault. (length given ≤ 20) × (header_fault given ≡ Some fault)) f → f ≢ Read → IfSome old (λ bytes. header_fault bytes ≡ Some f)
+header_known None new f e other = tt
+header_known (Some bytes) None f e other = absurd e.taken
+header_known (Some bytes) (Some left) f e other =
     let same : header_fault e.given ≡ Some f = subst (λ x. header_fault e.given ≡ Some x) (counted-other ShortHeader f other) e.has_fault.1 in
-    inl (ap header_fault e.taken ∙ went (cases_lt (length e.given) 20) same) where
+    ap header_fault e.taken ∙ went (cases_lt (length e.given) 20) same where
       went : (length e.given < 20) ⊎ (20 ≤ length e.given) → header_fault e.given ≡ Some f → header_fault (e.given ++ left) ≡ Some f
       went (inl short) same =
           let t : nat_lt (length e.given) 20 ≡ true = grind (arith, nat_tests) in
@@ -166,8 +166,14 @@ refused_header (Some bytes) (Some left) f e other =
           ap header_fault (ap (λ z. e.given ++ z) (e.at_end ended) ∙ append-nil e.given) ∙ same
       went (inr long) same = header_fault-append e.given left long ∙ same
 
+pub refused_header : (old new : Option (List ℕ)) (f : Fault) → Ends ShortHeader old new (λ given fault. (length given ≤ 20) × (header_fault given ≡ Some fault)) f → f ≢ Read → IfSome old (λ bytes. StreamFault bytes f)
+refused_header old new f e other = went old (header_known old new f e other) where
+  went : (old : Option (List ℕ)) → IfSome old (λ bytes. header_fault bytes ≡ Some f) → IfSome old (λ bytes. StreamFault bytes f)
+  went None h = tt
+  went (Some bytes) h = inl h
+
 -- what is behind the header's twenty bytes
-behind : (given more : List ℕ) → length given ≡ 20 → drop 20 (given ++ more) ≡ more
+pub behind : (given more : List ℕ) → length given ≡ 20 → drop 20 (given ++ more) ≡ more
 behind given more e = drop_at given more 20 e
 
 -- where the body hasn't its parts

@@ -30,3 +30,16 @@ pub mod Longest
 pub mod FixedRows
 pub mod Stays
 pub mod Outcomes
+pub mod CarriedFixes
+pub mod Runs
+pub mod StripeBegins
+pub mod RowsSoFar
+pub mod Pages
+pub mod RowPut
+pub mod Entities
+pub mod StripePut
+pub mod CodePut
+pub mod ImagePut
+pub mod PagePut
+pub mod Decoded
+pub mod Converted

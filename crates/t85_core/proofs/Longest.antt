@@ -156,7 +156,7 @@ module _ (q : CoderLaws) (h : Fields) (height : ℕ) (ok : IsAccepted h) (stripe
         below : (i : ℕ) → i < length (map (λ s. s.code) stripes) → i ≤ n
         below i lt = omega (arith, lt, codes_many)
 
-  decided_agree : (rows rows' : List (List Bool)) (flags flags' : List Bool) → Decided flags rows → Decided flags' rows' → (m : ℕ) → m ≤ length rows → m ≤ length rows' →
+  pub decided_agree : (rows rows' : List (List Bool)) (flags flags' : List Bool) → Decided flags rows → Decided flags' rows' → (m : ℕ) → m ≤ length rows → m ≤ length rows' →
       Agree h.xd (mode_of h.options) h.l0 ok.stripe_from the_moves the_resets rows rows' flags flags' m
   decided_agree rows rows' flags flags' d d' m le le' =
       agree h.xd (mode_of h.options) h.l0 ok.stripe_from the_moves the_resets rows rows' flags flags' q the_codes d.wide d'.wide d.legal d'.legal d.lies d'.lies m le le'

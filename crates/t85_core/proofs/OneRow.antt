@@ -1,6 +1,6 @@
 -- A code and the rows above decide a row and its flag.
 use Rattle.std.proofs.Common.{◌≡◌, ℕ, zero, suc, ◌+◌, ◌-◌, ◌<◌, ◌≤◌, ◌⊎◌, inl, inr, Bool, true, false, nat_lt, List, [], ◌∷◌, ◌++◌, length, map, arith, refl, ap, ◌∙◌, sym, subst, true≢false}
-use Rattle.std.specs.Prelude.{slice_index_or, if◌then◌else◌, ◌&&◌, ◌==◌, IsTrue}
+use Rattle.std.specs.Prelude.{if◌then◌else◌, ◌&&◌, ◌==◌, IsTrue}
 use Rattle.std.proofs.lemmas.Bool.{lt-ltb, le-ltb, cases_lt}
 use Rattle.raster_core.specs.Raster.{pixel_at, pixel_left}
 use Rattle.raster_core.specs.Lines.{Mode, Lines, context_at, adaptive, two_line, three_line, pixel_events, pseudo_event, row_events, numbers_from, same_row, may_be_typical, IsLegalFlag}

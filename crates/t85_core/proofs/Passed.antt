@@ -1,5 +1,5 @@
 -- What was passed of a stripe so far.
-use Rattle.std.proofs.Common.{cond, ◌≡◌, ◌≢◌, ◌<◌, ◌≤◌, ◌+◌, ◌-◌, ◌^◌, ℕ, Bool, true, false, List, [], ◌∷◌, ◌++◌, Option, None, Some, count_by, sum_by, min, length, is_some, refl, sym, ap, ◌∙◌, subst, append-nil, append_assoc, arith}
+use Rattle.std.proofs.Common.{cond, ◌≡◌, ◌<◌, ◌+◌, ◌-◌, ◌^◌, ℕ, Bool, true, false, List, [], ◌∷◌, ◌++◌, Option, None, Some, count_by, sum_by, min, is_some, refl, sym, ap, ◌∙◌, subst, append_assoc, arith}
 use Rattle.std.specs.Prelude.{flat_map, option_map}
 use mir.Val.{bool_byte}
 use Rattle.std.specs.List.{AllByRecursion}
@@ -13,21 +13,18 @@ use Rattle.t85_core.specs.declared.walk.Code.{Code}
 use Rattle.t85_core.specs.declared.walk.Code.TheVariants as code
 use Rattle.t85_core.specs.declared.walk.Move as move
 use Rattle.t85_core.specs.Header.{Fields}
-use Rattle.t85_core.specs.Grammar.{Segment, Move, Comment, segment_bytes, is_move, is_comment, is_nil, stripe_bytes, marker_bytes, IsLegal, IsBegun, moves_in, comments_in}
+use Rattle.t85_core.specs.Grammar.{Segment, Move, Comment, segment_bytes, is_move, is_comment, stripe_bytes, marker_bytes, IsLegal, IsBegun, moves_in, comments_in}
 use Rattle.t85_core.specs.Coding.{move_of}
+use Rattle.t85_core.specs.Decoding.{pair_of}
 use Rattle.t85_core.specs.Refusal.{rest_fault, StripeFault, StripesFault}
 use Rattle.t85_core.specs.Walk.{Ends}
-use Rattle.t85_core.specs.Piece.{code_bytes, IsCode, CodeFault, PassesCode, PassesHead, PassesSegment, PassesStripe, PassesStripes}
+use Rattle.t85_core.specs.Piece.{code_bytes, IsCode, CodeFault, HeadFault, PassesCode, PassesHead, PassesSegment, PassesStripe, PassesStripes}
 use Rattle.t85_core.specs.declared.walk.Head.{Head}
 use Rattle.t85_core.specs.Stream.{ArePlain}
 use Rattle.t85_core.proofs.Streams.{Consumes-more}
 use Rattle.t85_core.proofs.Ends.{Ends-after}
 use Rattle.t85_core.proofs.Lists.{All-push, All-append, count_push, flat_map_push}
 use Rattle.t85_core.proofs.Stuffing.{stuffed_append, stuffed_plain}
-
--- a move as the grammar sees it
-abbrev pub pair_of : move.Move → ℕ × ℕ
-pair_of to = (to.row, to.offset)
 
 -- segments of a stripe, and the move among them
 pub record HasPassed (h : Fields) (old new : Option (List ℕ)) (at : Option move.Move) (comments : ℕ) : Type 0 where
@@ -38,7 +35,7 @@ pub record HasPassed (h : Fields) (old new : Option (List ℕ)) (at : Option mov
   pub told : comments ≡ min (count_by is_comment segments) (2 ^ 64 - 1)
   pub taken : Consumes old new (flat_map segment_bytes segments)
 
-Consumes-none : (a : Option (List ℕ)) → Consumes a a []
+pub Consumes-none : (a : Option (List ℕ)) → Consumes a a []
 Consumes-none None = tt
 Consumes-none (Some xs) = refl
 
@@ -104,16 +101,22 @@ head_passed {h} {a} {b} {c} first p is taken = record {
 }
 
 -- what was passed, and a rest with a fault before the code
-pub cut_head : {h : Fields} {a b c : Option (List ℕ)} {at : Option move.Move} {comments : ℕ} {f : Fault} → HasPassed h a b at comments → Ends Truncated b c (λ given fault. rest_fault h (cond (is_some at) 1 0) false given ≡ Some fault) f → Ends Truncated a c (StripeFault h) f
+pub cut_head : {h : Fields} {a b c : Option (List ℕ)} {at : Option move.Move} {comments : ℕ} {f : Fault} → HasPassed h a b at comments → Ends Truncated b c (λ given fault. rest_fault h (cond (is_some at) 1 0) false given ≡ Some fault) f → Ends Truncated a c (HeadFault h) f
 cut_head {h} p e =
-    Ends-after (flat_map segment_bytes p.segments) p.taken (λ given fault has. record {
-      segments = p.segments;
-      code = [];
-      rest = given;
-      bytes_are = refl;
-      begun = p.begun;
-      rest_has = subst (λ n. rest_fault h n false given ≡ Some fault) p.counted has;
-    }) e
+    Ends-after (flat_map segment_bytes p.segments) p.taken (λ given fault has. (
+      record {
+        segments = p.segments;
+        code = [];
+        rest = given;
+        bytes_are = refl;
+        begun = p.begun;
+        rest_has = subst (λ n. rest_fault h n false given ≡ Some fault) p.counted has;
+      },
+      refl,
+    )) e
+
+pub cut_before : {h : Fields} {a b : Option (List ℕ)} {f : Fault} → Ends Truncated a b (HeadFault h) f → Ends Truncated a b (StripeFault h) f
+cut_before e = record { given = e.given; taken = e.taken; has_fault = e.has_fault.0; at_end = e.at_end }
 
 byte_of : (t : Bool) → bool_byte t ≡ cond t 1 0
 byte_of true = refl

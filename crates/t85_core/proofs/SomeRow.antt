@@ -1,6 +1,6 @@
 -- Each code has a row at each place in which it lies.
 use Rattle.std.proofs.Common.{◌≡◌, ℕ, zero, suc, ◌+◌, ◌-◌, ◌*◌, ◌/◌, ◌<◌, ◌≤◌, ◌⊎◌, inl, inr, Bool, true, false, not, List, [], ◌∷◌, ◌++◌, length, map, arith, refl, ap, ◌∙◌, sym, subst, append_assoc, append-nil, length-append}
-use Rattle.std.specs.Prelude.{slice_index_or, if◌then◌else◌, IsTrue}
+use Rattle.std.specs.Prelude.{if◌then◌else◌, IsTrue}
 use Rattle.raster_core.specs.Raster.{pixel_at}
 use Rattle.raster_core.specs.Lines.{Mode, context_at, row_events, numbers_from, same_row, IsLegalFlag}
 use Rattle.qm_core.specs.Place.{IsPlace, State, step, after, same}

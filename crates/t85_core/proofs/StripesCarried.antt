@@ -1,21 +1,21 @@
 -- Stripes that a decoder ran through, as the definitions see them in the whole image.
 use Rattle.std.proofs.Common.{◌≡◌, ℕ, zero, suc, ◌+◌, ◌-◌, ◌*◌, ◌<◌, ◌≤◌, ◌⊎◌, inl, inr, nat_eq, Bool, true, false, List, [], ◌∷◌, ◌++◌, length, map, refl, sym, ◌∙◌, ap, subst, arith, Option, None, length-append}
-use Rattle.std.specs.Prelude.{slice_index_or, if◌then◌else◌, ◌==◌, flat_map, filter_map, min}
+use Rattle.std.specs.Prelude.{slice_index_or, if◌then◌else◌, flat_map, filter_map, min}
 use Rattle.std.specs.List.{AllByRecursion}
 use Rattle.std.proofs.lemmas.Bool.{cases_lt}
 use Rattle.std.proofs.lemmas.Bool.Decides.{nat_tests}
-use Rattle.qm_core.specs.Place.{Estimate, after, fresh}
+use Rattle.qm_core.specs.Place.{after, fresh}
 use Rattle.qm_core.specs.Code.{Lies}
 use Rattle.raster_core.specs.Raster.{row_above, white_row}
 use Rattle.raster_core.specs.Lines.{Mode, numbers_from, IsLegalFlag}
 use Rattle.t85_core.specs.Header.{Fields}
-use Rattle.t85_core.specs.Grammar.{Stripe, AreStripes}
+use Rattle.t85_core.specs.Grammar.{Stripe}
 use Rattle.t85_core.specs.Coding.{Coding, fresh_stripe, lines_of, moved_at, last_or, flag_of, events_of_row, learned_at, place_of, begun, mode_of, move_of}
 use Rattle.t85_core.specs.Denotes.{coding_in}
-use Rattle.t85_core.specs.Carried.{Between, Carry, begin, end_of, first_carry, after_row, Run, StripeRun, StripesRun}
+use Rattle.t85_core.specs.Carried.{Between, Carry, begin, end_of, after_row, Run, StripeRun, StripesRun}
 use Rattle.t85_core.proofs.Joined.{row_above_top}
 use Rattle.t85_core.proofs.Elements.{Continues, continues_left, continues_right, continues_first, continues_rest}
-use Rattle.t85_core.proofs.Carrying.{CarriedAt, CarryAt, offset_before, flag_before, top, stripe_begins, rows_run}
+use Rattle.t85_core.proofs.Carrying.{CarriedAt, CarryAt, offset_before, flag_before, stripe_begins, rows_run}
 
 -- as many flags as rows, each as wide as it should be
 pub run_flags : (w : ℕ) (mode : Mode) (move : Option (ℕ × ℕ)) (r : ℕ) (b : Between) (rows : List (List Bool)) (flags : List Bool) (last : Between) → Run w mode move r b rows flags last → length flags ≡ length rows

@@ -1,5 +1,5 @@
 -- What a decoder carries from row to row, and from stripe to stripe.
-use Rattle.std.specs.Prelude.{ℕ, zero, suc, ◌+◌, ◌-◌, ◌≡◌, Bool, true, false, List, [], ◌∷◌, ◌++◌, length, min, ◌==◌, if◌then◌else◌, Option, Some, None}
+use Rattle.std.specs.Prelude.{ℕ, ◌+◌, ◌-◌, ◌≡◌, Bool, true, false, List, [], ◌∷◌, ◌++◌, length, min, ◌==◌, if◌then◌else◌, Option, Some, None}
 use Rattle.qm_core.specs.Place.{State, Estimate, start, fresh, after}
 use Rattle.qm_core.specs.Code.{Lies}
 use Rattle.raster_core.specs.Raster.{white_row}

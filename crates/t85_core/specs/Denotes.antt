@@ -1,5 +1,5 @@
 -- Which raster a stream denotes.
-use Rattle.std.specs.Prelude.{ℕ, ◌≡◌, ◌<◌, Bool, List, [], ◌∷◌, length, map, drop, slice_index_or}
+use Rattle.std.specs.Prelude.{ℕ, ◌≡◌, ◌<◌, Bool, List, [], length, map, drop, slice_index_or}
 use Rattle.qm_core.specs.Code.{Lies}
 use Rattle.raster_core.specs.Raster.{Raster, IsRaster, height}
 use Rattle.t85_core.specs.Header.{Fields, HeaderOf}

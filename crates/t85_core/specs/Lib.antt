@@ -15,3 +15,8 @@ pub mod Image
 pub mod Carried
 pub mod CoderLaws
 pub mod StreamLaws
+pub mod Broken
+pub mod RowsSoFar
+pub mod Entity
+pub mod Decoding
+pub mod Converts

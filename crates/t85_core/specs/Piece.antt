@@ -12,7 +12,7 @@ use Rattle.t85_core.specs.declared.walk.Piece.TheVariants as piece
 use Rattle.t85_core.specs.Header.{Fields}
 use Rattle.t85_core.specs.Grammar.{Segment, Move, Comment, segment_bytes, is_move, is_comment, IsLegal, Stripe, stripe_bytes, marker_bytes, AreStripes, IsBegun, moves_in, comments_in}
 use Rattle.t85_core.specs.Coding.{move_of}
-use Rattle.t85_core.specs.Refusal.{rest_fault}
+use Rattle.t85_core.specs.Refusal.{rest_fault, StripeFault}
 
 -- a byte of a code as it stands in a stream, or an end marker
 abbrev pub code_bytes : Code → List ℕ
@@ -40,6 +40,10 @@ pub record CodeFault (bytes : List ℕ) (fault : Fault) : Type 0 where
   pub bytes_are : bytes ≡ stuffed code ++ rest
   pub small : AllByRecursion (λ b. b < 256) code
   pub rest_has : RestFault rest fault
+
+-- a stripe that breaks before its code begins
+abbrev pub HeadFault : Fields → List ℕ → Fault → Type 0
+HeadFault h given fault = (broken : StripeFault h given fault) × (broken.code ≡ [])
 
 -- a legal segment
 pub record PassesSegment (h : Fields) (old new : Option (List ℕ)) (segment : Segment) : Type 0 where

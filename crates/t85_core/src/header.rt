@@ -9,6 +9,7 @@ ghost use Rattle.t85_core.specs.Walk.{CountsRead, Ends};
 use crate::fault::Fault;
 use byteorder::{BigEndian, ByteOrder};
 use pbm_core::{DeviceFailed, Input};
+use raster_core::Shape;
 
 /// What an accepted header says. Its other bytes mean nothing.
 #[derive(Clone, Copy, Debug, PartialEq, Eq)]
@@ -25,7 +26,9 @@ pub struct Header {
     ghost some_width: { 1 ≤ xd },
     ghost not_too_wide: { xd ≤ 1048576 },
     ghost some_height: { 1 ≤ yd },
+    ghost not_too_tall: { yd < 2 ^ 32 },
     ghost some_rows: { 1 ≤ l0 },
+    ghost not_too_long: { l0 < 2 ^ 32 },
     ghost in_range: { mx ≤ 127 },
     ghost no_reserved_bit: { options < 128 },
     ghost no_private_table: { options % 8 ≢ 6 },
@@ -37,6 +40,8 @@ impl Header {
     ghost use Rattle.t85_core.specs.Walk.{counted_as};
     ghost use Rattle.t85_core.specs.Header.{HeaderOf, header_fault, header_bytes};
     ghost use Rattle.t85_core.specs.Chosen.{fields_of};
+    ghost use Rattle.raster_core.specs.Modes as shapes;
+    ghost use Rattle.t85_core.specs.Coding.{has_bit, mode_of};
 
     /// Reads a header, and no byte after it.
     pub fn read<R: Input>(input: &mut R) -> Result<Header, Fault>
@@ -91,6 +96,25 @@ impl Header {
             mx,
             options,
         })
+    }
+
+    /// How rows are coded: LRLTWO is bit 6 of the options, TPBON is bit 3.
+    pub(crate) fn shape(&self) -> Shape
+        ensures width { result.width ≡ self.now.xd }
+        ensures mode { shapes.mode_of result ≡ mode_of self.now.options }
+    {
+        Shape {
+            width: self.xd,
+            two_line: self.options & 0x40 != 0,
+            typical: self.options & 0x08 != 0,
+        }
+    }
+
+    /// Whether a NEWLEN may stand in the stream: VLENGTH, bit 5 of the options.
+    pub(crate) fn is_variable(&self) -> bool
+        ensures { result ≡ has_bit self.now.options 5 }
+    {
+        self.options & 0x20 != 0
     }
 
     /// The header as bytes, with MY and order 0.

@@ -9,7 +9,7 @@ ghost use Rattle.t85_core.specs.Walk.{CountsRead, Ends};
 ghost use Rattle.t85_core.specs.Refusal.{rest_fault, move_fault, comment_fault, StripeFault, StripesFault};
 ghost use Rattle.t85_core.specs.Info.{Informs};
 ghost use Rattle.t85_core.specs.Line.{line_text};
-ghost use Rattle.t85_core.specs.Piece.{code_bytes, IsCode, Passes, PassesHead, PassesCode, RestFault, CodeFault, PassesStripe, PassesStripes};
+ghost use Rattle.t85_core.specs.Piece.{code_bytes, IsCode, Passes, PassesHead, HeadFault, PassesCode, RestFault, CodeFault, PassesStripe, PassesStripes};
 
 use crate::fault::Fault;
 use crate::header::Header;
@@ -151,7 +151,7 @@ fn skip_stripe<S: Stream>(header: &Header, stream: &mut S) -> Result<Passed, Fau
 pub fn read_head<S: Stream>(header: &Header, stream: &mut S) -> Result<Head, Fault>
     requires { S.failures stream.old < 2 ^ 64 - 1 }
     ensures ok { IfOk result (PassesHead (fields_of header.now) (S.known stream.old) (S.known stream.new)) }
-    ensures err { IfErr result (Ends Truncated (S.known stream.old) (S.known stream.new) (StripeFault (fields_of header.now))) }
+    ensures err { IfErr result (Ends Truncated (S.known stream.old) (S.known stream.new) (HeadFault (fields_of header.now))) }
     ensures drained { IsErrOf result Read → S.known stream.new ≡ S.beyond stream.new }
     ensures same_source { S.source stream.new ≡ S.source stream.old }
     ensures counts { CountsRead (S.failures stream.old) (S.failures stream.new) result }

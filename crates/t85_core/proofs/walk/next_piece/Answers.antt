@@ -1,9 +1,9 @@
-use Rattle.std.proofs.Common.{◌≢◌, [], ◌∷◌, refl, ◌∙◌, cond, true, false, arith}
+use Rattle.std.proofs.Common.{◌≢◌, [], ◌∷◌, refl, cond, false, arith}
 use Rattle.t85_core.specs.Chosen.{fields_of}
 use Rattle.t85_core.specs.declared.fault.Fault.TheVariants.{Aborted, BadEscape, LengthRefused, SecondMove}
 use Rattle.t85_core.proofs.Streams.{Consumes-more}
 use Rattle.t85_core.proofs.Ends.{exit}
-use Rattle.t85_core.proofs.Pieces.{escape_taken, unknown_escape, second_move, fault_at_escape, fault_after_escape}
+use Rattle.t85_core.proofs.Pieces.{escape_taken, unknown_escape, fault_at_escape, fault_after_escape}
 use Rattle.t85_core.proofs.walk.next_piece.Goals as goal
 
 pub returns-in-4-clause-err : goal.returns-in-4-clause-err

@@ -1,0 +1,147 @@
+-- From what decoding took and set out to what is said of the whole body.
+use Rattle.std.proofs.Common.{◌≡◌, ◌≢◌, ◌<◌, ◌^◌, ◌⊎◌, inl, inr, ℕ, Bool, List, ◌++◌, not, count_by, Option, None, Some, Result, Ok, Err, refl, sym, ap, ◌∙◌, subst, append_assoc, append-nil, arith}
+use Rattle.std.specs.Prelude.{IfSome, OnOk, IfErr, IsErrOf, flat_map}
+use Rattle.std.specs.Io.KnownBytes.{Appends, Consumes}
+use Rattle.pbm_core.specs.Pbm.{header_text}
+use Rattle.qm_core.specs.Code.{stuffed}
+use Rattle.raster_core.specs.Raster.{Raster}
+use Rattle.raster_core.specs.Packed.{packed_row}
+use Rattle.t85_core.specs.declared.fault.Fault.{Fault}
+use Rattle.t85_core.specs.declared.fault.Fault.TheVariants.{Truncated, Read, Write}
+use Rattle.t85_core.specs.Header.{Fields}
+use Rattle.t85_core.specs.Grammar.{segment_bytes, stripe_bytes, stripe_count, is_move, is_nil}
+use Rattle.t85_core.specs.Refusal.{rest_fault}
+use Rattle.t85_core.specs.Denotes.{DenotesAt}
+use Rattle.t85_core.specs.Fixed.{Fixes}
+use Rattle.t85_core.specs.Image.{pbm_rows}
+use Rattle.t85_core.specs.Info.{IsWalkFault}
+use Rattle.t85_core.specs.Walk.{CountsWrite, counted_as}
+use Rattle.t85_core.specs.StreamLaws.{IsInUse}
+use Rattle.t85_core.specs.Decoding.{ImageRead, ImageCut}
+use Rattle.t85_core.specs.Converts.{WritesRaster, WritesRows, CountsBoth, Decodes}
+use Rattle.t85_core.specs.CoderLaws.{CoderLaws}
+use Rattle.t85_core.proofs.Faults.{body_faults, uncounted}
+use Rattle.t85_core.proofs.FixedRows.{one_fixed_at}
+use Rattle.t85_core.proofs.Known.{stable_rest, counted-other}
+use Rattle.t85_core.proofs.OneRaster.{one_raster_at}
+use Rattle.t85_core.proofs.Streams.{Appends-more}
+
+-- what is fixed stays so, whatever bytes follow, but where the end is the fault
+fixes_more : (h : Fields) (height : ℕ) (given more : List ℕ) (fault : Fault) (rows : List (List Bool)) → Fixes h height given fault rows → (fault ≡ Truncated) ⊎ Fixes h height (given ++ more) fault rows
+fixes_more h height given more fault rows f = went (stable_rest h _ _ f.broken.tail_has.rest more fault f.broken.tail_has.rest_has) where
+  went : (fault ≡ Truncated) ⊎ (rest_fault h (count_by is_move f.broken.tail_has.segments) (not (is_nil f.broken.tail_has.code)) (f.broken.tail_has.rest ++ more) ≡ Some fault) → (fault ≡ Truncated) ⊎ Fixes h height (given ++ more) fault rows
+  went (inl e) = inl e
+  went (inr e) = inr (record {
+    broken = record {
+      stripes = f.broken.stripes;
+      tail = f.broken.tail ++ more;
+      bytes_are = ap (λ z. z ++ more) f.broken.bytes_are ∙ append_assoc (flat_map stripe_bytes f.broken.stripes) f.broken.tail more;
+      fewer = f.broken.fewer;
+      each = f.broken.each;
+      tail_has = record {
+        segments = f.broken.tail_has.segments;
+        code = f.broken.tail_has.code;
+        rest = f.broken.tail_has.rest ++ more;
+        bytes_are = ap (λ z. z ++ more) f.broken.tail_has.bytes_are ∙ append_assoc (flat_map segment_bytes f.broken.tail_has.segments) (stuffed f.broken.tail_has.code ++ f.broken.tail_has.rest) more ∙ ap (λ z. flat_map segment_bytes f.broken.tail_has.segments ++ z) (append_assoc (stuffed f.broken.tail_has.code) f.broken.tail_has.rest more);
+        begun = f.broken.tail_has.begun;
+        rest_has = e;
+      };
+    };
+    fixed = f.fixed;
+  })
+
+module _ (q : CoderLaws) (h : Fields) (height : ℕ) (use_ : IsInUse h height) (in_old out_old out_mid out_new : Option (List ℕ)) (header : Appends out_old out_mid (header_text h.xd height)) where
+  small : height < 2 ^ 32
+  small = omega (arith, use_.to, use_.accepted.height_to)
+
+  written : (rows : List (List Bool)) → Appends out_mid out_new (flat_map packed_row rows) → Appends out_old out_new (pbm_rows h.xd height rows)
+  written rows out = Appends-more out_old out_mid out_new (header_text h.xd height) (flat_map packed_row rows) header out
+
+  rows_written : (body : List ℕ) (fault : Fault) (rows : List (List Bool)) → Fixes h height body fault rows → Appends out_mid out_new (flat_map packed_row rows) → WritesRows h height body fault out_old out_new
+  rows_written body fault rows fixes out = record {
+    rows = rows;
+    fixes = fixes;
+    only = λ other others o. one_fixed_at q h height body other fault others rows use_.accepted o fixes;
+    appends = written rows out;
+  }
+
+  raster_known : (bytes known : Option (List ℕ)) → ImageRead h height bytes known out_mid out_new → IfSome bytes (λ body. WritesRaster h height body out_old out_new)
+  raster_known None known i = tt
+  raster_known (Some body) None i = absurd i.taken
+  raster_known (Some body) (Some rest) i = record {
+    raster = raster;
+    denotes = denotes;
+    only = λ other o. one_raster_at q h height body raster other use_.accepted small denotes o;
+    appends = subst (λ n. Appends out_old out_new (pbm_rows h.xd n i.rows)) (sym denotes.height) (written i.rows i.set_out);
+  } where
+    raster : Raster
+    raster = record { width = h.xd; rows = i.rows }
+
+    denotes : DenotesAt h height body raster
+    denotes = subst (λ z. DenotesAt h height z raster) (sym i.taken) (i.denotes rest)
+
+  rows_known : (bytes known : Option (List ℕ)) (fault : Fault) → ImageCut h height bytes known out_mid out_new fault → fault ≢ Read → IfSome bytes (λ body. WritesRows h height body fault out_old out_new)
+  rows_known None known fault i other = tt
+  rows_known (Some body) None fault i other = absurd i.ends.taken
+  rows_known (Some body) (Some rest) fault i other = rows_written body fault i.rows (subst (λ z. Fixes h height z fault i.rows) (sym i.ends.taken) (went (fixes_more h height i.ends.given rest fault i.rows has))) i.set_out where
+    has : Fixes h height i.ends.given fault i.rows
+    has = subst (λ f. Fixes h height i.ends.given f i.rows) (counted-other Truncated fault other) i.ends.has_fault
+
+    went : (fault ≡ Truncated) ⊎ Fixes h height (i.ends.given ++ rest) fault i.rows → Fixes h height (i.ends.given ++ rest) fault i.rows
+    went (inl ended) = subst (λ z. Fixes h height z fault i.rows) (sym (ap (λ z. i.ends.given ++ z) (i.ends.at_end ended) ∙ append-nil i.ends.given)) has
+    went (inr f) = f
+
+  rows_unread : (bytes known in_new : Option (List ℕ)) (fault : Fault) → ImageCut h height bytes known out_mid out_new fault → fault ≡ Read → known ≡ in_new →
+      (given : List ℕ) × Consumes bytes in_new given × WritesRows h height given Truncated out_old out_new
+  rows_unread bytes known in_new fault i read drained = (
+    i.ends.given,
+    subst (λ k. Consumes bytes k i.ends.given) drained i.ends.taken,
+    rows_written i.ends.given Truncated i.rows (subst (λ f. Fixes h height i.ends.given (counted_as Truncated f) i.rows) read i.ends.has_fault) i.set_out,
+  )
+
+  cut_among : (bytes known : Option (List ℕ)) (fault : Fault) → ImageCut h height bytes known out_mid out_new fault → IsWalkFault fault
+  cut_among bytes known fault i = uncounted Truncated fault (body_faults h (stripe_count height h.l0) i.ends.given (counted_as Truncated fault) i.ends.has_fault.broken)
+
+  pub decoded : (known in_new : Option (List ℕ)) (reads_old reads_new writes_old writes_new : ℕ) (r : Result (Unit {0}) Fault) →
+      OnOk r (ImageRead h height in_old known out_mid out_new) → IfErr r (λ f. f ≢ Write → ImageCut h height in_old known out_mid out_new f) → (IsErrOf r Read → known ≡ in_new) →
+      CountsBoth reads_old reads_new r → CountsWrite writes_old writes_new r →
+      Decodes h height in_old in_new reads_old reads_new out_old out_new writes_old writes_new r
+  decoded known in_new reads_old reads_new writes_old writes_new (Ok u) ok err drained reads writes = record {
+    whole = raster_known in_old known ok;
+    broken = tt;
+    unread = λ e. absurd (let bot : ⊥ = cc in bot);
+    among = tt;
+    reads = reads;
+    writes = writes;
+  }
+  decoded known in_new reads_old reads_new writes_old writes_new (Err f) ok err drained reads writes = record {
+    whole = tt;
+    broken = λ read write. rows_known in_old known f (err write) read;
+    unread = λ e. unread (let is : f ≡ Read = cc in is) e;
+    among = λ write. cut_among in_old known f (err write);
+    reads = reads;
+    writes = writes;
+  } where
+    unread : f ≡ Read → IsErrOf {T = Unit {0}} {E = Fault} (Err f) Read → (given : List ℕ) × Consumes in_old in_new given × WritesRows h height given Truncated out_old out_new
+    unread is e = rows_unread in_old known in_new f (err (λ w. let both : Read ≡ Write = sym is ∙ w in let bot : ⊥ = cc in bot)) is (drained e)
+
+-- nothing but a beginning of the header was written
+pub decoded_nothing : (h : Fields) (height : ℕ) (in_old : Option (List ℕ)) (reads : ℕ) (out_old out_new : Option (List ℕ)) (writes_old writes_new : ℕ) → CountsWrite {T = Unit {0}} writes_old writes_new (Err Write) →
+    Decodes h height in_old in_old reads reads out_old out_new writes_old writes_new (Err Write)
+decoded_nothing h height in_old reads out_old out_new writes_old writes_new writes = record {
+  whole = tt;
+  broken = λ read write. absurd (write refl);
+  unread = λ e. absurd (let bot : ⊥ = cc in bot);
+  among = λ write. absurd (write refl);
+  reads = inl refl;
+  writes = writes;
+}
+
+-- the devices as they are when their loans end
+pub decodes_at : {R W : Type 0} (remaining : R → Option (List ℕ)) (reads : R → ℕ) (contents : W → Option (List ℕ)) (writes : W → ℕ) (h : Fields) (height : ℕ) (first : R) (start : W) (input input' : R) (output output' : W) (r : Result (Unit {0}) Fault) →
+    input ≡ input' → output ≡ output' →
+    Decodes h height (remaining first) (remaining input) (reads first) (reads input) (contents start) (contents output) (writes start) (writes output) r →
+    Decodes h height (remaining first) (remaining input') (reads first) (reads input') (contents start) (contents output') (writes start) (writes output') r
+decodes_at remaining reads contents writes h height first start input input' output output' r i o d =
+    subst (λ x. Decodes h height (remaining first) (remaining x) (reads first) (reads x) (contents start) (contents output') (writes start) (writes output') r) i
+    (subst (λ x. Decodes h height (remaining first) (remaining input) (reads first) (reads input) (contents start) (contents x) (writes start) (writes x) r) o d)

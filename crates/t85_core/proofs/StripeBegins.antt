@@ -1,0 +1,79 @@
+-- What a stripe begins with: its segments, one after another, and the code.
+use Rattle.std.proofs.Common.{cond, inr, nat_eq, ◌≡◌, ◌≤◌, ℕ, true, false, List, [], ◌∷◌, ◌++◌, length, None, Some, count_by, refl, sym, subst, arith}
+use Rattle.std.specs.Prelude.{Option, IfSome, option_map, ◌==◌, ◌*◌, ◌/◌, ◌%◌, bit_and, not}
+use Rattle.std.specs.List.{AllByRecursion}
+use Rattle.std.proofs.lemmas.Bool.Decides.{nat_tests}
+use Rattle.std.proofs.lemmas.Nat.Bits.{and_pow}
+use Rattle.qm_core.specs.Code.{IsBytes}
+use Rattle.t85_core.specs.declared.walk.Move as move
+use Rattle.t85_core.specs.declared.walk.Head.{Head}
+use Rattle.t85_core.specs.Header.{Fields}
+use Rattle.t85_core.specs.Piece.{PassesHead}
+use Rattle.t85_core.specs.Decoding.{pair_of}
+use Rattle.t85_core.specs.Grammar.{Segment, Move, Comment, is_move, IsLegal}
+use Rattle.t85_core.specs.Coding.{has_bit, mode_of, move_of}
+use Rattle.t85_core.specs.Carried.{Carry, begin, offset_at}
+use Rattle.t85_core.specs.Broken.{BegunRun}
+use Rattle.t85_core.proofs.Cut.{count_cons}
+use Rattle.t85_core.proofs.Built.{bytes_in_start}
+use Rattle.t85_core.proofs.Runs.{none_decided}
+
+-- ---- the move
+
+pub no_move : (segments : List Segment) → count_by is_move segments ≡ 0 → move_of segments ≡ None
+no_move [] none = refl
+no_move (Move row offset ∷ segments) none = let n = count_cons is_move (Move row offset) segments in absurd (omega (arith, n, none))
+no_move (Comment text ∷ segments) none = let n = count_cons is_move (Comment text) segments in no_move segments (omega (arith, n, none))
+
+pub move_push_comment : (segments : List Segment) (text : List ℕ) → move_of (segments ++ Comment text ∷ []) ≡ move_of segments
+move_push_comment [] text = refl
+move_push_comment (Move row offset ∷ segments) text = refl
+move_push_comment (Comment more ∷ segments) text = move_push_comment segments text
+
+pub move_push_move : (segments : List Segment) (row offset : ℕ) → move_of segments ≡ None → move_of (segments ++ Move row offset ∷ []) ≡ Some (row, offset)
+move_push_move [] row offset none = refl
+move_push_move (Move r o ∷ segments) row offset none = some_none (r, o) none where
+  some_none : (m : ℕ × ℕ) → Some m ≡ None → move_of (Move r o ∷ (segments ++ Move row offset ∷ [])) ≡ Some (row, offset)
+  some_none m e = absurd (let bot : ⊥ = cc in bot)
+move_push_move (Comment text ∷ segments) row offset none = move_push_move segments row offset none
+
+-- the offset stays within the header's greatest
+pub offset_within : (h : Fields) (segments : List Segment) (r offset : ℕ) → AllByRecursion (IsLegal h) segments → offset ≤ h.mx → offset_at (move_of segments) r offset ≤ h.mx
+offset_within h [] r offset legal le = le
+offset_within h (Move row o ∷ segments) r offset legal le = elim (row == r) as (λ b. cond b o offset ≤ h.mx) [ true ↦ legal.0.1 | false ↦ le ]
+offset_within h (Comment text ∷ segments) r offset legal le = offset_within h segments r offset legal.1 le
+
+-- ---- a stripe that breaks before a row is decided
+
+pub begun_none : (h : Fields) (count : ℕ) (c : Carry) (segments : List Segment) (code : List ℕ) → 1 ≤ h.xd → IsBytes code → length code ≤ 1 → BegunRun h count c segments code [] []
+begun_none h count c segments code some bytes few = record {
+  last = begin c;
+  run = refl;
+  few = omega arith;
+  lies = bytes_in_start code bytes;
+  enough = tt;
+  ends = inr (none_decided h.xd (mode_of h.options) (move_of segments) 0 (begin c) code some few);
+}
+
+-- ---- the options by their masks
+
+pub two_line_bit : (n : ℕ) → not (nat_eq (bit_and n 0x40) 0) ≡ has_bit n 6
+two_line_bit n = let e : bit_and n 64 ≡ n / 64 % 2 * 64 = and_pow n 6 in grind (arith, nat_tests)
+
+pub typical_bit : (n : ℕ) → not (nat_eq (bit_and n 0x08) 0) ≡ has_bit n 3
+typical_bit n = let e : bit_and n 8 ≡ n / 8 % 2 * 8 = and_pow n 3 in grind (arith, nat_tests)
+
+-- the move of a stripe goes no further than the header's greatest offset
+move_offset : (h : Fields) (segments : List Segment) (m : ℕ × ℕ) → AllByRecursion (IsLegal h) segments → move_of segments ≡ Some m → m.1 ≤ h.mx
+move_offset h [] m legal e = absurd (let bot : ⊥ = cc in bot)
+move_offset h (Move row o ∷ segments) m legal e = let same : (row, o) ≡ m = cc in subst (λ z. z.1 ≤ h.mx) same legal.0.1
+move_offset h (Comment text ∷ segments) m legal e = move_offset h segments m legal.1 e
+
+pub move_within : {h : Fields} {a b : Option (List ℕ)} {head : Head} → h.mx ≤ 127 → PassesHead h a b head → IfSome head.at (λ to. to.offset ≤ 127)
+move_within {h} {a} {b} {head} le p = went head.at p.move_is where
+  went : (at : Option move.Move) → option_map pair_of at ≡ move_of p.segments → IfSome at (λ to. to.offset ≤ 127)
+  went None e = tt
+  went (Some to) e = let within : to.offset ≤ h.mx = move_offset h p.segments (pair_of to) p.begun.legal (sym e) in omega (arith, within, le)
+
+pub variable_bit : (n : ℕ) → not (nat_eq (bit_and n 0x20) 0) ≡ has_bit n 5
+variable_bit n = let e : bit_and n 32 ≡ n / 32 % 2 * 32 = and_pow n 5 in grind (arith, nat_tests)

@@ -1,0 +1,42 @@
+use Rattle.std.proofs.Common.{rules, ◌≢◌, ◌∙◌, ap, subst}
+use Rattle.std.specs.Prelude.{OnOk, IfErr}
+use Rattle.std.specs.Io.KnownBytes.{prepend_known}
+use Rattle.t85_core.specs.Chosen.{fields_of}
+use Rattle.t85_core.specs.Converts.{Decodes, CountsBoth}
+use Rattle.t85_core.specs.Decoding.{ImageRead, ImageCut}
+use Rattle.t85_core.specs.Stream.{held_of}
+use Rattle.t85_core.specs.Walk.{CountsWrite}
+use Rattle.t85_core.specs.declared.fault.Fault.TheVariants.{Write}
+use Rattle.t85_core.proofs.Held.{known_unheld}
+use Rattle.t85_core.proofs.PagePut.{text_unheld}
+use Rattle.t85_core.proofs.ImagePut.{in_use}
+use Rattle.t85_core.proofs.Decoded.{decoded, decodes_at}
+use Rattle.t85_core.proofs.decoding.decode.Goals as goal
+
+pub returns : goal.returns
+returns g c =
+    let h = fields_of c.args.header.now in
+    let height = c.args.height in
+    let stream = c.new-stream.result in
+    let page = c.new-page.result in
+    let r = c.put_page.result in
+    let input = c.put_page.new.stream.input.now in
+    let output = c.put_page.new.page.output.now in
+    let after = prepend_known (held_of c.put_page.new.stream.bytes c.put_page.new.stream.at c.put_page.new.stream.end) (g.R.Input.remaining input) in
+    let text_after = g.W.Output.contents output in
+    let known = known_unheld stream.bytes stream.at stream.end (g.R.Input.remaining stream.input.now) c.new-stream.ensures.empty ∙ ap (λ m. g.R.Input.remaining m.now) c.new-stream.ensures.lent in
+    let text = text_unheld page.bytes page.at page.end (g.W.Output.contents page.output.now) c.new-page.ensures.empty ∙ ap (λ m. g.W.Output.contents m.now) c.new-page.ensures.lent in
+    let known_before = prepend_known (held_of stream.bytes stream.at stream.end) (g.R.Input.remaining stream.input.now) in
+    let text_before = g.W.Output.contents c.write_header.new.output in
+    let ok : OnOk r (ImageRead h height (g.R.Input.remaining c.args.input.now) after text_before text_after) =
+    subst (λ z. OnOk r (ImageRead h height z after text_before text_after)) known
+    (subst (λ z. OnOk r (ImageRead h height known_before after z text_after)) text c.put_page.ensures.ok) in
+    let err : IfErr r (λ f. f ≢ Write → ImageCut h height (g.R.Input.remaining c.args.input.now) after text_before text_after f) =
+    subst (λ z. IfErr r (λ f. f ≢ Write → ImageCut h height z after text_before text_after f)) known
+    (subst (λ z. IfErr r (λ f. f ≢ Write → ImageCut h height known_before after z text_after f)) text c.put_page.ensures.err) in
+    let reads : CountsBoth (g.R.Input.failures c.args.input.now) (g.R.Input.failures input) r = subst (λ z. CountsBoth z (g.R.Input.failures input) r) (ap (λ m. g.R.Input.failures m.now) c.new-stream.ensures.lent) c.put_page.ensures.reads in
+    let writes : CountsWrite (g.W.Output.failures c.args.output.now) (g.W.Output.failures output) r = subst (λ z. CountsWrite z (g.W.Output.failures output) r) (ap (λ m. g.W.Output.failures m.now) c.new-page.ensures.lent ∙ c.in-Ok.ensures.counts) c.put_page.ensures.writes in
+    let done : Decodes h height (g.R.Input.remaining c.args.input.now) (g.R.Input.remaining input) (g.R.Input.failures c.args.input.now) (g.R.Input.failures input)
+    (g.W.Output.contents c.args.output.now) text_after (g.W.Output.failures c.args.output.now) (g.W.Output.failures output) r =
+    decoded c.coder_laws.ensures h height (in_use c.args.header.now height c.requires.from c.requires.to) _ _ _ _ c.in-Ok.ensures.ok after _ _ _ _ _ r ok err (λ read. c.put_page.ensures.drained read) reads writes in
+    decodes_at g.R.Input.remaining g.R.Input.failures g.W.Output.contents g.W.Output.failures h height c.args.input.now c.args.output.now input _ output _ r (search rules) (search rules) done

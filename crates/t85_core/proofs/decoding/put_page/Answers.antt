@@ -1,0 +1,39 @@
+use Rattle.std.proofs.Common.{◌≡◌, ◌∙◌, sym, arith}
+use Rattle.t85_core.specs.declared.fault.Fault.TheVariants.{Read, Write}
+use Rattle.t85_core.proofs.Ends.{on_ok, always}
+use Rattle.t85_core.proofs.PagePut.{all_handed, image_handed, cut_handed, counts_any, counts_written, counts_whole, no_failed_write}
+use Rattle.t85_core.proofs.decoding.put_page.Goals as goal
+
+pub returns-in-Ok-clause-ok : goal.returns-in-Ok-clause-ok
+returns-in-Ok-clause-ok g c =
+    on_ok c.hand_on.result (λ empty image. image_handed _ _ _ _ _ _ _ image (all_handed _ _ _ _ _ empty.0 empty.1 c.hand_on.ensures.text)) c.hand_on.ensures.empty (always c.hand_on.result c.in-Ok.ensures.ok)
+
+pub returns-in-Ok-clause-reads : goal.returns-in-Ok-clause-reads
+returns-in-Ok-clause-reads g c = counts_whole _ _ c.hand_on.result c.in-Ok.ensures.reads c.hand_on.ensures.err
+
+pub returns-in-Ok-hand_on : goal.returns-in-Ok-hand_on
+returns-in-Ok-hand_on g c =
+    let empty = c.in-Ok-hand_on.ensures.empty in
+    record {
+      ok = tt;
+      err = λ n. cut_handed _ _ _ _ _ _ _ _ (c.in-Err.ensures.err n) (all_handed _ _ _ _ _ empty.0 empty.1 c.hand_on-in_default.ensures.text);
+      drained = λ is. c.in-Err.ensures.drained is;
+      reads = counts_any _ _ _ c.in-Err.ensures.reads;
+      writes = c.in-Ok-hand_on.ensures.counts ∙ c.in-Err.ensures.writes;
+      same_source = c.in-Err.ensures.same_source;
+      same_target = c.hand_on-in_default.ensures.same_target ∙ c.in-Err.ensures.same_target;
+    }
+
+pub returns-in-Err-hand_on : goal.returns-in-Err-hand_on
+returns-in-Err-hand_on g c =
+    let last = c.in-Err-hand_on.ensures.err in
+    let none = no_failed_write c.in-Err.fault c.in_default.not-Write in
+    record {
+      ok = tt;
+      err = λ n. absurd (n last);
+      drained = λ is. absurd (let both : Write ≡ Read = sym last ∙ (cc) in let bot : ⊥ = cc in bot);
+      reads = counts_written _ _ c.in-Err.fault _ c.in-Err.ensures.reads last;
+      writes = (let a = c.in-Err.ensures.writes in let b = c.in-Err-hand_on.ensures.counts in omega (arith, a, b, none));
+      same_source = c.in-Err.ensures.same_source;
+      same_target = c.hand_on-in_default.ensures.same_target ∙ c.in-Err.ensures.same_target;
+    }

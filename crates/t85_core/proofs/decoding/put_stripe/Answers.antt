@@ -1,0 +1,39 @@
+use Rattle.std.proofs.Common.{rules, ◌∙◌, ap, subst}
+use Rattle.std.specs.Io.KnownBytes.{prepend_known}
+use Rattle.t85_core.specs.Piece.{code_bytes}
+use Rattle.t85_core.specs.Entity.{entity_known}
+use Rattle.t85_core.specs.Chosen.{fields_of}
+use Rattle.t85_core.specs.Decoding.{StripeRead, StripeCut}
+use Rattle.t85_core.proofs.Ends.{exit, on_ok, if_err}
+use Rattle.t85_core.proofs.StripeBegins.{move_within}
+use Rattle.t85_core.proofs.StripePut.{head_begins, stripe_head}
+use Rattle.t85_core.proofs.decoding.put_stripe.Goals as goal
+
+pub returns-in_err-head-clause-err : goal.returns-in_err-head-clause-err
+returns-in_err-head-clause-err g c =
+    exit _ _ c.from_residual.ensures.1 (λ _ c' is. stripe_head (fields_of c.args.header.now) c' _ _ c.args.rows _ _ c.args.header.now.some_width c.in_err-head.ensures.err)
+
+pub put_code-requires-clause-to : goal.put_code-requires-clause-to
+put_code-requires-clause-to g c = move_within c.args.header.now.in_range c.in_ok-head.ensures.ok
+
+pub returns-clause-ok : goal.returns-clause-ok
+returns-clause-ok g c =
+    let known = ap g.S.Stream.known (search rules) in
+    let entity = c.new-entity.ensures in
+    let begun = ap (λ x. entity_known x (g.S.Stream.known c.new-entity.result.stream.now)) entity.first ∙ ap (λ m. prepend_known (code_bytes c.in_ok-head.head.code) (g.S.Stream.known m.now)) entity.lent in
+    on_ok c.put_code.result (λ none read c' is.
+    subst (λ k. StripeRead (fields_of c.args.header.now) c' (g.S.Stream.known c.args.stream.now) k c.args.rows c.put_code.new.carried (g.P.Sheet.text c.args.sheet.now) (g.P.Sheet.text c.put_code.new.sheet))
+    (ap (λ x. entity_known x (g.S.Stream.known c.put_code.new.entity.stream.now)) none ∙ known)
+    (read _ c' _ _ (head_begins c.in_ok-head.ensures.ok c' c.shape.result c.args.carried.now _ (record { width_is = c.shape.ensures.width; mode_is = c.shape.ensures.mode }) is begun entity.first entity.marker entity.fault)))
+    c.put_code.ensures.behind c.put_code.ensures.ok
+
+pub returns-clause-err : goal.returns-clause-err
+returns-clause-err g c =
+    let known = ap g.S.Stream.known (search rules) in
+    let entity = c.new-entity.ensures in
+    let begun = ap (λ x. entity_known x (g.S.Stream.known c.new-entity.result.stream.now)) entity.first ∙ ap (λ m. prepend_known (code_bytes c.in_ok-head.head.code) (g.S.Stream.known m.now)) entity.lent in
+    if_err c.put_code.result (λ f none cut written c' is.
+    subst (λ k. StripeCut (fields_of c.args.header.now) c' (g.S.Stream.known c.args.stream.now) k c.args.rows (g.P.Sheet.text c.args.sheet.now) (g.P.Sheet.text c.put_code.new.sheet) f)
+    (ap (λ x. entity_known x (g.S.Stream.known c.put_code.new.entity.stream.now)) (none written) ∙ known)
+    (cut written _ c' _ _ (head_begins c.in_ok-head.ensures.ok c' c.shape.result c.args.carried.now _ (record { width_is = c.shape.ensures.width; mode_is = c.shape.ensures.mode }) is begun entity.first entity.marker entity.fault)))
+    c.put_code.ensures.cut_behind c.put_code.ensures.err

@@ -1,0 +1,49 @@
+use Rattle.std.proofs.Common.{◌≡◌, ◌-◌, length, take, drop, sym, refl, ◌∙◌, take-append-drop, length-drop, length-take, arith}
+use Rattle.std.proofs.lemmas.List.{take_rest}
+use Rattle.std.proofs.Math.Seq.{take-add}
+use Rattle.std.specs.Prelude.{Result, Ok, Err, OnErr}
+use Rattle.std.specs.Io.KnownBytes.{Keeps, append_known}
+use Rattle.t85_core.specs.Stream.{held_of}
+use Rattle.t85_core.proofs.Streams.{Appends-more, Appends-keeps}
+use Rattle.t85_core.proofs.Held.{Keeps-same}
+use Rattle.t85_core.proofs.page.PageSheet.put.Goals as goal
+use Rattle.t85_core.proofs.page.PageSheet.put.Goals.{then-self-eq-SIZE+in_ok-hand_on, else-self-eq-SIZE}
+
+where_told : {T E : Type 0} (r : Result T E) (P : Type 0) → P → OnErr r P
+where_told (Ok x) P p = tt
+where_told (Err e) P p = p
+
+pub returns-in_err-hand_on-clause-cut : goal.returns-in_err-hand_on-clause-cut
+returns-in_err-hand_on-clause-cut g c = where_told c.from_residual.result _ (record {
+  front = take c.loop-taken.taken c.args.bytes.now;
+  rest = drop c.loop-taken.taken c.args.bytes.now;
+  text_is = sym (take-append-drop c.loop-taken.taken c.args.bytes.now);
+  appends = Appends-keeps _ _ _ _ c.loop-taken.invariant.text c.hand_on.ensures.text;
+})
+
+pub loop-taken-preserved : goal.loop-taken-preserved
+loop-taken-preserved g c =
+    let old = c.loop-taken.self in
+    let new = c.if-self-eq-SIZE.self in
+    let kept : Keeps (append_known (g.W.Output.contents old.output.now) (held_of old.bytes old.at old.end)) (append_known (g.W.Output.contents new.output.now) (held_of new.bytes new.at new.end)) =
+    elim c.if-self-eq-SIZE.branch [
+      | then-self-eq-SIZE+in_ok-hand_on w ↦ rw w.self-is w.hand_on.ensures.text
+      | else-self-eq-SIZE w ↦ rw w.self-is (Keeps-same _)
+    ] in
+    let unfailed : g.W.Output.failures new.output.now ≡ g.W.Output.failures old.output.now =
+    elim c.if-self-eq-SIZE.branch [
+      | then-self-eq-SIZE+in_ok-hand_on w ↦ rw w.self-is w.in_ok-hand_on.ensures.counts
+      | else-self-eq-SIZE w ↦ rw w.self-is refl
+    ] in
+    let same_target : new.output.ghost_name ≡ old.output.ghost_name =
+    elim c.if-self-eq-SIZE.branch [
+      | then-self-eq-SIZE+in_ok-hand_on w ↦ rw w.self-is w.hand_on.ensures.same_target
+      | else-self-eq-SIZE w ↦ rw w.self-is refl
+    ] in
+    let more = rw take_rest at c.fill-taken.ensures.text in
+    record {
+      within = omega (arith, c.fill-taken.ensures.bound, length-drop c.loop-taken.taken c.args.bytes.now, length-take (length c.args.bytes.now - c.loop-taken.taken) (drop c.loop-taken.taken c.args.bytes.now), c.loop-taken.invariant.within);
+      text = rw take-add (Appends-more _ _ _ _ _ (Appends-keeps _ _ _ _ c.loop-taken.invariant.text kept) more);
+      unfailed = rw c.fill-taken.ensures.lent (unfailed ∙ c.loop-taken.invariant.unfailed);
+      same_target = rw c.fill-taken.ensures.lent (same_target ∙ c.loop-taken.invariant.same_target);
+    }

@@ -1,0 +1,29 @@
+use Rattle.std.proofs.Common.{◌≤◌, ◌-◌, ◌+◌, take, drop, sym, ◌∙◌, ap, refl, ◌≡◌, ◌++◌, length-take, take-append-drop, arith}
+use Rattle.t85_core.specs.Stream.{held_of}
+use Rattle.t85_core.proofs.Held.{held_after, Keeps-same, none_held}
+use Rattle.t85_core.proofs.Pages.{keeps_written, keeps_failed, all_written}
+use Rattle.t85_core.proofs.page.write_part.Goals as goal
+
+pub loop-place-init : goal.loop-place-init
+loop-place-init g c = record { within = c.requires.ordered; text = Keeps-same _; unfailed = refl }
+
+pub loop-place-preserved : goal.loop-place-preserved
+loop-place-preserved g c =
+    let bytes = c.args.bytes.now in
+    let place = c.loop-place.place in
+    let held = held_of bytes place c.args.end in
+    let count = c.in-Ok.count in
+    let fits : place + count ≤ c.args.end = omega (arith, c.in-Ok.ensures.bound, length-take (c.args.end - place) (drop place bytes), c.loop-place-test.true) in
+    record {
+      within = fits;
+      text = keeps_written _ _ _ _ held (take count held) _ c.loop-place.invariant.text c.in-Ok.ensures.bytes (sym (take-append-drop count held) ∙ ap (λ z. take count held ++ z) (sym (held_after bytes place count c.args.end fits)));
+      unfailed = c.in-Ok.ensures.counts ∙ c.loop-place.invariant.unfailed;
+    }
+
+pub returns-in-Err-clause-err : goal.returns-in-Err-clause-err
+returns-in-Err-clause-err g c = keeps_failed _ _ _ _ _ c.loop-place.invariant.text c.in-Err.ensures.bytes
+
+pub returns-clause-ok : goal.returns-clause-ok
+returns-clause-ok g c =
+    let same : c.loop-place.place ≡ c.args.end = omega (arith, c.loop-place-test.false, c.loop-place.invariant.within) in
+    all_written _ _ _ _ c.loop-place.invariant.text (none_held c.args.bytes.now c.loop-place.place c.args.end same)

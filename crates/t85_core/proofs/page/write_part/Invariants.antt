@@ -1,0 +1,15 @@
+use Rattle.std.proofs.Common.{◌≡◌, ◌≤◌, ◌-◌}
+use Rattle.std.specs.Io.KnownBytes.{Keeps, append_known}
+use Rattle.t85_core.specs.Stream.{held_of}
+use Rattle.t85_core.proofs.page.write_part.Given as goal
+
+-- what stands written and what is still to be written are the text
+abbrev pub invariant-loop-place : goal.invariant-loop-place
+invariant-loop-place g l = record {
+  within : l.place ≤ l.end;
+  text : Keeps (append_known (g.W.Output.contents l.fn.output) (held_of l.bytes l.at l.end)) (append_known (g.W.Output.contents l.output) (held_of l.bytes l.place l.end));
+  unfailed : g.W.Output.failures l.output ≡ g.W.Output.failures l.fn.output;
+}
+
+abbrev pub decreases-loop-place : goal.decreases-loop-place
+decreases-loop-place g l = l.end - l.place

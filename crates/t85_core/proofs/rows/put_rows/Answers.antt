@@ -1,0 +1,24 @@
+use Rattle.std.proofs.Common.{◌≡◌, refl, arith}
+use Rattle.qm_core.specs.Answers.{Pulls}
+use Rattle.t85_core.proofs.Ends.{exit_same}
+use Rattle.t85_core.proofs.RowPut.{rows_begin}
+use Rattle.t85_core.proofs.rows.put_rows.Goals as goal
+
+pub rows-init : goal.rows-init
+rows-init g c = record {
+  read = λ h c' segments _ shape_is is. rows_begin (Pulls g.C.CodeBytes.gives g.C.CodeBytes.failed) c.args.source.now h c.args.shape c' segments c.args.carried.now c.start-decoder.result (g.P.Sheet.text c.args.sheet.now) c.start-decoder.ensures.stands shape_is is;
+  width = refl;
+  offset = c.requires.offset;
+  counted = refl;
+  unfailed = refl;
+  same_target = refl;
+}
+
+pub returns-clause-ok : goal.returns-clause-ok
+returns-clause-ok g c h c' segments move shape_is is =
+    let all : c.rows.row ≡ c.args.rows = omega (arith, c.rows.auto.row-end, c.rows-test.false) in
+    (c.rows.decoder, rw all at c.rows.invariant.read h c' segments move shape_is is)
+
+pub returns-in_err-put_row-clause-unset : goal.returns-in_err-put_row-clause-unset
+returns-in_err-put_row-clause-unset g c = λ is h c' segments move shape_is i.
+    exit_same c.from_residual.result c.from_residual.ensures.1 (λ e. c.in_err-put_row.ensures.unset e c.args.source.now (g.P.Sheet.text c.args.sheet.now) h c' segments move (c.rows.invariant.read h c' segments move shape_is i)) is

@@ -1,0 +1,99 @@
+-- What decoding leaves of its input and its output.
+use Rattle.std.specs.Prelude.{ℕ, ◌+◌, ◌≡◌, ◌≢◌, ◌⊎◌, Bool, true, false, List, drop, Option, IfSome, Some, Result, Ok, Err, OnOk, IfErr, IsErrOf}
+use Rattle.std.specs.Io.KnownBytes.{Appends, Consumes, Keeps}
+use Rattle.raster_core.specs.Raster.{Raster}
+use Rattle.t85_core.specs.declared.fault.Fault.{Fault}
+use Rattle.t85_core.specs.declared.fault.Fault.TheVariants.{ShortHeader, Truncated, Read, Write, OutOfMemory, NotYet}
+use Rattle.t85_core.specs.Header.{Fields, HeaderOf, header_fault}
+use Rattle.t85_core.specs.Coding.{has_bit}
+use Rattle.t85_core.specs.Denotes.{Denotes, DenotesAt}
+use Rattle.t85_core.specs.Fixed.{Fixes}
+use Rattle.t85_core.specs.Image.{pbm_rows, pbm_text}
+use Rattle.t85_core.specs.Info.{IsWalkFault}
+use Rattle.t85_core.specs.Walk.{CountsWrite, failed_reads}
+
+-- The image of the one raster that a body denotes was written.
+pub record WritesRaster (h : Fields) (height : ℕ) (body : List ℕ) (old new : Option (List ℕ)) : Type 0 where
+  pub raster : Raster
+  pub denotes : DenotesAt h height body raster
+  pub only : (other : Raster) → DenotesAt h height body other → other ≡ raster
+  pub appends : Appends old new (pbm_text raster)
+
+-- The header and the rows that a broken body fixes were written, and it fixes no other fault or rows.
+pub record WritesRows (h : Fields) (height : ℕ) (body : List ℕ) (fault : Fault) (old new : Option (List ℕ)) : Type 0 where
+  pub rows : List (List Bool)
+  pub fixes : Fixes h height body fault rows
+  pub only : (other : Fault) (others : List (List Bool)) → Fixes h height body other others → (other ≡ fault) × (others ≡ rows)
+  pub appends : Appends old new (pbm_rows h.xd height rows)
+
+-- before a failed write a read may have failed, too
+abbrev pub CountsFault : ℕ → ℕ → Fault → Type 0
+CountsFault old new Write = (new ≡ old) ⊎ (new ≡ old + 1)
+CountsFault old new fault = new ≡ old + failed_reads fault
+
+-- The input's count of failures rises by one with the answer Read, and stays with each other but Write.
+abbrev pub CountsBoth : ℕ → ℕ → Result (Unit {0}) Fault → Type 0
+CountsBoth old new (Ok u) = new ≡ old
+CountsBoth old new (Err fault) = CountsFault old new fault
+
+-- What `decode` leaves for a header and a height. Of each device are given the known bytes and the count of failures,
+-- before the call and after it.
+pub record Decodes (h : Fields) (height : ℕ) (in_old in_new : Option (List ℕ)) (reads_old reads_new : ℕ)
+    (out_old out_new : Option (List ℕ)) (writes_old writes_new : ℕ) (answer : Result (Unit {0}) Fault) : Type 0 where
+  pub whole : OnOk answer (IfSome in_old (λ body. WritesRaster h height body out_old out_new))
+  pub broken : IfErr answer (λ f. f ≢ Read → f ≢ Write → IfSome in_old (λ body. WritesRows h height body f out_old out_new))
+  -- a read failed, and what came up to there breaks at its end
+  pub unread : IsErrOf answer Read → (given : List ℕ) × Consumes in_old in_new given × WritesRows h height given Truncated out_old out_new
+  pub among : IfErr answer (λ f. f ≢ Write → IsWalkFault f)
+  pub reads : CountsBoth reads_old reads_new answer
+  pub writes : CountsWrite writes_old writes_new answer
+
+-- whether the height may change in the stream: VLENGTH is bit 5 of the options
+abbrev pub is_variable : Fields → Bool
+is_variable h = has_bit h.options 5
+
+-- The image of the one raster that a stream denotes was written.
+pub record WritesImage (bytes : List ℕ) (old new : Option (List ℕ)) : Type 0 where
+  pub raster : Raster
+  pub denotes : Denotes bytes raster
+  pub height_is_fixed : is_variable denotes.header ≡ false
+  pub only : (other : Raster) → Denotes bytes other → other ≡ raster
+  pub appends : Appends old new (pbm_text raster)
+
+-- A stream whose body breaks: its rows were written.
+pub record WritesBeginning (bytes : List ℕ) (fault : Fault) (old new : Option (List ℕ)) : Type 0 where
+  pub header : Fields
+  pub header_of : HeaderOf bytes header
+  pub height_is_fixed : is_variable header ≡ false
+  pub writes : WritesRows header header.yd (drop 20 bytes) fault old new
+
+-- a stream whose height may change isn't decoded yet
+pub record IsVariable (bytes : List ℕ) : Type 0 where
+  pub header : Fields
+  pub header_of : HeaderOf bytes header
+  pub variable : is_variable header ≡ true
+
+-- an accepted header, of an image whose height is fixed
+pub record IsFixed (bytes : List ℕ) : Type 0 where
+  pub header : Fields
+  pub header_of : HeaderOf bytes header
+  pub height_is_fixed : is_variable header ≡ false
+
+-- Why a stream is refused: by its header or by VLENGTH with nothing written, or by its body.
+abbrev pub IsRefused : List ℕ → Fault → Option (List ℕ) → Option (List ℕ) → Type 0
+IsRefused bytes fault old new =
+    ((header_fault bytes ≡ Some fault) × Keeps old new) ⊎ (IsVariable bytes × (fault ≡ NotYet) × Keeps old new) ⊎ WritesBeginning bytes fault old new
+
+-- What `to_pbm` leaves.
+pub record Converts (in_old in_new : Option (List ℕ)) (reads_old reads_new : ℕ)
+    (out_old out_new : Option (List ℕ)) (writes_old writes_new : ℕ) (flushed : Bool) (answer : Result (Unit {0}) Fault) : Type 0 where
+  pub whole : OnOk answer (IfSome in_old (λ bytes. WritesImage bytes out_old out_new))
+  pub flushed_last : OnOk answer (flushed ≡ true)
+  pub refused : IfErr answer (λ f. f ≢ Read → f ≢ Write → f ≢ OutOfMemory → IfSome in_old (λ bytes. IsRefused bytes f out_old out_new))
+  -- memory is refused behind an accepted header alone, with nothing written
+  pub no_memory : IsErrOf answer OutOfMemory → Keeps out_old out_new × (given : List ℕ) × Consumes in_old in_new given × IsFixed given
+  -- a read failed, and what came up to there is no whole stream
+  pub unread : IsErrOf answer Read → (given : List ℕ) × Consumes in_old in_new given
+      × (((header_fault given ≡ Some ShortHeader) × Keeps out_old out_new) ⊎ WritesBeginning given Truncated out_old out_new)
+  pub reads : CountsBoth reads_old reads_new answer
+  pub writes : CountsWrite writes_old writes_new answer

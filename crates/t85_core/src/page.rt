@@ -1,0 +1,142 @@
+//! An output's bytes, held back in a fixed array and handed on together.
+
+ghost use Rattle.std.specs.Prelude.{◌≡◌, ◌≤◌, ◌<◌, ◌-◌, ◌^◌, ℕ, List, Option, length, take, OnOk, OnErr, IfErr};
+ghost use Rattle.std.specs.Io.KnownBytes.{Appends, Keeps, append_known};
+ghost use Rattle.pbm_core.specs.Device.{AppendsBeginning, Counts};
+ghost use Rattle.t85_core.specs.declared.fault.Fault.TheVariants.{Write};
+ghost use Rattle.t85_core.specs.Stream.{held_of};
+ghost use Rattle.t85_core.specs.Walk.{CountsWrite};
+
+use crate::fault::Fault;
+use pbm_core::{DeviceFailed, Output};
+
+const SIZE: usize = 4096;
+
+/// Where the rows of an image go.
+pub trait Sheet {
+    /// The bytes that it has taken, behind those that stood there, where the writer tells them.
+    ghost text: { Self → Option (List ℕ) };
+
+    /// How often the writer has failed.
+    ghost failures: { Self → ℕ };
+
+    /// Which writer it is.
+    ghost target: { Self → ℕ };
+
+    /// Takes bytes.
+    fn put(&mut self, bytes: &[u8]) -> Result<(), Fault>
+        requires { failures self.old < 2 ^ 64 - 1 }
+        ensures ok { OnOk result (Appends (text self.old) (text self.new) bytes.now) }
+        ensures err { IfErr result (λ f. f ≡ Write) }
+        ensures cut { OnErr result (AppendsBeginning (text self.old) (text self.new) bytes.now) }
+        ensures counts { CountsWrite (failures self.old) (failures self.new) result }
+        ensures same_target { target self.new ≡ target self.old };
+}
+
+/// Bytes are handed on where the array is full, and by `hand_on`.
+#[derive(Drop)]
+pub struct Page<'a, W: Output> {
+    output: &'a mut W,
+    bytes: [u8; 4096],
+    at: usize,
+    end: usize,
+    ghost ordered: { at ≤ end },
+    ghost within: { end ≤ 4096 },
+}
+
+impl<'a, W: Output> Page<'a, W> {
+    pub fn new(output: &'a mut W) -> Page<'a, W>
+        ensures empty { result.at ≡ result.end }
+        ensures lent { result.output ≡ output.entry }
+    {
+        Page {
+            output,
+            bytes: [0; SIZE],
+            at: 0,
+            end: 0,
+        }
+    }
+}
+
+impl<W: Output> Page<'_, W> {
+    /// Hands on what is held.
+    pub fn hand_on(&mut self) -> Result<(), Fault>
+        requires { W.failures self.old.output.now < 2 ^ 64 - 1 }
+        ensures text { Keeps (append_known (W.contents self.old.output.now) (held_of self.old.bytes self.old.at self.old.end))
+            (append_known (W.contents self.new.output.now) (held_of self.new.bytes self.new.at self.new.end)) }
+        ensures empty { OnOk result ((self.new.at ≡ 0) × (self.new.end ≡ 0)) }
+        ensures err { IfErr result (λ f. f ≡ Write) }
+        ensures counts { CountsWrite (W.failures self.old.output.now) (W.failures self.new.output.now) result }
+        ensures same_target { self.new.output.ghost_name ≡ self.old.output.ghost_name }
+    {
+        match write_part(self.output, &self.bytes, self.at, self.end) {
+            Ok(()) => {
+                self.at = 0;
+                self.end = 0;
+                Ok(())
+            }
+            Err(at) => {
+                self.at = at;
+                Err(Fault::Write)
+            }
+        }
+    }
+}
+
+/// Writes the bytes from one place up to another. Where a write fails the answer is the place of the first byte that
+/// isn't written.
+fn write_part<W: Output>(output: &mut W, bytes: &[u8], at: usize, end: usize) -> Result<(), usize>
+    requires ordered { at ≤ end }
+    requires within { end ≤ length bytes.now }
+    requires countable { W.failures output.old < 2 ^ 64 - 1 }
+    ensures ok { OnOk result (Appends (W.contents output.old) (W.contents output.new) (held_of bytes.now at end)) }
+    ensures err { IfErr result (λ place. Keeps (append_known (W.contents output.old) (held_of bytes.now at end))
+        (append_known (W.contents output.new) (held_of bytes.now place end))) }
+    ensures bound { IfErr result (λ place. place ≤ end) }
+    ensures counts { Counts (W.failures output.old) (W.failures output.new) result }
+{
+    let mut place = at;
+    while place < end {
+        match output.write(&bytes[place..end]) {
+            Ok(count) => place += count,
+            Err(DeviceFailed) => return Err(place),
+        }
+    }
+    Ok(())
+}
+
+impl<W: Output> Page<'_, W> {
+    /// Takes the first bytes, as many as there is room for.
+    fn fill(&mut self, bytes: &[u8]) -> usize
+        ensures bound { result ≤ length bytes.now }
+        ensures takes { 0 < length bytes.now → self.old.end < 4096 → 0 < result }
+        ensures text { Appends (append_known (W.contents self.old.output.now) (held_of self.old.bytes self.old.at self.old.end))
+            (append_known (W.contents self.new.output.now) (held_of self.new.bytes self.new.at self.new.end)) (take result bytes.now) }
+        ensures lent { self.new.output ≡ self.old.output }
+    {
+        let count = (SIZE - self.end).min(bytes.len());
+        let end = self.end + count;
+        self.bytes[self.end..end].copy_from_slice(&bytes[..count]);
+        self.end = end;
+        count
+    }
+}
+
+impl<W: Output> Sheet for Page<'_, W> {
+    ghost text = { λ s. append_known (W.contents s.output.now) (held_of s.bytes s.at s.end) };
+
+    ghost failures = { λ s. W.failures s.output.now };
+
+    ghost target = { λ s. s.output.ghost_name };
+
+    fn put(&mut self, bytes: &[u8]) -> Result<(), Fault> {
+        let mut taken = 0;
+        while taken < bytes.len() {
+            if self.end == SIZE {
+                self.hand_on()?;
+            }
+            taken += self.fill(&bytes[taken..]);
+        }
+        Ok(())
+    }
+}
