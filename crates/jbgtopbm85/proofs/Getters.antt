@@ -1,15 +1,12 @@
 -- What the typed getters of the matches read, as functions of the text.
-use Rattle.std.proofs.Common.{◌≡◌, ◌&&◌, ◌^◌, ℕ, Bool, List, [], ◌∷◌, Option, Some, None, true, false, length, refl, ap, sym, codes, option_and_then, option_map, string_bytes, ◌∙◌}
-use Rattle.std.specs.Prelude.{Result, Ok, Err, nat_lt}
-use Rattle.std.proofs.lemmas.Bool.{ltb-true, lt-ltb}
+use Rattle.std.proofs.Common.{◌≡◌, Bool, Option, Some, None, true, false, refl, ap, sym, codes, option_map, string_bytes, ◌∙◌}
+use Rattle.std.specs.Prelude.{Result, Ok, Err}
 use Rattle.std.proofs.lemmas.Slice.Eq.{bytes_eq-Decides}
 use Rattle.std.specs.Option.{option_map_or, unwrap_or}
-use Rattle.std.specs.List.{list_all}
 use Rattle.std.specs.Str.{bytes_eq}
-use Rattle.std.specs.Char.{digit_value}
-use Rattle.std.specs.Str.Parse.{AllDigits, ParsesBool, ParsesUnsigned, digits_value, true_text, without_leading_plus}
+use Rattle.std.specs.Str.Parse.{ParsesBool, true_text}
 use Rattle.clap.specs.Words.{ReadsOne, Text, first_value, one_text, rows_of}
-use Rattle.clap.proofs.WalkLemmas.{both, first_value-rows, one_text-rows}
+use Rattle.clap.proofs.WalkLemmas.{first_value-rows, one_text-rows}
 use Rattle.clap.specs.declared.parser.matches.Found.{Found}
 use Rattle.jbgtopbm85.specs.declared.line.Job.{Job}
 use Rattle.jbgtopbm85.specs.Line.{IsJobOf}

@@ -1,12 +1,16 @@
 //! Turns a JBIG1 image into a raw PBM image.
 #![tactic(auto)]
 
+#[cfg(test)]
+mod decode_tests;
 mod files;
 mod line;
 mod message;
 mod run;
 #[cfg(test)]
 mod tests;
+#[cfg(test)]
+mod trial;
 mod words;
 
 use files::{Readable, Writable};

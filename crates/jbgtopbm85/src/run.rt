@@ -1,21 +1,20 @@
 //! Doing a job over lent devices.
 
-ghost use Rattle.std.specs.Prelude.{◌≡◌, ◌≤◌, ◌<◌, ◌+◌, ◌-◌, ◌^◌, OnErr, IsErr};
+ghost use Rattle.std.specs.Prelude.{◌≡◌, ◌≤◌, ◌<◌, ◌+◌, ◌-◌, ◌^◌, Result};
 ghost use Rattle.std.specs.Io.KnownBytes.{Keeps};
-ghost use Rattle.std.specs.Prelude.{Result, Option, List, ℕ};
 ghost use Rattle.t85_core.specs.declared.fault.Fault.{Fault};
-ghost use Rattle.jbgtopbm85.specs.Run.{Does, ReadsHeader, status};
+ghost use Rattle.jbgtopbm85.specs.Run.{Does, status};
 
 use crate::line::Job;
 use crate::message::Message;
 use pbm_core::{Input, Output, write_bytes};
 use std::alloc::Global;
 use std::fmt::Write;
-use t85_core::{Fault, Header, info};
+use t85_core::{Fault, info, to_pbm};
 
 /// Does the job, tells a fault to `messages`, and gives the exit status: 0, or 1 after a fault.
 pub fn run<R: Input, W: Output, M: Output>(
-    _alloc: Global,
+    alloc: Global,
     job: &Job,
     input: &mut R,
     output: &mut W,
@@ -37,7 +36,7 @@ pub fn run<R: Input, W: Output, M: Output>(
     let outcome = if job.info {
         info(input, output)
     } else {
-        decode(input)
+        to_pbm(alloc, input, output)
     };
     match outcome {
         Ok(()) => 0,
@@ -46,15 +45,6 @@ pub fn run<R: Input, W: Output, M: Output>(
             1
         }
     }
-}
-
-/// Reads the header; what follows it is not decoded yet.
-fn decode<R: Input>(input: &mut R) -> Result<(), Fault>
-    requires { R.failures input.old < 2 ^ 64 - 1 }
-    ensures { (out : Option (List ℕ)) (writes : ℕ) → ReadsHeader (R.remaining input.old) (R.remaining input.new) (R.failures input.old) (R.failures input.new) out out writes writes result }
-{
-    Header::read(input)?;
-    Err(Fault::NotYet)
 }
 
 /// Writes the line about a fault, in one write where the output takes it.

@@ -2,72 +2,14 @@
 
 use crate::line::{Job, LineFault};
 use crate::run::run;
+use crate::trial::{
+    Devices, FAILING_FLUSH, Ran, SMOOTH, failing_read, failing_write, has_left, run_on,
+};
 use crate::words::job;
 use pbm_core::trial::{Drip, Pieces};
 use std::alloc::{AllocError, Global};
 use std::test::Fail;
 use t85_core::Fault;
-
-/// How the devices of a run behave.
-#[derive(Clone, Copy)]
-struct Devices {
-    /// The most bytes that a read or a write moves.
-    most: usize,
-    failing_read: Option<u64>,
-    failing_write: Option<u64>,
-    flush_fails: bool,
-}
-
-/// What a run left.
-#[derive(Drop)]
-struct Ran {
-    status: u8,
-    output: Vec<u8>,
-    messages: Vec<u8>,
-}
-
-const SMOOTH: Devices = Devices {
-    most: 4096,
-    failing_read: None,
-    failing_write: None,
-    flush_fails: false,
-};
-
-fn bytes_of(alloc: Global, hex: &str) -> Result<Vec<u8>, AllocError> {
-    let mut bytes = Vec::new(alloc);
-    let mut high: Option<u8> = None;
-    for c in hex.bytes() {
-        let digit = match c {
-            b'0'..=b'9' => c - b'0',
-            b'A'..=b'F' => c - b'A' + 10,
-            _ => continue,
-        };
-        match high {
-            None => high = Some(digit),
-            Some(h) => {
-                bytes.push((h & 15) * 16 + digit)?;
-                high = None;
-            }
-        }
-    }
-    Ok(bytes)
-}
-
-fn run_on(alloc: Global, job: &Job, hex: &str, devices: Devices) -> Result<Ran, AllocError> {
-    let bytes = bytes_of(alloc, hex)?;
-    let most = devices.most.max(1);
-    let mut input = Pieces::new(&bytes, most, devices.failing_read);
-    let mut held = [0; 128];
-    let mut output = Drip::new(&mut held, most, devices.failing_write, devices.flush_fails);
-    let mut told = [0; 128];
-    let mut messages = Drip::new(&mut told, 128, None, false);
-    let status = run(alloc, job, &mut input, &mut output, &mut messages);
-    Ok(Ran {
-        status,
-        output: output.written().to_vec(alloc)?,
-        messages: messages.written().to_vec(alloc)?,
-    })
-}
 
 fn info_job(alloc: Global) -> Result<Job, Fail> {
     match job(alloc, ["jbgtopbm85", "--info"].as_slice()) {
@@ -244,17 +186,8 @@ fn passes_a_long_comment(rt: HostRuntime) -> Result<(), Fail> {
 /// Whether a run has told the line or the text of the fault, and nothing else.
 fn tells(alloc: Global, ran: &Ran, answer: Result<&str, &str>) -> Result<bool, AllocError> {
     match answer {
-        Ok(line) => Ok(
-            ran.status == 0 && ran.output.as_slice() == line.as_bytes() && ran.messages.is_empty(),
-        ),
-        Err(text) => {
-            let said = format!(in alloc; "jbgtopbm85: {text}\n")?;
-            Ok(
-                ran.status == 1
-                    && ran.output.is_empty()
-                    && ran.messages.as_slice() == said.as_bytes(),
-            )
-        }
+        Ok(line) => has_left(alloc, ran, line.as_bytes(), None),
+        Err(text) => has_left(alloc, ran, b"", Some(text)),
     }
 }
 
@@ -275,15 +208,6 @@ fn each_read_fails(rt: HostRuntime) -> Result<(), Fail> {
         assert!(rt; tells(alloc, &ran, answer)?, "{hex}");
     }
     Ok(())
-}
-
-/// Single bytes, with the read of this number failing.
-fn failing_read(at: u64) -> Devices {
-    Devices {
-        most: 1,
-        failing_read: Some(at),
-        ..SMOOTH
-    }
 }
 
 /// Where reads are large, one is for the header and one for what follows.
@@ -312,31 +236,28 @@ fn reads_ahead(rt: HostRuntime) -> Result<(), Fail> {
 fn each_write_fails(rt: HostRuntime) -> Result<(), Fail> {
     let alloc = rt.alloc();
     let job = info_job(alloc)?;
-    let said = b"jbgtopbm85: output cannot be written\n";
     for (hex, _, answer) in STREAMS {
         let Ok(line) = answer else {
             continue;
         };
         let line = line.as_bytes();
         for at in 1..=line.len() {
-            let devices = Devices {
-                most: 1,
-                failing_write: Some(at as u64),
-                ..SMOOTH
-            };
-            let ran = run_on(alloc, &job, hex, devices)?;
-            assert_eq!(rt; ran.status, 1, "write {at}");
-            assert_eq!(rt; ran.output.as_slice(), &line[..at - 1], "write {at}");
-            assert_eq!(rt; ran.messages.as_slice(), said.as_slice(), "write {at}");
+            let ran = run_on(alloc, &job, hex, failing_write(at as u64))?;
+            assert!(rt;
+                has_left(
+                    alloc,
+                    &ran,
+                    &line[..at - 1],
+                    Some("output cannot be written")
+                )?,
+                "write {at} of {hex}"
+            );
         }
-        let devices = Devices {
-            flush_fails: true,
-            ..SMOOTH
-        };
-        let ran = run_on(alloc, &job, hex, devices)?;
-        assert_eq!(rt; ran.status, 1);
-        assert_eq!(rt; ran.output.as_slice(), line);
-        assert_eq!(rt; ran.messages.as_slice(), said.as_slice());
+        let ran = run_on(alloc, &job, hex, FAILING_FLUSH)?;
+        assert!(rt;
+            has_left(alloc, &ran, line, Some("output cannot be written"))?,
+            "{hex}"
+        );
     }
     Ok(())
 }
@@ -354,28 +275,5 @@ fn loses_a_message(rt: HostRuntime) -> Result<(), Fail> {
     let status = run(alloc, &job, &mut input, &mut output, &mut messages);
     assert_eq!(rt; status, 1);
     assert_eq!(rt; messages.written(), b"jbgtopbm".as_slice());
-    Ok(())
-}
-
-/// An image isn't decoded yet.
-#[test]
-fn decodes_nothing_yet(rt: HostRuntime) -> Result<(), Fail> {
-    let alloc = rt.alloc();
-    let Ok(job) = job(alloc, ["jbgtopbm85"].as_slice()) else {
-        return Err(Fail::from("refused"));
-    };
-    let ran = run_on(alloc, &job, TWO_STRIPES, SMOOTH)?;
-    assert_eq!(rt; ran.status, 1);
-    assert!(rt; ran.output.is_empty());
-    assert_eq!(rt;
-        ran.messages.as_slice(),
-        b"jbgtopbm85: not built yet\n".as_slice()
-    );
-    let ran = run_on(alloc, &job, "00000200", SMOOTH)?;
-    assert_eq!(rt; ran.status, 1);
-    assert_eq!(rt;
-        ran.messages.as_slice(),
-        b"jbgtopbm85: header is shorter than 20 bytes\n".as_slice()
-    );
     Ok(())
 }

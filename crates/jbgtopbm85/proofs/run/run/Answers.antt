@@ -8,7 +8,7 @@ returns-in-Ok-clause-outcome g c = (
   rw c.in-Ok.is refl,
   elim c.if-job.branch [
     | then-job w ↦ rw (w.if-job.true, w.input-is, w.output-is, w.outcome-is) w.info-outcome.ensures
-    | else-job w ↦ rw (w.if-job.false, w.input-is, w.output-is, w.outcome-is) (w.decode-outcome.ensures _ _)
+    | else-job w ↦ rw (w.if-job.false, w.input-is, w.output-is, w.outcome-is) w.to_pbm-outcome.ensures
   ],
 )
 
@@ -18,6 +18,6 @@ returns-in-Err-clause-outcome g c = (
   rw c.in-Err.is refl,
   elim c.if-job.branch [
     | then-job w ↦ rw (w.if-job.true, w.input-is, w.output-is, w.outcome-is) w.info-outcome.ensures
-    | else-job w ↦ rw (w.if-job.false, w.input-is, w.output-is, w.outcome-is) (w.decode-outcome.ensures _ _)
+    | else-job w ↦ rw (w.if-job.false, w.input-is, w.output-is, w.outcome-is) w.to_pbm-outcome.ensures
   ],
 )
