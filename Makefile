@@ -1,7 +1,8 @@
 # make            builds every program into bin/ and shows the main job on a real page
 # make test       the gate: every proof, every edit that must fail, every test; ends in `rt ci`
 # make turns      makes each allocation of the programs fail in turn
-# make bench      measures; no test is timed
+# make interop    decodes what JBIG-KIT's encoders write, and compares the images
+# make bench      measures beside JBIG-KIT; no test is timed
 # make install    copies the programs to $(DESTDIR)$(PREFIX)/bin
 
 PREFIX ?= /usr/local
@@ -9,6 +10,8 @@ PROGRAMS = jbgtopbm85
 
 show: build
 	bin/jbgtopbm85 --info examples/letter.jbg
+	bin/jbgtopbm85 examples/letter.jbg bin/letter.pbm
+	cmp bin/letter.pbm examples/letter.pbm && echo "its image is examples/letter.pbm"
 
 # A program is proved before it is built.
 build:
@@ -26,8 +29,12 @@ test:
 turns: build
 	tests/turns bin
 
+interop: build
+	tests/interop bin/jbgtopbm85
+
 bench: build
 	bench/info bin/jbgtopbm85
+	bench/decode bin/jbgtopbm85
 
 install: build
 	@for program in $(PROGRAMS); do \
@@ -37,4 +44,4 @@ install: build
 clean:
 	rm -rf bin crates/*/out
 
-.PHONY: show build test turns bench install clean
+.PHONY: show build test turns interop bench install clean

@@ -1,6 +1,8 @@
-/* Refuses one allocation of a program: the one whose number, counted from 1, REFUSE gives. */
+/* Refuses one allocation of a program: the one whose number, counted from 1, REFUSE gives. At the end of the program the
+   file that REFUSED names gets the count of all that were asked for. */
 #define _GNU_SOURCE
 #include <dlfcn.h>
+#include <stdio.h>
 #include <stdlib.h>
 
 static long count, refused = -1;
@@ -44,4 +46,17 @@ void *aligned_alloc(size_t align, size_t size)
     if (!next)
         next = (void *(*)(size_t, size_t))dlsym(RTLD_NEXT, "aligned_alloc");
     return refuses() ? NULL : next(align, size);
+}
+
+__attribute__((destructor)) static void tell(void)
+{
+    const char *name = getenv("REFUSED");
+    long asked = count;
+    FILE *file;
+    refused = 0;
+    file = name ? fopen(name, "w") : NULL;
+    if (file) {
+        fprintf(file, "%ld\n", asked);
+        fclose(file);
+    }
 }
