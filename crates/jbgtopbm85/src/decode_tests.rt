@@ -584,7 +584,7 @@ fn tells_each_write(alloc: Global, job: &Job, hex: &str, image: &[u8]) -> Result
     Ok(true)
 }
 
-/// A flush is asked for behind a whole image alone.
+/// A flush is asked for behind a whole image.
 #[test]
 fn flush_fails(rt: HostRuntime) -> Result<(), Fail> {
     let alloc = rt.alloc();
@@ -597,6 +597,14 @@ fn flush_fails(rt: HostRuntime) -> Result<(), Fail> {
             "{hex}"
         );
     }
+    Ok(())
+}
+
+/// Behind a fault no flush is asked for.
+#[test]
+fn does_not_flush_after_a_fault(rt: HostRuntime) -> Result<(), Fail> {
+    let alloc = rt.alloc();
+    let job = image_job(alloc)?;
     for (hex, _, size, rows, text) in BROKEN {
         let image = pbm_of(alloc, size, rows)?;
         let ran = run_on(alloc, &job, hex, FAILING_FLUSH)?;
