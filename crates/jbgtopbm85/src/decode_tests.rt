@@ -486,6 +486,14 @@ fn each_read_fails(rt: HostRuntime) -> Result<(), Fail> {
         let ran = run_on(alloc, &job, hex, failing_read(reads.saturating_add(1)))?;
         assert!(rt; has_left(alloc, &ran, &image, None)?, "{hex}");
     }
+    Ok(())
+}
+
+/// The same of streams that break.
+#[test]
+fn each_read_before_a_fault_fails(rt: HostRuntime) -> Result<(), Fail> {
+    let alloc = rt.alloc();
+    let job = image_job(alloc)?;
     for (hex, reads, size, rows, text) in BROKEN {
         let image = pbm_of(alloc, size, rows)?;
         assert!(rt; tells_each_read(alloc, &job, hex, reads, &image)?, "{hex}");
@@ -564,6 +572,14 @@ fn each_write_fails(rt: HostRuntime) -> Result<(), Fail> {
         let ran = run_on(alloc, &job, hex, failing_write(image.len() as u64 + 1))?;
         assert!(rt; has_left(alloc, &ran, &image, None)?, "{hex}");
     }
+    Ok(())
+}
+
+/// The same of streams that break.
+#[test]
+fn each_write_before_a_fault_fails(rt: HostRuntime) -> Result<(), Fail> {
+    let alloc = rt.alloc();
+    let job = image_job(alloc)?;
     for (hex, _, size, rows, text) in BROKEN {
         let image = pbm_of(alloc, size, rows)?;
         assert!(rt; tells_each_write(alloc, &job, hex, &image)?, "{hex}");
