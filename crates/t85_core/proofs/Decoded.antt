@@ -1,5 +1,5 @@
 -- From what decoding took and set out to what is said of the whole body.
-use Rattle.std.proofs.Common.{◌≡◌, ◌≢◌, ◌<◌, ◌^◌, ◌⊎◌, inl, inr, ℕ, Bool, List, ◌++◌, not, count_by, Option, None, Some, Result, Ok, Err, refl, sym, ap, ◌∙◌, subst, append_assoc, append-nil, arith}
+use Rattle.std.proofs.Common.{◌≡◌, ◌≢◌, ◌<◌, ◌^◌, ◌⊎◌, inl, inr, ℕ, Bool, List, ◌++◌, not, count_by, Option, None, Some, Result, Ok, Err, sym, ap, ◌∙◌, subst, append_assoc, append-nil, arith}
 use Rattle.std.specs.Prelude.{IfSome, OnOk, IfErr, IsErrOf, flat_map}
 use Rattle.std.specs.Io.KnownBytes.{Appends, Consumes}
 use Rattle.pbm_core.specs.Pbm.{header_text}
@@ -124,18 +124,6 @@ module _ (q : CoderLaws) (h : Fields) (height : ℕ) (use_ : IsInUse h height) (
   } where
     unread : f ≡ Read → IsErrOf {T = Unit {0}} {E = Fault} (Err f) Read → (given : List ℕ) × Consumes in_old in_new given × WritesRows h height given Truncated out_old out_new
     unread is e = rows_unread in_old known in_new f (err (λ w. let both : Read ≡ Write = sym is ∙ w in let bot : ⊥ = cc in bot)) is (drained e)
-
--- nothing but a beginning of the header was written
-pub decoded_nothing : (h : Fields) (height : ℕ) (in_old : Option (List ℕ)) (reads : ℕ) (out_old out_new : Option (List ℕ)) (writes_old writes_new : ℕ) → CountsWrite {T = Unit {0}} writes_old writes_new (Err Write) →
-    Decodes h height in_old in_old reads reads out_old out_new writes_old writes_new (Err Write)
-decoded_nothing h height in_old reads out_old out_new writes_old writes_new writes = record {
-  whole = tt;
-  broken = λ read write. absurd (write refl);
-  unread = λ e. absurd (let bot : ⊥ = cc in bot);
-  among = λ write. absurd (write refl);
-  reads = inl refl;
-  writes = writes;
-}
 
 -- the devices as they are when their loans end
 pub decodes_at : {R W : Type 0} (remaining : R → Option (List ℕ)) (reads : R → ℕ) (contents : W → Option (List ℕ)) (writes : W → ℕ) (h : Fields) (height : ℕ) (first : R) (start : W) (input input' : R) (output output' : W) (r : Result (Unit {0}) Fault) →

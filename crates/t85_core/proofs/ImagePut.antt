@@ -4,7 +4,6 @@ use Rattle.std.specs.Prelude.{flat_map}
 use Rattle.std.specs.Io.KnownBytes.{Appends, Consumes}
 use Rattle.std.proofs.lemmas.Grind.{flat_map-append}
 use Rattle.raster_core.specs.Packed.{packed_row}
-use Rattle.raster_core.specs.Rows.{width_of}
 use Rattle.t85_core.specs.declared.fault.Fault.{Fault}
 use Rattle.t85_core.specs.declared.rows.Carried.{Carried}
 use Rattle.t85_core.specs.declared.header.Header.{Header}
@@ -12,32 +11,16 @@ use Rattle.t85_core.specs.Header.{Fields}
 use Rattle.t85_core.specs.Chosen.{fields_of}
 use Rattle.t85_core.specs.StreamLaws.{IsInUse}
 use Rattle.t85_core.specs.Grammar.{stripe_bytes, stripe_count}
-use Rattle.t85_core.specs.Carried.{begin, first_carry, StripeRun}
+use Rattle.t85_core.specs.Carried.{first_carry, StripeRun}
 use Rattle.t85_core.specs.Broken.{BegunRun}
-use Rattle.t85_core.specs.Decoding.{IsCarried, IsFirst, StripeRead, StripeCut, StripesRead, ImageRead, ImageCut}
+use Rattle.t85_core.specs.Decoding.{StripeRead, StripeCut, StripesRead, ImageRead, ImageCut}
 use Rattle.t85_core.specs.CoderLaws.{CoderLaws}
 use Rattle.t85_core.proofs.CarriedDenotes.{carried_denotes}
 use Rattle.t85_core.proofs.CarriedFixes.{carried_fixes}
 use Rattle.t85_core.proofs.Ends.{Ends-after}
 use Rattle.t85_core.proofs.Lists.{flat_map_push}
-use Rattle.t85_core.proofs.Passed.{Consumes-none}
-use Rattle.t85_core.proofs.RowPut.{appends_nothing}
 use Rattle.t85_core.proofs.Runs.{stripes_push}
 use Rattle.t85_core.proofs.Streams.{Consumes-more, Appends-more}
-
--- before the first stripe
-pub stripes_begin : (h : Fields) (height : ℕ) (known : Option (List ℕ)) (carried : Carried) (text : Option (List ℕ)) → width_of carried.window.now ≡ h.xd → IsFirst carried → StripesRead h height known known 0 carried text text
-stripes_begin h height known carried text wide is = record {
-  stripes = [];
-  many = refl;
-  taken = Consumes-none known;
-  rows = [];
-  flags = [];
-  next = first_carry h.xd;
-  run = (refl, refl, refl);
-  is_carried = subst (λ w. IsCarried (begin (first_carry w)) carried) wide is;
-  set_out = appends_nothing text;
-}
 
 module _ (h : Fields) (height : ℕ) (known known' known'' : Option (List ℕ)) (count rows : ℕ) (carried carried' : Carried) (text text' text'' : Option (List ℕ))
     (r : StripesRead h height known known' count carried text text') (rows_are : rows ≡ min (height - count * h.l0) h.l0) where

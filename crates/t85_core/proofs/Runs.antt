@@ -4,7 +4,7 @@ use Rattle.std.specs.Prelude.{min, IsTrue}
 use Rattle.std.specs.List.{AllByRecursion}
 use Rattle.qm_core.specs.Place.{State, Event, Estimate, IsPlace, after}
 use Rattle.qm_core.specs.Code.{Lies, wanted_bytes}
-use Rattle.qm_core.specs.Answers.{bytes_of, heard_of, Agrees}
+use Rattle.qm_core.specs.Answers.{bytes_of, heard_of}
 use Rattle.qm_core.specs.Standing.{Stands}
 use Rattle.qm_core.specs.declared.source.Pulled.{Pulled}
 use Rattle.qm_core.specs.declared.source.Heard.TheVariants.{More}
@@ -151,9 +151,6 @@ module _ (shape : Shape) (kept : Kept) (s : State) (lines : Lines) (mode : Mode)
   module _ (kept' : Kept) (answers : List Pulled) (window : Held) (learned : List Estimate) (d : Decoder) (k : RowIs shape kept kept' s answers lines window learned d) where
     pub row_next : (w : ℕ) → shape.width ≡ w → IsNext w mode b k.row k.flag
     row_next w width_is = record { wide = k.wide ∙ width_is; legal = legal_alike k.row k.flag k.legal }
-
-    pub row_lies : (code : List ℕ) → Agrees answers code → Lies code (after_row mode move r b k.row k.flag).state.place
-    row_lies code agrees = subst (λ z. Lies code z.place) (state_alike k.row k.flag) (k.inside code agrees)
 
     pub row_stands : Stands d (after_row mode move r b k.row k.flag).state.place answers
     row_stands = subst (λ z. Stands d z.place answers) (state_alike k.row k.flag) k.stands

@@ -1,6 +1,6 @@
 -- What a stripe begins with: its segments, one after another, and the code.
-use Rattle.std.proofs.Common.{cond, inr, nat_eq, ◌≡◌, ◌≤◌, ℕ, true, false, List, [], ◌∷◌, ◌++◌, length, None, Some, count_by, refl, sym, subst, arith}
-use Rattle.std.specs.Prelude.{Option, IfSome, option_map, ◌==◌, ◌*◌, ◌/◌, ◌%◌, bit_and, not}
+use Rattle.std.proofs.Common.{inr, nat_eq, ◌≡◌, ◌≤◌, ℕ, List, [], ◌∷◌, length, None, Some, refl, sym, subst, arith}
+use Rattle.std.specs.Prelude.{Option, IfSome, option_map, ◌*◌, ◌/◌, ◌%◌, bit_and, not}
 use Rattle.std.specs.List.{AllByRecursion}
 use Rattle.std.proofs.lemmas.Bool.Decides.{nat_tests}
 use Rattle.std.proofs.lemmas.Nat.Bits.{and_pow}
@@ -10,38 +10,12 @@ use Rattle.t85_core.specs.declared.walk.Head.{Head}
 use Rattle.t85_core.specs.Header.{Fields}
 use Rattle.t85_core.specs.Piece.{PassesHead}
 use Rattle.t85_core.specs.Decoding.{pair_of}
-use Rattle.t85_core.specs.Grammar.{Segment, Move, Comment, is_move, IsLegal}
+use Rattle.t85_core.specs.Grammar.{Segment, Move, Comment, IsLegal}
 use Rattle.t85_core.specs.Coding.{has_bit, mode_of, move_of}
-use Rattle.t85_core.specs.Carried.{Carry, begin, offset_at}
+use Rattle.t85_core.specs.Carried.{Carry, begin}
 use Rattle.t85_core.specs.Broken.{BegunRun}
-use Rattle.t85_core.proofs.Cut.{count_cons}
 use Rattle.t85_core.proofs.Built.{bytes_in_start}
 use Rattle.t85_core.proofs.Runs.{none_decided}
-
--- ---- the move
-
-pub no_move : (segments : List Segment) → count_by is_move segments ≡ 0 → move_of segments ≡ None
-no_move [] none = refl
-no_move (Move row offset ∷ segments) none = let n = count_cons is_move (Move row offset) segments in absurd (omega (arith, n, none))
-no_move (Comment text ∷ segments) none = let n = count_cons is_move (Comment text) segments in no_move segments (omega (arith, n, none))
-
-pub move_push_comment : (segments : List Segment) (text : List ℕ) → move_of (segments ++ Comment text ∷ []) ≡ move_of segments
-move_push_comment [] text = refl
-move_push_comment (Move row offset ∷ segments) text = refl
-move_push_comment (Comment more ∷ segments) text = move_push_comment segments text
-
-pub move_push_move : (segments : List Segment) (row offset : ℕ) → move_of segments ≡ None → move_of (segments ++ Move row offset ∷ []) ≡ Some (row, offset)
-move_push_move [] row offset none = refl
-move_push_move (Move r o ∷ segments) row offset none = some_none (r, o) none where
-  some_none : (m : ℕ × ℕ) → Some m ≡ None → move_of (Move r o ∷ (segments ++ Move row offset ∷ [])) ≡ Some (row, offset)
-  some_none m e = absurd (let bot : ⊥ = cc in bot)
-move_push_move (Comment text ∷ segments) row offset none = move_push_move segments row offset none
-
--- the offset stays within the header's greatest
-pub offset_within : (h : Fields) (segments : List Segment) (r offset : ℕ) → AllByRecursion (IsLegal h) segments → offset ≤ h.mx → offset_at (move_of segments) r offset ≤ h.mx
-offset_within h [] r offset legal le = le
-offset_within h (Move row o ∷ segments) r offset legal le = elim (row == r) as (λ b. cond b o offset ≤ h.mx) [ true ↦ legal.0.1 | false ↦ le ]
-offset_within h (Comment text ∷ segments) r offset legal le = offset_within h segments r offset legal.1 le
 
 -- ---- a stripe that breaks before a row is decided
 
