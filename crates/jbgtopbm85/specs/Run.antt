@@ -1,5 +1,5 @@
 -- What `run` does for a job.
-use Rattle.std.specs.Prelude.{ℕ, Bool, true, false, List, Option, Result, Ok, Err}
+use Rattle.std.specs.Prelude.{ℕ, Bool, true, false, List, Option, Result}
 use Rattle.t85_core.specs.declared.fault.Fault.{Fault}
 use Rattle.t85_core.specs.Info.{Informs}
 use Rattle.t85_core.specs.Converts.{Converts}
@@ -10,8 +10,3 @@ Does true in_old in_new reads_old reads_new out_old out_new writes_old writes_ne
     Informs in_old in_new reads_old reads_new out_old out_new writes_old writes_new flushed outcome
 Does false in_old in_new reads_old reads_new out_old out_new writes_old writes_new flushed outcome =
     Converts in_old in_new reads_old reads_new out_old out_new writes_old writes_new flushed outcome
-
--- the exit status of an outcome
-abbrev pub status : Result (Unit {0}) Fault → ℕ
-status (Ok u) = 0
-status (Err f) = 1

@@ -1,11 +1,9 @@
 //! Images through `run`, with each device failing in turn.
 
 use crate::line::Job;
-use crate::trial::{
-    Devices, FAILING_FLUSH, SMOOTH, bytes_of, failing_read, failing_write, has_left, run_into,
-    run_on,
-};
+use crate::trial::{has_left, run_into, run_on};
 use crate::words::job;
+use program_core::trial::{Devices, FAILING_FLUSH, SMOOTH, bytes_of, failing_read, failing_write};
 use std::alloc::{AllocError, Global};
 use std::test::Fail;
 

@@ -3,14 +3,15 @@
 ghost use Rattle.std.specs.Prelude.{◌≡◌, ◌≤◌, ◌<◌, ◌+◌, ◌-◌, ◌^◌, Result};
 ghost use Rattle.std.specs.Io.KnownBytes.{Keeps};
 ghost use Rattle.t85_core.specs.declared.fault.Fault.{Fault};
-ghost use Rattle.jbgtopbm85.specs.Run.{Does, status};
+ghost use Rattle.program_core.specs.Run.{exit_status};
+ghost use Rattle.jbgtopbm85.specs.Run.{Does};
 
+use crate::NAME;
 use crate::line::Job;
-use crate::message::Message;
-use pbm_core::{Input, Output, write_bytes};
+use pbm_core::{Input, Output};
+use program_core::tell;
 use std::alloc::Global;
-use std::fmt::Write;
-use t85_core::{Fault, info, to_pbm};
+use t85_core::{info, to_pbm};
 
 /// Does the job, tells a fault to `messages`, and gives the exit status: 0, or 1 after a fault.
 pub fn run<R: Input, W: Output, M: Output>(
@@ -25,7 +26,7 @@ pub fn run<R: Input, W: Output, M: Output>(
     requires messages { M.failures messages.old < 2 ^ 64 - 1 }
 
     // The engine's outcome is passed on.
-    ensures outcome { (outcome : Result (Unit {0}) Fault) × (result ≡ status outcome) × Does job.now.info
+    ensures outcome { (outcome : Result (Unit {0}) Fault) × (result ≡ exit_status outcome) × Does job.now.info
         (R.remaining input.old) (R.remaining input.new) (R.failures input.old) (R.failures input.new)
         (W.contents output.old) (W.contents output.new) (W.failures output.old) (W.failures output.new) (W.flushed output.new) outcome }
 
@@ -41,18 +42,8 @@ pub fn run<R: Input, W: Output, M: Output>(
     match outcome {
         Ok(()) => 0,
         Err(fault) => {
-            complain(fault, messages);
+            tell(NAME, fault, messages);
             1
         }
     }
-}
-
-/// Writes the line about a fault, in one write where the output takes it.
-fn complain<M: Output>(fault: Fault, messages: &mut M)
-    requires { M.failures messages.old < 2 ^ 64 - 1 }
-    ensures { M.failures messages.new ≤ M.failures messages.old + 1 }
-{
-    let mut message = Message::new();
-    let _ = writeln!(message, "jbgtopbm85: {fault}");
-    let _ = write_bytes(messages, message.as_bytes());
 }

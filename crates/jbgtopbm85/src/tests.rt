@@ -1,12 +1,12 @@
 //! Command lines and streams through `job` and `run`, with each device failing in turn.
 
-use crate::line::{Job, LineFault};
+use crate::line::Job;
 use crate::run::run;
-use crate::trial::{
-    Devices, FAILING_FLUSH, Ran, SMOOTH, failing_read, failing_write, has_left, run_on,
-};
+use crate::trial::{has_left, run_on};
 use crate::words::job;
 use pbm_core::trial::{Drip, Pieces};
+use program_core::LineFault;
+use program_core::trial::{Devices, FAILING_FLUSH, Ran, SMOOTH, failing_read, failing_write};
 use std::alloc::{AllocError, Global};
 use std::test::Fail;
 use t85_core::Fault;

@@ -23,7 +23,7 @@ pub struct Tally {
 }
 
 impl Tally {
-    ghost use Rattle.std.specs.Prelude.{◌<◌, ◌-◌, [], ◌∷◌, ◌++◌, List};
+    ghost use Rattle.std.specs.Prelude.{◌<◌, ◌-◌, [], ◌∷◌, ◌++◌, List, IfSome};
     ghost use Rattle.raster_core.specs.Counts.{Counts, is_two_line, most_of, rows_of};
     ghost use Rattle.raster_core.specs.Lines.{Lines};
     ghost use Rattle.raster_core.specs.Offset.{chosen_offset};
@@ -103,8 +103,9 @@ impl Tally {
     /// The least lag with the greatest count, where it agrees at more than an eighth of the pixels
     /// more than `offset` did.
     pub fn choose(&self, offset: u8) -> Option<u8>
-        ensures { (width : ℕ) (rows : List Lines) → Counts self.now width offset rows
+        ensures chosen { (width : ℕ) (rows : List Lines) → Counts self.now width offset rows
             → result ≡ chosen_offset (is_two_line self.now) (most_of self.now) width rows offset }
+        ensures reach { IfSome result (λ lag. lag ≤ most_of self.now) }
     {
         let least: u8 = if self.two_line { 5 } else { 3 };
         if self.most < least {

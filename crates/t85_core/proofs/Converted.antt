@@ -8,8 +8,8 @@ use Rattle.t85_core.specs.Header.{Fields, HeaderOf, header_fault}
 use Rattle.t85_core.specs.Image.{pbm_text}
 use Rattle.t85_core.specs.Denotes.{Denotes, DenotesAt}
 use Rattle.t85_core.specs.Info.{IsWalkFault}
-use Rattle.t85_core.specs.Walk.{Ends, counted_as, failed_reads}
-use Rattle.t85_core.specs.Converts.{WritesRaster, WritesRows, WritesImage, WritesBeginning, IsRefused, Decodes, Converts, CountsBoth, is_variable}
+use Rattle.t85_core.specs.Walk.{Ends, CountsBoth, counted_as, failed_reads}
+use Rattle.t85_core.specs.Converts.{WritesRaster, WritesRows, WritesImage, WritesBeginning, IsRefused, Decodes, Converts, is_variable}
 use Rattle.t85_core.specs.CoderLaws.{CoderLaws}
 use Rattle.t85_core.proofs.Faults.{header_faults, uncounted, unwritten}
 use Rattle.t85_core.proofs.Held.{Keeps-same}

@@ -15,10 +15,10 @@ use Rattle.t85_core.specs.Denotes.{DenotesAt}
 use Rattle.t85_core.specs.Fixed.{Fixes}
 use Rattle.t85_core.specs.Image.{pbm_rows}
 use Rattle.t85_core.specs.Info.{IsWalkFault}
-use Rattle.t85_core.specs.Walk.{CountsWrite, counted_as}
+use Rattle.t85_core.specs.Walk.{CountsBoth, CountsWrite, counted_as}
 use Rattle.t85_core.specs.StreamLaws.{IsInUse}
 use Rattle.t85_core.specs.Decoding.{ImageRead, ImageCut}
-use Rattle.t85_core.specs.Converts.{WritesRaster, WritesRows, CountsBoth, Decodes}
+use Rattle.t85_core.specs.Converts.{WritesRaster, WritesRows, Decodes}
 use Rattle.t85_core.specs.CoderLaws.{CoderLaws}
 use Rattle.t85_core.proofs.Faults.{body_faults, uncounted}
 use Rattle.t85_core.proofs.FixedRows.{one_fixed_at}

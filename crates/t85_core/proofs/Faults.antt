@@ -4,7 +4,7 @@ use Rattle.std.specs.Prelude.{IfSome, ◌==◌, if◌then◌else◌}
 use Rattle.std.specs.List.{AllByRecursion}
 use Rattle.byteorder.specs.Endian.{big_number}
 use Rattle.t85_core.specs.declared.fault.Fault.{Fault}
-use Rattle.t85_core.specs.declared.fault.Fault.TheVariants.{ShortHeader, ReservedBits, Layers, Planes, ZeroSize, TooWide, MoveRange, PrivateTable, Truncated, BadEscape, Aborted, MoveRefused, SecondMove, LengthRefused, Read, Write, OutOfMemory, NotYet}
+use Rattle.t85_core.specs.declared.fault.Fault.TheVariants.{ShortHeader, ReservedBits, Layers, Planes, ZeroSize, TooWide, MoveRange, PrivateTable, Truncated, BadEscape, Aborted, MoveRefused, SecondMove, LengthRefused, Read, Write, OutOfMemory, OptionBits, StripeZero, MoveLarge, CommentLong, NotYet, Pbm}
 use Rattle.t85_core.specs.Header.{Fields, Refusal, refusals, first_refusal, header_fault}
 use Rattle.t85_core.specs.Refusal.{rest_fault, escape_fault, move_fault, comment_fault, is_legal_move, StripesFault}
 use Rattle.t85_core.specs.Walk.{counted_as, failed_writes}
@@ -72,7 +72,12 @@ uncounted ending LengthRefused p = p
 uncounted ending Read p = tt
 uncounted ending Write p = p
 uncounted ending OutOfMemory p = p
+uncounted ending OptionBits p = p
+uncounted ending StripeZero p = p
+uncounted ending MoveLarge p = p
+uncounted ending CommentLong p = p
 uncounted ending NotYet p = p
+uncounted ending (Pbm f) p = p
 
 pub no_write : (f : Fault) → IsWalkFault f → f ≢ Write
 no_write f p e = subst IsWalkFault e p
@@ -95,7 +100,12 @@ unwritten LengthRefused p = refl
 unwritten Read p = refl
 unwritten Write p = absurd p
 unwritten OutOfMemory p = refl
+unwritten OptionBits p = absurd p
+unwritten StripeZero p = absurd p
+unwritten MoveLarge p = absurd p
+unwritten CommentLong p = absurd p
 unwritten NotYet p = refl
+unwritten (Pbm f) p = absurd p
 
 pub rest_faults : (h : Fields) (moves : ℕ) (in_code : Bool) (bytes : List ℕ) (f : Fault) → rest_fault h moves in_code bytes ≡ Some f → IsWalkFault f
 rest_faults h moves in_code bytes f e = subst (λ o. MayBe o) e (rest_may h moves in_code bytes)

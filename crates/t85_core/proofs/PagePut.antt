@@ -2,12 +2,12 @@
 use Rattle.std.proofs.Common.{◌≡◌, ◌≢◌, ◌+◌, ◌⊎◌, inl, inr, ℕ, List, [], ◌++◌, Option, None, Some, Result, Ok, Err, refl, sym, ap, ◌∙◌, subst, append-nil, arith}
 use Rattle.std.specs.Prelude.{IfErr}
 use Rattle.std.specs.Io.KnownBytes.{Keeps, append_known}
+use Rattle.pbm_core.specs.declared.fault.PbmFault.TheVariants as pbm
 use Rattle.t85_core.specs.declared.fault.Fault.{Fault}
-use Rattle.t85_core.specs.declared.fault.Fault.TheVariants.{ShortHeader, ReservedBits, Layers, Planes, ZeroSize, TooWide, MoveRange, PrivateTable, Truncated, BadEscape, Aborted, MoveRefused, SecondMove, LengthRefused, Read, Write, OutOfMemory, NotYet}
+use Rattle.t85_core.specs.declared.fault.Fault.TheVariants.{ShortHeader, ReservedBits, Layers, Planes, ZeroSize, TooWide, MoveRange, PrivateTable, Truncated, BadEscape, Aborted, MoveRefused, SecondMove, LengthRefused, Read, Write, OutOfMemory, OptionBits, StripeZero, MoveLarge, CommentLong, NotYet, Pbm}
 use Rattle.t85_core.specs.Header.{Fields}
 use Rattle.t85_core.specs.Stream.{held_of}
-use Rattle.t85_core.specs.Walk.{failed_reads, failed_writes}
-use Rattle.t85_core.specs.Converts.{CountsFault, CountsBoth}
+use Rattle.t85_core.specs.Walk.{failed_reads, failed_writes, CountsFault, CountsBoth}
 use Rattle.t85_core.specs.Decoding.{ImageRead, ImageCut}
 use Rattle.t85_core.proofs.Held.{none_held}
 use Rattle.t85_core.proofs.Streams.{Appends-keeps}
@@ -54,7 +54,12 @@ counts_any old new SecondMove e = e
 counts_any old new LengthRefused e = e
 counts_any old new Read e = e
 counts_any old new OutOfMemory e = e
+counts_any old new OptionBits e = e
+counts_any old new StripeZero e = e
+counts_any old new MoveLarge e = e
+counts_any old new CommentLong e = e
 counts_any old new NotYet e = e
+counts_any old new (Pbm f) e = e
 
 reads_few : (fault : Fault) → (failed_reads fault ≡ 0) ⊎ (failed_reads fault ≡ 1)
 reads_few Read = inr refl
@@ -74,7 +79,18 @@ reads_few SecondMove = inl refl
 reads_few LengthRefused = inl refl
 reads_few Write = inl refl
 reads_few OutOfMemory = inl refl
+reads_few OptionBits = inl refl
+reads_few StripeZero = inl refl
+reads_few MoveLarge = inl refl
+reads_few CommentLong = inl refl
 reads_few NotYet = inl refl
+reads_few (Pbm pbm.Read) = inr refl
+reads_few (Pbm pbm.NotPbm) = inl refl
+reads_few (Pbm pbm.BadNumber) = inl refl
+reads_few (Pbm pbm.ZeroSize) = inl refl
+reads_few (Pbm pbm.TooWide) = inl refl
+reads_few (Pbm pbm.TooTall) = inl refl
+reads_few (Pbm pbm.Truncated) = inl refl
 
 -- whatever was told of the rows, a write failed after them
 pub counts_written : (old new : ℕ) (fault last : Fault) → new ≡ old + failed_reads fault → last ≡ Write → CountsFault old new last
@@ -106,7 +122,12 @@ no_failed_write SecondMove n = refl
 no_failed_write LengthRefused n = refl
 no_failed_write Read n = refl
 no_failed_write OutOfMemory n = refl
+no_failed_write OptionBits n = refl
+no_failed_write StripeZero n = refl
+no_failed_write MoveLarge n = refl
+no_failed_write CommentLong n = refl
 no_failed_write NotYet n = refl
+no_failed_write (Pbm f) n = refl
 
 -- a page that is empty
 pub text_unheld : (bytes : List ℕ) (at end : ℕ) (a : Option (List ℕ)) → at ≡ end → append_known a (held_of bytes at end) ≡ a

@@ -1,5 +1,5 @@
 -- What decoding leaves of its input and its output.
-use Rattle.std.specs.Prelude.{ℕ, ◌+◌, ◌≡◌, ◌≢◌, ◌⊎◌, Bool, true, false, List, drop, Option, IfSome, Some, Result, Ok, Err, OnOk, IfErr, IsErrOf}
+use Rattle.std.specs.Prelude.{ℕ, ◌≡◌, ◌≢◌, ◌⊎◌, Bool, true, false, List, drop, Option, IfSome, Some, Result, OnOk, IfErr, IsErrOf}
 use Rattle.std.specs.Io.KnownBytes.{Appends, Consumes, Keeps}
 use Rattle.raster_core.specs.Raster.{Raster}
 use Rattle.t85_core.specs.declared.fault.Fault.{Fault}
@@ -10,7 +10,7 @@ use Rattle.t85_core.specs.Denotes.{Denotes, DenotesAt}
 use Rattle.t85_core.specs.Fixed.{Fixes}
 use Rattle.t85_core.specs.Image.{pbm_rows, pbm_text}
 use Rattle.t85_core.specs.Info.{IsWalkFault}
-use Rattle.t85_core.specs.Walk.{CountsWrite, failed_reads}
+use Rattle.t85_core.specs.Walk.{CountsBoth, CountsWrite}
 
 -- The image of the one raster that a body denotes was written.
 pub record WritesRaster (h : Fields) (height : ℕ) (body : List ℕ) (old new : Option (List ℕ)) : Type 0 where
@@ -25,16 +25,6 @@ pub record WritesRows (h : Fields) (height : ℕ) (body : List ℕ) (fault : Fau
   pub fixes : Fixes h height body fault rows
   pub only : (other : Fault) (others : List (List Bool)) → Fixes h height body other others → (other ≡ fault) × (others ≡ rows)
   pub appends : Appends old new (pbm_rows h.xd height rows)
-
--- before a failed write a read may have failed, too
-abbrev pub CountsFault : ℕ → ℕ → Fault → Type 0
-CountsFault old new Write = (new ≡ old) ⊎ (new ≡ old + 1)
-CountsFault old new fault = new ≡ old + failed_reads fault
-
--- The input's count of failures rises by one with the answer Read, and stays with each other but Write.
-abbrev pub CountsBoth : ℕ → ℕ → Result (Unit {0}) Fault → Type 0
-CountsBoth old new (Ok u) = new ≡ old
-CountsBoth old new (Err fault) = CountsFault old new fault
 
 -- What `decode` leaves for a header and a height. Of each device are given the known bytes and the count of failures,
 -- before the call and after it.

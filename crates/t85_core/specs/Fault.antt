@@ -1,7 +1,8 @@
 -- The numbers under which the faults are documented.
-use Rattle.std.specs.Prelude.{ℕ}
+use Rattle.std.specs.Prelude.{ℕ, ◌+◌}
+use Rattle.pbm_core.specs.Fault.{number_of as number_of_pbm}
 use Rattle.t85_core.specs.declared.fault.Fault.{Fault}
-use Rattle.t85_core.specs.declared.fault.Fault.TheVariants.{ShortHeader, ReservedBits, Layers, Planes, ZeroSize, TooWide, MoveRange, PrivateTable, Truncated, BadEscape, Aborted, MoveRefused, SecondMove, LengthRefused, Read, Write, OutOfMemory, NotYet}
+use Rattle.t85_core.specs.declared.fault.Fault.TheVariants.{ShortHeader, ReservedBits, Layers, Planes, ZeroSize, TooWide, MoveRange, PrivateTable, Truncated, BadEscape, Aborted, MoveRefused, SecondMove, LengthRefused, Read, Write, OutOfMemory, OptionBits, StripeZero, MoveLarge, CommentLong, NotYet, Pbm}
 
 abbrev pub number_of : Fault → ℕ
 number_of ShortHeader = 1
@@ -21,4 +22,9 @@ number_of LengthRefused = 14
 number_of Read = 17
 number_of Write = 18
 number_of OutOfMemory = 19
+number_of OptionBits = 20
+number_of StripeZero = 21
+number_of MoveLarge = 22
+number_of CommentLong = 26
 number_of NotYet = 27
+number_of (Pbm fault) = 30 + number_of_pbm fault

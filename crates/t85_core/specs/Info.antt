@@ -3,7 +3,7 @@ use Rattle.std.specs.Prelude.{◌≡◌, ◌≢◌, ◌⊎◌, ◌-◌, ◌^◌,
 use Rattle.std.specs.Io.KnownBytes.{Consumes, Appends, Keeps}
 use Rattle.pbm_core.specs.Device.{AppendsBeginning}
 use Rattle.t85_core.specs.declared.fault.Fault.{Fault}
-use Rattle.t85_core.specs.declared.fault.Fault.TheVariants.{ShortHeader, Truncated, Read, Write, OutOfMemory, NotYet}
+use Rattle.t85_core.specs.declared.fault.Fault.TheVariants.{ShortHeader, Truncated, Read, Write, OutOfMemory, OptionBits, StripeZero, MoveLarge, CommentLong, NotYet, Pbm}
 use Rattle.t85_core.specs.Header.{Fields, HeaderOf}
 use Rattle.t85_core.specs.Grammar.{Stripe, Parts, moves_in, comments_in}
 use Rattle.t85_core.specs.Refusal.{StreamFault}
@@ -31,7 +31,12 @@ IsUnfinished bytes = StreamFault bytes ShortHeader ⊎ StreamFault bytes Truncat
 abbrev pub IsWalkFault : Fault → Type 0
 IsWalkFault Write = ⊥
 IsWalkFault OutOfMemory = ⊥
+IsWalkFault OptionBits = ⊥
+IsWalkFault StripeZero = ⊥
+IsWalkFault MoveLarge = ⊥
+IsWalkFault CommentLong = ⊥
 IsWalkFault NotYet = ⊥
+IsWalkFault (Pbm fault) = ⊥
 IsWalkFault _ = ⊤
 
 -- What `info` leaves of its input and its output. Of each are given the known bytes and the count of failures, before

@@ -14,9 +14,17 @@ pub mod Fixed
 pub mod Image
 pub mod Carried
 pub mod CoderLaws
+pub mod WritingLaws
 pub mod StreamLaws
 pub mod Broken
 pub mod RowsSoFar
 pub mod Entity
 pub mod Decoding
 pub mod Converts
+pub mod Jbg
+pub mod Options
+pub mod Ink
+pub mod Written
+pub mod Encodes
+pub mod Encoding
+pub mod Worked

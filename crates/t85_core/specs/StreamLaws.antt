@@ -1,7 +1,7 @@
 -- The laws of streams, in which height' is the height in use: from 1 to the header's.
 use Rattle.std.specs.Prelude.{ℕ, ◌≡◌, ◌≤◌, ◌⊎◌, Bool, List, ◌∷◌, ◌++◌, length, take, Option}
 use Rattle.qm_core.specs.Code.{IsBytes}
-use Rattle.raster_core.specs.Raster.{Raster}
+use Rattle.raster_core.specs.Raster.{Raster, IsRaster}
 use Rattle.t85_core.specs.declared.fault.Fault.{Fault}
 use Rattle.t85_core.specs.Header.{Fields, IsAccepted}
 use Rattle.t85_core.specs.Grammar.{Segment, Stripe, Parts}
@@ -9,6 +9,7 @@ use Rattle.t85_core.specs.Refusal.{BodyFault}
 use Rattle.t85_core.specs.Denotes.{DenotesAt, Denotes}
 use Rattle.t85_core.specs.Fixed.{Fixes, AreDecided, begun_stripes}
 use Rattle.t85_core.specs.Image.{IsOutcome}
+use Rattle.t85_core.specs.Jbg.{Settings, AreSettings, jbg}
 
 -- an accepted header, and a height in use
 pub record IsInUse (h : Fields) (height' : ℕ) : Type 0 where
@@ -76,3 +77,7 @@ pub record HasOutcome (h : Fields) (height' : ℕ) (body : List ℕ) : Type 0 wh
 -- For each body of bytes there is one answer and one text: its raster's, or a fault and the rows that are fixed.
 abbrev pub OneOutcome : Type 0
 OneOutcome = (h : Fields) (height' : ℕ) (body : List ℕ) → IsInUse h height' → IsBytes body → HasOutcome h height' body
+
+-- the stream that is written for a raster denotes it
+abbrev pub CodeDenotes : Type 0
+CodeDenotes = (s : Settings) (raster : Raster) → AreSettings s → IsRaster raster → Denotes (jbg s raster) raster

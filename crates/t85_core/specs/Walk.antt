@@ -1,12 +1,14 @@
 -- What a walk has taken from an input, and what it says of it.
-use Rattle.std.specs.Prelude.{◌≡◌, ◌+◌, ℕ, List, Result, Ok, Err, Option}
+use Rattle.std.specs.Prelude.{◌≡◌, ◌+◌, ◌⊎◌, ℕ, List, Result, Ok, Err, Option}
 use Rattle.std.specs.Io.KnownBytes.{Consumes, IsAtEnd}
+use Rattle.pbm_core.specs.declared.fault.PbmFault.TheVariants as pbm
 use Rattle.t85_core.specs.declared.fault.Fault.{Fault}
-use Rattle.t85_core.specs.declared.fault.Fault.TheVariants.{Read, Write}
+use Rattle.t85_core.specs.declared.fault.Fault.TheVariants.{Read, Write, Pbm}
 
 -- how many failed reads a fault tells
 abbrev pub failed_reads : Fault → ℕ
 failed_reads Read = 1
+failed_reads (Pbm pbm.Read) = 1
 failed_reads _ = 0
 
 -- how many failed writes a fault tells
@@ -18,6 +20,16 @@ failed_writes _ = 0
 abbrev pub CountsRead : {T : Type 0} → ℕ → ℕ → Result T Fault → Type 0
 CountsRead old new (Ok x) = new ≡ old
 CountsRead old new (Err f) = new ≡ old + failed_reads f
+
+-- before a failed write a read may have failed, too
+abbrev pub CountsFault : ℕ → ℕ → Fault → Type 0
+CountsFault old new Write = (new ≡ old) ⊎ (new ≡ old + 1)
+CountsFault old new fault = new ≡ old + failed_reads fault
+
+-- The input's count of failures rises by one with the answer Read, and stays with each other but Write.
+abbrev pub CountsBoth : ℕ → ℕ → Result (Unit {0}) Fault → Type 0
+CountsBoth old new (Ok u) = new ≡ old
+CountsBoth old new (Err fault) = CountsFault old new fault
 
 -- The output's count of failures rises by one with the answer Write, and stays with each other.
 abbrev pub CountsWrite : {T : Type 0} → ℕ → ℕ → Result T Fault → Type 0

@@ -5,11 +5,11 @@ ghost use Rattle.raster_core.specs.Rows.{width_of};
 ghost use Rattle.t85_core.specs.Carried.{Carry, begin};
 ghost use Rattle.t85_core.specs.Chosen.{fields_of};
 ghost use Rattle.std.specs.Io.KnownBytes.{append_known};
-ghost use Rattle.t85_core.specs.Converts.{Converts, CountsBoth, Decodes};
+ghost use Rattle.t85_core.specs.Converts.{Converts, Decodes};
 ghost use Rattle.t85_core.specs.Stream.{held_of};
 ghost use Rattle.t85_core.specs.Decoding.{pair_of, IsCarried, IsFirst, CodeBegun, CodeRead, CodeCut, StripeMore, NoStripeMore, ImageRead, ImageCut};
 ghost use Rattle.t85_core.specs.Entity.{entity_known};
-ghost use Rattle.t85_core.specs.Walk.{CountsRead, CountsWrite};
+ghost use Rattle.t85_core.specs.Walk.{CountsBoth, CountsRead, CountsWrite};
 ghost use Rattle.t85_core.specs.declared.fault.Fault.TheVariants.{Read, Write};
 
 use crate::entity::Entity;

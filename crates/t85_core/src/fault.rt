@@ -1,8 +1,9 @@
-//! Why a stream is refused, or a call ended early.
+//! Why a stream, an image or a choice of options is refused, or a call ended early.
 
 ghost use Rattle.std.specs.Prelude.{◌≡◌};
 ghost use Rattle.t85_core.specs.Fault.{number_of};
 
+use pbm_core::PbmFault;
 use thiserror::Error;
 
 #[derive(Clone, Copy, Debug, PartialEq, Eq, Error)]
@@ -41,8 +42,18 @@ pub enum Fault {
     Write,
     #[error("out of memory")]
     OutOfMemory,
+    #[error("options field has a bit outside 0x68")]
+    OptionBits,
+    #[error("stripe length is zero")]
+    StripeZero,
+    #[error("-m is above 127")]
+    MoveLarge,
+    #[error("comment is too long")]
+    CommentLong,
     #[error("not built yet")]
     NotYet,
+    #[error("{0}")]
+    Pbm(PbmFault),
 }
 
 impl Fault {
@@ -68,7 +79,12 @@ impl Fault {
             Fault::Read => 17,
             Fault::Write => 18,
             Fault::OutOfMemory => 19,
+            Fault::OptionBits => 20,
+            Fault::StripeZero => 21,
+            Fault::MoveLarge => 22,
+            Fault::CommentLong => 26,
             Fault::NotYet => 27,
+            Fault::Pbm(fault) => 30 + fault.number(),
         }
     }
 }

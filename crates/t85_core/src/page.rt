@@ -1,6 +1,6 @@
 //! An output's bytes, held back in a fixed array and handed on together.
 
-ghost use Rattle.std.specs.Prelude.{◌≡◌, ◌≤◌, ◌<◌, ◌-◌, ◌^◌, ℕ, List, Option, length, take, OnOk, OnErr, IfErr};
+ghost use Rattle.std.specs.Prelude.{◌≡◌, ◌≤◌, ◌<◌, ◌-◌, ◌^◌, ◌∷◌, [], ℕ, List, Option, length, take, OnOk, OnErr, IfErr};
 ghost use Rattle.std.specs.Io.KnownBytes.{Appends, Keeps, append_known};
 ghost use Rattle.pbm_core.specs.Device.{AppendsBeginning, Counts};
 ghost use Rattle.t85_core.specs.declared.fault.Fault.TheVariants.{Write};
@@ -12,7 +12,7 @@ use pbm_core::{DeviceFailed, Output};
 
 const SIZE: usize = 4096;
 
-/// Where the rows of an image go.
+/// Where the bytes of an image or of a stream go.
 pub trait Sheet {
     /// The bytes that it has taken, behind those that stood there, where the writer tells them.
     ghost text: { Self → Option (List ℕ) };
@@ -31,6 +31,27 @@ pub trait Sheet {
         ensures cut { OnErr result (AppendsBeginning (text self.old) (text self.new) bytes.now) }
         ensures counts { CountsWrite (failures self.old) (failures self.new) result }
         ensures same_target { target self.new ≡ target self.old };
+
+    /// Takes a byte, or fails and leaves it out.
+    fn push(&mut self, byte: u8) -> Result<(), Fault>
+        requires { failures self.old < 2 ^ 64 - 1 }
+        ensures ok { OnOk result (Appends (text self.old) (text self.new) (byte ∷ [])) }
+        ensures err { IfErr result (λ f. f ≡ Write) }
+        ensures kept { OnErr result (Keeps (text self.old) (text self.new)) }
+        ensures counts { CountsWrite (failures self.old) (failures self.new) result }
+        ensures same_target { target self.new ≡ target self.old };
+
+    /// Sends on what it holds.
+    fn send(&mut self) -> Result<(), Fault>
+        requires { failures self.old < 2 ^ 64 - 1 }
+        ensures text { Keeps (text self.old) (text self.new) }
+        ensures err { IfErr result (λ f. f ≡ Write) }
+        ensures counts { CountsWrite (failures self.old) (failures self.new) result }
+        ensures same_target { target self.new ≡ target self.old };
+
+    /// How often the writer has failed.
+    fn failures(&self) -> u64
+        ensures { result ≡ failures self.now };
 }
 
 /// Bytes are handed on where the array is full, and by `hand_on`.
@@ -138,5 +159,22 @@ impl<W: Output> Sheet for Page<'_, W> {
             taken += self.fill(&bytes[taken..]);
         }
         Ok(())
+    }
+
+    fn push(&mut self, byte: u8) -> Result<(), Fault> {
+        if self.end == SIZE {
+            self.hand_on()?;
+        }
+        self.bytes[self.end] = byte;
+        self.end += 1;
+        Ok(())
+    }
+
+    fn send(&mut self) -> Result<(), Fault> {
+        self.hand_on()
+    }
+
+    fn failures(&self) -> u64 {
+        self.output.failures()
     }
 }

@@ -3,6 +3,7 @@
 ghost use Rattle.std.specs.Prelude.{◌<◌};
 
 use super::*;
+use pbm_core::PbmFault;
 use pbm_core::trial::{Drip, Pieces};
 use std::test::Fail;
 
@@ -42,6 +43,33 @@ fn faults_have_numbers_and_texts(rt: HostRuntime) -> Result<(), Fail> {
         (Fault::Write, 18, "output cannot be written"),
         (Fault::OutOfMemory, 19, "out of memory"),
         (Fault::NotYet, 27, "not built yet"),
+    ];
+    for (fault, number, text) in faults {
+        assert_eq!(rt; fault.number(), number, "{text}");
+        let shown = format!(in rt.alloc(); "{fault}")?;
+        assert_eq!(rt; shown.as_str(), text);
+    }
+    Ok(())
+}
+
+#[test]
+fn faults_of_options_and_images_have_numbers_and_texts(rt: HostRuntime) -> Result<(), Fail> {
+    let faults = [
+        (
+            Fault::OptionBits,
+            20u8,
+            "options field has a bit outside 0x68",
+        ),
+        (Fault::StripeZero, 21, "stripe length is zero"),
+        (Fault::MoveLarge, 22, "-m is above 127"),
+        (Fault::CommentLong, 26, "comment is too long"),
+        (
+            Fault::Pbm(PbmFault::TooWide),
+            34,
+            "PBM is wider than 1048576",
+        ),
+        (Fault::Pbm(PbmFault::Truncated), 36, "PBM ends too early"),
+        (Fault::Pbm(PbmFault::Read), 37, "input cannot be read"),
     ];
     for (fault, number, text) in faults {
         assert_eq!(rt; fault.number(), number, "{text}");

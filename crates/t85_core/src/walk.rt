@@ -60,17 +60,17 @@ pub struct Head {
 
 const STUFF: u8 = 0;
 
-const SDNORM: u8 = 2;
+pub const SDNORM: u8 = 2;
 
-const SDRST: u8 = 3;
+pub const SDRST: u8 = 3;
 
 const ABORT: u8 = 4;
 
 const NEWLEN: u8 = 5;
 
-const ATMOVE: u8 = 6;
+pub const ATMOVE: u8 = 6;
 
-const COMMENT: u8 = 7;
+pub const COMMENT: u8 = 7;
 
 /// Walks the stream and writes one line of nine numbers: width, height, rows of a stripe, greatest
 /// offset, options, height in use, data entities, moves and comments. Then it flushes once.

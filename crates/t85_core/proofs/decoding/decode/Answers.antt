@@ -2,10 +2,10 @@ use Rattle.std.proofs.Common.{rules, ◌≢◌, ◌∙◌, ap, subst}
 use Rattle.std.specs.Prelude.{OnOk, IfErr}
 use Rattle.std.specs.Io.KnownBytes.{prepend_known}
 use Rattle.t85_core.specs.Chosen.{fields_of}
-use Rattle.t85_core.specs.Converts.{Decodes, CountsBoth}
+use Rattle.t85_core.specs.Converts.{Decodes}
 use Rattle.t85_core.specs.Decoding.{ImageRead, ImageCut}
 use Rattle.t85_core.specs.Stream.{held_of}
-use Rattle.t85_core.specs.Walk.{CountsWrite}
+use Rattle.t85_core.specs.Walk.{CountsBoth, CountsWrite}
 use Rattle.t85_core.specs.declared.fault.Fault.TheVariants.{Write}
 use Rattle.t85_core.proofs.Held.{known_unheld}
 use Rattle.t85_core.proofs.PagePut.{text_unheld}

@@ -5,8 +5,8 @@ use Rattle.raster_core.proofs.Choosing.{IsBest, chosen_some, chosen_none}
 use Rattle.raster_core.proofs.tally.Tally.choose.Goals as goal
 use Rattle.raster_core.proofs.tally.Tally.choose.Goals.{then-self, else-self}
 
-pub returns-then-saturating_sub-eighth : goal.returns-then-saturating_sub-eighth
-returns-then-saturating_sub-eighth c width rows k =
+pub returns-then-saturating_sub-eighth-clause-chosen : goal.returns-then-saturating_sub-eighth-clause-chosen
+returns-then-saturating_sub-eighth-clause-chosen c width rows k =
     let t : Tally = c.args.self.now in
     let least_is : c.if-self.least ≡ least_lag t.two_line =
     elim c.if-self.branch [
@@ -21,8 +21,8 @@ returns-then-saturating_sub-eighth c width rows k =
     } in
     chosen_some t width c.args.offset rows c.loop-lag.best k best (omega (arith, c.saturating_sub.ensures, c.if-saturating_sub-eighth.true))
 
-pub returns-else-saturating_sub-eighth : goal.returns-else-saturating_sub-eighth
-returns-else-saturating_sub-eighth c width rows k =
+pub returns-else-saturating_sub-eighth-clause-chosen : goal.returns-else-saturating_sub-eighth-clause-chosen
+returns-else-saturating_sub-eighth-clause-chosen c width rows k =
     let t : Tally = c.args.self.now in
     let least_is : c.if-self.least ≡ least_lag t.two_line =
     elim c.if-self.branch [

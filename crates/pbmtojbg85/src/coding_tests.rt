@@ -1,0 +1,429 @@
+//! Images through `run`, with each device failing in turn.
+
+use crate::NAME;
+use crate::trial::{has_left, image_of, run_into, run_on};
+use crate::words::job;
+use crate::work::Job;
+use program_core::trial::{
+    Devices, FAILING_FLUSH, SMOOTH, bytes_of, failing_read, failing_write, has_told,
+};
+use std::alloc::{AllocError, Global};
+use std::test::Fail;
+
+const SIZES: [usize; 6] = [1, 2, 3, 4095, 4096, 4097];
+
+/// The options, the size and the rows of an image, and its stream.
+const CODED: [(&[&str], &str, &str, &str); 20] = [
+    (
+        &[],
+        "8 1",
+        "00",
+        "00000100 00000008 00000001 00000080 00 0000 08 FF02",
+    ),
+    (
+        &["-p", "0"],
+        "8 1",
+        "00",
+        "00000100 00000008 00000001 00000080 00 0000 00 60 FF02",
+    ),
+    (
+        &["-p", "0"],
+        "1 1",
+        "80",
+        "00000100 00000001 00000001 00000080 00 0000 00 C0 FF02",
+    ),
+    (
+        &[],
+        "1 1",
+        "80",
+        "00000100 00000001 00000001 00000080 00 0000 08 E0 FF02",
+    ),
+    (
+        &["-p", "0"],
+        "8 1",
+        "FF",
+        "00000100 00000008 00000001 00000080 00 0000 00 F0 FF02",
+    ),
+    (
+        &[],
+        "8 1",
+        "FF",
+        "00000100 00000008 00000001 00000080 00 0000 08 F8 FF02",
+    ),
+    (
+        &["-p", "0"],
+        "3 3",
+        "E0 E0 E0",
+        "00000100 00000003 00000003 00000080 00 0000 00 FF00 C0 FF02",
+    ),
+    (
+        &[],
+        "8 3",
+        "00 00 00",
+        "00000100 00000008 00000003 00000080 00 0000 08 FF02",
+    ),
+    (
+        &["-s", "1"],
+        "1 2",
+        "80 80",
+        "00000100 00000001 00000002 00000001 00 0000 08 E0 FF02 E0 FF02",
+    ),
+    (
+        &["-s", "1", "-r"],
+        "1 2",
+        "80 80",
+        "00000100 00000001 00000002 00000001 00 0000 08 E0 FF03 E0 FF03",
+    ),
+    (
+        &["-p", "64"],
+        "2 3",
+        "C0 C0 C0",
+        "00000100 00000002 00000003 00000080 00 0000 40 F8 FF02",
+    ),
+    (
+        &["-p", "0"],
+        "2 3",
+        "C0 C0 C0",
+        "00000100 00000002 00000003 00000080 00 0000 00 FE FF02",
+    ),
+    (
+        &["-p", "0", "-s", "1", "-m", "3"],
+        "8 2",
+        "FF FF",
+        "00000100 00000008 00000002 00000001 03 0000 00 F0 FF02 FF06 00000000 0300 F8 FF02",
+    ),
+    (
+        &["-C", "hi"],
+        "8 1",
+        "00",
+        "00000100 00000008 00000001 00000080 00 0000 08 FF07 00000002 6869 FF02",
+    ),
+    (
+        &["-p", "0", "-C", "hi"],
+        "8 1",
+        "00",
+        "00000100 00000008 00000001 00000080 00 0000 00 FF07 00000002 6869 60 FF02",
+    ),
+    (
+        &["-p", "0", "-C", ""],
+        "8 1",
+        "00",
+        "00000100 00000008 00000001 00000080 00 0000 00 FF07 00000000 60 FF02",
+    ),
+    (
+        &["-p", "0", "-s", "1"],
+        "1 2",
+        "80 80",
+        "00000100 00000001 00000002 00000001 00 0000 00 C0 FF02 C0 FF02",
+    ),
+    (
+        &["-p", "0", "-s", "1", "-r"],
+        "8 2",
+        "FF FF",
+        "00000100 00000008 00000002 00000001 00 0000 00 F0 FF03 F0 FF03",
+    ),
+    (
+        &["-p", "0", "-s", "1", "-m", "3", "-r"],
+        "8 3",
+        "FF FF FF",
+        "00000100 00000008 00000003 00000001 03 0000 00 F0 FF03 FF06 00000000 0300 F8 FF03 FF06 00000000 0300 F8 FF03",
+    ),
+    (
+        &["-p", "0", "-s", "1", "-m", "2", "-r"],
+        "8 2",
+        "FF FF",
+        "00000100 00000008 00000002 00000001 02 0000 00 F0 FF03 F0 FF03",
+    ),
+];
+
+/// The job that these options ask for.
+fn job_with(alloc: Global, options: &[&str]) -> Result<Job, Fail> {
+    let mut words = Vec::new(alloc);
+    words.push("pbmtojbg85")?;
+    for option in options {
+        words.push(*option)?;
+    }
+    match job(alloc, words.as_slice()) {
+        Ok(job) => Ok(job),
+        Err(_) => Err(Fail::from("the line was refused")),
+    }
+}
+
+/// The image of this size and these rows.
+fn pbm_of(alloc: Global, size: &str, rows: &str) -> Result<Vec<u8>, AllocError> {
+    let header = format!(in alloc; "P4\n{size}\n")?;
+    let mut image = header.as_bytes().to_vec(alloc)?;
+    image.extend_from_slice(bytes_of(alloc, rows)?.as_slice())?;
+    Ok(image)
+}
+
+#[test]
+fn writes_each_stream(rt: HostRuntime) -> Result<(), Fail> {
+    let alloc = rt.alloc();
+    for (options, size, rows, hex) in CODED {
+        let job = job_with(alloc, options)?;
+        let image = pbm_of(alloc, size, rows)?;
+        let stream = bytes_of(alloc, hex)?;
+        for most in SIZES {
+            let ran = run_on(alloc, &job, &image, Devices { most, ..SMOOTH })?;
+            assert!(rt; has_left(alloc, &ran, &stream, None)?, "{hex}");
+        }
+        assert!(rt; image_of(alloc, &stream)? == image, "{hex}");
+    }
+    Ok(())
+}
+
+/// Bits behind the last pixel of a row stay out of the code, and comments of the header are passed.
+#[test]
+fn leaves_padding_out(rt: HostRuntime) -> Result<(), Fail> {
+    let alloc = rt.alloc();
+    let job = job_with(alloc, ["-p", "0"].as_slice())?;
+    let stream = bytes_of(
+        alloc,
+        "00000100 00000003 00000002 00000080 00 0000 00 60 FF02",
+    )?;
+    for most in SIZES {
+        let image = b"P4\n#x\n3 2\n\x1F\x1F";
+        let ran = run_on(alloc, &job, image, Devices { most, ..SMOOTH })?;
+        assert!(rt; has_left(alloc, &ran, &stream, None)?, "{most}");
+    }
+    assert!(rt; image_of(alloc, &stream)? == pbm_of(alloc, "3 2", "00 00")?);
+    Ok(())
+}
+
+/// What stands behind the last row is no part of the image.
+#[test]
+fn leaves_the_rest(rt: HostRuntime) -> Result<(), Fail> {
+    let alloc = rt.alloc();
+    for (options, size, rows, hex) in CODED {
+        let job = job_with(alloc, options)?;
+        let mut image = pbm_of(alloc, size, rows)?;
+        image.extend_from_slice(b"P4\n1 1\n\xFF")?;
+        let ran = run_on(alloc, &job, &image, SMOOTH)?;
+        assert!(rt;
+            has_left(alloc, &ran, &bytes_of(alloc, hex)?, None)?,
+            "{hex}"
+        );
+    }
+    Ok(())
+}
+
+/// Images that are refused, and the text of the fault: nothing is written.
+const REFUSED: [(&[u8], &str); 9] = [
+    (b"", "PBM ends too early"),
+    (b"P4 1", "PBM ends too early"),
+    (b"P5\n1 1\n", "input is not a raw PBM"),
+    (b"P4 1x", "bad number in the PBM header"),
+    (b"P4\n0 1\n", "PBM width or height is zero"),
+    (b"P4\n1048577 1\n", "PBM is wider than 1048576"),
+    (b"P4 1 4294967296 ", "PBM is taller than 4294967295"),
+    (b"P4 1 1#", "PBM ends too early"),
+    (b"P4 1 #", "PBM ends too early"),
+];
+
+#[test]
+fn refuses_images(rt: HostRuntime) -> Result<(), Fail> {
+    let alloc = rt.alloc();
+    let job = job_with(alloc, [].as_slice())?;
+    for (image, text) in REFUSED {
+        for most in SIZES {
+            let ran = run_on(alloc, &job, image, Devices { most, ..SMOOTH })?;
+            assert!(rt; has_left(alloc, &ran, b"", Some(text))?, "{text}");
+        }
+    }
+    Ok(())
+}
+
+/// The height may not change yet: this is told behind the header of the image.
+#[test]
+fn is_not_built_yet(rt: HostRuntime) -> Result<(), Fail> {
+    let alloc = rt.alloc();
+    let job = job_with(alloc, ["-p", "32"].as_slice())?;
+    let ran = run_on(alloc, &job, b"P4\n8 1\n\xFF", SMOOTH)?;
+    assert!(rt; has_left(alloc, &ran, b"", Some("not built yet"))?);
+    let ran = run_on(alloc, &job, b"P4\n0 1\n", SMOOTH)?;
+    assert!(rt; has_left(alloc, &ran, b"", Some("PBM width or height is zero"))?);
+    Ok(())
+}
+
+/// After so many of the image's rows the input ends, or can't be read: so much of the stream stands, by stripes.
+const CUTS: [(&[&str], &str, &str, &str, &[usize]); 3] = [
+    (
+        &["-s", "1"],
+        "1 2",
+        "80 80",
+        "00000100 00000001 00000002 00000001 00 0000 08 E0 FF02 E0 FF02",
+        &[20, 23],
+    ),
+    (
+        &["-p", "0", "-s", "1", "-m", "3"],
+        "8 2",
+        "FF FF",
+        "00000100 00000008 00000002 00000001 03 0000 00 F0 FF02 FF06 00000000 0300 F8 FF02",
+        &[20, 31],
+    ),
+    (
+        &["-p", "0", "-s", "1", "-C", "hi"],
+        "8 2",
+        "FF FF",
+        "00000100 00000008 00000002 00000001 00 0000 00 FF07 00000002 6869 F0 FF02 F4 FF02",
+        &[28, 31],
+    ),
+];
+
+#[test]
+fn cut_at_each_row(rt: HostRuntime) -> Result<(), Fail> {
+    let alloc = rt.alloc();
+    for (options, size, rows, hex, stands) in CUTS {
+        let job = job_with(alloc, options)?;
+        let image = pbm_of(alloc, size, rows)?;
+        let stream = bytes_of(alloc, hex)?;
+        let header = image.len().saturating_sub(stands.len());
+        for (row, count) in stands.iter().enumerate() {
+            let came = header.saturating_add(row);
+            assert!(rt; came <= image.len() && *count <= stream.len());
+            let written = &stream[..*count];
+            for most in SIZES {
+                let ran = run_on(alloc, &job, &image[..came], Devices { most, ..SMOOTH })?;
+                let text = "PBM ends too early";
+                assert!(rt;
+                    has_left(alloc, &ran, written, Some(text))?,
+                    "{came} of {hex}"
+                );
+            }
+            let ran = run_on(alloc, &job, &image, failing_read(came as u64 + 1))?;
+            let text = "input cannot be read";
+            assert!(rt;
+                has_left(alloc, &ran, written, Some(text))?,
+                "{came} of {hex}"
+            );
+        }
+    }
+    Ok(())
+}
+
+/// Each read of each image fails in turn, and one read more is never asked for.
+#[test]
+fn each_read_fails(rt: HostRuntime) -> Result<(), Fail> {
+    let alloc = rt.alloc();
+    for (options, size, rows, hex) in CODED {
+        let job = job_with(alloc, options)?;
+        let image = pbm_of(alloc, size, rows)?;
+        let header = pbm_of(alloc, size, "")?;
+        let stream = bytes_of(alloc, hex)?;
+        for at in 0..image.len() {
+            let ran = run_on(alloc, &job, &image, failing_read(at as u64 + 1))?;
+            let count = ran.output.len();
+            assert!(rt; count <= stream.len());
+            assert!(rt;
+                if at < header.len() {
+                    count == 0
+                } else {
+                    count >= 20
+                }
+            );
+            let text = "input cannot be read";
+            assert!(rt;
+                has_left(alloc, &ran, &stream[..count], Some(text))?,
+                "{at} reads for {hex}"
+            );
+        }
+        let ran = run_on(alloc, &job, &image, failing_read(image.len() as u64 + 1))?;
+        assert!(rt; has_left(alloc, &ran, &stream, None)?, "{hex}");
+    }
+    Ok(())
+}
+
+/// Each write of each stream fails in turn, and one write more is never asked for.
+#[test]
+fn each_write_fails(rt: HostRuntime) -> Result<(), Fail> {
+    let alloc = rt.alloc();
+    for (options, size, rows, hex) in CODED {
+        let job = job_with(alloc, options)?;
+        let image = pbm_of(alloc, size, rows)?;
+        let stream = bytes_of(alloc, hex)?;
+        for at in 0..stream.len() {
+            let ran = run_on(alloc, &job, &image, failing_write(at as u64 + 1))?;
+            let text = "output cannot be written";
+            assert!(rt;
+                has_left(alloc, &ran, &stream[..at], Some(text))?,
+                "{at} writes of {hex}"
+            );
+        }
+        let ran = run_on(alloc, &job, &image, failing_write(stream.len() as u64 + 1))?;
+        assert!(rt; has_left(alloc, &ran, &stream, None)?, "{hex}");
+    }
+    Ok(())
+}
+
+/// A flush is asked for behind a whole stream alone.
+#[test]
+fn flush_fails(rt: HostRuntime) -> Result<(), Fail> {
+    let alloc = rt.alloc();
+    for (options, size, rows, hex) in CODED {
+        let job = job_with(alloc, options)?;
+        let image = pbm_of(alloc, size, rows)?;
+        let stream = bytes_of(alloc, hex)?;
+        let ran = run_on(alloc, &job, &image, FAILING_FLUSH)?;
+        let text = "output cannot be written";
+        assert!(rt; has_left(alloc, &ran, &stream, Some(text))?, "{hex}");
+        let cut = image.len().saturating_sub(1);
+        let ran = run_on(alloc, &job, &image[..cut], FAILING_FLUSH)?;
+        assert!(rt;
+            has_told(alloc, &ran, NAME, Some("PBM ends too early"))?,
+            "{hex}"
+        );
+    }
+    Ok(())
+}
+
+/// Stripes of one pixel that each end in a reset, so that each is the code of a black or of a white pixel alone: more
+/// rows than a buffer holds, and a stream of more bytes.
+#[test]
+fn writes_a_tall_image(rt: HostRuntime) -> Result<(), Fail> {
+    let alloc = rt.alloc();
+    let job = job_with(alloc, ["-s", "1", "-r"].as_slice())?;
+    let mut stream = bytes_of(alloc, "00000100 00000001 00001770 00000001 00 0000 08")?;
+    let mut image = pbm_of(alloc, "1 6000", "")?;
+    for row in 0..6000u32 {
+        if row % 3 == 0 || row % 7 == 2 {
+            stream.extend_from_slice(b"\xE0\xFF\x03")?;
+            image.push(0x80)?;
+        } else {
+            stream.extend_from_slice(b"\xFF\x03")?;
+            image.push(0)?;
+        }
+    }
+    for most in SIZES {
+        let mut held = [0; 24576];
+        let devices = Devices { most, ..SMOOTH };
+        let ran = run_into(alloc, &job, &image, devices, &mut held)?;
+        assert!(rt; has_left(alloc, &ran, &stream, None)?, "{most}");
+    }
+    assert!(rt; image_of(alloc, &stream)? == image);
+    Ok(())
+}
+
+/// A comment of more bytes than the buffer holds.
+#[test]
+fn writes_a_long_comment(rt: HostRuntime) -> Result<(), Fail> {
+    let alloc = rt.alloc();
+    let mut comment = String::new(alloc);
+    let mut stream = bytes_of(
+        alloc,
+        "00000100 00000008 00000001 00000080 00 0000 00 FF07 00001388",
+    )?;
+    for _ in 0..5000u32 {
+        comment.push('A')?;
+        stream.push(0x41)?;
+    }
+    stream.extend_from_slice(b"\x60\xFF\x02")?;
+    let job = job_with(alloc, ["-p", "0", "-C", comment.as_str()].as_slice())?;
+    for most in SIZES {
+        let mut held = [0; 6144];
+        let devices = Devices { most, ..SMOOTH };
+        let ran = run_into(alloc, &job, b"P4\n8 1\n\0", devices, &mut held)?;
+        assert!(rt; has_left(alloc, &ran, &stream, None)?, "{most}");
+    }
+    Ok(())
+}

@@ -1,0 +1,56 @@
+//! Turns a raw PBM image into a JBIG1 image.
+#![tactic(auto)]
+
+#[cfg(test)]
+mod coding_tests;
+mod run;
+#[cfg(test)]
+mod tests;
+#[cfg(test)]
+mod trial;
+mod words;
+mod work;
+
+use pbm_core::{FromRead, ToWrite};
+use program_core::{LineFault, open_files, refuse, words_of};
+use run::run;
+use std::io::BufReader;
+use std::process::ExitCode;
+use t85_core::Fault;
+use words::job;
+use work::Job;
+
+const NAME: &str = "pbmtojbg85";
+
+/// How many bytes of the input are read at once.
+const HELD: usize = 4096;
+
+/// Opens the files, and does the job.
+fn perform(rt: &HostRuntime, job: &Job) -> ExitCode {
+    let (input, output) = match open_files(rt, NAME, &job.input, &job.output) {
+        Ok(files) => files,
+        Err(code) => return code,
+    };
+    let Ok(input) = BufReader::with_capacity(rt.alloc(), HELD, input) else {
+        return refuse(rt, NAME, LineFault::Fault(Fault::OutOfMemory));
+    };
+    let status = run(
+        rt.alloc(),
+        job,
+        &mut FromRead::new(input),
+        &mut ToWrite::new(output),
+        &mut ToWrite::new(rt.stderr()),
+    );
+    ExitCode::from(status)
+}
+
+fn main(rt: HostRuntime) -> ExitCode {
+    let words = match words_of(&rt, NAME) {
+        Ok(words) => words,
+        Err(code) => return code,
+    };
+    match job(rt.alloc(), words.as_slice()) {
+        Ok(job) => perform(&rt, &job),
+        Err(fault) => refuse(&rt, NAME, fault),
+    }
+}

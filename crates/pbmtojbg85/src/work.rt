@@ -1,0 +1,23 @@
+//! What the words ask for.
+
+ghost use Rattle.std.specs.Prelude.{◌≡◌, None, option_map, string_bytes};
+ghost use Rattle.t85_core.specs.Options.{refusal_of};
+
+/// What the words ask for, with options that are accepted.
+#[derive(Debug, Drop)]
+pub struct Job {
+    /// The options byte of the stream.
+    pub p: u32,
+    /// The rows of a stripe.
+    pub s: u32,
+    /// The greatest offset of the adaptive pixel.
+    pub m: u32,
+    /// Whether each stripe ends in a reset.
+    pub reset: bool,
+    pub comment: Option<String>,
+    /// The input file; standard input without one, or with `-`.
+    pub input: Option<String>,
+    /// The output file; standard output without one, or with `-`.
+    pub output: Option<String>,
+    ghost accepted: { refusal_of p s m (option_map string_bytes comment) ≡ None },
+}

@@ -1,0 +1,79 @@
+//! What is read and written: a named file, or a standard stream.
+
+ghost use Rattle.std.specs.Prelude.{◌≡◌, ◌≤◌, length, IfOk, OnErr, option_map, string_bytes, true};
+ghost use Rattle.program_core.specs.Files.{names_file, reads_file, writes_file};
+
+use std::fs::{self, File};
+use std::io::{self, Read, Stdin, Stdout, Write};
+
+/// The name that stands for a standard stream.
+const STREAM: &str = "-";
+
+#[derive(Drop)]
+pub enum Readable {
+    Stream(Stdin),
+    File(File),
+}
+
+impl Readable {
+    /// The standard input where there is no name or `-`, else the file of that name.
+    pub fn open(rt: &HostRuntime, name: &Option<String>) -> io::Result<Readable>
+        ensures chosen { IfOk result (λ input. reads_file input ≡ names_file (option_map string_bytes name.now)) }
+        ensures fails { OnErr result (names_file (option_map string_bytes name.now) ≡ true) }
+    {
+        match name {
+            Some(name) if name.as_str() != STREAM => Ok(Readable::File(fs::open(
+                rt,
+                name.as_str(),
+            )?)),
+            _ => Ok(Readable::Stream(rt.stdin())),
+        }
+    }
+}
+
+impl Read for Readable {
+    fn read(&mut self, buf: &mut [u8]) -> io::Result<usize> {
+        match self {
+            Readable::Stream(stream) => stream.read(buf),
+            Readable::File(file) => file.read(buf),
+        }
+    }
+}
+
+#[derive(Drop)]
+pub enum Writable {
+    Stream(Stdout),
+    File(File),
+}
+
+impl Writable {
+    /// The standard output where there is no name or `-`, else the file of that name, emptied.
+    pub fn create(rt: &HostRuntime, name: &Option<String>) -> io::Result<Writable>
+        ensures chosen { IfOk result (λ output. writes_file output ≡ names_file (option_map string_bytes name.now)) }
+        ensures fails { OnErr result (names_file (option_map string_bytes name.now) ≡ true) }
+    {
+        match name {
+            Some(name) if name.as_str() != STREAM => Ok(Writable::File(fs::create(
+                rt,
+                name.as_str(),
+            )?)),
+            _ => Ok(Writable::Stream(rt.stdout())),
+        }
+    }
+}
+
+impl Write for Writable {
+    fn write(&mut self, buf: &[u8]) -> io::Result<usize> {
+        match self {
+            Writable::Stream(stream) => stream.write(buf),
+            Writable::File(file) => file.write(buf),
+        }
+    }
+
+    fn flush(&mut self) -> io::Result<()> {
+        match self {
+            Writable::Stream(stream) => stream.flush(),
+            Writable::File(file) => file.flush(),
+        }
+    }
+}

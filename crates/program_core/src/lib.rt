@@ -1,0 +1,17 @@
+//! What the two programs share: their files, the line about a fault, and what clap's matches say.
+#![tactic(auto)]
+
+mod args;
+mod files;
+mod line_fault;
+mod matches;
+mod message;
+mod program;
+pub mod trial;
+
+pub use args::{default_arg, file_arg, flag_arg, number_arg, text_arg};
+pub use files::{Readable, Writable};
+pub use line_fault::{LineFault, fault_of};
+pub use matches::{flag, matches_of, number, text};
+pub use message::{Message, tell};
+pub use program::{complain, open_files, refuse, words_of};

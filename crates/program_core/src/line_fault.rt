@@ -1,0 +1,61 @@
+//! Why the words of a command line ask for nothing.
+
+ghost use Rattle.std.specs.Prelude.{◌≡◌};
+ghost use Rattle.clap.specs.Words.{kind_of};
+ghost use Rattle.t85_core.specs.declared.fault.Fault.TheVariants as fault;
+ghost use Rattle.program_core.specs.Line.{Tells, status_of};
+ghost use Rattle.program_core.specs.declared.line_fault.LineFault.TheVariants as line_fault;
+
+use clap::error::ErrorKind;
+use std::alloc::{AllocError, Global};
+use t85_core::Fault;
+
+/// Why the words give no job.
+#[derive(Debug, Drop)]
+pub enum LineFault {
+    /// The text of the help.
+    Help(String),
+    /// The text on a mistake in the words.
+    Usage(String),
+    Fault(Fault),
+}
+
+impl LineFault {
+    /// The exit status: 0 for help, 1 for want of memory, 2 for a mistake.
+    pub fn status(&self) -> u8
+        ensures { result ≡ status_of self.now }
+    {
+        match self {
+            LineFault::Help(_) => 0,
+            LineFault::Usage(_) => 2,
+            LineFault::Fault(Fault::OutOfMemory) => 1,
+            LineFault::Fault(_) => 2,
+        }
+    }
+}
+
+impl From<AllocError> for LineFault {
+    ghost from_gives = { λ _ e. e ≡ line_fault.Fault fault.OutOfMemory };
+
+    fn from(_error: AllocError) -> LineFault {
+        LineFault::Fault(Fault::OutOfMemory)
+    }
+}
+
+/// What is answered for an error of clap.
+pub fn fault_of(alloc: Global, error: clap::Error) -> LineFault
+    ensures { Tells (kind_of error) result }
+{
+    let kind = error.kind();
+    if kind == ErrorKind::OutOfMemory {
+        return LineFault::Fault(Fault::OutOfMemory);
+    }
+    let Ok(text) = format!(in alloc; "{error}") else {
+        return LineFault::Fault(Fault::OutOfMemory);
+    };
+    if kind == ErrorKind::DisplayHelp {
+        LineFault::Help(text)
+    } else {
+        LineFault::Usage(text)
+    }
+}

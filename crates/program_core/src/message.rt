@@ -1,0 +1,60 @@
+//! A line for standard error.
+
+ghost use Rattle.std.specs.Prelude.{◌≡◌, ◌≤◌, ◌<◌, ◌+◌, ◌-◌, ◌^◌, ◌++◌, [], take};
+
+use pbm_core::{Output, write_bytes};
+use std::fmt::{self, Write};
+use t85_core::Fault;
+
+const ROOM: usize = 128;
+
+/// A text while it is made. What finds no room is left out.
+#[derive(Drop)]
+pub struct Message {
+    bytes: [u8; 128],
+    len: usize,
+    ghost within: { len ≤ 128 },
+}
+
+impl Message {
+    ghost use Rattle.program_core.specs.Message.{told};
+
+    pub fn new() -> Message
+        ensures { told result ≡ [] }
+    {
+        Message {
+            bytes: [0; ROOM],
+            len: 0,
+        }
+    }
+
+    pub fn as_bytes(&self) -> &[u8]
+        ensures { result.now ≡ told self.now }
+    {
+        &self.bytes[..self.len]
+    }
+}
+
+impl fmt::Write for Message {
+    ghost use Rattle.program_core.specs.Message.{told};
+
+    ghost write_str_gives = { λ old text new. told new ≡ take 128 (told old ++ text) };
+
+    fn write_str(&mut self, text: &str) -> fmt::Result {
+        let count = text.len().min(ROOM - self.len);
+        let end = self.len + count;
+        self.bytes[self.len..end].copy_from_slice(&text.as_bytes()[..count]);
+        self.len = end;
+        Ok(())
+    }
+}
+
+/// Writes a program's line about a fault, in one write where the output takes it.
+pub fn tell<M: Output>(program: &str, fault: Fault, messages: &mut M)
+    requires { M.failures messages.old < 2 ^ 64 - 1 }
+    ensures { M.failures messages.new ≤ M.failures messages.old + 1 }
+{
+    let mut message = Message::new();
+    let _ = writeln!(message, "{program}: {fault}");
+    let _ = write_bytes(messages, message.as_bytes());
+}

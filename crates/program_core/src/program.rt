@@ -1,0 +1,78 @@
+//! How a program begins, and how it ends.
+
+ghost use Rattle.std.specs.Prelude.{◌≡◌, ◌⊎◌, IfErr};
+ghost use Rattle.std.specs.Process.{exit_status};
+ghost use Rattle.program_core.specs.Line.{IsHelp, status_of};
+
+use crate::files::{Readable, Writable};
+use crate::line_fault::LineFault;
+use std::io;
+use std::process::ExitCode;
+use t85_core::Fault;
+
+/// Tells why a program ends.
+pub fn complain(rt: &HostRuntime, program: &str, text: &str, status: u8) -> ExitCode
+    ensures { exit_status result ≡ status }
+{
+    let _ = rt.eprintln(format_args!("{program}: {text}"));
+    ExitCode::from(status)
+}
+
+/// Shows why the words give no job. Help goes to standard output; where that fails, it is a fault.
+pub fn refuse(rt: &HostRuntime, program: &str, fault: LineFault) -> ExitCode
+    ensures { (exit_status result ≡ status_of fault) ⊎ (IsHelp fault × (exit_status result ≡ 1)) }
+{
+    let status = fault.status();
+    match fault {
+        LineFault::Help(text) => {
+            if rt.print(text).is_err() {
+                return complain(rt, program, "output cannot be written", 1);
+            }
+        }
+        LineFault::Usage(text) => {
+            let _ = rt.eprint(text);
+        }
+        LineFault::Fault(fault) => {
+            let _ = rt.eprintln(format_args!("{program}: {fault}"));
+        }
+    }
+    ExitCode::from(status)
+}
+
+/// The words of the command line; where there are none to be had, that was told, and the program ends.
+pub fn words_of(rt: &HostRuntime, program: &str) -> Result<Vec<String>, ExitCode>
+    ensures { IfErr result (λ e. (exit_status e ≡ 1) ⊎ (exit_status e ≡ 2)) }
+{
+    let words = match std::env::args(rt) {
+        Ok(words) => words,
+        Err(error) => {
+            if error.kind() == io::ErrorKind::OutOfMemory {
+                return Err(refuse(rt, program, LineFault::Fault(Fault::OutOfMemory)));
+            }
+            let text = "a word of the command line is no UTF-8";
+            return Err(complain(rt, program, text, 2));
+        }
+    };
+    match words.collect::<Vec<String>>(rt.alloc()) {
+        Ok(words) => Ok(words),
+        Err(_) => Err(refuse(rt, program, LineFault::Fault(Fault::OutOfMemory))),
+    }
+}
+
+/// Opens the input, and then creates or empties the output; where one can't be, that was told, and the program ends.
+pub fn open_files(
+    rt: &HostRuntime,
+    program: &str,
+    input: &Option<String>,
+    output: &Option<String>,
+) -> Result<(Readable, Writable), ExitCode>
+    ensures { IfErr result (λ e. exit_status e ≡ 1) }
+{
+    let Ok(input) = Readable::open(rt, input) else {
+        return Err(complain(rt, program, "input file cannot be opened", 1));
+    };
+    let Ok(output) = Writable::create(rt, output) else {
+        return Err(complain(rt, program, "output file cannot be created", 1));
+    };
+    Ok((input, output))
+}

@@ -1,0 +1,63 @@
+-- A stream with its head, from its stripes.
+use Rattle.std.proofs.Common.{◌≡◌, ℕ, List, ◌++◌, length, map, Option, None, Some, option_to_list, sym, ap, ◌∙◌, subst, append_assoc, append-nil}
+use Rattle.std.specs.Prelude.{◌/◌, flat_map}
+use Rattle.std.specs.Io.KnownBytes.{Appends}
+use Rattle.pbm_core.specs.declared.fault.PbmFault.{PbmFault}
+use Rattle.raster_core.specs.Raster.{Raster, height}
+use Rattle.t85_core.specs.Encodes.{raster_of, BeginsWith}
+use Rattle.t85_core.specs.Encoding.{ImageCoded, ImageShort}
+use Rattle.t85_core.specs.Grammar.{Comment, segment_bytes}
+use Rattle.t85_core.specs.Header.{header_bytes}
+use Rattle.t85_core.specs.Jbg.{Settings, header_of, head_of, stripes_of, stripes_up_to, jbg, jbg_up_to}
+use Rattle.t85_core.specs.Written.{IsBeginning}
+use Rattle.t85_core.proofs.Streams.{Appends-more}
+
+-- a beginning of bytes is one behind the same front
+behind_front : (front a b : List ℕ) → IsBeginning a b → IsBeginning (front ++ a) (front ++ b)
+behind_front front a b i = record { rest = i.rest; bytes_are = ap (λ z. front ++ z) i.bytes_are ∙ sym (append_assoc front a i.rest) }
+
+abbrev comment_of : Option (List ℕ) → List ℕ
+comment_of comment = flat_map segment_bytes (map Comment (option_to_list comment))
+
+-- the header was set out, and no comment is wanted
+pub head_plain : (s : Settings) (width height' : ℕ) (a b : Option (List ℕ)) (bytes : List ℕ) → bytes ≡ header_bytes (header_of s width height') → s.comment ≡ None → Appends a b bytes → Appends a b (head_of s width height')
+head_plain s width height' a b bytes is none put =
+    subst (λ z. Appends a b z) (is ∙ sym (append-nil (header_bytes (header_of s width height'))) ∙ ap (λ o. header_bytes (header_of s width height') ++ comment_of o) (sym none)) put
+
+-- the header was set out, and the comment behind it
+pub head_commented : (s : Settings) (width height' : ℕ) (a b c : Option (List ℕ)) (bytes text : List ℕ) → bytes ≡ header_bytes (header_of s width height') → s.comment ≡ Some text →
+    Appends a b bytes → Appends b c (segment_bytes (Comment text)) → Appends a c (head_of s width height')
+head_commented s width height' a b c bytes text is some put more =
+    subst (λ z. Appends a c (z ++ comment_of s.comment)) is
+    (Appends-more a b c bytes (comment_of s.comment) put
+    (subst (λ z. Appends b c z) (sym (append-nil (segment_bytes (Comment text))) ∙ ap comment_of (sym some)) more))
+
+module _ (s : Settings) (width height' : ℕ) (known known' text mid text' : Option (List ℕ)) (head : Appends text mid (head_of s width height')) where
+  -- all stripes were set out behind the head
+  pub image_headed : ImageCoded width height' (λ raster. stripes_of s raster) known known' mid text' → ImageCoded width height' (λ raster. jbg s raster) known known' text text'
+  image_headed i = record {
+    rows = i.rows;
+    many = i.many;
+    read = i.read;
+    set_out = Appends-more text mid text' (head_of s width (length i.rows)) (stripes_of s (raster_of width i.rows)) (subst (λ n. Appends text mid (head_of s width n)) (sym i.many) head) i.set_out;
+  }
+
+  -- not all were
+  pub short_headed : (fault : PbmFault) → ImageShort s width height' (λ raster n. stripes_up_to s raster n) (λ raster. stripes_of s raster) known known' mid text' fault →
+      ImageShort s width height' (λ raster n. jbg_up_to s raster n) (λ raster. jbg s raster) known known' text text' fault
+  short_headed fault i = record {
+    rows = i.rows;
+    few = i.few;
+    mid = i.mid;
+    read = i.read;
+    part = i.part;
+    bytes = head_of s width height' ++ i.bytes;
+    holds = λ raster b. subst (λ z. IsBeginning (z ++ stripes_up_to s raster (length i.rows / s.stripe_rows)) (head_of s width height' ++ i.bytes)) (same raster b)
+        (behind_front (head_of s width height') (stripes_up_to s raster (length i.rows / s.stripe_rows)) i.bytes (i.holds raster b));
+    begins = λ raster b. subst (λ z. IsBeginning (head_of s width height' ++ i.bytes) (z ++ stripes_of s raster)) (same raster b)
+        (behind_front (head_of s width height') i.bytes (stripes_of s raster) (i.begins raster b));
+    set_out = Appends-more text mid text' (head_of s width height') i.bytes head i.set_out;
+  } where
+    -- the head of each image that is meant
+    same : (raster : Raster) → BeginsWith width height' i.rows raster → head_of s width height' ≡ head_of s raster.width (height raster)
+    same raster b = ap (λ n. head_of s n height') (sym b.width_is) ∙ ap (head_of s raster.width) (sym b.height_is)

@@ -1,0 +1,73 @@
+-- From a header and the rows behind it to what is said of a whole image that was written, or begun.
+use Rattle.std.proofs.Common.{◌≡◌, ◌≢◌, inr, ℕ, Bool, true, List, ◌++◌, length, Option, None, Some, Ok, Err, sym, ◌∙◌, subst}
+use Rattle.std.specs.Prelude.{IfSome, IsErrOf}
+use Rattle.std.specs.Io.KnownBytes.{Consumes, Keeps}
+use Rattle.pbm_core.specs.Outcome.{HasHeader}
+use Rattle.pbm_core.specs.declared.fault.PbmFault.{PbmFault}
+use Rattle.pbm_core.specs.declared.fault.PbmFault.TheVariants as pbm
+use Rattle.t85_core.specs.declared.fault.Fault.{Fault}
+use Rattle.t85_core.specs.declared.fault.Fault.TheVariants.{OutOfMemory, NotYet, Pbm}
+use Rattle.t85_core.specs.Encodes.{raster_of, is_variable, IsEncodeFault, WritesCode, WritesBegun, WritesStream, WritesSome, IsRefused, Encodes, EncodesImage}
+use Rattle.t85_core.specs.Jbg.{Settings, jbg}
+use Rattle.t85_core.specs.Walk.{CountsBoth}
+use Rattle.t85_core.proofs.ImageEncoded.{TakesHeader, told_truncated, among_faults, not_not_yet, not_no_memory}
+use Rattle.t85_core.proofs.Streams.{Appends-keeps, Consumes-more}
+
+module _ (s : Settings) (in_old mid in_new : Option (List ℕ)) (reads_old reads_mid reads_new : ℕ) (out_old out_new : Option (List ℕ)) (writes_old writes_new : ℕ)
+    (width height' : ℕ) (t : TakesHeader in_old mid width height') (fixed : is_variable s ≢ true) (counted : reads_mid ≡ reads_old) where
+  -- rows are missing, or a device failed
+  pub image_broken : (flushed : Bool) (f : Fault) → Encodes s width height' mid in_new reads_mid reads_new out_old out_new writes_old writes_new (Err f) →
+      EncodesImage s in_old in_new reads_old reads_new out_old out_new writes_old writes_new flushed (Err f)
+  image_broken flushed f e = record {
+    whole = tt;
+    flushed_last = tt;
+    built = tt;
+    refused = λ fault read is.
+        (let same : f ≡ Pbm fault = cc in
+        let ended : fault ≡ pbm.Truncated = told_truncated fault (subst IsEncodeFault same e.among) read in
+        refused in_old mid fault ended t.taken (e.short (subst (λ x. IsErrOf {T = Unit {0}} {E = Fault} (Err f) (Pbm x)) ended is)));
+    not_yet = λ is. absurd (not_not_yet (subst IsEncodeFault (let same : f ≡ NotYet = cc in same) e.among));
+    no_memory = λ is. absurd (not_no_memory (subst IsEncodeFault (let same : f ≡ OutOfMemory = cc in same) e.among));
+    unread = λ is. (let u = e.unread is in (t.front ++ u.0, Consumes-more in_old mid in_new t.front u.0 t.taken u.1, inr (some u.0 u.2)));
+    among = among_faults f e.among;
+    reads = subst (λ n. CountsBoth n reads_new (Err f)) counted e.reads;
+    writes = e.writes;
+  } where
+    some : (body : List ℕ) → WritesBegun s width height' body out_old out_new → WritesSome s (t.front ++ body) out_old out_new
+    some body w = record { width = width; height' = height'; body = body; header = t.header body; writes = w }
+
+    refused : (old new : Option (List ℕ)) (fault : PbmFault) → fault ≡ pbm.Truncated → Consumes old new t.front → IfSome new (λ body. WritesBegun s width height' body out_old out_new) → IfSome old (λ bytes. IsRefused s bytes fault out_old out_new)
+    refused None new fault is taken w = tt
+    refused (Some bytes) None fault is taken w = absurd taken
+    refused (Some bytes) (Some body) fault is taken w = inr (is, subst (λ z. WritesSome s z out_old out_new) (sym taken) (some body w))
+
+  -- the stream was written, and flushed
+  pub image_whole : (flushed : Bool) (out_last : Option (List ℕ)) (writes_last : ℕ) → Encodes s width height' mid in_new reads_mid reads_new out_old out_new writes_old writes_new (Ok tt) → Keeps out_new out_last → flushed ≡ true → writes_last ≡ writes_new →
+      EncodesImage s in_old in_new reads_old reads_new out_old out_last writes_old writes_last flushed (Ok tt)
+  image_whole flushed out_last writes_last e keeps last same = record {
+    whole = whole in_old mid t.taken e.whole;
+    flushed_last = last;
+    built = fixed;
+    refused = λ fault _ is. absurd (let bot : ⊥ = cc in bot);
+    not_yet = λ is. absurd (let bot : ⊥ = cc in bot);
+    no_memory = λ is. absurd (let bot : ⊥ = cc in bot);
+    unread = λ is. absurd (let bot : ⊥ = cc in bot);
+    among = tt;
+    reads = e.reads ∙ counted;
+    writes = same ∙ e.writes;
+  } where
+    whole : (old new : Option (List ℕ)) → Consumes old new t.front → IfSome new (λ body. WritesCode s width height' body out_old out_new) → IfSome old (λ bytes. WritesStream s bytes out_old out_last)
+    whole None new taken w = tt
+    whole (Some bytes) None taken w = absurd taken
+    whole (Some bytes) (Some body) taken w = record {
+      raster = raster_of width w.rows;
+      rest = w.rest;
+      is = record {
+        body = body;
+        header = subst (λ z. HasHeader z width (length w.rows) body) (sym taken) (subst (λ n. HasHeader (t.front ++ body) width n body) (sym w.many) (t.header body));
+        holds = w.holds;
+      };
+      proper = w.denotes.denotes.proper;
+      appends = Appends-keeps out_old out_new out_last (jbg s (raster_of width w.rows)) w.appends keeps;
+      denotes = w.denotes;
+    }

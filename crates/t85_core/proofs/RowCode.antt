@@ -1,0 +1,120 @@
+-- A row of a stripe is read and coded.
+use Rattle.std.proofs.Common.{◌≡◌, ℕ, ◌+◌, suc, Bool, true, false, List, [], ◌∷◌, ◌++◌, length, refl, sym, ◌∙◌, ap, subst, arith, Option, None, Some, Result, Ok, Err, nat_eq, length-append}
+use Rattle.std.specs.Prelude.{IfSome, IsTrue, IsErr, if◌then◌else◌, ◌==◌}
+use Rattle.std.proofs.lemmas.Bool.Decides.{nat_tests}
+use Rattle.qm_core.specs.Place.{Place, Estimate, after}
+use Rattle.qm_core.specs.Encoding.{Codes, has_failed}
+use Rattle.qm_core.specs.Runs.{PushesJoin}
+use Rattle.qm_core.specs.declared.encoder.Encoder.{Encoder}
+use Rattle.qm_core.specs.declared.encoder.CoderFault.{CoderFault}
+use Rattle.raster_core.specs.Counts.{Counts}
+use Rattle.raster_core.specs.Lines.{Lines, Mode, row_events, may_be_typical}
+use Rattle.raster_core.specs.Packed.{Held, HasLines}
+use Rattle.raster_core.specs.Rows.{held}
+use Rattle.raster_core.specs.RowEncoded.{RowEncoded, canonical_events}
+use Rattle.raster_core.specs.declared.shape.Shape.{Shape}
+use Rattle.raster_core.specs.declared.shape.Kept.{Kept}
+use Rattle.raster_core.specs.declared.tally.Tally.{Tally}
+use Rattle.t85_core.specs.declared.rows.Carried.{Carried}
+use Rattle.t85_core.specs.Coding.{mode_of}
+use Rattle.t85_core.specs.Carried.{Between, Carry, begin, offset_at, lines_with, after_row}
+use Rattle.t85_core.specs.Jbg.{Settings}
+use Rattle.t85_core.specs.Written.{next_flag, after_rows, lines_down}
+use Rattle.t85_core.specs.Encoding.{IsShape, IsHeld, IsCountedTo, ReadsRows, RowTaken, RowsCoded, GivesUp}
+use Rattle.t85_core.proofs.RowsJoined.{reads_join}
+use Rattle.t85_core.proofs.RowsDown.{after_more, lines_more}
+
+-- what a call of `encode_row` gives, wherever the encoder stands
+abbrev pub Gave : {S : Type 0} → (S → ℕ → S → Type 0) → (S → S → Type 0) → S → S → Shape → Kept → Kept → List Estimate → List Estimate → Held → Encoder → Encoder → Result (Unit {0}) CoderFault → Type 0
+Gave {S} took refused old new shape kept kept' learned learned' window e e' result =
+    (p : Place) (pushed : List ℕ) (lines : Lines) → has_failed e ≡ false → Codes e p pushed → HasLines window lines →
+    RowEncoded took refused old new shape kept kept' (record { place = p; learned = learned }) pushed lines e' learned' result
+
+-- the move was made at the first row
+pub moved_before : (move : Option (ℕ × ℕ)) (r offset : ℕ) → IfSome move (λ m. m.0 ≡ 0) → offset ≡ offset_at move (suc r) offset
+moved_before None r offset h = refl
+moved_before (Some move) r offset h = ap (λ b. if b then move.1 else offset) (sym other) where
+  other : (move.0 == suc r) ≡ false
+  other = let test : nat_eq move.0 (suc r) ≡ false = grind (arith, nat_tests, h) in test
+
+not_err : (u : Unit {0}) → IsErr {T = Unit {0}} {E = CoderFault} (Ok u) → ⊥
+not_err u e = cc
+
+-- no failure
+pub stands : (u : Unit {0}) (b : Bool) → (IsTrue b → IsErr {T = Unit {0}} {E = CoderFault} (Ok u)) → b ≡ false
+stands u false h = refl
+stands u true h = absurd (not_err u (h refl))
+
+-- counted where lines are counted
+pub counted_some : (width offset : ℕ) (counted : Option ℕ) (tally tally' : Tally) (lines more : List Lines) → counted ≡ Some offset → (Counts tally width offset lines → Counts tally' width offset more) → IsCountedTo width counted tally lines → IsCountedTo width counted tally' more
+counted_some width offset counted tally tally' lines more is h p = subst (λ o. IsCountedTo width o tally' more) (sym is) (h (subst (λ o. IsCountedTo width o tally lines) is p))
+
+pub counted_none : (width : ℕ) (counted : Option ℕ) (tally : Tally) (lines more : List Lines) → counted ≡ None → IsCountedTo width counted tally lines → IsCountedTo width counted tally more
+counted_none width counted tally lines more is p = subst (λ o. IsCountedTo width o tally more) (sym is) (subst (λ o. IsCountedTo width o tally lines) is p)
+
+module _ {S : Type 0} (took : S → ℕ → S → Type 0) (refused : S → S → Type 0) (from old new : S) (s : Settings) (shape : Shape) (width : ℕ) (move : Option (ℕ × ℕ)) (c : Carry) (counted : Option ℕ)
+    (began known known' : Option (List ℕ)) (rows : List (List Bool)) (carried carried' : Carried) (tally tally' : Tally) (e e' : Encoder) (wide : shape.width ≡ width) (is_shape : IsShape s shape.width shape)
+    (r : RowsCoded took from old s shape.width move c counted began known rows carried tally e)
+    (taken : RowTaken width known known' (held carried.window.now) (held carried'.window.now)) where
+  abbrev mode : Mode
+  mode = mode_of s.options
+
+  abbrev b : Between
+  b = after_rows (mode_of s.options) move 0 (begin c) rows
+
+  abbrev row : List Bool
+  row = taken.row
+
+  abbrev next : Between
+  next = after_row mode move (length rows) b row (next_flag mode b row)
+
+  next_is : after_rows mode move 0 (begin c) (rows ++ row ∷ []) ≡ next
+  next_is =
+      let at : 0 + length rows ≡ length rows = omega arith in
+      after_more mode move 0 (begin c) rows (row ∷ []) ∙ ap (λ n. after_row mode move n b row (next_flag mode b row)) at
+
+  lines_are : HasLines (held carried'.window.now) (lines_with b row)
+  lines_are = taken.below (record { row = b.above; above = b.second; second = r.is_held.third }) r.is_held.lines_are
+
+  events_are : canonical_events shape carried.kept (lines_with b row) ≡ row_events mode (lines_with b row) (offset_at move (length rows) b.offset) b.previous (next_flag mode b row)
+  events_are =
+      ap (λ m. row_events m (lines_with b row) carried.kept.offset carried.kept.previous_typical (may_be_typical m (lines_with b row))) is_shape.mode_is
+      ∙ ap (λ o. row_events mode (lines_with b row) o carried.kept.previous_typical (next_flag mode b row)) r.is_held.offset_is
+      ∙ ap (λ f. row_events mode (lines_with b row) (offset_at move (length rows) b.offset) f (next_flag mode b row)) r.is_held.previous_is
+
+  state_is : after (record { place = b.state.place; learned = carried.learned }) (canonical_events shape carried.kept (lines_with b row)) ≡ next.state
+  state_is =
+      ap (λ l. after (record { place = b.state.place; learned = l }) (canonical_events shape carried.kept (lines_with b row))) r.is_held.learned_is
+      ∙ ap (after b.state) events_are
+
+  pub row_coded : (u : Unit {0}) → PushesJoin took → Gave took refused old new shape carried.kept carried'.kept carried.learned carried'.learned (held carried'.window.now) e e' (Ok u) → has_failed e' ≡ false
+      → ((lines : List Lines) (l : Lines) → HasLines (held carried'.window.now) l → IsCountedTo shape.width counted tally lines → IsCountedTo shape.width counted tally' (lines ++ l ∷ []))
+      → (x : List Bool) × RowsCoded took from new s shape.width move c counted began known' (rows ++ x ∷ []) carried' tally' e'
+  row_coded u join gave going counts =
+      let coded = (gave b.state.place r.pushed (lines_with b row) r.going r.codes lines_are).ok in
+      let encodes = coded.encodes in
+      let many : length (rows ++ row ∷ []) ≡ suc (length rows) = omega (arith, length-append rows (row ∷ [])) in (
+        row,
+        record {
+          read = reads_join shape.width began known known' rows (row ∷ []) r.read (subst (λ w. ReadsRows w known known' (row ∷ [])) (sym wide) taken.read);
+          pushed = r.pushed ++ encodes.more;
+          taken = join from old new r.pushed encodes.more r.taken encodes.taken;
+          codes = subst (λ n. Codes e' n.state.place (r.pushed ++ encodes.more)) (sym next_is) (subst (λ n. Codes e' n.place (r.pushed ++ encodes.more)) state_is encodes.codes);
+          going = going;
+          is_held = subst (λ n. IsHeld move n (after_rows mode move 0 (begin c) (rows ++ row ∷ [])) carried') (sym many) (subst (λ n. IsHeld move (suc (length rows)) n carried') (sym next_is) (record {
+            at_top = r.is_held.at_top;
+            offset_is = coded.offset_is ∙ r.is_held.offset_is ∙ moved_before move (length rows) (offset_at move (length rows) b.offset) r.is_held.at_top;
+            previous_is = coded.flag_is ∙ ap (λ m. may_be_typical m (lines_with b row)) is_shape.mode_is;
+            learned_is = encodes.taught ∙ ap (λ n. n.learned) state_is;
+            third = b.second;
+            lines_are = lines_are;
+          }));
+          tallied = subst (λ lines. IsCountedTo shape.width counted tally' lines) (sym (lines_more mode move 0 (begin c) rows row)) (counts (lines_down c.above c.second rows) (lines_with b row) lines_are r.tallied);
+        },
+      )
+
+  -- the sink gave up in the row
+  pub row_refused : (why : CoderFault) → PushesJoin took → Gave took refused old new shape carried.kept carried'.kept carried.learned carried'.learned (held carried'.window.now) e e' (Err why) → GivesUp took refused from new
+  row_refused why join gave =
+      let cut = (gave b.state.place r.pushed (lines_with b row) r.going r.codes lines_are).err.fails.cut in
+      record { bytes = r.pushed ++ cut.done; last = cut.last; taken = join from old cut.last r.pushed cut.done r.taken cut.taken; then = cut.then }

@@ -1,0 +1,75 @@
+-- No row more came: what was pushed is a beginning of the code of each stripe that begins with the rows before.
+use Rattle.std.proofs.Common.{◌≡◌, ℕ, ◌+◌, ◌<◌, Bool, List, [], ◌∷◌, ◌++◌, length, refl, sym, ◌∙◌, ap, subst, Option}
+use Rattle.qm_core.specs.Place.{Event, State, IsPlace, after, step}
+use Rattle.qm_core.specs.Code.{code_of, stuffed}
+use Rattle.qm_core.specs.Encoding.{Codes}
+use Rattle.qm_core.specs.Writing.{Took}
+use Rattle.qm_core.specs.declared.encoder.Encoder.{Encoder}
+use Rattle.pbm_core.specs.declared.fault.PbmFault.{PbmFault}
+use Rattle.raster_core.specs.Lines.{Mode, row_events}
+use Rattle.raster_core.specs.declared.shape.Shape.{Shape}
+use Rattle.raster_core.specs.declared.tally.Tally.{Tally}
+use Rattle.t85_core.specs.declared.fault.Fault.{Fault}
+use Rattle.t85_core.specs.declared.fault.Fault.TheVariants.{Pbm}
+use Rattle.t85_core.specs.declared.rows.Carried.{Carried}
+use Rattle.t85_core.specs.Coding.{mode_of}
+use Rattle.t85_core.specs.Carried.{Between, Carry, begin, offset_at, lines_with, after_row}
+use Rattle.t85_core.specs.Jbg.{Settings}
+use Rattle.t85_core.specs.Written.{next_flag, after_rows, BeginsCode}
+use Rattle.t85_core.specs.WritingLaws.{WritingLaws}
+use Rattle.t85_core.specs.Encoding.{EndsInRow, RowsCoded, RowsShort}
+use Rattle.t85_core.proofs.RowsDown.{after_more}
+
+-- the events of rows
+abbrev pub events_down : Mode → Option (ℕ × ℕ) → ℕ → Between → List (List Bool) → List Event
+events_down mode move r b [] = []
+events_down mode move r b (row ∷ rows) =
+    row_events mode (lines_with b row) (offset_at move r b.offset) b.previous (next_flag mode b row) ++ events_down mode move (r + 1) (after_row mode move r b row (next_flag mode b row)) rows
+
+after_append : (s : State) (xs ys : List Event) → after s (xs ++ ys) ≡ after (after s xs) ys
+after_append s [] ys = refl
+after_append s (x ∷ xs) ys = after_append (step s x.context x.pixel) xs ys
+
+pub state_down : (mode : Mode) (move : Option (ℕ × ℕ)) (r : ℕ) (b : Between) (rows : List (List Bool)) → (after_rows mode move r b rows).state ≡ after b.state (events_down mode move r b rows)
+state_down mode move r b [] = refl
+state_down mode move r b (row ∷ rows) =
+    let next : Between = after_row mode move r b row (next_flag mode b row) in
+    state_down mode move (r + 1) next rows
+    ∙ sym (after_append b.state (row_events mode (lines_with b row) (offset_at move r b.offset) b.previous (next_flag mode b row)) (events_down mode move (r + 1) next rows))
+
+module _ (laws : WritingLaws) (mode : Mode) (move : Option (ℕ × ℕ)) where
+  pub rows_place : (r : ℕ) (b : Between) (rows : List (List Bool)) → IsPlace b.state.place → IsPlace (after_rows mode move r b rows).state.place
+  rows_place r b rows is = subst (λ z. IsPlace z.place) (sym (state_down mode move r b rows)) (laws.events_keep_place (events_down mode move r b rows) b.state is)
+
+  -- what was pushed begins each code of rows that go on so
+  pub pushed_begins : (c : Carry) (rows : List (List Bool)) (count : ℕ) (e : Encoder) (pushed : List ℕ) → Codes e (after_rows mode move 0 (begin c) rows).state.place pushed → BeginsCode mode move c count rows pushed
+  pushed_begins c rows count e pushed codes later many =
+      let b : Between = after_rows mode move 0 (begin c) rows in
+      let last : State = (after_rows mode move 0 (begin c) (rows ++ later)).state in
+      let here : IsPlace b.state.place = rows_place 0 (begin c) rows laws.start_is_place in
+      let there : IsPlace last.place = rows_place 0 (begin c) (rows ++ later) laws.start_is_place in
+      let front = laws.pushed_is_front e b.state.place pushed codes in
+      let goes : after b.state (events_down mode move (0 + length rows) b later) ≡ last = sym (ap (λ n. n.state) (after_more mode move 0 (begin c) rows later) ∙ state_down mode move (0 + length rows) b later) in
+      let begins = (laws.code_lies_in_all b.state [] (events_down mode move (0 + length rows) b later) (code_of last.place) here (subst (λ z. Rattle.qm_core.specs.Code.IsCode z.place (code_of last.place)) (sym goes) (laws.one_code last.place there).is)).1 front.front front.begins in
+      record {
+        rest = stuffed begins.0;
+        bytes_are = ap stuffed begins.1 ∙ laws.stuffed_append front.front begins.0 ∙ ap (λ z. z ++ stuffed begins.0) (sym front.is);
+      }
+
+same_fault : (a b : PbmFault) (e : Fault) → e ≡ Pbm a → e ≡ Pbm b → a ≡ b
+same_fault a b e p q = cc
+
+pub row_short : {S : Type 0} (took : S → ℕ → S → Type 0) (from old : S) (s : Settings) (shape : Shape) (width : ℕ) (move : Option (ℕ × ℕ)) (c : Carry) (counted : Option ℕ)
+    (began known known' : Option (List ℕ)) (rows : List (List Bool)) (count : ℕ) (carried : Carried) (tally : Tally) (e : Encoder) (why fault : PbmFault) (told : Fault) → WritingLaws → shape.width ≡ width → length rows < count
+    → RowsCoded took from old s shape.width move c counted began known rows carried tally e → told ≡ Pbm why → told ≡ Pbm fault → EndsInRow width known known' why
+    → RowsShort (λ bytes. Took took from bytes old) s shape.width move c count began known' fault
+row_short took from old s shape width move c counted began known known' rows count carried tally e why fault told laws wide few r is was ends = record {
+  rows = rows;
+  few = few;
+  mid = known;
+  read = r.read;
+  part = subst (λ f. EndsInRow shape.width known known' f) (same_fault why fault told is was) (subst (λ w. EndsInRow w known known' why) (sym wide) ends);
+  pushed = r.pushed;
+  taken = r.taken;
+  begins = pushed_begins laws (mode_of s.options) move c rows count e r.pushed r.codes;
+}

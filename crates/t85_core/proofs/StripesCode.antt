@@ -1,0 +1,194 @@
+-- The stripes of an image, read and set out one after another.
+use Rattle.std.proofs.Common.{◌≡◌, ℕ, zero, suc, ◌+◌, ◌-◌, ◌*◌, ◌/◌, ◌<◌, ◌≤◌, ◌^◌, Bool, List, [], ◌++◌, length, take, refl, sym, ◌∙◌, ap, subst, arith, Option, append_assoc, append-nil, length-append}
+use Rattle.std.specs.Prelude.{IsTrue, min}
+use Rattle.std.specs.List.{AllByRecursion}
+use Rattle.std.specs.Io.KnownBytes.{Appends}
+use Rattle.std.proofs.lemmas.Grind.{div_ceil_times}
+use Rattle.std.proofs.lemmas.List.{take-take}
+use Rattle.std.proofs.Math.Seq.{take-append_seam, take-length}
+use Rattle.pbm_core.specs.declared.fault.PbmFault.{PbmFault}
+use Rattle.raster_core.specs.Counts.{Counts, is_two_line, most_of}
+use Rattle.raster_core.specs.Offset.{candidates}
+use Rattle.raster_core.specs.Raster.{Raster, height, white_row}
+use Rattle.raster_core.specs.declared.tally.Tally.{Tally}
+use Rattle.t85_core.specs.declared.rows.Carried.{Carried}
+use Rattle.t85_core.specs.Coding.{mode_of}
+use Rattle.t85_core.specs.Carried.{begin, first_carry}
+use Rattle.t85_core.specs.Decoding.{IsCarried}
+use Rattle.t85_core.specs.Grammar.{stripe_bytes, stripe_count}
+use Rattle.t85_core.specs.Jbg.{Settings, coding_of, coded_stripe, stripes_of, stripes_up_to}
+use Rattle.t85_core.specs.Written.{Course, first_course, stripe_on, course_on, IsBeginning}
+use Rattle.t85_core.specs.Encodes.{raster_of, BeginsWith}
+use Rattle.t85_core.specs.Encoding.{ReadsRows, IsOnCourse, StripeCoded, StripeShort, ImageCoded, ImageShort}
+use Rattle.t85_core.proofs.Joined.{stripe_at}
+use Rattle.t85_core.proofs.Streams.{Appends-more}
+use Rattle.t85_core.proofs.Inked.{appends_none}
+use Rattle.t85_core.proofs.RowsHeld.{rows_wide}
+use Rattle.t85_core.proofs.RowsJoined.{reads_none, reads_join}
+use Rattle.t85_core.proofs.RowsOn.{rows_continue, rows_go_on}
+use Rattle.t85_core.proofs.Courses.{CourseAt, course_begins, course_step, stripe_within, stripes_more}
+
+-- What the stripe i of a raster that begins so is begun with, and what was set out before it.
+pub record Follows (s : Settings) (raster : Raster) (i : ℕ) (at : Course) (bytes : List ℕ) : Type 0 where
+  pub bytes_are : bytes ≡ stripes_up_to s raster i
+  pub course : CourseAt s raster i at
+
+-- so many stripes were read and set out
+pub record StripesCoded (s : Settings) (width height' i : ℕ) (known known' text text' : Option (List ℕ)) (carried : Carried) (tally : Tally) : Type 0 where
+  pub rows : List (List Bool)
+  pub many : length rows ≡ min (i * s.stripe_rows) height'
+  pub read : ReadsRows width known known' rows
+  pub at : Course
+  pub bytes : List ℕ
+  pub set_out : Appends text text' bytes
+  pub bytes_are : (raster : Raster) → BeginsWith width height' rows raster → bytes ≡ stripes_up_to s raster i
+  pub course : i < stripe_count height' s.stripe_rows → (raster : Raster) → BeginsWith width height' rows raster → CourseAt s raster i at
+  pub on_course : i < stripe_count height' s.stripe_rows → IsOnCourse s width at carried tally
+
+-- nothing was read
+pub no_stripes : (s : Settings) (width height' : ℕ) (known text : Option (List ℕ)) (carried : Carried) (tally : Tally) → IsCarried (begin (first_carry width)) carried
+    → ((width' current : ℕ) → Counts tally width' current []) → is_two_line tally ≡ (mode_of s.options).two_line → most_of tally ≡ s.most_offset
+    → StripesCoded s width height' 0 known known text text carried tally
+no_stripes s width height' known text carried tally first counts two_line most = record {
+  rows = [];
+  many = omega arith;
+  read = reads_none width known;
+  at = first_course width;
+  bytes = [];
+  set_out = appends_none text;
+  bytes_are = λ raster b. refl;
+  course = λ _ raster b. subst (λ w. CourseAt s raster 0 (first_course w)) b.width_is (course_begins s raster);
+  on_course = λ _. record {
+    is_carried = first;
+    is_tallied = record { two_line = two_line; most = most; lines = []; counts = counts width 0; lines_are = λ _. refl };
+  };
+}
+
+-- a raster that begins with rows begins with the first of them
+first_begins : (width height' : ℕ) (first rows : List (List Bool)) (raster : Raster) → BeginsWith width height' (first ++ rows) raster → BeginsWith width height' first raster
+first_begins width height' first rows raster b = record {
+  proper = b.proper;
+  width_is = b.width_is;
+  height_is = b.height_is;
+  first =
+      sym (take-take (length first) (length (first ++ rows)) raster.rows (omega (arith, length-append first rows)))
+      ∙ ap (take (length first)) b.first ∙ take-append_seam first rows;
+}
+
+module _ (s : Settings) (width height' i : ℕ) (some : 1 ≤ s.stripe_rows) (inside : i < stripe_count height' s.stripe_rows) (known mid known' text put text' : Option (List ℕ)) (carried : Carried) (tally : Tally)
+    (so : StripesCoded s width height' i known mid text put carried tally) where
+  abbrev l : ℕ
+  l = s.stripe_rows
+
+  within : i * l < height'
+  within = stripe_within height' l i some inside
+
+  many : length so.rows ≡ i * l
+  many = omega (arith, so.many, within)
+
+  -- stripe i of a raster that begins so
+  stripe_is : (rows : List (List Bool)) (raster : Raster) → BeginsWith width height' (so.rows ++ rows) raster → length rows ≡ min l (height' - i * l)
+      → (stripe_on s width so.at rows ≡ coded_stripe (coding_of s raster) i) × (i + 1 < stripe_count height' l → CourseAt s raster (i + 1) (course_on s width so.at rows))
+  stripe_is rows raster b enough =
+      let front = first_begins width height' so.rows rows raster b in
+      let goes = course_step s raster i so.at rows some (subst (λ n. i < stripe_count n l) (sym b.height_is) inside) (so.course inside raster front)
+      (rows_continue (white_row raster.width) raster.rows so.rows rows (i * l) b.first many) (subst (λ n. length rows ≡ min l (n - i * l)) (sym b.height_is) enough) in (
+        subst (λ w. stripe_on s w so.at rows ≡ coded_stripe (coding_of s raster) i) b.width_is goes.stripe,
+        λ more. subst (λ w. CourseAt s raster (i + 1) (course_on s w so.at rows)) b.width_is (goes.next (subst (λ n. i + 1 < stripe_count n l) (sym b.height_is) more)),
+      )
+
+  -- a stripe more
+  pub stripe_more : (count : ℕ) (is_counted : Bool) (carried' : Carried) (tally' : Tally) → count ≡ min l (height' - i * l) → StripeCoded s width count is_counted so.at mid known' put text' carried' tally'
+      → (i + 1 < stripe_count height' l → 0 < length (candidates (mode_of s.options).two_line s.most_offset) → IsTrue is_counted) → StripesCoded s width height' (i + 1) known known' text text' carried' tally'
+  stripe_more count is_counted carried' tally' count_is r counts = record {
+    rows = so.rows ++ r.rows;
+    many = let sum : (i + 1) * l ≡ i * l + 1 * l = Rattle.std.proofs.Math.Nat.add-mul i 1 l in omega (arith, length-append so.rows r.rows, many, r.many, count_is, within, sum);
+    read = reads_join width known mid known' so.rows r.rows so.read r.read;
+    at = course_on s width so.at r.rows;
+    bytes = so.bytes ++ stripe_bytes (stripe_on s width so.at r.rows);
+    set_out = Appends-more text put text' _ _ so.set_out r.set_out;
+    bytes_are = λ raster b.
+        ap (λ z. z ++ stripe_bytes (stripe_on s width so.at r.rows)) (so.bytes_are raster (first_begins width height' so.rows r.rows raster b))
+        ∙ ap (λ z. stripes_up_to s raster i ++ stripe_bytes z) (stripe_is r.rows raster b (r.many ∙ count_is)).0 ∙ sym (stripes_more s raster i);
+    course = λ more raster b. (stripe_is r.rows raster b (r.many ∙ count_is)).1 more;
+    on_course = λ more. r.on_course (counts more);
+  }
+
+  -- the first stripes begin more of them
+  stripes_begin : (raster : Raster) (n m : ℕ) → IsBeginning (stripes_up_to s raster n) (stripes_up_to s raster (n + m))
+  stripes_begin raster n zero = record { rest = []; bytes_are = let same : n + 0 ≡ n = omega arith in ap (stripes_up_to s raster) same ∙ sym (append-nil (stripes_up_to s raster n)) }
+  stripes_begin raster n (suc m) =
+      let b = stripes_begin raster n m in
+      let same : n + suc m ≡ (n + m) + 1 = omega arith in
+      record {
+        rest = b.rest ++ stripe_bytes (coded_stripe (coding_of s raster) (n + m));
+        bytes_are =
+            ap (stripes_up_to s raster) same ∙ stripes_more s raster (n + m) ∙ ap (λ z. z ++ stripe_bytes (coded_stripe (coding_of s raster) (n + m))) b.bytes_are
+            ∙ append_assoc (stripes_up_to s raster n) b.rest (stripe_bytes (coded_stripe (coding_of s raster) (n + m)));
+      }
+
+  -- a stripe isn't whole
+  pub stripes_short : (count : ℕ) (fault : PbmFault) → count ≡ min l (height' - i * l) → StripeShort s width count so.at mid known' put text' fault
+      → ImageShort s width height' (λ raster n. stripes_up_to s raster n) (λ raster. stripes_of s raster) known known' text text' fault
+  stripes_short count fault count_is r = record {
+    rows = so.rows ++ r.rows;
+    few = omega (arith, length-append so.rows r.rows, many, r.few, count_is, within);
+    mid = r.mid;
+    read = reads_join width known mid r.mid so.rows r.rows so.read r.read;
+    part = r.part;
+    bytes = so.bytes ++ r.bytes;
+    holds = λ raster b. record {
+      rest = r.bytes;
+      bytes_are = ap (λ z. z ++ r.bytes) (so.bytes_are raster (first_begins width height' so.rows r.rows raster b) ∙ ap (stripes_up_to s raster) (sym whole));
+    };
+    begins = λ raster b. begins raster b;
+    set_out = Appends-more text put text' _ _ so.set_out r.set_out;
+  } where
+    whole : length (so.rows ++ r.rows) / l ≡ i
+    whole =
+        let sum : length (so.rows ++ r.rows) ≡ i * l + length r.rows = omega (arith, length-append so.rows r.rows, many) in
+        ap (λ n. n / l) sum ∙ stripe_at l i (length r.rows) (omega (arith, r.few, count_is))
+
+    begins : (raster : Raster) → BeginsWith width height' (so.rows ++ r.rows) raster → IsBeginning (so.bytes ++ r.bytes) (stripes_of s raster)
+    begins raster b =
+        let front = first_begins width height' so.rows r.rows raster b in
+        let go = rows_go_on (white_row raster.width) raster.rows so.rows r.rows (i * l) l b.first many (omega (arith, r.few, count_is, b.height_is)) in
+        let all : length (r.rows ++ go.later) ≡ min l (height raster - i * l) = omega (arith, length-append r.rows go.later, go.many) in
+        let goes = course_step s raster i so.at (r.rows ++ go.later) some (subst (λ n. i < stripe_count n l) (sym b.height_is) inside) (so.course inside raster front) go.continues all in
+        let stripe : stripe_on s width so.at (r.rows ++ go.later) ≡ coded_stripe (coding_of s raster) i = subst (λ w. stripe_on s w so.at (r.rows ++ go.later) ≡ coded_stripe (coding_of s raster) i) b.width_is goes.stripe in
+        let part = r.begins go.later (omega (arith, go.many, count_is, b.height_is)) in
+        let beyond = stripes_begin raster (i + 1) (stripe_count height' l - (i + 1)) in
+        let count : (i + 1) + (stripe_count height' l - (i + 1)) ≡ stripe_count height' l = omega (arith, inside) in
+        let here : stripes_up_to s raster (i + 1) ≡ so.bytes ++ (r.bytes ++ part.rest) =
+        stripes_more s raster i ∙ ap (λ z. z ++ stripe_bytes (coded_stripe (coding_of s raster) i)) (sym (so.bytes_are raster front))
+        ∙ ap (λ z. so.bytes ++ stripe_bytes z) (sym stripe) ∙ ap (λ z. so.bytes ++ z) part.bytes_are in
+        record {
+          rest = part.rest ++ beyond.rest;
+          bytes_are =
+              ap (λ n. stripes_up_to s raster (stripe_count n l)) b.height_is ∙ ap (stripes_up_to s raster) (sym count) ∙ beyond.bytes_are
+              ∙ ap (λ z. z ++ beyond.rest) (here ∙ sym (append_assoc so.bytes r.bytes part.rest)) ∙ append_assoc (so.bytes ++ r.bytes) part.rest beyond.rest;
+        }
+
+-- all rows were read
+pub stripes_coded : (s : Settings) (width height' i : ℕ) (known known' text text' : Option (List ℕ)) (carried : Carried) (tally : Tally) → i ≡ stripe_count height' s.stripe_rows → 1 ≤ s.stripe_rows
+    → 1 ≤ width → width ≤ 1048576 → 1 ≤ height' → height' < 2 ^ 32
+    → StripesCoded s width height' i known known' text text' carried tally → ImageCoded width height' (λ raster. stripes_of s raster) known known' text text'
+stripes_coded s width height' i known known' text text' carried tally ended some wide narrow high low so = record {
+  rows = so.rows;
+  many = all;
+  read = so.read;
+  set_out = subst (Appends text text') (so.bytes_are (raster_of width so.rows) itself ∙ ap (stripes_up_to s (raster_of width so.rows)) (ended ∙ ap (λ n. stripe_count n s.stripe_rows) (sym all))) so.set_out;
+} where
+  all : length so.rows ≡ height'
+  all =
+      let times = (div_ceil_times height' s.stripe_rows some).0 in
+      let product : i * s.stripe_rows ≡ stripe_count height' s.stripe_rows * s.stripe_rows = ap (λ n. n * s.stripe_rows) ended in
+      omega (arith, so.many, times, product)
+
+  itself : BeginsWith width height' so.rows (raster_of width so.rows)
+  itself = record {
+    proper = record { width_from = wide; width_to = narrow; height_from = omega (arith, all, high); height_to = omega (arith, all, low); rows = subst (AllByRecursion (λ row. length row ≡ width)) (sym so.read.rows_are) (rows_wide width (length so.rows) so.read.given) };
+    width_is = refl;
+    height_is = all;
+    first = take-length so.rows;
+  }

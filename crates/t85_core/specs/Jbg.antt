@@ -1,0 +1,100 @@
+-- The stream that is written for a raster.
+use Rattle.std.specs.Prelude.{ℕ, zero, suc, ◌≡◌, ◌%◌, ◌≤◌, ◌<◌, ◌^◌, Bool, false, List, [], ◌++◌, length, map, replicate, if◌then◌else◌, Option, None, option_map, option_to_list, unwrap_or, flat_map, slice_index_or}
+use Rattle.qm_core.specs.Code.{code_of}
+use Rattle.raster_core.specs.Raster.{Raster, height}
+use Rattle.raster_core.specs.Lines.{numbers_from, may_be_typical}
+use Rattle.raster_core.specs.Offset.{chosen_offset}
+use Rattle.t85_core.specs.Header.{Fields, header_bytes}
+use Rattle.t85_core.specs.Grammar.{Segment, Move, Comment, Stripe, segment_bytes, stripe_bytes, stripe_count}
+use Rattle.t85_core.specs.Coding.{Coding, has_bit, mode_of, rows_of, lines_of, place_of}
+
+-- what a caller chooses for a stream: the options byte, the rows of a stripe, the greatest offset of the adaptive
+-- pixel, whether each stripe ends in a reset, and a comment
+pub record Settings : Type 0 where
+  pub options : ℕ
+  pub stripe_rows : ℕ
+  pub most_offset : ℕ
+  pub reset : Bool
+  pub comment : Option (List ℕ)
+
+-- in their ranges
+pub record AreSettings (s : Settings) : Type 0 where
+  pub options_to : s.options < 128
+  pub no_low_bit : s.options % 8 ≡ 0
+  pub no_layer_bit : has_bit s.options 4 ≡ false
+  pub stripe_from : 1 ≤ s.stripe_rows
+  pub stripe_to : s.stripe_rows < 2 ^ 32
+  pub offset_to : s.most_offset ≤ 127
+  pub comment_to : length (unwrap_or s.comment []) < 2 ^ 32
+
+-- the header of an image of this width and height
+abbrev pub header_of : Settings → ℕ → ℕ → Fields
+header_of s width height' = record { xd = width; yd = height'; l0 = s.stripe_rows; mx = s.most_offset; options = s.options }
+
+-- the raster in its stripes, each ended alike, before moves and flags are chosen
+abbrev pub cut : Settings → Raster → Coding
+cut s raster = record {
+  raster = raster;
+  mode = mode_of s.options;
+  stripe_rows = s.stripe_rows;
+  moves = [];
+  resets = replicate (stripe_count (height raster) s.stripe_rows) s.reset;
+  flags = [];
+}
+
+-- each row is typical that may be
+abbrev pub canonical_flags : Coding → List Bool
+canonical_flags c = map (λ y. may_be_typical c.mode (lines_of c y)) (numbers_from 0 (height c.raster))
+
+-- the offset that the rows of stripe i choose for the next stripe, over this one
+abbrev pub choice_after : Settings → Coding → ℕ → ℕ → Option ℕ
+choice_after s c i current = chosen_offset c.mode.two_line s.most_offset c.raster.width (map (lines_of c) (rows_of c i)) current
+
+-- The offset with which that of stripe i+1 is compared: the nominal one at the top and where each stripe ends in a
+-- reset, else that of stripe i.
+abbrev pub current_offset : Settings → Coding → ℕ → ℕ
+current_offset s c zero = 0
+current_offset s c (suc i) = if s.reset then 0 else unwrap_or (choice_after s c i (current_offset s c i)) (current_offset s c i)
+
+-- the move before stripe i, at its row 0
+abbrev pub move_before : Settings → Coding → ℕ → Option (ℕ × ℕ)
+move_before s c zero = None
+move_before s c (suc i) = option_map (λ t. (0, t)) (choice_after s c i (current_offset s c i))
+
+-- how a raster is coded
+abbrev pub coding_of : Settings → Raster → Coding
+coding_of s raster =
+    let c = cut s raster in
+    record c { moves = map (move_before s c) (numbers_from 0 (stripe_count (height raster) s.stripe_rows)); flags = canonical_flags c }
+
+-- the move of a stripe as a segment
+abbrev pub move_segments : Option (ℕ × ℕ) → List Segment
+move_segments move = map (λ to. Move to.0 to.1) (option_to_list move)
+
+-- stripe i as it is written
+abbrev pub coded_stripe : Coding → ℕ → Stripe
+coded_stripe c i = record {
+  segments = move_segments (slice_index_or c.moves i None);
+  code = code_of (place_of c i);
+  reset = slice_index_or c.resets i false;
+}
+
+-- what stands before the first stripe
+abbrev pub head_of : Settings → ℕ → ℕ → List ℕ
+head_of s width height' = header_bytes (header_of s width height') ++ flat_map segment_bytes (map Comment (option_to_list s.comment))
+
+-- the first n stripes
+abbrev pub stripes_up_to : Settings → Raster → ℕ → List ℕ
+stripes_up_to s raster n = flat_map (λ i. stripe_bytes (coded_stripe (coding_of s raster) i)) (numbers_from 0 n)
+
+-- all of them
+abbrev pub stripes_of : Settings → Raster → List ℕ
+stripes_of s raster = stripes_up_to s raster (stripe_count (height raster) s.stripe_rows)
+
+-- the stream up to, not including, stripe n
+abbrev pub jbg_up_to : Settings → Raster → ℕ → List ℕ
+jbg_up_to s raster n = head_of s raster.width (height raster) ++ stripes_up_to s raster n
+
+-- the whole stream
+abbrev pub jbg : Settings → Raster → List ℕ
+jbg s raster = jbg_up_to s raster (stripe_count (height raster) s.stripe_rows)

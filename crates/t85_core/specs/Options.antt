@@ -1,0 +1,36 @@
+-- Which options are refused, and how.
+use Rattle.std.specs.Prelude.{ℕ, ◌≡◌, ◌%◌, ◌==◌, ◌||◌, not, nat_lt, nat_le, Bool, false, List, Option, Some, None, length, option_map, if◌then◌else◌}
+use Rattle.std.specs.Option.{option_map_or}
+use Rattle.t85_core.specs.declared.fault.Fault.{Fault}
+use Rattle.t85_core.specs.declared.fault.Fault.TheVariants.{OptionBits, StripeZero, MoveLarge, CommentLong}
+use Rattle.t85_core.specs.declared.options.Options.{Options}
+use Rattle.t85_core.specs.Coding.{has_bit}
+use Rattle.t85_core.specs.Jbg.{Settings}
+
+-- a bit beside LRLTWO, VLENGTH and TPBON: one of the three lowest, bit 4, or bit 7 and above
+abbrev pub has_other_bit : ℕ → Bool
+has_other_bit p = not (p % 8 == 0) || has_bit p 4 || nat_le 128 p
+
+-- the first refusal, in this order
+abbrev pub refusal_of : ℕ → ℕ → ℕ → Option (List ℕ) → Option Fault
+refusal_of p s m comment =
+    if has_other_bit p then Some OptionBits
+    else if s == 0 then Some StripeZero
+    else if nat_lt 127 m then Some MoveLarge
+    else if option_map_or (λ c. nat_lt 4294967295 (length c)) comment false then Some CommentLong
+    else None
+
+-- what options say
+abbrev pub settings_of : Options → Settings
+settings_of o = record {
+  options = o.options;
+  stripe_rows = o.stripe_rows;
+  most_offset = o.most_offset;
+  reset = o.reset;
+  comment = option_map (λ c. c.now) o.comment;
+}
+
+-- they are what was given
+abbrev pub Holds : ℕ → ℕ → ℕ → Bool → Option (List ℕ) → Options → Type 0
+Holds p s m reset comment o =
+    settings_of o ≡ record { options = p; stripe_rows = s; most_offset = m; reset = reset; comment = comment }

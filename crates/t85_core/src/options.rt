@@ -1,0 +1,86 @@
+//! What a caller chooses for a stream.
+
+ghost use Rattle.std.specs.Prelude.{◌≡◌, ◌≤◌, ◌<◌, ◌%◌, ◌^◌, ◌/◌, Option, option_map, length};
+ghost use Rattle.std.specs.Option.{option_map_or};
+
+use crate::fault::Fault;
+use crate::header::Header;
+use pbm_core::Size;
+
+/// Choices that are accepted.
+#[derive(Clone, Copy)]
+pub struct Options<'a> {
+    /// The options byte of the header: LRLTWO, VLENGTH and TPBON, or some of them.
+    pub options: u8,
+    /// The rows of a stripe.
+    pub stripe_rows: u32,
+    /// The greatest offset of the adaptive pixel.
+    pub most_offset: u8,
+    /// Whether each stripe ends in a reset.
+    pub reset: bool,
+    /// The comment that stands before the first stripe.
+    pub comment: Option<&'a [u8]>,
+    ghost no_reserved_bit: { options < 128 },
+    ghost no_low_bit: { options % 8 ≡ 0 },
+    ghost no_layer_bit: { options / 16 % 2 ≡ 0 },
+    ghost some_rows: { 1 ≤ stripe_rows },
+    ghost not_too_many: { stripe_rows < 2 ^ 32 },
+    ghost in_range: { most_offset ≤ 127 },
+    ghost comment_fits: { option_map_or (λ c. length c.now) comment 0 < 2 ^ 32 },
+}
+
+impl<'a> Options<'a> {
+    ghost use Rattle.std.specs.Prelude.{MatchResult, None, Some, IfOk};
+    ghost use Rattle.t85_core.specs.Options.{refusal_of, settings_of, Holds};
+    ghost use Rattle.t85_core.specs.Chosen.{fields_of};
+    ghost use Rattle.t85_core.specs.Jbg.{header_of};
+
+    /// Judges the options byte `p`, the rows of a stripe `s` and the greatest offset `m`, in this order, and then the
+    /// length of the comment.
+    pub fn new(
+        p: u32,
+        s: u32,
+        m: u32,
+        reset: bool,
+        comment: Option<&'a [u8]>,
+    ) -> Result<Options<'a>, Fault>
+        ensures judged { MatchResult result (λ _. refusal_of p s m (option_map (λ c. c.now) comment.entry) ≡ None)
+            (λ fault. refusal_of p s m (option_map (λ c. c.now) comment.entry) ≡ Some fault) }
+        ensures held { IfOk result (λ o. Holds p s m reset (option_map (λ c. c.now) comment.entry) o) }
+    {
+        if p >= 0x80 || p % 8 != 0 || p / 16 % 2 != 0 {
+            return Err(Fault::OptionBits);
+        }
+        if s == 0 {
+            return Err(Fault::StripeZero);
+        }
+        if m > 127 {
+            return Err(Fault::MoveLarge);
+        }
+        if let Some(text) = comment {
+            if text.len() > 0xffff_ffff {
+                return Err(Fault::CommentLong);
+            }
+        }
+        Ok(Options {
+            options: p as u8,
+            stripe_rows: s,
+            most_offset: m as u8,
+            reset,
+            comment,
+        })
+    }
+
+    /// The header of the stream of an image.
+    pub(crate) fn header(&self, size: Size) -> Header
+        ensures { fields_of result ≡ header_of (settings_of self.now) size.width size.height }
+    {
+        Header {
+            xd: size.width,
+            yd: size.height,
+            l0: self.stripe_rows,
+            mx: self.most_offset,
+            options: self.options,
+        }
+    }
+}
