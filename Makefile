@@ -1,17 +1,18 @@
-# make            builds every program into bin/ and shows the main job on a real page
+# make            builds both programs into bin/, and shows them on a real page
 # make test       the gate: every proof, every edit that must fail, every test; ends in `rt ci`
 # make turns      makes each allocation of the programs fail in turn
-# make interop    decodes what JBIG-KIT's encoders write, and compares the images
+# make interop    exchanges streams with JBIG-KIT's programs, and compares the images
 # make bench      measures beside JBIG-KIT; no test is timed
 # make install    copies the programs to $(DESTDIR)$(PREFIX)/bin
 
 PREFIX ?= /usr/local
-PROGRAMS = jbgtopbm85
+PROGRAMS = pbmtojbg85 jbgtopbm85
 
 show: build
-	bin/jbgtopbm85 --info examples/letter.jbg
-	bin/jbgtopbm85 examples/letter.jbg bin/letter.pbm
-	cmp bin/letter.pbm examples/letter.pbm && echo "its image is examples/letter.pbm"
+	bin/pbmtojbg85 examples/letter.pbm bin/letter.jbg
+	bin/jbgtopbm85 --info bin/letter.jbg
+	bin/jbgtopbm85 bin/letter.jbg bin/letter.pbm
+	cmp bin/letter.pbm examples/letter.pbm && echo "decoded, it is examples/letter.pbm again"
 
 # A program is proved before it is built.
 build:
@@ -30,11 +31,12 @@ turns: build
 	tests/turns bin
 
 interop: build
-	tests/interop bin/jbgtopbm85
+	tests/interop bin
 
 bench: build
 	bench/info bin/jbgtopbm85
 	bench/decode bin/jbgtopbm85
+	bench/encode bin/pbmtojbg85
 
 install: build
 	@for program in $(PROGRAMS); do \
