@@ -54,7 +54,8 @@ pub(crate) fn held_in(
 }
 
 /// Counts the pixels of a word at each lag from `least` to `most`; `second` and `before` are the
-/// words to its left.
+/// words to its left. Where all three are white the pixels agree at each lag: their number is
+/// answered, and not counted.
 pub(crate) fn add_word(
     counts: &mut [u64; 128],
     least: usize,
@@ -63,7 +64,7 @@ pub(crate) fn add_word(
     before: u64,
     word: u64,
     mask: u64,
-)
+) -> u64
     requires least { 1 ≤ least }
     requires least_small { least < 64 }
     requires most { most ≤ 127 }
@@ -72,19 +73,21 @@ pub(crate) fn add_word(
         before ≡ pixels_word p (place + 64) 64
         → word ≡ pixels_word p (place + 128) 64 → mask ≡ pixels_word m c 64
         → (lag : ℕ) → least ≤ lag → lag ≤ most
-        → slice_index counts.new lag ≡ slice_index counts.old lag + agreed_from p p m (place + 128)
+        → slice_index counts.new lag + result ≡ slice_index counts.old lag + agreed_from p p m (place + 128)
         (place + 128 - lag) c 64 }
-    ensures room { (lag : ℕ) → slice_index counts.new lag ≤ slice_index counts.old lag + 64 }
+    ensures room { (lag : ℕ) → slice_index counts.new lag + result ≤ slice_index counts.old lag + 64 }
 {
     let end = most + 1;
     if second | before | word == 0 {
-        add_all(counts, least, end, mask.count_ones());
-    } else if end <= 64 {
+        return u64::from(mask.count_ones());
+    }
+    if end <= 64 {
         add_lags(counts, least, end, least as u32, before, word, word, mask);
     } else {
         add_lags(counts, least, 64, least as u32, before, word, word, mask);
         add_lags(counts, 64, end, 0, second, before, word, mask);
     }
+    0
 }
 
 /// Counts the pixels of a word at the lags from `from` up to `end`, which are the shifts from
@@ -125,15 +128,14 @@ fn add_lags(
 }
 
 /// Adds the same number at each lag from `from` up to `end`.
-fn add_all(counts: &mut [u64; 128], from: usize, end: usize, more: u32)
+pub(crate) fn add_all(counts: &mut [u64; 128], from: usize, end: usize, more: u64)
     requires end { end ≤ 128 }
-    requires more { more ≤ 64 }
-    requires room { (lag : ℕ) → slice_index counts.old lag + 64 < 2 ^ 64 }
+    requires room { (lag : ℕ) → slice_index counts.old lag + more < 2 ^ 64 }
     ensures counts { (lag : ℕ) → from ≤ lag → lag < end →
         slice_index counts.new lag ≡ slice_index counts.old lag + more }
-    ensures room { (lag : ℕ) → slice_index counts.new lag ≤ slice_index counts.old lag + 64 }
+    ensures room { (lag : ℕ) → slice_index counts.new lag ≤ slice_index counts.old lag + more }
 {
     for lag in from..end {
-        counts[lag] += u64::from(more);
+        counts[lag] += more;
     }
 }

@@ -2,7 +2,7 @@
 
 ghost use Rattle.std.specs.Prelude.{ℕ, ◌+◌, ◌*◌, ◌^◌, ◌≡◌, ◌≤◌, slice_index};
 
-use crate::agreement::{add_word, held_in};
+use crate::agreement::{add_all, add_word, held_in};
 use crate::window::Window;
 use crate::words::{mask_at, word_at};
 
@@ -79,16 +79,18 @@ impl Tally {
         let above = window.row(1);
         let mut counts = self.counts;
         let mut held = self.held;
+        let mut alike = 0;
         let mut second = 0;
         let mut before = 0;
         for k in 0..words {
             let word = word_at(row, k + 2);
             let mask = mask_at(width, k);
             held += held_in(above, k, offset, second, before, word, mask);
-            add_word(&mut counts, least, most, second, before, word, mask);
+            alike += add_word(&mut counts, least, most, second, before, word, mask);
             second = before;
             before = word;
         }
+        add_all(&mut counts, least, most + 1, alike);
         let rows = self.rows + 1;
         *self = Tally {
             two_line: self.two_line,

@@ -15,14 +15,18 @@ near x s j = omega arith
 far : (x j : ℕ) → x + 64 + 64 - (0 + j) ≡ x + 128 - j
 far x j = omega arith
 
+none_more : (x y : ℕ) → x ≡ y → x + 0 ≡ y
+none_more x y e = omega (arith, e)
+
 pub returns-then-end-le64-clause-counts : goal.returns-then-end-le64-clause-counts
 returns-then-end-le64-clause-counts d p m place c second before one mask lag from to =
+    none_more _ _ (
     d.add_lags.ensures.counts p m (place + 64) (place + 128) c before (one ∙ ap (λ x. word p x 64) (beside place)) one mask lag from (omega (arith, to))
-    ∙ ap (λ x. get_or d.args.counts.now lag 0 + agreed_from p p m (place + 128) x c 64) (near place d.args.least lag)
+    ∙ ap (λ x. get_or d.args.counts.now lag 0 + agreed_from p p m (place + 128) x c 64) (near place d.args.least lag))
 
 pub returns-else-end-le64-clause-counts : goal.returns-else-end-le64-clause-counts
 returns-else-end-le64-clause-counts d p m place c second before one mask lag from to =
-    elim (order lag 64) [
+    none_more _ _ (elim (order lag 64) [
       | inl lt ↦
           d.add_lags-else-end-le64-2.ensures.below lag lt
           ∙ d.add_lags-else-end-le64.ensures.counts p m (place + 64) (place + 128) c before (one ∙ ap (λ x. word p x 64) (beside place)) one mask lag from lt
@@ -31,7 +35,7 @@ returns-else-end-le64-clause-counts d p m place c second before one mask lag fro
           d.add_lags-else-end-le64-2.ensures.counts p m place (place + 128) c second before one mask lag le (omega (arith, to))
           ∙ ap (λ x. x + agreed_from p p m (place + 128) (place + 64 + 64 - (0 + lag)) c 64) (d.add_lags-else-end-le64.ensures.above lag le)
           ∙ ap (λ x. get_or d.args.counts.now lag 0 + agreed_from p p m (place + 128) x c 64) (far place lag)
-    ]
+    ])
 
 pub returns-then-second-before-eq0-clause-counts : goal.returns-then-second-before-eq0-clause-counts
 returns-then-second-before-eq0-clause-counts d p m place c second before one mask lag from to =
@@ -40,6 +44,6 @@ returns-then-second-before-eq0-clause-counts d p m place c second before one mas
     let first_zero : word p place 64 ≡ 0 = sym second ∙ omega (arith, left, le_or_l d.args.second d.args.before) in
     let second_zero : word p (place + 64) 64 ≡ 0 = sym before ∙ omega (arith, left, le_or_r d.args.second d.args.before) in
     let third_zero : word p (place + 128) 64 ≡ 0 = sym one ∙ omega (arith, all, le_or_r (bit_or d.args.second d.args.before) d.args.word) in
-    d.add_all.ensures.counts lag from (omega (arith, to))
+    ap (λ x. get_or d.args.counts.now lag 0 + x) d.from.ensures
     ∙ ap (λ x. get_or d.args.counts.now lag 0 + count_ones x) mask
     ∙ ap (λ x. get_or d.args.counts.now lag 0 + x) (white_agreed p m place c lag first_zero second_zero third_zero (omega (arith, to, d.requires.most)))

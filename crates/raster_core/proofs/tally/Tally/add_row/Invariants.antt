@@ -9,9 +9,9 @@ invariant-loop-k l = record {
   second : (line : List Bool) → l.row ≡ packed_row line → l.second ≡ word (led line) (64 * l.k) 64;
   before : (line : List Bool) → l.row ≡ packed_row line → l.before ≡ word (led line) (64 * (l.k + 1)) 64;
   counts : (lines : Lines) → l.row ≡ packed_row lines.row → (lag : ℕ) → l.least ≤ lag → lag ≤ l.most →
-      get_or l.counts lag 0 ≡ get_or l.initial.counts lag 0 + part_agreement lines l.width lag 0 (64 * l.k);
+      get_or l.counts lag 0 + l.alike ≡ get_or l.initial.counts lag 0 + part_agreement lines l.width lag 0 (64 * l.k);
   held : (lines : Lines) → l.row ≡ packed_row lines.row → l.above ≡ packed_row lines.above →
       l.held ≡ l.initial.held + part_agreement lines l.width l.offset 0 (64 * l.k);
-  room : (lag : ℕ) → get_or l.counts lag 0 ≤ 2 ^ 32 * l.self.rows + 64 * l.k;
+  room : (lag : ℕ) → get_or l.counts lag 0 + l.alike ≤ 2 ^ 32 * l.self.rows + 64 * l.k;
   held_room : l.held ≤ 2 ^ 32 * l.self.rows + 64 * l.k;
 }
