@@ -167,6 +167,3 @@ code_of-IsCode p h =
     let c = chosen-IsChosen p h in
     let f = fraction (wanted_bytes p.doublings) (chosen p) (2 ^ (16 + p.doublings)) (chosen p * 2 ^ (8 * wanted_bytes p.doublings - (16 + p.doublings))) (pow_pos (16 + p.doublings)) (omega (arith, c.below, h.within)) (divides p.doublings (chosen p)) in
     record { bytes = f.bytes; trimmed = f.trimmed; value = (chosen p, c, f.value) }
-
-pub code_of-Lies : (p : Place) → IsPlace p → Lies (code_of p) p
-code_of-Lies p h = code-Lies p (code_of p) (code_of-IsCode p h)

@@ -92,7 +92,3 @@ along_stop {S} pull old mid to mode offset second above past₀ d₀ learned₀ 
 pub exit_err : {T E : Type 0} (r : Result T E) (P : Type 0) → P → OnErr r P
 exit_err (Ok x) P h = tt
 exit_err (Err e) P h = h
-
-pub bit_byte : (b : Bool) → bool_byte b ≡ bit b
-bit_byte true = refl
-bit_byte false = refl

@@ -13,10 +13,6 @@ pub clear_is : (n : ℕ) (b : Bool) → n ≡ 0 → not (eqb n 0) ≡ b → b �
 clear_is zero b h e = sym e
 clear_is (suc n) b h e = absurd (omega (arith, h))
 
-pub moved_some : (offset : ℕ) → is_moved offset ≡ true → 1 ≤ offset
-moved_some zero h = cc
-moved_some (suc t) h = omega arith
-
 pub nominal_none : (offset : ℕ) → is_moved offset ≡ false → offset ≡ 0
 nominal_none zero h = refl
 nominal_none (suc t) h = cc

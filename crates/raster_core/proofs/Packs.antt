@@ -200,9 +200,3 @@ pixel_is line x =
     ∙ ap (λ y. y == 1) (last_pixel (pixel_at line) (8 * (x / 8)) (x % 8))
     ∙ bit_test (pixel_at line (8 * (x / 8) + x % 8))
     ∙ ap (pixel_at line) at
-
-pub pixel_behind : (line : List Bool) (x : ℕ) → length (packed_row line) ≤ x / 8 → pixel_at line x ≡ false
-pixel_behind line x h = sym (pixel_is line x) ∙ ap (λ y. bit_and (y / 2 ^ (7 - x % 8)) 1 == 1) (get_past (packed_row line) (x / 8) h) ∙ zero_byte (7 - x % 8)
-  where
-    zero_byte : (k : ℕ) → (bit_and (0 / 2 ^ k) 1 == 1) ≡ false
-    zero_byte k = ap (λ y. bit_and y 1 == 1) (zero-div (2 ^ k))

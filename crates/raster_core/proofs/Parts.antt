@@ -164,8 +164,3 @@ one_pixel lines width offset x h =
   where
     start : (k : ℕ) → 0 + k ≡ k
     start k = omega arith
-
-pub part_one : (lines : Lines) (width offset x : ℕ) → x < width →
-    part_agreement lines width offset 0 (x + 1) ≡ part_agreement lines width offset 0 x + cond (same (pixel_at lines.row x) (adaptive lines offset x)) 1 0
-part_one lines width offset x h =
-    part_more lines width offset x 1 ∙ ap (λ y. part_agreement lines width offset 0 x + y) (one_pixel lines width offset x h)

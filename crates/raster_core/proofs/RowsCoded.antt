@@ -65,11 +65,6 @@ rows_other a b ne = by (same_row a b) refl
 
 -- ---- the pixel before the row
 
-pub coded_none : {S : Type 0} (took : S → ℕ → S → Type 0) (old : S) (mode : Mode) (previous flag : Bool) (p : Place) (pushed : List ℕ) (e : Encoder) (learned : List Estimate) →
-    mode.typical ≡ false → Codes e p pushed → Encodes took old old (record { place = p; learned = learned }) pushed (first_events mode previous flag) e learned
-coded_none {S} took old mode previous flag p pushed e learned plain h =
-    rw plain (record { more = []; taken = refl; codes = rw append-nil h; taught = refl })
-
 one : (c k : ℕ) (a b : Bool) → c ≡ k → a ≡ b → (let e : Event = record { context = c; pixel = a } in e) ≡ record { context = k; pixel = b }
 one c k a b h e = cc
 

@@ -243,25 +243,6 @@ pub agreed_word_is : (p q m : ℕ → Bool) (a b c : ℕ) →
     count_ones (bit_and (word m c 64) (2 ^ 64 - 1 - bit_xor (word p a 64) (word q b 64))) ≡ agreed_from p q m a b c 64
 agreed_word_is p q m a b c = agreed_word_n p q m a b c 64
 
--- more places
-pub agreed_more : (p q m : ℕ → Bool) (a b c n k : ℕ) →
-    agreed_from p q m a b c (n + k) ≡ agreed_from p q m a b c n + agreed_from p q m (a + n) (b + n) (c + n) k
-unfolding agreed_from
-agreed_more p q m a b c n k =
-    count_cat (λ i. m (c + i) && same (p (a + i)) (q (b + i))) 0 n k
-    ∙ ap (λ x. count_by (λ i. m (c + i) && same (p (a + i)) (q (b + i))) (numbers_from 0 n) + x)
-    (count_same (λ i. m (c + i) && same (p (a + i)) (q (b + i))) (λ i. m ((c + n) + i) && same (p ((a + n) + i)) (q ((b + n) + i))) (0 + n) 0 k
-    (λ i lt. ap (λ z. m z && same (p (a + ((0 + n) + i))) (q (b + ((0 + n) + i)))) (place c n i)
-    ∙ ap (λ z. m ((c + n) + (0 + i)) && same (p z) (q (b + ((0 + n) + i)))) (place a n i)
-    ∙ ap (λ z. m ((c + n) + (0 + i)) && same (p ((a + n) + (0 + i))) (q z)) (place b n i)))
-  where
-    place : (x y i : ℕ) → x + ((0 + y) + i) ≡ (x + y) + (0 + i)
-    place x y i = omega arith
-
-pub agreed_none : (p q m : ℕ → Bool) (a b c : ℕ) → agreed_from p q m a b c 0 ≡ 0
-unfolding agreed_from
-agreed_none p q m a b c = refl
-
 -- ---- a word's left neighbour moves in, a pixel at a time
 
 pub begun : (q : ℕ → Bool) (g s : ℕ) → s < 64 → word q g 64 / 2 ^ s ≡ word q g (64 - s)

@@ -58,13 +58,6 @@ byte_cut first b old new (Err f) e small h =
       inr (omega arith),
     )) h)
 
-pub none_cut : (first : Option Code) (old new : Option (List ℕ)) (r : Result Bool fault.Fault) → first ≡ None →
-    IfErr r (Ends Truncated old new CodeFault) → IfErr r (Ends Truncated (entity_known first old) new (BreaksIn first))
-none_cut first old new (Ok reset) e h = tt
-none_cut first old new (Err f) e h =
-    subst (λ x. Ends Truncated (entity_known x old) new (BreaksIn first) f) (sym e)
-    (record { given = h.given; taken = h.taken; has_fault = (h.has_fault, inl e); at_end = h.at_end })
-
 -- ---- pulls
 
 -- the code went on over these bytes

@@ -5,11 +5,6 @@ use Rattle.std.proofs.lemmas.List.{drop-take, drop-drop}
 use Rattle.std.proofs.Math.Seq.{drop-cons}
 use Rattle.t85_core.specs.Stream.{held_of}
 
-pub keeps_empty : (a b : Option (List ℕ)) (held : List ℕ) → held ≡ [] → Keeps a b → Keeps (prepend_known held a) (prepend_known [] b)
-keeps_empty None b held e k = tt
-keeps_empty (Some a) None held e k = k
-keeps_empty (Some a) (Some b) held e k = k ∙ ap (λ z. z ++ a) (sym e)
-
 pub keeps_refill : (a b : Option (List ℕ)) (held more : List ℕ) → held ≡ [] → Consumes a b more → Keeps (prepend_known held a) (prepend_known more b)
 keeps_refill None b held more e k = tt
 keeps_refill (Some a) None held more e k = k
@@ -59,10 +54,6 @@ next_taken bytes at end a some within =
 pub some_taken : (bytes : List ℕ) (at count end : ℕ) (a : Option (List ℕ)) → at + count ≤ end → Consumes (prepend_known (held_of bytes at end) a) (prepend_known (held_of bytes (at + count) end) a) (take count (held_of bytes at end))
 some_taken bytes at count end a fits =
     subst (λ z. Consumes (prepend_known (held_of bytes at end) a) (prepend_known z a) (take count (held_of bytes at end))) (sym (held_after bytes at count end fits)) (consumes_held count (held_of bytes at end) a)
-
-pub end_held : (a : Option (List ℕ)) (held : List ℕ) → held ≡ [] → IsAtEnd a → IsAtEnd (prepend_known held a)
-end_held None held e k = tt
-end_held (Some a) held e k = ap (λ z. z ++ a) e ∙ k
 
 -- where none is held, the known bytes are those that the input has still to give
 pub known_unheld : (bytes : List ℕ) (at end : ℕ) (a : Option (List ℕ)) → at ≡ end → prepend_known (held_of bytes at end) a ≡ a

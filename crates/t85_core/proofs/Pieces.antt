@@ -29,11 +29,3 @@ fault_at_escape h moves in_code escape f taken same other has = Ends-at f (255 �
 -- a fault of what stands behind FF and a byte
 pub fault_after_escape : {a b c : Option (List ℕ)} (h : Fields) (moves : ℕ) (in_code : Bool) (escape : ℕ) (f : Fault) (P : List ℕ → Fault → Type 0) → Consumes a b (255 ∷ escape ∷ []) → ((given : List ℕ) (fault : Fault) → P given fault → rest_fault h moves in_code (255 ∷ escape ∷ given) ≡ Some fault) → Ends Truncated b c P f → Ends Truncated a c (λ given fault. rest_fault h moves in_code given ≡ Some fault) f
 fault_after_escape h moves in_code escape f P taken widen e = Ends-after (255 ∷ escape ∷ []) taken widen e
-
--- a second move
-pub second_move : (h : Fields) (moves : ℕ) (bytes : List ℕ) → 0 < moves → move_fault h moves bytes ≡ Some SecondMove
-second_move h moves bytes some = grind (arith, nat_tests)
-
--- with no move before, the number of them makes no difference
-pub first_move : (h : Fields) (moves : ℕ) (bytes : List ℕ) → moves ≤ 0 → move_fault h moves bytes ≡ move_fault h 0 bytes
-first_move h moves bytes none = ap (λ n. move_fault h n bytes) (let e : moves ≡ 0 = omega arith in e)

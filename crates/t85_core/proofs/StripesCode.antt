@@ -28,11 +28,6 @@ use Rattle.t85_core.proofs.RowsJoined.{reads_none, reads_join}
 use Rattle.t85_core.proofs.RowsOn.{rows_continue, rows_go_on}
 use Rattle.t85_core.proofs.Courses.{CourseAt, course_begins, course_step, stripe_within, stripes_more}
 
--- What the stripe i of a raster that begins so is begun with, and what was set out before it.
-pub record Follows (s : Settings) (raster : Raster) (i : ℕ) (at : Course) (bytes : List ℕ) : Type 0 where
-  pub bytes_are : bytes ≡ stripes_up_to s raster i
-  pub course : CourseAt s raster i at
-
 -- so many stripes were read and set out
 pub record StripesCoded (s : Settings) (width height' i : ℕ) (known known' text text' : Option (List ℕ)) (carried : Carried) (tally : Tally) : Type 0 where
   pub rows : List (List Bool)

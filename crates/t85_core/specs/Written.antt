@@ -17,11 +17,6 @@ abbrev pub after_rows : Mode → Option (ℕ × ℕ) → ℕ → Between → Lis
 after_rows mode move r b [] = b
 after_rows mode move r b (row ∷ rows) = after_rows mode move (r + 1) (after_row mode move r b row (next_flag mode b row)) rows
 
--- their flags
-abbrev pub flags_for : Mode → Option (ℕ × ℕ) → ℕ → Between → List (List Bool) → List Bool
-flags_for mode move r b [] = []
-flags_for mode move r b (row ∷ rows) = next_flag mode b row ∷ flags_for mode move (r + 1) (after_row mode move r b row (next_flag mode b row)) rows
-
 -- each of them with the two rows above it
 abbrev pub lines_down : List Bool → List Bool → List (List Bool) → List Lines
 lines_down above second [] = []
@@ -58,16 +53,6 @@ course_on s width at rows = record {
   carry = end_of width s.reset (between_on s width at rows);
   counted = lines_down at.carry.above at.carry.second rows;
 }
-
--- stripes, of which the rows of each are given
-abbrev pub stripes_on : Settings → ℕ → Course → List (List (List Bool)) → List Stripe
-stripes_on s width at [] = []
-stripes_on s width at (rows ∷ later) = stripe_on s width at rows ∷ stripes_on s width (course_on s width at rows) later
-
--- what goes on behind them
-abbrev pub course_behind : Settings → ℕ → Course → List (List (List Bool)) → Course
-course_behind s width at [] = at
-course_behind s width at (rows ∷ later) = course_behind s width (course_on s width at rows) later
 
 -- a beginning of bytes
 pub record IsBeginning (front bytes : List ℕ) : Type 0 where
