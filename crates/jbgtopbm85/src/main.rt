@@ -3,8 +3,12 @@
 
 #[cfg(test)]
 mod decode_tests;
+#[cfg(test)]
+mod engine_tests;
 mod line;
 mod run;
+#[cfg(test)]
+mod streams;
 #[cfg(test)]
 mod tests;
 #[cfg(test)]

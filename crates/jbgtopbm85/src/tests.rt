@@ -21,90 +21,101 @@ fn info_job(alloc: Global) -> Result<Job, Fail> {
 /// Two stripes of one row, one black pixel wide.
 const TWO_STRIPES: &str = "00000100 00000001 00000002 00000001 00 0000 08 E0 FF02 E0 FF02";
 
-/// Streams, how many single bytes are asked for (the end of the input is asked for too), and the line or the text of
-/// the fault.
-const STREAMS: [(&str, u64, Result<&str, &str>); 17] = [
-    (TWO_STRIPES, 26, Ok("1 2 1 0 8 2 2 0 0\n")),
-    (
-        "00000100 00000008 00000002 00000001 03 0000 00 F0 FF02 FF06 00000000 0300 F8 FF02",
-        34,
-        Ok("8 2 1 3 0 2 2 1 0\n"),
-    ),
-    (
-        "00000100 00000008 00000001 00000080 00 0000 08 FF07 00000002 6869 FF02",
-        30,
-        Ok("8 1 128 0 8 1 1 0 1\n"),
-    ),
-    (
-        "00000100 00000008 00000003 00000080 08 0003 1C FF02",
-        22,
-        Ok("8 3 128 8 28 3 1 0 0\n"),
-    ),
-    (
-        "00000100 00000001 00000005 00000080 00 0000 20 C0 FF02 FF05 00000001 FF02",
-        23,
-        Ok("1 5 128 0 32 5 1 0 0\n"),
-    ),
-    (
-        "00000100 00000008 00000001 00000080 00 0000 00 FF02 FF07",
-        22,
-        Ok("8 1 128 0 0 1 1 0 0\n"),
-    ),
-    (
-        "00000100 00000008 00000001 00000080 00 0000 08",
-        21,
-        Err("input ends too early"),
-    ),
-    (
-        "00000100 00000008 00000001 00000080 00 0000 08 FF09",
-        22,
-        Err("unexpected escape code"),
-    ),
-    (
-        "00000100 00000008 00000001 00000080 00 0000 08 FF04",
-        22,
-        Err("image was aborted"),
-    ),
-    (
-        "00000100 00000008 00000001 00000080 00 0000 08 00 FF05",
-        23,
-        Err("unexpected escape code"),
-    ),
-    (
-        "00000100 00000001 00000001 00000080 00 0000 00 FF05 00000001 C0 FF02",
-        22,
-        Err("new height is not allowed"),
-    ),
-    (
-        "00000100 00000001 00000001 00000080 00 0000 00 FF05",
-        22,
-        Err("new height is not allowed"),
-    ),
-    (
-        "01010201 00000000 00000000 00000000 00 0000 00",
-        20,
-        Err("reserved bits of the header are set"),
-    ),
-    (
-        "00000100 00000001 00000001 00000080 00 0000",
-        20,
-        Err("header is shorter than 20 bytes"),
-    ),
-    (
-        "00000100 00100001 00000001 00000080 00 0000 00",
-        20,
-        Err("image is wider than 1048576"),
-    ),
-    (
-        "00000100 00000008 00000002 00000080 00 0000 00 FF06 00000080 0000",
-        28,
-        Err("adaptive pixel move is not allowed"),
-    ),
-    (
-        "00000100 00000008 00000002 00000080 00 0000 00 FF06 00000000 0000 FF06",
-        30,
-        Err("second adaptive pixel move in a stripe"),
-    ),
+/// A stream, and what is told of it.
+struct Told {
+    hex: &'static str,
+    /// How many bytes are asked for, one at a time; the end of the input is asked for too.
+    reads: u64,
+    /// The line, or the text of the fault.
+    answer: Result<&'static str, &'static str>,
+}
+
+static STREAMS: [Told; 17] = [
+    Told {
+        hex: TWO_STRIPES,
+        reads: 26,
+        answer: Ok("1 2 1 0 8 2 2 0 0\n"),
+    },
+    Told {
+        hex: "00000100 00000008 00000002 00000001 03 0000 00 F0 FF02 FF06 00000000 0300 F8 FF02",
+        reads: 34,
+        answer: Ok("8 2 1 3 0 2 2 1 0\n"),
+    },
+    Told {
+        hex: "00000100 00000008 00000001 00000080 00 0000 08 FF07 00000002 6869 FF02",
+        reads: 30,
+        answer: Ok("8 1 128 0 8 1 1 0 1\n"),
+    },
+    Told {
+        hex: "00000100 00000008 00000003 00000080 08 0003 1C FF02",
+        reads: 22,
+        answer: Ok("8 3 128 8 28 3 1 0 0\n"),
+    },
+    Told {
+        hex: "00000100 00000001 00000005 00000080 00 0000 20 C0 FF02 FF05 00000001 FF02",
+        reads: 23,
+        answer: Ok("1 5 128 0 32 5 1 0 0\n"),
+    },
+    Told {
+        hex: "00000100 00000008 00000001 00000080 00 0000 00 FF02 FF07",
+        reads: 22,
+        answer: Ok("8 1 128 0 0 1 1 0 0\n"),
+    },
+    Told {
+        hex: "00000100 00000008 00000001 00000080 00 0000 08",
+        reads: 21,
+        answer: Err("input ends too early"),
+    },
+    Told {
+        hex: "00000100 00000008 00000001 00000080 00 0000 08 FF09",
+        reads: 22,
+        answer: Err("unexpected escape code"),
+    },
+    Told {
+        hex: "00000100 00000008 00000001 00000080 00 0000 08 FF04",
+        reads: 22,
+        answer: Err("image was aborted"),
+    },
+    Told {
+        hex: "00000100 00000008 00000001 00000080 00 0000 08 00 FF05",
+        reads: 23,
+        answer: Err("unexpected escape code"),
+    },
+    Told {
+        hex: "00000100 00000001 00000001 00000080 00 0000 00 FF05 00000001 C0 FF02",
+        reads: 22,
+        answer: Err("new height is not allowed"),
+    },
+    Told {
+        hex: "00000100 00000001 00000001 00000080 00 0000 00 FF05",
+        reads: 22,
+        answer: Err("new height is not allowed"),
+    },
+    Told {
+        hex: "01010201 00000000 00000000 00000000 00 0000 00",
+        reads: 20,
+        answer: Err("reserved bits of the header are set"),
+    },
+    Told {
+        hex: "00000100 00000001 00000001 00000080 00 0000",
+        reads: 20,
+        answer: Err("header is shorter than 20 bytes"),
+    },
+    Told {
+        hex: "00000100 00100001 00000001 00000080 00 0000 00",
+        reads: 20,
+        answer: Err("image is wider than 1048576"),
+    },
+    Told {
+        hex: "00000100 00000008 00000002 00000080 00 0000 00 FF06 00000080 0000",
+        reads: 28,
+        answer: Err("adaptive pixel move is not allowed"),
+    },
+    Told {
+        hex: "00000100 00000008 00000002 00000080 00 0000 00 FF06 00000000 0000 FF06",
+        reads: 30,
+        answer: Err("second adaptive pixel move in a stripe"),
+    },
 ];
 
 /// The words, and the status with which they are refused, or what they ask for.
@@ -153,10 +164,10 @@ fn refuses_words(rt: HostRuntime) {
 fn tells_each_stream(rt: HostRuntime) -> Result<(), Fail> {
     let alloc = rt.alloc();
     let job = info_job(alloc)?;
-    for (hex, _, answer) in STREAMS {
+    for stream in &STREAMS {
         for most in [1, 2, 3, 4095, 4096, 4097] {
-            let ran = run_on(alloc, &job, hex, Devices { most, ..SMOOTH })?;
-            assert!(rt; tells(alloc, &ran, answer)?, "{hex}");
+            let ran = run_on(alloc, &job, stream.hex, Devices { most, ..SMOOTH })?;
+            assert!(rt; tells(alloc, &ran, stream.answer)?, "{}", stream.hex);
         }
     }
     Ok(())
@@ -196,16 +207,18 @@ fn tells(alloc: Global, ran: &Ran, answer: Result<&str, &str>) -> Result<bool, A
 fn each_read_fails(rt: HostRuntime) -> Result<(), Fail> {
     let alloc = rt.alloc();
     let job = info_job(alloc)?;
-    for (hex, reads, answer) in STREAMS {
-        for at in 0..reads {
-            let ran = run_on(alloc, &job, hex, failing_read(at + 1))?;
+    for stream in &STREAMS {
+        for at in 0..stream.reads {
+            let ran = run_on(alloc, &job, stream.hex, failing_read(at + 1))?;
             assert!(rt;
                 tells(alloc, &ran, Err("input cannot be read"))?,
-                "{at} reads of {hex}"
+                "{at} reads of {}",
+                stream.hex
             );
         }
-        let ran = run_on(alloc, &job, hex, failing_read(reads.saturating_add(1)))?;
-        assert!(rt; tells(alloc, &ran, answer)?, "{hex}");
+        let devices = failing_read(stream.reads.saturating_add(1));
+        let ran = run_on(alloc, &job, stream.hex, devices)?;
+        assert!(rt; tells(alloc, &ran, stream.answer)?, "{}", stream.hex);
     }
     Ok(())
 }
@@ -236,13 +249,13 @@ fn reads_ahead(rt: HostRuntime) -> Result<(), Fail> {
 fn each_write_fails(rt: HostRuntime) -> Result<(), Fail> {
     let alloc = rt.alloc();
     let job = info_job(alloc)?;
-    for (hex, _, answer) in STREAMS {
-        let Ok(line) = answer else {
+    for stream in &STREAMS {
+        let Ok(line) = stream.answer else {
             continue;
         };
         let line = line.as_bytes();
         for at in 1..=line.len() {
-            let ran = run_on(alloc, &job, hex, failing_write(at as u64))?;
+            let ran = run_on(alloc, &job, stream.hex, failing_write(at as u64))?;
             assert!(rt;
                 has_left(
                     alloc,
@@ -250,13 +263,15 @@ fn each_write_fails(rt: HostRuntime) -> Result<(), Fail> {
                     &line[..at - 1],
                     Some("output cannot be written")
                 )?,
-                "write {at} of {hex}"
+                "write {at} of {}",
+                stream.hex
             );
         }
-        let ran = run_on(alloc, &job, hex, FAILING_FLUSH)?;
+        let ran = run_on(alloc, &job, stream.hex, FAILING_FLUSH)?;
         assert!(rt;
             has_left(alloc, &ran, line, Some("output cannot be written"))?,
-            "{hex}"
+            "{}",
+            stream.hex
         );
     }
     Ok(())

@@ -12,128 +12,136 @@ use std::test::Fail;
 
 const SIZES: [usize; 6] = [1, 2, 3, 4095, 4096, 4097];
 
-/// The options, the size and the rows of an image, and its stream.
-const CODED: [(&[&str], &str, &str, &str); 20] = [
-    (
-        &[],
-        "8 1",
-        "00",
-        "00000100 00000008 00000001 00000080 00 0000 08 FF02",
-    ),
-    (
-        &["-p", "0"],
-        "8 1",
-        "00",
-        "00000100 00000008 00000001 00000080 00 0000 00 60 FF02",
-    ),
-    (
-        &["-p", "0"],
-        "1 1",
-        "80",
-        "00000100 00000001 00000001 00000080 00 0000 00 C0 FF02",
-    ),
-    (
-        &[],
-        "1 1",
-        "80",
-        "00000100 00000001 00000001 00000080 00 0000 08 E0 FF02",
-    ),
-    (
-        &["-p", "0"],
-        "8 1",
-        "FF",
-        "00000100 00000008 00000001 00000080 00 0000 00 F0 FF02",
-    ),
-    (
-        &[],
-        "8 1",
-        "FF",
-        "00000100 00000008 00000001 00000080 00 0000 08 F8 FF02",
-    ),
-    (
-        &["-p", "0"],
-        "3 3",
-        "E0 E0 E0",
-        "00000100 00000003 00000003 00000080 00 0000 00 FF00 C0 FF02",
-    ),
-    (
-        &[],
-        "8 3",
-        "00 00 00",
-        "00000100 00000008 00000003 00000080 00 0000 08 FF02",
-    ),
-    (
-        &["-s", "1"],
-        "1 2",
-        "80 80",
-        "00000100 00000001 00000002 00000001 00 0000 08 E0 FF02 E0 FF02",
-    ),
-    (
-        &["-s", "1", "-r"],
-        "1 2",
-        "80 80",
-        "00000100 00000001 00000002 00000001 00 0000 08 E0 FF03 E0 FF03",
-    ),
-    (
-        &["-p", "64"],
-        "2 3",
-        "C0 C0 C0",
-        "00000100 00000002 00000003 00000080 00 0000 40 F8 FF02",
-    ),
-    (
-        &["-p", "0"],
-        "2 3",
-        "C0 C0 C0",
-        "00000100 00000002 00000003 00000080 00 0000 00 FE FF02",
-    ),
-    (
-        &["-p", "0", "-s", "1", "-m", "3"],
-        "8 2",
-        "FF FF",
-        "00000100 00000008 00000002 00000001 03 0000 00 F0 FF02 FF06 00000000 0300 F8 FF02",
-    ),
-    (
-        &["-C", "hi"],
-        "8 1",
-        "00",
-        "00000100 00000008 00000001 00000080 00 0000 08 FF07 00000002 6869 FF02",
-    ),
-    (
-        &["-p", "0", "-C", "hi"],
-        "8 1",
-        "00",
-        "00000100 00000008 00000001 00000080 00 0000 00 FF07 00000002 6869 60 FF02",
-    ),
-    (
-        &["-p", "0", "-C", ""],
-        "8 1",
-        "00",
-        "00000100 00000008 00000001 00000080 00 0000 00 FF07 00000000 60 FF02",
-    ),
-    (
-        &["-p", "0", "-s", "1"],
-        "1 2",
-        "80 80",
-        "00000100 00000001 00000002 00000001 00 0000 00 C0 FF02 C0 FF02",
-    ),
-    (
-        &["-p", "0", "-s", "1", "-r"],
-        "8 2",
-        "FF FF",
-        "00000100 00000008 00000002 00000001 00 0000 00 F0 FF03 F0 FF03",
-    ),
-    (
-        &["-p", "0", "-s", "1", "-m", "3", "-r"],
-        "8 3",
-        "FF FF FF",
-        "00000100 00000008 00000003 00000001 03 0000 00 F0 FF03 FF06 00000000 0300 F8 FF03 FF06 00000000 0300 F8 FF03",
-    ),
-    (
-        &["-p", "0", "-s", "1", "-m", "2", "-r"],
-        "8 2",
-        "FF FF",
-        "00000100 00000008 00000002 00000001 02 0000 00 F0 FF03 F0 FF03",
-    ),
+/// An image, and how it is coded.
+struct Coded {
+    options: &'static [&'static str],
+    size: &'static str,
+    rows: &'static str,
+    /// The stream, as hexadecimal digits.
+    hex: &'static str,
+}
+
+static CODED: [Coded; 20] = [
+    Coded {
+        options: &[],
+        size: "8 1",
+        rows: "00",
+        hex: "00000100 00000008 00000001 00000080 00 0000 08 FF02",
+    },
+    Coded {
+        options: &["-p", "0"],
+        size: "8 1",
+        rows: "00",
+        hex: "00000100 00000008 00000001 00000080 00 0000 00 60 FF02",
+    },
+    Coded {
+        options: &["-p", "0"],
+        size: "1 1",
+        rows: "80",
+        hex: "00000100 00000001 00000001 00000080 00 0000 00 C0 FF02",
+    },
+    Coded {
+        options: &[],
+        size: "1 1",
+        rows: "80",
+        hex: "00000100 00000001 00000001 00000080 00 0000 08 E0 FF02",
+    },
+    Coded {
+        options: &["-p", "0"],
+        size: "8 1",
+        rows: "FF",
+        hex: "00000100 00000008 00000001 00000080 00 0000 00 F0 FF02",
+    },
+    Coded {
+        options: &[],
+        size: "8 1",
+        rows: "FF",
+        hex: "00000100 00000008 00000001 00000080 00 0000 08 F8 FF02",
+    },
+    Coded {
+        options: &["-p", "0"],
+        size: "3 3",
+        rows: "E0 E0 E0",
+        hex: "00000100 00000003 00000003 00000080 00 0000 00 FF00 C0 FF02",
+    },
+    Coded {
+        options: &[],
+        size: "8 3",
+        rows: "00 00 00",
+        hex: "00000100 00000008 00000003 00000080 00 0000 08 FF02",
+    },
+    Coded {
+        options: &["-s", "1"],
+        size: "1 2",
+        rows: "80 80",
+        hex: "00000100 00000001 00000002 00000001 00 0000 08 E0 FF02 E0 FF02",
+    },
+    Coded {
+        options: &["-s", "1", "-r"],
+        size: "1 2",
+        rows: "80 80",
+        hex: "00000100 00000001 00000002 00000001 00 0000 08 E0 FF03 E0 FF03",
+    },
+    Coded {
+        options: &["-p", "64"],
+        size: "2 3",
+        rows: "C0 C0 C0",
+        hex: "00000100 00000002 00000003 00000080 00 0000 40 F8 FF02",
+    },
+    Coded {
+        options: &["-p", "0"],
+        size: "2 3",
+        rows: "C0 C0 C0",
+        hex: "00000100 00000002 00000003 00000080 00 0000 00 FE FF02",
+    },
+    Coded {
+        options: &["-p", "0", "-s", "1", "-m", "3"],
+        size: "8 2",
+        rows: "FF FF",
+        hex: "00000100 00000008 00000002 00000001 03 0000 00 F0 FF02 FF06 00000000 0300 F8 FF02",
+    },
+    Coded {
+        options: &["-C", "hi"],
+        size: "8 1",
+        rows: "00",
+        hex: "00000100 00000008 00000001 00000080 00 0000 08 FF07 00000002 6869 FF02",
+    },
+    Coded {
+        options: &["-p", "0", "-C", "hi"],
+        size: "8 1",
+        rows: "00",
+        hex: "00000100 00000008 00000001 00000080 00 0000 00 FF07 00000002 6869 60 FF02",
+    },
+    Coded {
+        options: &["-p", "0", "-C", ""],
+        size: "8 1",
+        rows: "00",
+        hex: "00000100 00000008 00000001 00000080 00 0000 00 FF07 00000000 60 FF02",
+    },
+    Coded {
+        options: &["-p", "0", "-s", "1"],
+        size: "1 2",
+        rows: "80 80",
+        hex: "00000100 00000001 00000002 00000001 00 0000 00 C0 FF02 C0 FF02",
+    },
+    Coded {
+        options: &["-p", "0", "-s", "1", "-r"],
+        size: "8 2",
+        rows: "FF FF",
+        hex: "00000100 00000008 00000002 00000001 00 0000 00 F0 FF03 F0 FF03",
+    },
+    Coded {
+        options: &["-p", "0", "-s", "1", "-m", "3", "-r"],
+        size: "8 3",
+        rows: "FF FF FF",
+        hex: "00000100 00000008 00000003 00000001 03 0000 00 F0 FF03 FF06 00000000 0300 F8 FF03 FF06 00000000 0300 F8 FF03",
+    },
+    Coded {
+        options: &["-p", "0", "-s", "1", "-m", "2", "-r"],
+        size: "8 2",
+        rows: "FF FF",
+        hex: "00000100 00000008 00000002 00000001 02 0000 00 F0 FF03 F0 FF03",
+    },
 ];
 
 /// The job that these options ask for.
@@ -160,15 +168,15 @@ fn pbm_of(alloc: Global, size: &str, rows: &str) -> Result<Vec<u8>, AllocError> 
 #[test]
 fn writes_each_stream(rt: HostRuntime) -> Result<(), Fail> {
     let alloc = rt.alloc();
-    for (options, size, rows, hex) in CODED {
-        let job = job_with(alloc, options)?;
-        let image = pbm_of(alloc, size, rows)?;
-        let stream = bytes_of(alloc, hex)?;
+    for coded in &CODED {
+        let job = job_with(alloc, coded.options)?;
+        let image = pbm_of(alloc, coded.size, coded.rows)?;
+        let stream = bytes_of(alloc, coded.hex)?;
         for most in SIZES {
             let ran = run_on(alloc, &job, &image, Devices { most, ..SMOOTH })?;
-            assert!(rt; has_left(alloc, &ran, &stream, None)?, "{hex}");
+            assert!(rt; has_left(alloc, &ran, &stream, None)?, "{}", coded.hex);
         }
-        assert!(rt; image_of(alloc, &stream)? == image, "{hex}");
+        assert!(rt; image_of(alloc, &stream)? == image, "{}", coded.hex);
     }
     Ok(())
 }
@@ -195,21 +203,22 @@ fn leaves_padding_out(rt: HostRuntime) -> Result<(), Fail> {
 #[test]
 fn leaves_the_rest(rt: HostRuntime) -> Result<(), Fail> {
     let alloc = rt.alloc();
-    for (options, size, rows, hex) in CODED {
-        let job = job_with(alloc, options)?;
-        let mut image = pbm_of(alloc, size, rows)?;
+    for coded in &CODED {
+        let job = job_with(alloc, coded.options)?;
+        let mut image = pbm_of(alloc, coded.size, coded.rows)?;
         image.extend_from_slice(b"P4\n1 1\n\xFF")?;
         let ran = run_on(alloc, &job, &image, SMOOTH)?;
         assert!(rt;
-            has_left(alloc, &ran, &bytes_of(alloc, hex)?, None)?,
-            "{hex}"
+            has_left(alloc, &ran, &bytes_of(alloc, coded.hex)?, None)?,
+            "{}",
+            coded.hex
         );
     }
     Ok(())
 }
 
 /// Images that are refused, and the text of the fault: nothing is written.
-const REFUSED: [(&[u8], &str); 9] = [
+static REFUSED: [(&[u8], &str); 9] = [
     (b"", "PBM ends too early"),
     (b"P4 1", "PBM ends too early"),
     (b"P5\n1 1\n", "input is not a raw PBM"),
@@ -225,7 +234,7 @@ const REFUSED: [(&[u8], &str); 9] = [
 fn refuses_images(rt: HostRuntime) -> Result<(), Fail> {
     let alloc = rt.alloc();
     let job = job_with(alloc, [].as_slice())?;
-    for (image, text) in REFUSED {
+    for (image, text) in &REFUSED {
         for most in SIZES {
             let ran = run_on(alloc, &job, image, Devices { most, ..SMOOTH })?;
             assert!(rt; has_left(alloc, &ran, b"", Some(text))?, "{text}");
@@ -246,40 +255,49 @@ fn is_not_built_yet(rt: HostRuntime) -> Result<(), Fail> {
     Ok(())
 }
 
-/// After so many of the image's rows the input ends, or can't be read: so much of the stream stands, by stripes.
-const CUTS: [(&[&str], &str, &str, &str, &[usize]); 3] = [
-    (
-        &["-s", "1"],
-        "1 2",
-        "80 80",
-        "00000100 00000001 00000002 00000001 00 0000 08 E0 FF02 E0 FF02",
-        &[20, 23],
-    ),
-    (
-        &["-p", "0", "-s", "1", "-m", "3"],
-        "8 2",
-        "FF FF",
-        "00000100 00000008 00000002 00000001 03 0000 00 F0 FF02 FF06 00000000 0300 F8 FF02",
-        &[20, 31],
-    ),
-    (
-        &["-p", "0", "-s", "1", "-C", "hi"],
-        "8 2",
-        "FF FF",
-        "00000100 00000008 00000002 00000001 00 0000 00 FF07 00000002 6869 F0 FF02 F4 FF02",
-        &[28, 31],
-    ),
+/// An image of as many rows as `stands` has numbers.
+struct Cut {
+    options: &'static [&'static str],
+    size: &'static str,
+    rows: &'static str,
+    hex: &'static str,
+    /// How many bytes of the stream stand where the input ends, or can't be read, before each row.
+    stands: &'static [usize],
+}
+
+static CUTS: [Cut; 3] = [
+    Cut {
+        options: &["-s", "1"],
+        size: "1 2",
+        rows: "80 80",
+        hex: "00000100 00000001 00000002 00000001 00 0000 08 E0 FF02 E0 FF02",
+        stands: &[20, 23],
+    },
+    Cut {
+        options: &["-p", "0", "-s", "1", "-m", "3"],
+        size: "8 2",
+        rows: "FF FF",
+        hex: "00000100 00000008 00000002 00000001 03 0000 00 F0 FF02 FF06 00000000 0300 F8 FF02",
+        stands: &[20, 31],
+    },
+    Cut {
+        options: &["-p", "0", "-s", "1", "-C", "hi"],
+        size: "8 2",
+        rows: "FF FF",
+        hex: "00000100 00000008 00000002 00000001 00 0000 00 FF07 00000002 6869 F0 FF02 F4 FF02",
+        stands: &[28, 31],
+    },
 ];
 
 #[test]
 fn cut_at_each_row(rt: HostRuntime) -> Result<(), Fail> {
     let alloc = rt.alloc();
-    for (options, size, rows, hex, stands) in CUTS {
-        let job = job_with(alloc, options)?;
-        let image = pbm_of(alloc, size, rows)?;
-        let stream = bytes_of(alloc, hex)?;
-        let header = image.len().saturating_sub(stands.len());
-        for (row, count) in stands.iter().enumerate() {
+    for cut in &CUTS {
+        let job = job_with(alloc, cut.options)?;
+        let image = pbm_of(alloc, cut.size, cut.rows)?;
+        let stream = bytes_of(alloc, cut.hex)?;
+        let header = image.len().saturating_sub(cut.stands.len());
+        for (row, count) in cut.stands.iter().enumerate() {
             let came = header.saturating_add(row);
             assert!(rt; came <= image.len() && *count <= stream.len());
             let written = &stream[..*count];
@@ -288,14 +306,16 @@ fn cut_at_each_row(rt: HostRuntime) -> Result<(), Fail> {
                 let text = "PBM ends too early";
                 assert!(rt;
                     has_left(alloc, &ran, written, Some(text))?,
-                    "{came} of {hex}"
+                    "{came} of {}",
+                    cut.hex
                 );
             }
             let ran = run_on(alloc, &job, &image, failing_read(came as u64 + 1))?;
             let text = "input cannot be read";
             assert!(rt;
                 has_left(alloc, &ran, written, Some(text))?,
-                "{came} of {hex}"
+                "{came} of {}",
+                cut.hex
             );
         }
     }
@@ -306,11 +326,11 @@ fn cut_at_each_row(rt: HostRuntime) -> Result<(), Fail> {
 #[test]
 fn each_read_fails(rt: HostRuntime) -> Result<(), Fail> {
     let alloc = rt.alloc();
-    for (options, size, rows, hex) in CODED {
-        let job = job_with(alloc, options)?;
-        let image = pbm_of(alloc, size, rows)?;
-        let header = pbm_of(alloc, size, "")?;
-        let stream = bytes_of(alloc, hex)?;
+    for coded in &CODED {
+        let job = job_with(alloc, coded.options)?;
+        let image = pbm_of(alloc, coded.size, coded.rows)?;
+        let header = pbm_of(alloc, coded.size, "")?;
+        let stream = bytes_of(alloc, coded.hex)?;
         for at in 0..image.len() {
             let ran = run_on(alloc, &job, &image, failing_read(at as u64 + 1))?;
             let count = ran.output.len();
@@ -325,11 +345,12 @@ fn each_read_fails(rt: HostRuntime) -> Result<(), Fail> {
             let text = "input cannot be read";
             assert!(rt;
                 has_left(alloc, &ran, &stream[..count], Some(text))?,
-                "{at} reads for {hex}"
+                "{at} reads for {}",
+                coded.hex
             );
         }
         let ran = run_on(alloc, &job, &image, failing_read(image.len() as u64 + 1))?;
-        assert!(rt; has_left(alloc, &ran, &stream, None)?, "{hex}");
+        assert!(rt; has_left(alloc, &ran, &stream, None)?, "{}", coded.hex);
     }
     Ok(())
 }
@@ -338,20 +359,21 @@ fn each_read_fails(rt: HostRuntime) -> Result<(), Fail> {
 #[test]
 fn each_write_fails(rt: HostRuntime) -> Result<(), Fail> {
     let alloc = rt.alloc();
-    for (options, size, rows, hex) in CODED {
-        let job = job_with(alloc, options)?;
-        let image = pbm_of(alloc, size, rows)?;
-        let stream = bytes_of(alloc, hex)?;
+    for coded in &CODED {
+        let job = job_with(alloc, coded.options)?;
+        let image = pbm_of(alloc, coded.size, coded.rows)?;
+        let stream = bytes_of(alloc, coded.hex)?;
         for at in 0..stream.len() {
             let ran = run_on(alloc, &job, &image, failing_write(at as u64 + 1))?;
             let text = "output cannot be written";
             assert!(rt;
                 has_left(alloc, &ran, &stream[..at], Some(text))?,
-                "{at} writes of {hex}"
+                "{at} writes of {}",
+                coded.hex
             );
         }
         let ran = run_on(alloc, &job, &image, failing_write(stream.len() as u64 + 1))?;
-        assert!(rt; has_left(alloc, &ran, &stream, None)?, "{hex}");
+        assert!(rt; has_left(alloc, &ran, &stream, None)?, "{}", coded.hex);
     }
     Ok(())
 }
@@ -360,18 +382,23 @@ fn each_write_fails(rt: HostRuntime) -> Result<(), Fail> {
 #[test]
 fn flush_fails(rt: HostRuntime) -> Result<(), Fail> {
     let alloc = rt.alloc();
-    for (options, size, rows, hex) in CODED {
-        let job = job_with(alloc, options)?;
-        let image = pbm_of(alloc, size, rows)?;
-        let stream = bytes_of(alloc, hex)?;
+    for coded in &CODED {
+        let job = job_with(alloc, coded.options)?;
+        let image = pbm_of(alloc, coded.size, coded.rows)?;
+        let stream = bytes_of(alloc, coded.hex)?;
         let ran = run_on(alloc, &job, &image, FAILING_FLUSH)?;
         let text = "output cannot be written";
-        assert!(rt; has_left(alloc, &ran, &stream, Some(text))?, "{hex}");
+        assert!(rt;
+            has_left(alloc, &ran, &stream, Some(text))?,
+            "{}",
+            coded.hex
+        );
         let cut = image.len().saturating_sub(1);
         let ran = run_on(alloc, &job, &image[..cut], FAILING_FLUSH)?;
         assert!(rt;
             has_told(alloc, &ran, NAME, Some("PBM ends too early"))?,
-            "{hex}"
+            "{}",
+            coded.hex
         );
     }
     Ok(())

@@ -21,6 +21,3 @@ pub use fault::Fault;
 pub use header::Header;
 pub use options::Options;
 pub use walk::info;
-
-#[cfg(test)]
-mod tests;
