@@ -5,10 +5,9 @@ use Rattle.std.proofs.lemmas.Bool.Decides.{nat_tests}
 use Rattle.std.proofs.lemmas.Nat.{pow_pos, pow-add}
 use Rattle.std.proofs.Math.Nat.{div-add-mod, pow-suc, pow-le-pow_right, lt_of_mul-lt-mul_right, le_of_mul-le-mul_right, mul-le-mul_right, mul_assoc}
 use Rattle.qm_core.specs.Place.{Place, IsPlace}
-use Rattle.qm_core.specs.Code.{IsBytes, IsTrimmed, IsChosen, IsCode, Lies, number, wanted_bytes, multiple_from, chosen_within, chosen, fraction_bytes, code_of}
+use Rattle.qm_core.specs.Code.{IsBytes, IsTrimmed, IsChosen, IsCode, number, wanted_bytes, multiple_from, chosen_within, chosen, fraction_bytes, code_of}
 use Rattle.qm_core.proofs.Decided.{number-cons}
 use Rattle.qm_core.proofs.Inside.{pow-256}
-use Rattle.qm_core.proofs.Shortest.{code-Lies}
 
 -- these bytes are the fraction v / unit
 record Fraction (v unit : ℕ) (bs : List ℕ) : Type 0 where

@@ -1,8 +1,7 @@
 -- The pixels of a byte, decoded one after another.
-use Rattle.std.proofs.Common.{◌≡◌, ℕ, ◌+◌, ◌-◌, ◌*◌, ◌/◌, ◌%◌, ◌^◌, ◌<◌, Bool, true, false, List, [], ◌∷◌, ◌++◌, length, refl, sym, ◌∙◌, ap, arith, subst, append_assoc, Ok, Err}
+use Rattle.std.proofs.Common.{◌≡◌, ℕ, ◌+◌, ◌-◌, ◌*◌, ◌/◌, ◌%◌, ◌^◌, ◌<◌, Bool, List, [], ◌∷◌, ◌++◌, length, refl, sym, ◌∙◌, ap, arith, subst, append_assoc, Ok, Err}
 use Rattle.std.specs.Prelude.{Result, OnErr}
 use Rattle.std.proofs.lemmas.List.{length-append, append-nil}
-use mir.Val.{bool_byte}
 use Rattle.qm_core.specs.Place.{Place, Event, Estimate, after}
 use Rattle.qm_core.specs.Standing.{Stands, Next}
 use Rattle.qm_core.specs.declared.source.Pulled.{Pulled}

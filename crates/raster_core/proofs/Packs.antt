@@ -3,7 +3,7 @@ use Rattle.std.proofs.Common.{◌≡◌, ℕ, zero, suc, ◌+◌, ◌-◌, ◌*�
 use Rattle.std.specs.Prelude.{bit_or, bit_and, ◌==◌, nat_lt, if◌then◌else◌}
 use Rattle.std.proofs.lemmas.Nat.{or_shifted, pow-add, div-mul-add, and_mask}
 use Rattle.std.proofs.lemmas.Nat.Bits.{ones_shl}
-use Rattle.std.proofs.Math.Nat.{mod-eq_of_lt, mul-add-mod_self_right, zero-div, pow-le-pow_right, pow-suc}
+use Rattle.std.proofs.Math.Nat.{mod-eq_of_lt, mul-add-mod_self_right, pow-le-pow_right, pow-suc}
 use Rattle.std.proofs.lemmas.Bool.Decides.{nat_tests}
 use Rattle.raster_core.specs.Raster.{pixel_at}
 use Rattle.raster_core.specs.Lines.{numbers_from, binary}

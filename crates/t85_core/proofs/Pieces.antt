@@ -1,13 +1,13 @@
 -- What one step of the walk over a stripe passes, or why it stops.
-use Rattle.std.proofs.Common.{◌≡◌, ◌≢◌, ◌<◌, ◌≤◌, ℕ, Bool, true, false, List, [], ◌∷◌, Option, Some, ap, subst, arith}
+use Rattle.std.proofs.Common.{◌≡◌, ◌≢◌, ℕ, Bool, true, false, List, [], ◌∷◌, Option, Some, subst, arith}
 use Rattle.std.specs.Io.KnownBytes.{Consumes}
 use Rattle.std.proofs.lemmas.Bool.Decides.{nat_tests}
 use Rattle.t85_core.specs.Header.{Fields}
 use Rattle.t85_core.specs.declared.fault.Fault.{Fault}
-use Rattle.t85_core.specs.declared.fault.Fault.TheVariants.{Truncated, BadEscape, SecondMove}
+use Rattle.t85_core.specs.declared.fault.Fault.TheVariants.{Truncated, BadEscape}
 use Rattle.t85_core.specs.Walk.{Ends, counted_as}
 use Rattle.t85_core.proofs.Ends.{Ends-at, Ends-after}
-use Rattle.t85_core.specs.Refusal.{rest_fault, move_fault}
+use Rattle.t85_core.specs.Refusal.{rest_fault}
 use Rattle.t85_core.proofs.Streams.{Consumes-more}
 
 -- FF and a byte were passed

@@ -70,6 +70,7 @@ impl<S: Stream> Entity<'_, S> {
         ensures counts { CountsRead (S.failures self.old.stream.now) (S.failures self.new.stream.now) result }
         ensures same_source { self.new.stream.ghost_name ≡ self.old.stream.ghost_name }
         ensures same_input { S.source self.new.stream.now ≡ S.source self.old.stream.now }
+        ensures failures { self.new.failures ≡ self.old.failures }
     {
         if let Some(reset) = self.marker {
             return Ok(reset);
@@ -91,6 +92,7 @@ impl<S: Stream> Entity<'_, S> {
         ensures same_source { self.new.stream.ghost_name ≡ self.old.stream.ghost_name }
         ensures same_input { S.source self.new.stream.now ≡ S.source self.old.stream.now }
         ensures first { self.new.first ≡ self.old.first }
+        ensures failures { self.new.failures ≡ self.old.failures }
     {
         let rest = skip_code(self.stream);
         self.fault = rest.err();

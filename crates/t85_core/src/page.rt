@@ -17,6 +17,9 @@ pub trait Sheet {
     /// The bytes that it has taken, behind those that stood there, where the writer tells them.
     ghost text: { Self → Option (List ℕ) };
 
+    /// The bytes of these that the writer has still to take.
+    ghost held: { Self → List ℕ };
+
     /// How often the writer has failed.
     ghost failures: { Self → ℕ };
 
@@ -45,6 +48,7 @@ pub trait Sheet {
     fn send(&mut self) -> Result<(), Fault>
         requires { failures self.old < 2 ^ 64 - 1 }
         ensures text { Keeps (text self.old) (text self.new) }
+        ensures sent { OnOk result (held self.new ≡ []) }
         ensures err { IfErr result (λ f. f ≡ Write) }
         ensures counts { CountsWrite (failures self.old) (failures self.new) result }
         ensures same_target { target self.new ≡ target self.old };
@@ -145,6 +149,8 @@ impl<W: Output> Page<'_, W> {
 
 impl<W: Output> Sheet for Page<'_, W> {
     ghost text = { λ s. append_known (W.contents s.output.now) (held_of s.bytes s.at s.end) };
+
+    ghost held = { λ s. held_of s.bytes s.at s.end };
 
     ghost failures = { λ s. W.failures s.output.now };
 
