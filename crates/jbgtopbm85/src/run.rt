@@ -9,7 +9,7 @@ ghost use Rattle.jbgtopbm85.specs.Run.{Does};
 use crate::NAME;
 use crate::line::Job;
 use pbm_core::{Input, Output};
-use program_core::tell;
+use program_core::report;
 use std::alloc::Global;
 use t85_core::{info, to_pbm};
 
@@ -39,11 +39,5 @@ pub fn run<R: Input, W: Output, M: Output>(
     } else {
         to_pbm(alloc, input, output)
     };
-    match outcome {
-        Ok(()) => 0,
-        Err(fault) => {
-            tell(NAME, fault, messages);
-            1
-        }
-    }
+    report(NAME, outcome, messages)
 }

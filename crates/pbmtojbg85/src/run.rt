@@ -11,7 +11,7 @@ use crate::NAME;
 use crate::words::bytes_of;
 use crate::work::Job;
 use pbm_core::{Input, Output};
-use program_core::tell;
+use program_core::report;
 use std::alloc::Global;
 use t85_core::{Options, to_jbg};
 
@@ -40,11 +40,5 @@ pub fn run<R: Input, W: Output, M: Output>(
         Ok(options) => to_jbg(alloc, input, output, &options),
         Err(fault) => Err(fault),
     };
-    match outcome {
-        Ok(()) => 0,
-        Err(fault) => {
-            tell(NAME, fault, messages);
-            1
-        }
-    }
+    report(NAME, outcome, messages)
 }

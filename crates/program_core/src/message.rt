@@ -1,6 +1,8 @@
 //! A line for standard error.
 
 ghost use Rattle.std.specs.Prelude.{◌≡◌, ◌≤◌, ◌<◌, ◌+◌, ◌-◌, ◌^◌, ◌++◌, [], take};
+ghost use Rattle.std.specs.Io.KnownBytes.{Keeps};
+ghost use Rattle.program_core.specs.Run.{exit_status};
 
 use pbm_core::{Output, write_bytes};
 use std::fmt::{self, Write};
@@ -49,8 +51,25 @@ impl fmt::Write for Message {
     }
 }
 
+/// Tells a fault to `messages`, and gives the exit status: 0, or 1 after a fault.
+pub fn report<M: Output>(program: &str, outcome: Result<(), Fault>, messages: &mut M) -> u8
+    requires { M.failures messages.old < 2 ^ 64 - 1 }
+    ensures status { result ≡ exit_status outcome }
+    // A message is tried once, and only after a fault.
+    ensures quiet { result ≡ 0 → Keeps (M.contents messages.old) (M.contents messages.new) × (M.failures messages.new ≡ M.failures messages.old) }
+    ensures once { M.failures messages.new ≤ M.failures messages.old + 1 }
+{
+    match outcome {
+        Ok(()) => 0,
+        Err(fault) => {
+            tell(program, fault, messages);
+            1
+        }
+    }
+}
+
 /// Writes a program's line about a fault, in one write where the output takes it.
-pub fn tell<M: Output>(program: &str, fault: Fault, messages: &mut M)
+fn tell<M: Output>(program: &str, fault: Fault, messages: &mut M)
     requires { M.failures messages.old < 2 ^ 64 - 1 }
     ensures { M.failures messages.new ≤ M.failures messages.old + 1 }
 {
