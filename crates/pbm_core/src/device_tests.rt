@@ -1,4 +1,4 @@
-ghost use Rattle.std.specs.Prelude.{◌≡◌};
+ghost use Rattle.std.specs.Prelude.{◌≡◌, ◌<◌, ◌^◌};
 
 use super::trial::{Drip, Pieces};
 use super::*;
@@ -53,24 +53,27 @@ impl io::Write for Fitful {
 }
 
 fn read<R: Input>(input: &mut R, buf: &mut [u8]) -> Result<usize, DeviceFailed> {
-    if input.failures() == u64::MAX {
-        return Err(DeviceFailed);
+    if input.failures() < u64::MAX {
+        input.read(buf)
+    } else {
+        Err(DeviceFailed)
     }
-    input.read(buf)
 }
 
 fn write<W: Output>(output: &mut W, buf: &[u8]) -> Result<usize, DeviceFailed> {
-    if output.failures() == u64::MAX {
-        return Err(DeviceFailed);
+    if output.failures() < u64::MAX {
+        output.write(buf)
+    } else {
+        Err(DeviceFailed)
     }
-    output.write(buf)
 }
 
 fn flush<W: Output>(output: &mut W) -> Result<(), DeviceFailed> {
-    if output.failures() == u64::MAX {
-        return Err(DeviceFailed);
+    if output.failures() < u64::MAX {
+        output.flush()
+    } else {
+        Err(DeviceFailed)
     }
-    output.flush()
 }
 
 #[test]

@@ -1,6 +1,6 @@
 //! Options and names of files, as clap takes them.
 
-ghost use Rattle.std.specs.Prelude.{◌≡◌, ◌∷◌, [], false};
+ghost use Rattle.std.specs.Prelude.{◌≡◌, ◌∷◌, [], false, Some};
 ghost use Rattle.clap.specs.Words.{new_rule, rule_of};
 ghost use Rattle.program_core.specs.Line.{number_rule, flag_rule, text_rule};
 
@@ -11,6 +11,7 @@ use std::alloc::Global;
 pub fn number_arg<'a>(alloc: Global, id: &'a str, letter: char, help: &'a str) -> Arg<'a>
     ensures rule { rule_of result ≡ number_rule id.entry.now letter [] }
     ensures local { result.global ≡ false }
+    ensures help { result.help ≡ Some help.entry }
 {
     Arg::new(alloc, id)
         .short(letter)
@@ -30,6 +31,7 @@ pub fn default_arg<'a>(
 ) -> Arg<'a>
     ensures rule { rule_of result ≡ number_rule id.entry.now letter (value.entry.now ∷ []) }
     ensures local { result.global ≡ false }
+    ensures help { result.help ≡ Some help.entry }
 {
     number_arg(alloc, id, letter, help).default_value(value)
 }
@@ -38,6 +40,7 @@ pub fn default_arg<'a>(
 pub fn text_arg<'a>(alloc: Global, id: &'a str, letter: char, help: &'a str) -> Arg<'a>
     ensures rule { rule_of result ≡ text_rule id.entry.now letter }
     ensures local { result.global ≡ false }
+    ensures help { result.help ≡ Some help.entry }
 {
     Arg::new(alloc, id)
         .short(letter)
@@ -49,6 +52,7 @@ pub fn text_arg<'a>(alloc: Global, id: &'a str, letter: char, help: &'a str) -> 
 pub fn flag_arg<'a>(alloc: Global, id: &'a str, letter: char, help: &'a str) -> Arg<'a>
     ensures rule { rule_of result ≡ flag_rule id.entry.now letter }
     ensures local { result.global ≡ false }
+    ensures help { result.help ≡ Some help.entry }
 {
     Arg::new(alloc, id)
         .short(letter)
@@ -60,6 +64,7 @@ pub fn flag_arg<'a>(alloc: Global, id: &'a str, letter: char, help: &'a str) -> 
 pub fn file_arg<'a>(alloc: Global, name: &'a str, help: &'a str) -> Arg<'a>
     ensures rule { rule_of result ≡ new_rule name.entry.now }
     ensures local { result.global ≡ false }
+    ensures help { result.help ≡ Some help.entry }
 {
     Arg::new(alloc, name).help(help)
 }

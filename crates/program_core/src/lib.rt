@@ -13,5 +13,5 @@ pub use args::{default_arg, file_arg, flag_arg, number_arg, text_arg};
 pub use files::{Readable, Writable};
 pub use line_fault::{LineFault, fault_of};
 pub use matches::{flag, matches_of, number, text};
-pub use message::{Message, report};
+pub use message::report;
 pub use program::{complain, open_files, refuse, words_of};

@@ -12,7 +12,7 @@ const ROOM: usize = 128;
 
 /// A text while it is made. What finds no room is left out.
 #[derive(Drop)]
-pub struct Message {
+struct Message {
     bytes: [u8; 128],
     len: usize,
     ghost within: { len ≤ 128 },
@@ -21,7 +21,7 @@ pub struct Message {
 impl Message {
     ghost use Rattle.program_core.specs.Message.{told};
 
-    pub fn new() -> Message
+    fn new() -> Message
         ensures { told result ≡ [] }
     {
         Message {
@@ -30,7 +30,7 @@ impl Message {
         }
     }
 
-    pub fn as_bytes(&self) -> &[u8]
+    fn as_bytes(&self) -> &[u8]
         ensures { result.now ≡ told self.now }
     {
         &self.bytes[..self.len]

@@ -1,7 +1,8 @@
 //! How a program begins, and how it ends.
 
-ghost use Rattle.std.specs.Prelude.{◌≡◌, ◌⊎◌, IfErr};
+ghost use Rattle.std.specs.Prelude.{◌≡◌, ◌⊎◌, IfErr, IfOk, option_map, string_bytes};
 ghost use Rattle.std.specs.Process.{exit_status};
+ghost use Rattle.program_core.specs.Files.{names_file, reads_file, writes_file};
 ghost use Rattle.program_core.specs.Line.{IsHelp, status_of};
 
 use crate::files::{Readable, Writable};
@@ -66,7 +67,9 @@ pub fn open_files(
     input: &Option<String>,
     output: &Option<String>,
 ) -> Result<(Readable, Writable), ExitCode>
-    ensures { IfErr result (λ e. exit_status e ≡ 1) }
+    ensures chosen { IfOk result (λ files. (reads_file files.0 ≡ names_file (option_map string_bytes input.now))
+        × (writes_file files.1 ≡ names_file (option_map string_bytes output.now))) }
+    ensures status { IfErr result (λ e. exit_status e ≡ 1) }
 {
     let Ok(input) = Readable::open(rt, input) else {
         return Err(complain(rt, program, "input file cannot be opened", 1));
