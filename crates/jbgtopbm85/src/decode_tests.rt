@@ -1,10 +1,13 @@
 //! Images through `run`, with each device failing in turn.
 
+use crate::NAME;
 use crate::line::Job;
 use crate::streams::STREAMS;
-use crate::trial::{has_left, run_into, run_on};
+use crate::trial::{has_left, leaves, run_into, run_on};
 use crate::words::job;
-use program_core::trial::{Devices, FAILING_FLUSH, SMOOTH, bytes_of, failing_read, failing_write};
+use program_core::trial::{
+    Devices, FAILING_FLUSH, SMOOTH, bytes_of, failing_read, failing_write, has_told,
+};
 use std::alloc::{AllocError, Global};
 use std::test::Fail;
 
@@ -102,18 +105,21 @@ fn refuses_headers(rt: HostRuntime) -> Result<(), Fail> {
     let job = image_job(alloc)?;
     for &(hex, reads, text) in &REFUSED {
         for most in SIZES {
-            let ran = run_on(alloc, &job, hex, Devices { most, ..SMOOTH })?;
-            assert!(rt; has_left(alloc, &ran, b"", Some(text))?, "{hex}");
-        }
-        for at in 0..reads {
-            let ran = run_on(alloc, &job, hex, failing_read(at + 1))?;
+            let devices = Devices { most, ..SMOOTH };
             assert!(rt;
-                has_left(alloc, &ran, b"", Some("input cannot be read"))?,
-                "{at} reads of {hex}"
+                leaves(alloc, &job, hex, devices, b"", Some(text))?,
+                "{hex}"
             );
         }
-        let ran = run_on(alloc, &job, hex, failing_read(reads.saturating_add(1)))?;
-        assert!(rt; has_left(alloc, &ran, b"", Some(text))?, "{hex}");
+        assert!(rt;
+            tells_each_read(alloc, &job, hex, reads, b"")?,
+            "reads of {hex}"
+        );
+        let devices = failing_read(reads.saturating_add(1));
+        assert!(rt;
+            leaves(alloc, &job, hex, devices, b"", Some(text))?,
+            "{hex}"
+        );
     }
     Ok(())
 }
@@ -177,15 +183,39 @@ fn tells_each_read(
 ) -> Result<bool, AllocError> {
     for at in 0..reads {
         let ran = run_on(alloc, job, hex, failing_read(at + 1))?;
-        let count = ran.output.len();
-        if count > image.len() {
-            return Ok(false);
-        }
-        if !has_left(alloc, &ran, &image[..count], Some("input cannot be read"))? {
+        if !image.starts_with(ran.output.as_slice())
+            || !has_told(alloc, &ran, NAME, Some("input cannot be read"))?
+        {
             return Ok(false);
         }
     }
     Ok(true)
+}
+
+/// Whether the rows stand that this beginning of a stream fixes, where the input ends behind it or can't be read on.
+fn cut_leaves(alloc: Global, job: &Job, cut: &Cut, beginning: &[u8]) -> Result<bool, AllocError> {
+    let came = beginning.len();
+    let (rows, text) = if came < 20 {
+        (None, "header is shorter than 20 bytes")
+    } else if came < cut.first {
+        (Some(""), "input ends too early")
+    } else if came < cut.second {
+        (Some(cut.row), "input ends too early")
+    } else {
+        (Some(cut.rows), "input ends too early")
+    };
+    let stands = match rows {
+        Some(rows) => pbm_of(alloc, cut.size, rows)?,
+        None => Vec::new(alloc),
+    };
+    let mut held = [0; 128];
+    let ran = run_into(alloc, job, beginning, SMOOTH, &mut held)?;
+    let devices = failing_read(came as u64 + 1);
+    let unread = Some("input cannot be read");
+    Ok(
+        has_left(alloc, &ran, &stands, Some(text))?
+            && leaves(alloc, job, cut.hex, devices, &stands, unread)?,
+    )
 }
 
 /// After so many bytes the input ends, or can't be read: the rows that these bytes fix stand.
@@ -195,31 +225,10 @@ fn cut_at_each_byte(rt: HostRuntime) -> Result<(), Fail> {
     let job = image_job(alloc)?;
     for cut in &CUTS {
         let stream = bytes_of(alloc, cut.hex)?;
-        let header = pbm_of(alloc, cut.size, "")?;
-        let one_row = pbm_of(alloc, cut.size, cut.row)?;
-        let image = pbm_of(alloc, cut.size, cut.rows)?;
         for came in 0..stream.len() {
-            let (stands, text): (&[u8], &str) = if came < 20 {
-                (b"", "header is shorter than 20 bytes")
-            } else if came < cut.first {
-                (&header, "input ends too early")
-            } else if came < cut.second {
-                (&one_row, "input ends too early")
-            } else {
-                (&image, "input ends too early")
-            };
-            let mut held = [0; 128];
-            let ran = run_into(alloc, &job, &stream[..came], SMOOTH, &mut held)?;
             assert!(rt;
-                has_left(alloc, &ran, stands, Some(text))?,
+                cut_leaves(alloc, &job, cut, &stream[..came])?,
                 "{came} bytes of {}",
-                cut.hex
-            );
-            let ran = run_on(alloc, &job, cut.hex, failing_read(came as u64 + 1))?;
-            let text = "input cannot be read";
-            assert!(rt;
-                has_left(alloc, &ran, stands, Some(text))?,
-                "{came} reads of {}",
                 cut.hex
             );
         }
@@ -230,8 +239,9 @@ fn cut_at_each_byte(rt: HostRuntime) -> Result<(), Fail> {
 /// Whether each failing write of this image is told, with what came before it written.
 fn tells_each_write(alloc: Global, job: &Job, hex: &str, image: &[u8]) -> Result<bool, AllocError> {
     for at in 0..image.len() {
-        let ran = run_on(alloc, job, hex, failing_write(at as u64 + 1))?;
-        if !has_left(alloc, &ran, &image[..at], Some("output cannot be written"))? {
+        let devices = failing_write(at as u64 + 1);
+        let text = Some("output cannot be written");
+        if !leaves(alloc, job, hex, devices, &image[..at], text)? {
             return Ok(false);
         }
     }
@@ -246,9 +256,9 @@ fn writes_each_image(rt: HostRuntime) -> Result<(), Fail> {
     for stream in &STREAMS {
         let image = pbm_of(alloc, stream.size, stream.rows)?;
         for most in SIZES {
-            let ran = run_on(alloc, &job, stream.hex, Devices { most, ..SMOOTH })?;
+            let devices = Devices { most, ..SMOOTH };
             assert!(rt;
-                has_left(alloc, &ran, &image, stream.fault)?,
+                leaves(alloc, &job, stream.hex, devices, &image, stream.fault)?,
                 "{}",
                 stream.hex
             );
@@ -270,9 +280,8 @@ fn each_read_fails(rt: HostRuntime) -> Result<(), Fail> {
             stream.hex
         );
         let devices = failing_read(stream.reads.saturating_add(1));
-        let ran = run_on(alloc, &job, stream.hex, devices)?;
         assert!(rt;
-            has_left(alloc, &ran, &image, stream.fault)?,
+            leaves(alloc, &job, stream.hex, devices, &image, stream.fault)?,
             "{}",
             stream.hex
         );
@@ -293,9 +302,8 @@ fn each_write_fails(rt: HostRuntime) -> Result<(), Fail> {
             stream.hex
         );
         let devices = failing_write(image.len() as u64 + 1);
-        let ran = run_on(alloc, &job, stream.hex, devices)?;
         assert!(rt;
-            has_left(alloc, &ran, &image, stream.fault)?,
+            leaves(alloc, &job, stream.hex, devices, &image, stream.fault)?,
             "{}",
             stream.hex
         );
@@ -310,9 +318,12 @@ fn flush_fails(rt: HostRuntime) -> Result<(), Fail> {
     let job = image_job(alloc)?;
     for stream in &STREAMS {
         let image = pbm_of(alloc, stream.size, stream.rows)?;
-        let ran = run_on(alloc, &job, stream.hex, FAILING_FLUSH)?;
         let fault = stream.fault.or(Some("output cannot be written"));
-        assert!(rt; has_left(alloc, &ran, &image, fault)?, "{}", stream.hex);
+        assert!(rt;
+            leaves(alloc, &job, stream.hex, FAILING_FLUSH, &image, fault)?,
+            "{}",
+            stream.hex
+        );
     }
     Ok(())
 }

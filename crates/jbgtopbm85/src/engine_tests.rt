@@ -15,66 +15,58 @@ fn is_told(alloc: Global, fault: Fault, number: u8, text: &str) -> Result<bool, 
     Ok(fault.number() == number && shown.as_str() == text)
 }
 
-#[test]
-fn faults_have_numbers_and_texts(rt: HostRuntime) -> Result<(), Fail> {
-    let faults = [
-        (Fault::ShortHeader, 1u8, "header is shorter than 20 bytes"),
-        (
-            Fault::ReservedBits,
-            2,
-            "reserved bits of the header are set",
-        ),
-        (Fault::Layers, 3, "differential layers are not supported"),
-        (Fault::Planes, 4, "number of planes is not one"),
-        (Fault::ZeroSize, 5, "width, height or stripe length is zero"),
-        (Fault::TooWide, 6, "image is wider than 1048576"),
-        (Fault::MoveRange, 7, "adaptive pixel range is above 127"),
-        (
-            Fault::PrivateTable,
-            8,
-            "private prediction table is not supported",
-        ),
-        (Fault::Truncated, 9, "input ends too early"),
-        (Fault::BadEscape, 10, "unexpected escape code"),
-        (Fault::Aborted, 11, "image was aborted"),
-        (Fault::MoveRefused, 12, "adaptive pixel move is not allowed"),
-        (
-            Fault::SecondMove,
-            13,
-            "second adaptive pixel move in a stripe",
-        ),
-        (Fault::LengthRefused, 14, "new height is not allowed"),
-        (Fault::Read, 17, "input cannot be read"),
-        (Fault::Write, 18, "output cannot be written"),
-        (Fault::OutOfMemory, 19, "out of memory"),
-        (Fault::NotYet, 27, "not built yet"),
-    ];
-    for (fault, number, text) in faults {
-        assert!(rt; is_told(rt.alloc(), fault, number, text)?, "{text}");
-    }
-    Ok(())
-}
+/// The faults, their numbers and their texts.
+static FAULTS: [(Fault, u8, &str); 25] = [
+    (Fault::ShortHeader, 1, "header is shorter than 20 bytes"),
+    (
+        Fault::ReservedBits,
+        2,
+        "reserved bits of the header are set",
+    ),
+    (Fault::Layers, 3, "differential layers are not supported"),
+    (Fault::Planes, 4, "number of planes is not one"),
+    (Fault::ZeroSize, 5, "width, height or stripe length is zero"),
+    (Fault::TooWide, 6, "image is wider than 1048576"),
+    (Fault::MoveRange, 7, "adaptive pixel range is above 127"),
+    (
+        Fault::PrivateTable,
+        8,
+        "private prediction table is not supported",
+    ),
+    (Fault::Truncated, 9, "input ends too early"),
+    (Fault::BadEscape, 10, "unexpected escape code"),
+    (Fault::Aborted, 11, "image was aborted"),
+    (Fault::MoveRefused, 12, "adaptive pixel move is not allowed"),
+    (
+        Fault::SecondMove,
+        13,
+        "second adaptive pixel move in a stripe",
+    ),
+    (Fault::LengthRefused, 14, "new height is not allowed"),
+    (Fault::Read, 17, "input cannot be read"),
+    (Fault::Write, 18, "output cannot be written"),
+    (Fault::OutOfMemory, 19, "out of memory"),
+    (Fault::NotYet, 27, "not built yet"),
+    (
+        Fault::OptionBits,
+        20,
+        "options field has a bit outside 0x68",
+    ),
+    (Fault::StripeZero, 21, "stripe length is zero"),
+    (Fault::MoveLarge, 22, "-m is above 127"),
+    (Fault::CommentLong, 26, "comment is too long"),
+    (
+        Fault::Pbm(PbmFault::TooWide),
+        34,
+        "PBM is wider than 1048576",
+    ),
+    (Fault::Pbm(PbmFault::Truncated), 36, "PBM ends too early"),
+    (Fault::Pbm(PbmFault::Read), 37, "input cannot be read"),
+];
 
 #[test]
-fn faults_of_options_and_images_have_numbers_and_texts(rt: HostRuntime) -> Result<(), Fail> {
-    let faults = [
-        (
-            Fault::OptionBits,
-            20u8,
-            "options field has a bit outside 0x68",
-        ),
-        (Fault::StripeZero, 21, "stripe length is zero"),
-        (Fault::MoveLarge, 22, "-m is above 127"),
-        (Fault::CommentLong, 26, "comment is too long"),
-        (
-            Fault::Pbm(PbmFault::TooWide),
-            34,
-            "PBM is wider than 1048576",
-        ),
-        (Fault::Pbm(PbmFault::Truncated), 36, "PBM ends too early"),
-        (Fault::Pbm(PbmFault::Read), 37, "input cannot be read"),
-    ];
-    for (fault, number, text) in faults {
+fn faults_have_numbers_and_texts(rt: HostRuntime) -> Result<(), Fail> {
+    for &(fault, number, text) in &FAULTS {
         assert!(rt; is_told(rt.alloc(), fault, number, text)?, "{text}");
     }
     Ok(())

@@ -2,11 +2,11 @@
 
 use crate::line::Job;
 use crate::run::run;
-use crate::trial::{has_left, run_on};
+use crate::trial::leaves;
 use crate::words::job;
 use pbm_core::trial::{Drip, Pieces};
 use program_core::LineFault;
-use program_core::trial::{Devices, FAILING_FLUSH, Ran, SMOOTH, failing_read, failing_write};
+use program_core::trial::{Devices, FAILING_FLUSH, SMOOTH, failing_read, failing_write};
 use std::alloc::{AllocError, Global};
 use std::test::Fail;
 use t85_core::Fault;
@@ -166,8 +166,12 @@ fn tells_each_stream(rt: HostRuntime) -> Result<(), Fail> {
     let job = info_job(alloc)?;
     for stream in &STREAMS {
         for most in [1, 2, 3, 4095, 4096, 4097] {
-            let ran = run_on(alloc, &job, stream.hex, Devices { most, ..SMOOTH })?;
-            assert!(rt; tells(alloc, &ran, stream.answer)?, "{}", stream.hex);
+            let devices = Devices { most, ..SMOOTH };
+            assert!(rt;
+                tells(alloc, &job, stream.hex, devices, stream.answer)?,
+                "{}",
+                stream.hex
+            );
         }
     }
     Ok(())
@@ -187,18 +191,24 @@ fn passes_a_long_comment(rt: HostRuntime) -> Result<(), Fail> {
     }
     hex.push_str(" 60 FF02")?;
     for most in [1, 2, 3, 4095, 4096, 4097] {
-        let ran = run_on(alloc, &job, &hex, Devices { most, ..SMOOTH })?;
-        assert_eq!(rt; ran.status, 0, "{most}");
-        assert_eq!(rt; ran.output.as_slice(), b"8 1 128 0 0 1 1 0 1\n".as_slice());
+        let devices = Devices { most, ..SMOOTH };
+        let answer = Ok("8 1 128 0 0 1 1 0 1\n");
+        assert!(rt; tells(alloc, &job, &hex, devices, answer)?, "{most}");
     }
     Ok(())
 }
 
 /// Whether a run has told the line or the text of the fault, and nothing else.
-fn tells(alloc: Global, ran: &Ran, answer: Result<&str, &str>) -> Result<bool, AllocError> {
+fn tells(
+    alloc: Global,
+    job: &Job,
+    hex: &str,
+    devices: Devices,
+    answer: Result<&str, &str>,
+) -> Result<bool, AllocError> {
     match answer {
-        Ok(line) => has_left(alloc, ran, line.as_bytes(), None),
-        Err(text) => has_left(alloc, ran, b"", Some(text)),
+        Ok(line) => leaves(alloc, job, hex, devices, line.as_bytes(), None),
+        Err(text) => leaves(alloc, job, hex, devices, b"", Some(text)),
     }
 }
 
@@ -209,16 +219,20 @@ fn each_read_fails(rt: HostRuntime) -> Result<(), Fail> {
     let job = info_job(alloc)?;
     for stream in &STREAMS {
         for at in 0..stream.reads {
-            let ran = run_on(alloc, &job, stream.hex, failing_read(at + 1))?;
+            let devices = failing_read(at + 1);
+            let answer = Err("input cannot be read");
             assert!(rt;
-                tells(alloc, &ran, Err("input cannot be read"))?,
+                tells(alloc, &job, stream.hex, devices, answer)?,
                 "{at} reads of {}",
                 stream.hex
             );
         }
         let devices = failing_read(stream.reads.saturating_add(1));
-        let ran = run_on(alloc, &job, stream.hex, devices)?;
-        assert!(rt; tells(alloc, &ran, stream.answer)?, "{}", stream.hex);
+        assert!(rt;
+            tells(alloc, &job, stream.hex, devices, stream.answer)?,
+            "{}",
+            stream.hex
+        );
     }
     Ok(())
 }
@@ -233,13 +247,15 @@ fn reads_ahead(rt: HostRuntime) -> Result<(), Fail> {
             failing_read: Some(at),
             ..SMOOTH
         };
-        let ran = run_on(alloc, &job, TWO_STRIPES, devices)?;
         let answer = if at <= 2 {
             Err("input cannot be read")
         } else {
             Ok("1 2 1 0 8 2 2 0 0\n")
         };
-        assert!(rt; tells(alloc, &ran, answer)?, "read {at}");
+        assert!(rt;
+            tells(alloc, &job, TWO_STRIPES, devices, answer)?,
+            "read {at}"
+        );
     }
     Ok(())
 }
@@ -255,21 +271,17 @@ fn each_write_fails(rt: HostRuntime) -> Result<(), Fail> {
         };
         let line = line.as_bytes();
         for at in 1..=line.len() {
-            let ran = run_on(alloc, &job, stream.hex, failing_write(at as u64))?;
+            let devices = failing_write(at as u64);
+            let text = Some("output cannot be written");
             assert!(rt;
-                has_left(
-                    alloc,
-                    &ran,
-                    &line[..at - 1],
-                    Some("output cannot be written")
-                )?,
+                leaves(alloc, &job, stream.hex, devices, &line[..at - 1], text)?,
                 "write {at} of {}",
                 stream.hex
             );
         }
-        let ran = run_on(alloc, &job, stream.hex, FAILING_FLUSH)?;
+        let text = Some("output cannot be written");
         assert!(rt;
-            has_left(alloc, &ran, line, Some("output cannot be written"))?,
+            leaves(alloc, &job, stream.hex, FAILING_FLUSH, line, text)?,
             "{}",
             stream.hex
         );

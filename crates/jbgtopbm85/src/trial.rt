@@ -44,3 +44,16 @@ pub fn has_left(
 ) -> Result<bool, AllocError> {
     Ok(has_told(alloc, ran, NAME, fault)? && ran.output.as_slice() == output)
 }
+
+/// Whether a run on the bytes of this text leaves that.
+pub fn leaves(
+    alloc: Global,
+    job: &Job,
+    hex: &str,
+    devices: Devices,
+    output: &[u8],
+    fault: Option<&str>,
+) -> Result<bool, AllocError> {
+    let ran = run_on(alloc, job, hex, devices)?;
+    has_left(alloc, &ran, output, fault)
+}

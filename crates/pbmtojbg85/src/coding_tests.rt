@@ -1,7 +1,7 @@
 //! Images through `run`, with each device failing in turn.
 
 use crate::NAME;
-use crate::trial::{has_left, image_of, run_into, run_on};
+use crate::trial::{has_left, image_of, leaves, run_into, run_on};
 use crate::words::job;
 use crate::work::Job;
 use program_core::trial::{
@@ -157,6 +157,24 @@ fn job_with(alloc: Global, options: &[&str]) -> Result<Job, Fail> {
     }
 }
 
+/// What is coded, and its stream.
+#[derive(Drop)]
+struct Case {
+    job: Job,
+    image: Vec<u8>,
+    stream: Vec<u8>,
+}
+
+impl Coded {
+    fn case(&self, alloc: Global) -> Result<Case, Fail> {
+        Ok(Case {
+            job: job_with(alloc, self.options)?,
+            image: pbm_of(alloc, self.size, self.rows)?,
+            stream: bytes_of(alloc, self.hex)?,
+        })
+    }
+}
+
 /// The image of this size and these rows.
 fn pbm_of(alloc: Global, size: &str, rows: &str) -> Result<Vec<u8>, AllocError> {
     let header = format!(in alloc; "P4\n{size}\n")?;
@@ -169,12 +187,14 @@ fn pbm_of(alloc: Global, size: &str, rows: &str) -> Result<Vec<u8>, AllocError> 
 fn writes_each_stream(rt: HostRuntime) -> Result<(), Fail> {
     let alloc = rt.alloc();
     for coded in &CODED {
-        let job = job_with(alloc, coded.options)?;
-        let image = pbm_of(alloc, coded.size, coded.rows)?;
-        let stream = bytes_of(alloc, coded.hex)?;
+        let Case { job, image, stream } = coded.case(alloc)?;
         for most in SIZES {
-            let ran = run_on(alloc, &job, &image, Devices { most, ..SMOOTH })?;
-            assert!(rt; has_left(alloc, &ran, &stream, None)?, "{}", coded.hex);
+            let devices = Devices { most, ..SMOOTH };
+            assert!(rt;
+                leaves(alloc, &job, &image, devices, &stream, None)?,
+                "{}",
+                coded.hex
+            );
         }
         assert!(rt; image_of(alloc, &stream)? == image, "{}", coded.hex);
     }
@@ -192,8 +212,11 @@ fn leaves_padding_out(rt: HostRuntime) -> Result<(), Fail> {
     )?;
     for most in SIZES {
         let image = b"P4\n#x\n3 2\n\x1F\x1F";
-        let ran = run_on(alloc, &job, image, Devices { most, ..SMOOTH })?;
-        assert!(rt; has_left(alloc, &ran, &stream, None)?, "{most}");
+        let devices = Devices { most, ..SMOOTH };
+        assert!(rt;
+            leaves(alloc, &job, image, devices, &stream, None)?,
+            "{most}"
+        );
     }
     assert!(rt; image_of(alloc, &stream)? == pbm_of(alloc, "3 2", "00 00")?);
     Ok(())
@@ -204,12 +227,14 @@ fn leaves_padding_out(rt: HostRuntime) -> Result<(), Fail> {
 fn leaves_the_rest(rt: HostRuntime) -> Result<(), Fail> {
     let alloc = rt.alloc();
     for coded in &CODED {
-        let job = job_with(alloc, coded.options)?;
-        let mut image = pbm_of(alloc, coded.size, coded.rows)?;
+        let Case {
+            job,
+            mut image,
+            stream,
+        } = coded.case(alloc)?;
         image.extend_from_slice(b"P4\n1 1\n\xFF")?;
-        let ran = run_on(alloc, &job, &image, SMOOTH)?;
         assert!(rt;
-            has_left(alloc, &ran, &bytes_of(alloc, coded.hex)?, None)?,
+            leaves(alloc, &job, &image, SMOOTH, &stream, None)?,
             "{}",
             coded.hex
         );
@@ -236,8 +261,11 @@ fn refuses_images(rt: HostRuntime) -> Result<(), Fail> {
     let job = job_with(alloc, [].as_slice())?;
     for (image, text) in &REFUSED {
         for most in SIZES {
-            let ran = run_on(alloc, &job, image, Devices { most, ..SMOOTH })?;
-            assert!(rt; has_left(alloc, &ran, b"", Some(text))?, "{text}");
+            let devices = Devices { most, ..SMOOTH };
+            assert!(rt;
+                leaves(alloc, &job, image, devices, b"", Some(text))?,
+                "{text}"
+            );
         }
     }
     Ok(())
@@ -248,43 +276,46 @@ fn refuses_images(rt: HostRuntime) -> Result<(), Fail> {
 fn is_not_built_yet(rt: HostRuntime) -> Result<(), Fail> {
     let alloc = rt.alloc();
     let job = job_with(alloc, ["-p", "32"].as_slice())?;
-    let ran = run_on(alloc, &job, b"P4\n8 1\n\xFF", SMOOTH)?;
-    assert!(rt; has_left(alloc, &ran, b"", Some("not built yet"))?);
-    let ran = run_on(alloc, &job, b"P4\n0 1\n", SMOOTH)?;
-    assert!(rt; has_left(alloc, &ran, b"", Some("PBM width or height is zero"))?);
+    let text = Some("not built yet");
+    assert!(rt; leaves(alloc, &job, b"P4\n8 1\n\xFF", SMOOTH, b"", text)?);
+    let text = Some("PBM width or height is zero");
+    assert!(rt; leaves(alloc, &job, b"P4\n0 1\n", SMOOTH, b"", text)?);
     Ok(())
 }
 
 /// An image of as many rows as `stands` has numbers.
 struct Cut {
-    options: &'static [&'static str],
-    size: &'static str,
-    rows: &'static str,
-    hex: &'static str,
+    coded: Coded,
     /// How many bytes of the stream stand where the input ends, or can't be read, before each row.
     stands: &'static [usize],
 }
 
 static CUTS: [Cut; 3] = [
     Cut {
-        options: &["-s", "1"],
-        size: "1 2",
-        rows: "80 80",
-        hex: "00000100 00000001 00000002 00000001 00 0000 08 E0 FF02 E0 FF02",
+        coded: Coded {
+            options: &["-s", "1"],
+            size: "1 2",
+            rows: "80 80",
+            hex: "00000100 00000001 00000002 00000001 00 0000 08 E0 FF02 E0 FF02",
+        },
         stands: &[20, 23],
     },
     Cut {
-        options: &["-p", "0", "-s", "1", "-m", "3"],
-        size: "8 2",
-        rows: "FF FF",
-        hex: "00000100 00000008 00000002 00000001 03 0000 00 F0 FF02 FF06 00000000 0300 F8 FF02",
+        coded: Coded {
+            options: &["-p", "0", "-s", "1", "-m", "3"],
+            size: "8 2",
+            rows: "FF FF",
+            hex: "00000100 00000008 00000002 00000001 03 0000 00 F0 FF02 FF06 00000000 0300 F8 FF02",
+        },
         stands: &[20, 31],
     },
     Cut {
-        options: &["-p", "0", "-s", "1", "-C", "hi"],
-        size: "8 2",
-        rows: "FF FF",
-        hex: "00000100 00000008 00000002 00000001 00 0000 00 FF07 00000002 6869 F0 FF02 F4 FF02",
+        coded: Coded {
+            options: &["-p", "0", "-s", "1", "-C", "hi"],
+            size: "8 2",
+            rows: "FF FF",
+            hex: "00000100 00000008 00000002 00000001 00 0000 00 FF07 00000002 6869 F0 FF02 F4 FF02",
+        },
         stands: &[28, 31],
     },
 ];
@@ -293,33 +324,45 @@ static CUTS: [Cut; 3] = [
 fn cut_at_each_row(rt: HostRuntime) -> Result<(), Fail> {
     let alloc = rt.alloc();
     for cut in &CUTS {
-        let job = job_with(alloc, cut.options)?;
-        let image = pbm_of(alloc, cut.size, cut.rows)?;
-        let stream = bytes_of(alloc, cut.hex)?;
+        let Case { job, image, stream } = cut.coded.case(alloc)?;
         let header = image.len().saturating_sub(cut.stands.len());
         for (row, count) in cut.stands.iter().enumerate() {
             let came = header.saturating_add(row);
             assert!(rt; came <= image.len() && *count <= stream.len());
             let written = &stream[..*count];
             for most in SIZES {
-                let ran = run_on(alloc, &job, &image[..came], Devices { most, ..SMOOTH })?;
-                let text = "PBM ends too early";
+                let devices = Devices { most, ..SMOOTH };
+                let text = Some("PBM ends too early");
                 assert!(rt;
-                    has_left(alloc, &ran, written, Some(text))?,
+                    leaves(alloc, &job, &image[..came], devices, written, text)?,
                     "{came} of {}",
-                    cut.hex
+                    cut.coded.hex
                 );
             }
-            let ran = run_on(alloc, &job, &image, failing_read(came as u64 + 1))?;
-            let text = "input cannot be read";
+            let devices = failing_read(came as u64 + 1);
+            let text = Some("input cannot be read");
             assert!(rt;
-                has_left(alloc, &ran, written, Some(text))?,
+                leaves(alloc, &job, &image, devices, written, text)?,
                 "{came} of {}",
-                cut.hex
+                cut.coded.hex
             );
         }
     }
     Ok(())
+}
+
+/// Whether this failing read is told, with a beginning of the stream written: nothing before the whole header was read,
+/// and the header of the stream at least from there on.
+fn tells_read(alloc: Global, case: &Case, header: usize, at: usize) -> Result<bool, AllocError> {
+    let devices = failing_read((at as u64).saturating_add(1));
+    let ran = run_on(alloc, &case.job, &case.image, devices)?;
+    let count = ran.output.len();
+    let is_fit = if at < header { count == 0 } else { count >= 20 };
+    Ok(
+        is_fit
+            && case.stream.as_slice().starts_with(ran.output.as_slice())
+            && has_told(alloc, &ran, NAME, Some("input cannot be read"))?,
+    )
 }
 
 /// Each read of each image fails in turn, and one read more is never asked for.
@@ -327,30 +370,21 @@ fn cut_at_each_row(rt: HostRuntime) -> Result<(), Fail> {
 fn each_read_fails(rt: HostRuntime) -> Result<(), Fail> {
     let alloc = rt.alloc();
     for coded in &CODED {
-        let job = job_with(alloc, coded.options)?;
-        let image = pbm_of(alloc, coded.size, coded.rows)?;
-        let header = pbm_of(alloc, coded.size, "")?;
-        let stream = bytes_of(alloc, coded.hex)?;
-        for at in 0..image.len() {
-            let ran = run_on(alloc, &job, &image, failing_read(at as u64 + 1))?;
-            let count = ran.output.len();
-            assert!(rt; count <= stream.len());
+        let case = coded.case(alloc)?;
+        let header = pbm_of(alloc, coded.size, "")?.len();
+        for at in 0..case.image.len() {
             assert!(rt;
-                if at < header.len() {
-                    count == 0
-                } else {
-                    count >= 20
-                }
-            );
-            let text = "input cannot be read";
-            assert!(rt;
-                has_left(alloc, &ran, &stream[..count], Some(text))?,
+                tells_read(alloc, &case, header, at)?,
                 "{at} reads for {}",
                 coded.hex
             );
         }
-        let ran = run_on(alloc, &job, &image, failing_read(image.len() as u64 + 1))?;
-        assert!(rt; has_left(alloc, &ran, &stream, None)?, "{}", coded.hex);
+        let devices = failing_read(case.image.len() as u64 + 1);
+        assert!(rt;
+            leaves(alloc, &case.job, &case.image, devices, &case.stream, None)?,
+            "{}",
+            coded.hex
+        );
     }
     Ok(())
 }
@@ -360,20 +394,22 @@ fn each_read_fails(rt: HostRuntime) -> Result<(), Fail> {
 fn each_write_fails(rt: HostRuntime) -> Result<(), Fail> {
     let alloc = rt.alloc();
     for coded in &CODED {
-        let job = job_with(alloc, coded.options)?;
-        let image = pbm_of(alloc, coded.size, coded.rows)?;
-        let stream = bytes_of(alloc, coded.hex)?;
+        let Case { job, image, stream } = coded.case(alloc)?;
         for at in 0..stream.len() {
-            let ran = run_on(alloc, &job, &image, failing_write(at as u64 + 1))?;
-            let text = "output cannot be written";
+            let devices = failing_write(at as u64 + 1);
+            let text = Some("output cannot be written");
             assert!(rt;
-                has_left(alloc, &ran, &stream[..at], Some(text))?,
+                leaves(alloc, &job, &image, devices, &stream[..at], text)?,
                 "{at} writes of {}",
                 coded.hex
             );
         }
-        let ran = run_on(alloc, &job, &image, failing_write(stream.len() as u64 + 1))?;
-        assert!(rt; has_left(alloc, &ran, &stream, None)?, "{}", coded.hex);
+        let devices = failing_write(stream.len() as u64 + 1);
+        assert!(rt;
+            leaves(alloc, &job, &image, devices, &stream, None)?,
+            "{}",
+            coded.hex
+        );
     }
     Ok(())
 }
@@ -383,13 +419,10 @@ fn each_write_fails(rt: HostRuntime) -> Result<(), Fail> {
 fn flush_fails(rt: HostRuntime) -> Result<(), Fail> {
     let alloc = rt.alloc();
     for coded in &CODED {
-        let job = job_with(alloc, coded.options)?;
-        let image = pbm_of(alloc, coded.size, coded.rows)?;
-        let stream = bytes_of(alloc, coded.hex)?;
-        let ran = run_on(alloc, &job, &image, FAILING_FLUSH)?;
-        let text = "output cannot be written";
+        let Case { job, image, stream } = coded.case(alloc)?;
+        let text = Some("output cannot be written");
         assert!(rt;
-            has_left(alloc, &ran, &stream, Some(text))?,
+            leaves(alloc, &job, &image, FAILING_FLUSH, &stream, text)?,
             "{}",
             coded.hex
         );

@@ -45,6 +45,19 @@ pub fn has_left(
     Ok(has_told(alloc, ran, NAME, fault)? && ran.output.as_slice() == output)
 }
 
+/// Whether a run on these bytes leaves that.
+pub fn leaves(
+    alloc: Global,
+    job: &Job,
+    bytes: &[u8],
+    devices: Devices,
+    output: &[u8],
+    fault: Option<&str>,
+) -> Result<bool, AllocError> {
+    let ran = run_on(alloc, job, bytes, devices)?;
+    has_left(alloc, &ran, output, fault)
+}
+
 /// The image of a stream, in room for 8,192 bytes; nothing where the stream is refused.
 pub fn image_of(alloc: Global, stream: &[u8]) -> Result<Vec<u8>, AllocError> {
     let mut held = [0; 8192];
