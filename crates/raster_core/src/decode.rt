@@ -235,8 +235,8 @@ fn decode_below<S: CodeBytes>(
         }) learned.new decoder.new result }
 {
     // What the proof cites of the coder.
-    laws::answers_lie();
-    laws::apart();
+    laws::answers();
+    laws::pixels();
     let mut flag = false;
     if shape.typical {
         flag = decode_flag(shape, kept.previous_typical, learned, decoder, source)?;

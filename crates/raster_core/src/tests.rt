@@ -137,29 +137,6 @@ fn is_row(window: &Window, k: u8, row: &[u8]) -> bool {
     k < 3 && window.row(k) == row
 }
 
-/// Codes rows of a shape, from white above, and goes on with `encoder`.
-fn put_rows(
-    rt: &impl Abort,
-    shape: Shape,
-    kept: &mut Kept,
-    window: &mut Window,
-    rows: &[&[u8]],
-    learned: &mut Learned,
-    encoder: &mut Encoder,
-    out: &mut Taken,
-) {
-    for row in rows {
-        window.turn();
-        write_row(rt, window, row);
-        assert_eq!(rt; window.width(), shape.width);
-        assert!(rt; kept.offset <= 127);
-        assert!(rt; shape.width >= 1);
-        assert!(rt; encoder.events() < 0x1000_0000_0000);
-        let done = encode_row(shape, kept, &*window, learned, encoder, out);
-        assert!(rt; done == Ok(()));
-    }
-}
-
 /// The code of rows in one stripe.
 fn code(
     rt: &impl Abort,
@@ -179,16 +156,21 @@ fn code(
         offset,
         previous_typical: false,
     };
-    put_rows(
-        rt,
-        shape,
-        &mut kept,
-        &mut window,
-        rows,
-        &mut learned,
-        &mut encoder,
-        &mut out,
-    );
+    for row in rows {
+        window.turn();
+        write_row(rt, &mut window, row);
+        assert!(rt; window.width() == shape.width && shape.width >= 1 && kept.offset <= 127);
+        assert!(rt; encoder.events() < 0x1000_0000_0000);
+        let done = encode_row(
+            shape,
+            &mut kept,
+            &window,
+            &mut learned,
+            &mut encoder,
+            &mut out,
+        );
+        assert!(rt; done == Ok(()));
+    }
     assert!(rt; encoder.finish(&mut out) == Ok(()));
     Ok(out.bytes)
 }
@@ -233,32 +215,29 @@ fn gives(
 }
 
 /// Rows, their shape, the offset, and their code, by hand.
+static CODES: [((u32, bool, bool), u8, &[&[u8]], &[u8]); 11] = [
+    ((8, false, false), 0, &[&[0x00]], &[0x60]),
+    ((1, false, false), 0, &[&[0x80]], &[0xc0]),
+    ((1, false, true), 0, &[&[0x80]], &[0xe0]),
+    ((8, false, false), 0, &[&[0xff]], &[0xf0]),
+    ((8, false, true), 0, &[&[0xff]], &[0xf8]),
+    (
+        (3, false, false),
+        0,
+        &[&[0xe0], &[0xe0], &[0xe0]],
+        &[0xff, 0x00, 0xc0],
+    ),
+    ((8, false, true), 0, &[&[0x00], &[0x00], &[0x00]], &[]),
+    ((3, false, false), 0, &[&[0x00], &[0x00]], &[0x60]),
+    ((2, true, false), 0, &[&[0xc0], &[0xc0], &[0xc0]], &[0xf8]),
+    ((2, false, false), 0, &[&[0xc0], &[0xc0], &[0xc0]], &[0xfe]),
+    ((8, false, false), 3, &[&[0xff]], &[0xf8]),
+];
+
 #[test]
 fn codes_by_hand(rt: HostRuntime) -> Result<(), Fail> {
-    let white: &[u8] = &[0x00];
-    let black: &[u8] = &[0xff];
-    let one: &[u8] = &[0x80];
-    let two: &[u8] = &[0xc0];
-    let three: &[u8] = &[0xe0];
-    let cases: [(Shape, u8, &[&[u8]], &[u8]); 11] = [
-        (shape(8, false, false), 0, &[white], &[0x60]),
-        (shape(1, false, false), 0, &[one], &[0xc0]),
-        (shape(1, false, true), 0, &[one], &[0xe0]),
-        (shape(8, false, false), 0, &[black], &[0xf0]),
-        (shape(8, false, true), 0, &[black], &[0xf8]),
-        (
-            shape(3, false, false),
-            0,
-            &[three, three, three],
-            &[0xff, 0x00, 0xc0],
-        ),
-        (shape(8, false, true), 0, &[white, white, white], &[]),
-        (shape(3, false, false), 0, &[white, white], &[0x60]),
-        (shape(2, true, false), 0, &[two, two, two], &[0xf8]),
-        (shape(2, false, false), 0, &[two, two, two], &[0xfe]),
-        (shape(8, false, false), 3, &[black], &[0xf8]),
-    ];
-    for (shape, offset, rows, expected) in cases {
+    for ((width, two_line, typical), offset, rows, expected) in CODES {
+        let shape = shape(width, two_line, typical);
         let found = code(&rt, rt.alloc(), shape, offset, rows)?;
         assert_eq!(rt; found.as_slice(), expected);
         assert!(rt; gives(&rt, rt.alloc(), shape, offset, expected, rows)?);
@@ -266,56 +245,61 @@ fn codes_by_hand(rt: HostRuntime) -> Result<(), Fail> {
     Ok(())
 }
 
-/// The contexts of black rasters, row by row, by hand.
+/// The code of black pixels in these contexts.
+fn code_in(rt: &impl Abort, alloc: Global, contexts: &[u16]) -> Result<Vec<u8>, Fail> {
+    let mut out = Taken {
+        bytes: Vec::new(alloc),
+    };
+    let mut encoder = Encoder::start();
+    let mut learned = Learned::new();
+    for n in contexts {
+        assert!(rt; *n < 1024 && encoder.events() < 1000);
+        assert!(rt; encoder.put(&mut learned, Context::of(*n), true, &mut out) == Ok(()));
+    }
+    assert!(rt; encoder.finish(&mut out) == Ok(()));
+    Ok(out.bytes)
+}
+
+/// Black rows, their shape, the offset, and the contexts of their pixels, by hand.
+static CONTEXTS: [((u32, bool, bool), u8, &[&[u8]], &[u16]); 4] = [
+    (
+        (3, false, false),
+        0,
+        &[&[0xe0], &[0xe0], &[0xe0]],
+        &[
+            0x000, 0x001, 0x003, 0x01c, 0x039, 0x073, 0x19c, 0x3b9, 0x373,
+        ],
+    ),
+    (
+        (2, false, false),
+        0,
+        &[&[0xc0], &[0xc0], &[0xc0]],
+        &[0x000, 0x001, 0x018, 0x031, 0x198, 0x331],
+    ),
+    (
+        (2, true, false),
+        0,
+        &[&[0xc0], &[0xc0], &[0xc0]],
+        &[0x000, 0x001, 0x060, 0x0c1, 0x060, 0x0c1],
+    ),
+    (
+        (8, false, false),
+        3,
+        &[&[0xff], &[0xff]],
+        &[
+            0x000, 0x001, 0x003, 0x007, 0x007, 0x007, 0x007, 0x007, 0x018, 0x039, 0x07b, 0x07f,
+            0x07f, 0x07f, 0x07f, 0x077,
+        ],
+    ),
+];
+
 #[test]
 fn contexts_by_hand(rt: HostRuntime) -> Result<(), Fail> {
-    let black: &[u8] = &[0xff];
-    let two: &[u8] = &[0xc0];
-    let three: &[u8] = &[0xe0];
-    let cases: [(Shape, u8, &[&[u8]], &[u16]); 4] = [
-        (
-            shape(3, false, false),
-            0,
-            &[three, three, three],
-            &[
-                0x000, 0x001, 0x003, 0x01c, 0x039, 0x073, 0x19c, 0x3b9, 0x373,
-            ],
-        ),
-        (
-            shape(2, false, false),
-            0,
-            &[two, two, two],
-            &[0x000, 0x001, 0x018, 0x031, 0x198, 0x331],
-        ),
-        (
-            shape(2, true, false),
-            0,
-            &[two, two, two],
-            &[0x000, 0x001, 0x060, 0x0c1, 0x060, 0x0c1],
-        ),
-        (
-            shape(8, false, false),
-            3,
-            &[black, black],
-            &[
-                0x000, 0x001, 0x003, 0x007, 0x007, 0x007, 0x007, 0x007, 0x018, 0x039, 0x07b, 0x07f,
-                0x07f, 0x07f, 0x07f, 0x077,
-            ],
-        ),
-    ];
-    for (shape, offset, rows, contexts) in cases {
+    for ((width, two_line, typical), offset, rows, contexts) in CONTEXTS {
+        let shape = shape(width, two_line, typical);
         let found = code(&rt, rt.alloc(), shape, offset, rows)?;
-        let mut out = Taken {
-            bytes: Vec::new(rt.alloc()),
-        };
-        let mut encoder = Encoder::start();
-        let mut learned = Learned::new();
-        for n in contexts {
-            assert!(rt; *n < 1024 && encoder.events() < 1000);
-            assert!(rt; encoder.put(&mut learned, Context::of(*n), true, &mut out) == Ok(()));
-        }
-        assert!(rt; encoder.finish(&mut out) == Ok(()));
-        assert_eq!(rt; found.as_slice(), out.bytes.as_slice());
+        let expected = code_in(&rt, rt.alloc(), contexts)?;
+        assert_eq!(rt; found.as_slice(), expected.as_slice());
     }
     Ok(())
 }
@@ -324,7 +308,6 @@ fn contexts_by_hand(rt: HostRuntime) -> Result<(), Fail> {
 /// by 3.
 #[test]
 fn moves_between_stripes(rt: HostRuntime) -> Result<(), Fail> {
-    let black: &[u8] = &[0xff];
     let shape = shape(8, false, false);
     let mut bytes = vec![in rt.alloc(); 0u8; window_bytes(8)]?;
     let mut window = Window::over(bytes.as_mut_slice(), 8);
@@ -338,16 +321,18 @@ fn moves_between_stripes(rt: HostRuntime) -> Result<(), Fail> {
             bytes: Vec::new(rt.alloc()),
         };
         let mut encoder = Encoder::start();
-        put_rows(
-            &rt,
+        window.turn();
+        write_row(&rt, &mut window, &[0xff]);
+        assert!(rt; window.width() == 8 && kept.offset <= 127);
+        let done = encode_row(
             shape,
             &mut kept,
-            &mut window,
-            &[black],
+            &window,
             &mut learned,
             &mut encoder,
             &mut out,
         );
+        assert!(rt; done == Ok(()));
         assert!(rt; encoder.finish(&mut out) == Ok(()));
         assert_eq!(rt; out.bytes.as_slice(), [expected].as_slice());
         tally.restart();

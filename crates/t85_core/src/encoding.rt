@@ -30,7 +30,7 @@ use crate::rows::Carried;
 use crate::stream::ESCAPE;
 use crate::walk::{ATMOVE, COMMENT, SDNORM, SDRST};
 use byteorder::{BigEndian, ByteOrder};
-use pbm_core::laws::written_is_read;
+use pbm_core::laws::headers;
 use pbm_core::{DeviceFailed, Input, Output, Size, read_header, read_row};
 use qm_core::{CodeSink, Encoder, laws};
 use raster_core::{Shape, Tally, Window, encode_row, window_bytes};
@@ -49,7 +49,7 @@ pub fn to_jbg<R: Input, W: Output>(
         (W.contents output.old) (W.contents output.new) (W.failures output.old) (W.failures output.new) (W.flushed output.new) result }
 {
     // What the proof cites of headers.
-    written_is_read();
+    headers();
     let size = match read_header(input) {
         Ok(size) => size,
         Err(fault) => return Err(Fault::Pbm(fault)),

@@ -28,7 +28,7 @@ returns-in_err-decode_pixels-clause-row g c = λ p answers lines h w.
           (first_none (Pulls g.S.CodeBytes.gives g.S.CodeBytes.failed) c.args.source.now (mode_of c.args.shape) c.args.kept.now.previous_typical c.if-shape.flag p c.args.learned.now answers c.args.decoder.now w.if-shape.false h)))
     ] in
     let f = subst (λ b. FirstDecoded (Pulls g.S.CodeBytes.gives g.S.CodeBytes.failed) c.args.source.now c.if-shape.source (mode_of c.args.shape) c.args.kept.now.previous_typical b p c.args.learned.now answers c.if-shape.decoder c.if-shape.learned) c.if-flag.false first in
-    stop_pixels c.answers_lie.ensures c.apart.ensures (Pulls g.S.CodeBytes.gives g.S.CodeBytes.failed) c.args.source.now c.decode_pixels.new.source c.args.shape c.args.kept.now c.args.kept.now (record { place = p; learned = c.args.learned.now }) c.decode_pixels.new.learned answers lines
+    stop_pixels c.answers.ensures.answers_lie c.pixels.ensures.apart (Pulls g.S.CodeBytes.gives g.S.CodeBytes.failed) c.args.source.now c.decode_pixels.new.source c.args.shape c.args.kept.now c.args.kept.now (record { place = p; learned = c.args.learned.now }) c.decode_pixels.new.learned answers lines
     (record { width = c.args.shape.width; current = c.decode_pixels.new.current; above = c.args.above.now; second = c.args.second.now }) c.decode_pixels.new.decoder c.from_residual-in_err-decode_pixels.result c.from_residual-in_err-decode_pixels.ensures.0
     (c.in_err-decode_pixels.ensures.err c.args.source.now (first_events (mode_of c.args.shape) c.args.kept.now.previous_typical false) (record { place = p; learned = c.args.learned.now }) answers lines
     (begin_pixels (Pulls g.S.CodeBytes.gives g.S.CodeBytes.failed) c.args.source.now c.if-shape.source c.args.shape c.args.kept.now.previous_typical c.args.kept.now.offset p c.args.learned.now c.if-shape.learned answers lines c.if-shape.decoder f)
@@ -57,14 +57,14 @@ returns-clause-row g c = λ p answers lines h w.
           ] in
           carried c.args.shape.width c.args.above.now c.args.second.now c.if-shape.source c.if-flag.source v.copy_from_slice.new.self c.if-flag.current c.if-shape.learned c.if-flag.learned c.if-shape.decoder c.if-flag.decoder
           v.source-is v.current-is v.learned-is v.decoder-is
-          (done_typical c.answers_lie.ensures (Pulls g.S.CodeBytes.gives g.S.CodeBytes.failed) c.args.source.now c.if-shape.source c.args.shape c.args.kept.now _ p c.args.learned.now c.if-shape.learned answers lines
+          (done_typical c.answers.ensures.answers_lie (Pulls g.S.CodeBytes.gives g.S.CodeBytes.failed) c.args.source.now c.if-shape.source c.args.shape c.args.kept.now _ p c.args.learned.now c.if-shape.learned answers lines
           (record { width = c.args.shape.width; current = v.copy_from_slice.new.self; above = c.args.above.now; second = c.args.second.now }) c.if-shape.decoder typical refl v.if-flag.true w.above_wide
           (record { row_is = v.copy_from_slice.ensures.after ∙ w.above_is; above_is = w.above_is; second_is = w.second_is; row_wide = w.above_wide; above_wide = w.above_wide; second_wide = w.second_wide })
           (subst (λ b. FirstDecoded (Pulls g.S.CodeBytes.gives g.S.CodeBytes.failed) c.args.source.now c.if-shape.source (mode_of c.args.shape) c.args.kept.now.previous_typical b p c.args.learned.now answers c.if-shape.decoder c.if-shape.learned) v.if-flag.true first))
       | else-flag+in_ok-decode_pixels v ↦
           carried c.args.shape.width c.args.above.now c.args.second.now v.decode_pixels.new.source c.if-flag.source v.decode_pixels.new.current c.if-flag.current v.decode_pixels.new.learned c.if-flag.learned v.decode_pixels.new.decoder c.if-flag.decoder
           v.source-is v.current-is v.learned-is v.decoder-is
-          (done_plain c.answers_lie.ensures (Pulls g.S.CodeBytes.gives g.S.CodeBytes.failed) c.args.source.now v.decode_pixels.new.source c.args.shape c.args.kept.now _ (record { place = p; learned = c.args.learned.now }) v.decode_pixels.new.learned answers lines
+          (done_plain c.answers.ensures.answers_lie (Pulls g.S.CodeBytes.gives g.S.CodeBytes.failed) c.args.source.now v.decode_pixels.new.source c.args.shape c.args.kept.now _ (record { place = p; learned = c.args.learned.now }) v.decode_pixels.new.learned answers lines
           v.decode_pixels.new.current (record { width = c.args.shape.width; current = v.decode_pixels.new.current; above = c.args.above.now; second = c.args.second.now }) v.decode_pixels.new.decoder c.requires.some refl v.if-flag.false
           (λ row wide packed. record { row_is = packed; above_is = w.above_is; second_is = w.second_is; row_wide = wide; above_wide = w.above_wide; second_wide = w.second_wide })
           (v.in_ok-decode_pixels.ensures.ok c.args.source.now (first_events (mode_of c.args.shape) c.args.kept.now.previous_typical false) (record { place = p; learned = c.args.learned.now }) answers lines

@@ -12,22 +12,22 @@ returns-in-Err g c = refused_header _ _ _ _ _ _ _ _ c.in-Err.fault c.in-Err.ensu
 pub returns-then-is_variable : goal.returns-then-is_variable
 returns-then-is_variable g c =
     let size = c.in-Ok.size in
-    not_built _ _ _ _ _ _ _ _ size.width size.height (takes_header _ _ size c.written_is_read.ensures (search rules) c.in-Ok.ensures.accepted)
+    not_built _ _ _ _ _ _ _ _ size.width size.height (takes_header _ _ size c.headers.ensures.written_is_read (search rules) c.in-Ok.ensures.accepted)
     (variable_height (settings_of c.args.options.now) _ _ c.header-header.ensures c.is_variable.ensures c.if-is_variable.true) c.in-Ok.ensures.counts
 
 pub returns-in_default : goal.returns-in_default
 returns-in_default g c =
     let size = c.in-Ok.size in
-    no_room _ _ _ _ _ _ _ _ size.width size.height (takes_header _ _ size c.written_is_read.ensures (search rules) c.in-Ok.ensures.accepted) (fixed_height (settings_of c.args.options.now) _ _ c.header-header.ensures c.is_variable.ensures c.if-is_variable.false) c.in-Ok.ensures.counts
+    no_room _ _ _ _ _ _ _ _ size.width size.height (takes_header _ _ size c.headers.ensures.written_is_read (search rules) c.in-Ok.ensures.accepted) (fixed_height (settings_of c.args.options.now) _ _ c.header-header.ensures c.is_variable.ensures c.if-is_variable.false) c.in-Ok.ensures.counts
 
 pub returns-in_err-encode : goal.returns-in_err-encode
 returns-in_err-encode g c =
     let size = c.in-Ok.size in
     exit_all (EncodesImage _ _ _ _ _ _ _ _ _ _) c.from_residual.result c.from_residual.ensures.1
-    (image_broken _ _ _ _ _ _ _ _ _ _ _ size.width size.height (takes_header _ _ size c.written_is_read.ensures (search rules) c.in-Ok.ensures.accepted) (fixed_height (settings_of c.args.options.now) _ _ c.header-header.ensures c.is_variable.ensures c.if-is_variable.false) c.in-Ok.ensures.counts _ _ c.in_err-encode.ensures)
+    (image_broken _ _ _ _ _ _ _ _ _ _ _ size.width size.height (takes_header _ _ size c.headers.ensures.written_is_read (search rules) c.in-Ok.ensures.accepted) (fixed_height (settings_of c.args.options.now) _ _ c.header-header.ensures c.is_variable.ensures c.if-is_variable.false) c.in-Ok.ensures.counts _ _ c.in_err-encode.ensures)
 
 pub returns-in-Ok-flush : goal.returns-in-Ok-flush
 returns-in-Ok-flush g c =
     let size = c.in-Ok.size in
-    image_whole _ _ _ _ _ _ _ _ _ _ _ size.width size.height (takes_header _ _ size c.written_is_read.ensures (search rules) c.in-Ok.ensures.accepted) (fixed_height (settings_of c.args.options.now) _ _ c.header-header.ensures c.is_variable.ensures c.if-is_variable.false) c.in-Ok.ensures.counts _ _ _
+    image_whole _ _ _ _ _ _ _ _ _ _ _ size.width size.height (takes_header _ _ size c.headers.ensures.written_is_read (search rules) c.in-Ok.ensures.accepted) (fixed_height (settings_of c.args.options.now) _ _ c.header-header.ensures c.is_variable.ensures c.if-is_variable.false) c.in-Ok.ensures.counts _ _ _
     c.in_ok-encode.ensures c.in-Ok-flush.ensures.bytes c.in-Ok-flush.ensures.flushed c.in-Ok-flush.ensures.counts
