@@ -3,8 +3,6 @@
 
 #[cfg(test)]
 mod decode_tests;
-#[cfg(test)]
-mod engine_tests;
 mod line;
 mod run;
 #[cfg(test)]

@@ -18,6 +18,3 @@ pub use encode::encode_row;
 pub use shape::{Kept, Shape};
 pub use tally::Tally;
 pub use window::{Window, window_bytes};
-
-#[cfg(test)]
-mod tests;

@@ -3,10 +3,10 @@
 
 ghost use Rattle.std.specs.Prelude.{◌≡◌, ◌+◌, ◌<◌, ◌≤◌, ◌^◌, length};
 
-use crate::{Kept, Shape, Tally, Window, decode_row, encode_row, window_bytes};
 use qm_core::{
     CodeBytes, CodeSink, CoderFault, Context, Decoder, Encoder, Learned, Pulled, SinkFault, Stop,
 };
+use raster_core::{Kept, Shape, Tally, Window, decode_row, encode_row, window_bytes};
 use std::alloc::Global;
 use std::process::Abort;
 use std::test::Fail;

@@ -1,7 +1,10 @@
 ghost use Rattle.std.specs.Prelude.{◌≡◌, ◌<◌, ◌^◌};
 
-use super::trial::{Drip, Pieces};
-use super::*;
+use pbm_core::trial::{Drip, Pieces};
+use pbm_core::{
+    DeviceFailed, FromRead, Input, Output, PbmFault, Size, ToWrite, WriteFault, read_header,
+    read_row, write_header, write_row,
+};
 use std::io;
 use std::test::Fail;
 
