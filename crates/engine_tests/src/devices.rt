@@ -6,7 +6,6 @@ use pbm_core::{
     read_row, write_header, write_row,
 };
 use std::io;
-use std::test::Fail;
 
 /// A reader and a writer that is interrupted at its first call, and moves nothing at its second. Its
 /// first flush fails.
@@ -55,177 +54,190 @@ impl io::Write for Fitful {
     }
 }
 
-fn read<R: Input>(input: &mut R, buf: &mut [u8]) -> Result<usize, DeviceFailed> {
+/// What a read gives: its answer, the buffer, the count of failures, and how many bytes are left.
+fn read<R: Input, const N: usize>(
+    input: &mut R,
+    mut buf: [u8; N],
+) -> (Result<usize, DeviceFailed>, [u8; N], u64, u64) {
+    let mut answer = Err(DeviceFailed);
     if input.failures() < u64::MAX {
-        input.read(buf)
-    } else {
-        Err(DeviceFailed)
+        answer = input.read(&mut buf);
     }
+    (answer, buf, input.failures(), input.left())
 }
 
-fn write<W: Output>(output: &mut W, buf: &[u8]) -> Result<usize, DeviceFailed> {
-    if output.failures() < u64::MAX {
-        output.write(buf)
-    } else {
-        Err(DeviceFailed)
-    }
+/// A call of an output.
+#[derive(Clone, Copy, Debug)]
+enum Call {
+    Write(&'static [u8]),
+    Flush,
 }
 
-fn flush<W: Output>(output: &mut W) -> Result<(), DeviceFailed> {
+/// What a call gives: how many bytes were taken, and the count of failures.
+fn done<W: Output>(output: &mut W, call: Call) -> (Result<usize, DeviceFailed>, u64) {
+    let mut answer = Err(DeviceFailed);
     if output.failures() < u64::MAX {
-        output.flush()
-    } else {
-        Err(DeviceFailed)
+        answer = match call {
+            Call::Write(bytes) => output.write(bytes),
+            Call::Flush => match output.flush() {
+                Ok(()) => Ok(0),
+                Err(fault) => Err(fault),
+            },
+        };
     }
+    (answer, output.failures())
 }
 
 #[test]
-fn an_error_of_a_reader_is_one_failure(rt: HostRuntime) -> Result<(), Fail> {
+fn an_error_of_a_reader_is_one_failure(rt: HostRuntime) {
     let mut input = FromRead::new(Fitful::new());
-    assert_eq!(rt; read_header(&mut input), Err(PbmFault::Read));
-    assert_eq!(rt; input.reader.calls, 1, "nothing is tried again");
-    assert_eq!(rt; input.failures(), 1);
-    assert_eq!(rt; input.left(), u64::MAX);
-    let mut buf = [0; 3];
-    assert_eq!(rt; read(&mut input, &mut buf), Ok(3));
-    assert_eq!(rt; &buf, b"xxx");
-    assert_eq!(rt; input.failures(), 1);
-    assert_eq!(rt; input.left(), u64::MAX - 3);
-    Ok(())
+    let header = read_header(&mut input);
+    // Nothing is tried again.
+    assert_eq!(rt;
+        (header, input.reader.calls, input.failures(), input.left()),
+        (Err(PbmFault::Read), 1, 1, u64::MAX)
+    );
+    assert_eq!(rt; read(&mut input, [0; 3]), (Ok(3), *b"xxx", 1, u64::MAX - 3));
 }
 
 #[test]
-fn nothing_is_left_to_read(rt: HostRuntime) -> Result<(), Fail> {
+fn nothing_is_left_to_read(rt: HostRuntime) {
     let mut input = FromRead::new(b"abcde".as_slice());
     input.left = 2;
-    let mut buf = [0; 4];
-    assert_eq!(rt; read(&mut input, &mut buf), Ok(2));
-    assert_eq!(rt; &buf, b"ab\0\0");
-    assert_eq!(rt; read(&mut input, &mut buf), Err(DeviceFailed));
-    assert_eq!(rt; input.failures(), 1);
+    assert_eq!(rt; read(&mut input, [0; 4]), (Ok(2), *b"ab\0\0", 0, 0));
+    assert_eq!(rt; read(&mut input, [0; 4]), (Err(DeviceFailed), [0; 4], 1, 0));
     assert_eq!(rt; input.reader, b"cde".as_slice());
-    Ok(())
 }
 
+/// The size of a PBM of one row of nine pixels.
+const WIDE: Size = Size {
+    width: 9,
+    height: 1,
+};
+
 #[test]
-fn readers_of_std_are_read(rt: HostRuntime) -> Result<(), Fail> {
+fn readers_of_std_are_read(rt: HostRuntime) {
     let mut input = FromRead::new(b"P4 9 1 \xff\xff\xff".as_slice());
     let size = read_header(&mut input);
     assert_eq!(rt;
-        size,
-        Ok(Size {
-            width: 9,
-            height: 1
-        })
+        (size, input.reader),
+        (Ok(WIDE), b"\xff\xff\xff".as_slice())
     );
-    assert_eq!(rt; input.reader, b"\xff\xff\xff".as_slice());
     let mut row = [0; 2];
+    let mut answer = Err(PbmFault::Read);
     if input.failures() == 0 {
-        let size = Size {
-            width: 9,
-            height: 1,
-        };
-        assert_eq!(rt; read_row(&mut input, size, &mut row), Ok(()));
+        answer = read_row(&mut input, WIDE, &mut row);
     }
-    assert_eq!(rt; &row, b"\xff\x80");
-    assert_eq!(rt; input.left(), u64::MAX - 9);
-    Ok(())
-}
-
-#[test]
-fn errors_of_a_writer_are_failures(rt: HostRuntime) -> Result<(), Fail> {
-    let mut output = ToWrite::new(Fitful::new());
-    assert_eq!(rt; write(&mut output, b"ab"), Err(DeviceFailed));
-    assert_eq!(rt; output.writer.calls, 1, "nothing is tried again");
     assert_eq!(rt;
-        write(&mut output, b"ab"),
-        Err(DeviceFailed),
-        "nothing was taken"
+        (answer, row, input.left()),
+        (Ok(()), *b"\xff\x80", u64::MAX - 9)
     );
-    assert_eq!(rt; output.failures(), 2);
-    assert_eq!(rt; write(&mut output, b"ab"), Ok(2));
-    assert_eq!(rt; output.failures(), 2);
-    assert_eq!(rt; flush(&mut output), Err(DeviceFailed));
-    assert_eq!(rt; output.writer.flushes, 1, "a flush reaches the writer");
-    assert_eq!(rt; output.failures(), 3);
-    assert_eq!(rt; flush(&mut output), Ok(()));
-    assert_eq!(rt; output.writer.flushes, 2);
-    assert_eq!(rt; output.failures(), 3);
-    Ok(())
+}
+
+/// Calls of an output over `Fitful`, their answers, and how often writes and flushes of it were
+/// called and one of them failed.
+static FITFUL: [(Call, Result<usize, DeviceFailed>, u32, u32, u64); 5] = [
+    // Nothing is tried again.
+    (Call::Write(b"ab"), Err(DeviceFailed), 1, 0, 1),
+    // Nothing was taken.
+    (Call::Write(b"ab"), Err(DeviceFailed), 2, 0, 2),
+    (Call::Write(b"ab"), Ok(2), 3, 0, 2),
+    // A flush reaches the writer.
+    (Call::Flush, Err(DeviceFailed), 3, 1, 3),
+    (Call::Flush, Ok(0), 3, 2, 3),
+];
+
+#[test]
+fn errors_of_a_writer_are_failures(rt: HostRuntime) {
+    let mut output = ToWrite::new(Fitful::new());
+    for &(call, answer, calls, flushes, failures) in &FITFUL {
+        let found = done(&mut output, call);
+        assert_eq!(rt;
+            (found, output.writer.calls, output.writer.flushes),
+            ((answer, failures), calls, flushes),
+            "{call:?}"
+        );
+    }
 }
 
 #[test]
-fn writers_of_std_are_written(rt: HostRuntime) -> Result<(), Fail> {
+fn writers_of_std_are_written(rt: HostRuntime) {
     let size = Size {
         width: 9,
         height: 2,
     };
     let mut output = ToWrite::new(Vec::new(rt.alloc()));
     assert_eq!(rt; write_header(&mut output, size), Ok(()));
+    let mut answer = Err(WriteFault);
     if output.failures() == 0 {
-        assert_eq!(rt; write_row(&mut output, size, b"\x12\x80"), Ok(()));
+        answer = write_row(&mut output, size, b"\x12\x80");
     }
+    assert_eq!(rt; answer, Ok(()));
     assert_eq!(rt; output.writer.as_slice(), b"P4\n9 2\n\x12\x80".as_slice());
+}
+
+#[test]
+fn a_slice_is_written_until_it_is_full(rt: HostRuntime) {
+    let size = Size {
+        width: 9,
+        height: 2,
+    };
     let mut held = [0; 4];
     let mut full = ToWrite::new(held.as_mut_slice());
-    assert_eq!(rt; write_header(&mut full, size), Err(WriteFault));
-    assert_eq!(rt; full.failures(), 1);
-    assert_eq!(rt; &held, b"P4\n9");
-    Ok(())
+    let answer = write_header(&mut full, size);
+    let failures = full.failures();
+    assert_eq!(rt; (answer, failures, held), (Err(WriteFault), 1, *b"P4\n9"));
 }
 
+/// Reads of five bytes, two at a time, of which the third read fails.
+static READS: [(Result<usize, DeviceFailed>, [u8; 4], u64, u64); 6] = [
+    (Ok(2), *b"ab..", 0, 3),
+    (Ok(2), *b"cd..", 0, 1),
+    (Err(DeviceFailed), *b"....", 1, 1),
+    (Ok(1), *b"e...", 1, 0),
+    (Ok(0), *b"....", 1, 0),
+    (Ok(0), *b"....", 1, 0),
+];
+
 #[test]
-fn pieces_are_small_and_one_read_fails(rt: HostRuntime) -> Result<(), Fail> {
+fn pieces_are_small_and_one_read_fails(rt: HostRuntime) {
     let mut input = Pieces::new(b"abcde", 2, Some(3));
-    let cases: [(Result<usize, DeviceFailed>, &[u8; 4], u64); 6] = [
-        (Ok(2), b"ab..", 3),
-        (Ok(2), b"cd..", 1),
-        (Err(DeviceFailed), b"....", 1),
-        (Ok(1), b"e...", 0),
-        (Ok(0), b"....", 0),
-        (Ok(0), b"....", 0),
-    ];
-    for (wanted, bytes, left) in cases {
-        let mut buf = *b"....";
-        assert_eq!(rt; read(&mut input, &mut buf), wanted);
-        assert_eq!(rt; &buf, bytes);
-        assert_eq!(rt; input.left(), left);
+    for step in &READS {
+        assert_eq!(rt; read(&mut input, *b"...."), *step);
     }
-    assert_eq!(rt; input.failures(), 1);
     let mut whole = Pieces::new(b"abcde", 4096, None);
-    let mut buf = *b"...";
-    assert_eq!(rt; read(&mut whole, &mut buf), Ok(3));
-    assert_eq!(rt; &buf, b"abc");
-    assert_eq!(rt; whole.failures(), 0);
-    Ok(())
+    assert_eq!(rt; read(&mut whole, *b"..."), (Ok(3), *b"abc", 0, 2));
 }
 
+/// Calls of an output with room for five bytes, whose second write and each flush fail: the answers,
+/// what is written, and the count of failures.
+static DRIPS: [(Call, Result<usize, DeviceFailed>, &[u8], u64); 8] = [
+    (Call::Write(b"abc"), Ok(2), b"ab", 0),
+    (Call::Write(b"abc"), Err(DeviceFailed), b"ab", 1),
+    (Call::Write(b"abc"), Ok(2), b"abab", 1),
+    (Call::Write(b"abc"), Ok(1), b"ababa", 1),
+    (Call::Write(b"abc"), Err(DeviceFailed), b"ababa", 2),
+    (Call::Write(b"abc"), Err(DeviceFailed), b"ababa", 3),
+    (Call::Write(b""), Ok(0), b"ababa", 3),
+    (Call::Flush, Err(DeviceFailed), b"ababa", 4),
+];
+
 #[test]
-fn a_drip_takes_little_until_it_is_full(rt: HostRuntime) -> Result<(), Fail> {
+fn a_drip_takes_little_until_it_is_full(rt: HostRuntime) {
     let mut held = *b".....";
     let mut output = Drip::new(&mut held, 2, Some(2), true);
-    let cases: [(Result<usize, DeviceFailed>, &[u8]); 6] = [
-        (Ok(2), b"ab"),
-        (Err(DeviceFailed), b"ab"),
-        (Ok(2), b"abab"),
-        (Ok(1), b"ababa"),
-        (Err(DeviceFailed), b"ababa"),
-        (Err(DeviceFailed), b"ababa"),
-    ];
-    for (wanted, bytes) in cases {
-        assert_eq!(rt; write(&mut output, b"abc"), wanted);
-        assert_eq!(rt; output.written(), bytes);
+    for &(call, answer, bytes, failures) in &DRIPS {
+        assert_eq!(rt; done(&mut output, call), (answer, failures), "{call:?}");
+        assert_eq!(rt; output.written(), bytes, "{call:?}");
     }
-    assert_eq!(rt; write(&mut output, b""), Ok(0));
-    assert_eq!(rt; output.failures(), 3);
-    assert_eq!(rt; flush(&mut output), Err(DeviceFailed));
-    assert_eq!(rt; output.failures(), 4);
-    let mut other = [0; 2];
-    let mut output = Drip::new(&mut other, 1, None, false);
-    assert_eq!(rt; write(&mut output, b"abc"), Ok(1));
-    assert_eq!(rt; output.flushed, false);
-    assert_eq!(rt; flush(&mut output), Ok(()));
-    assert_eq!(rt; output.flushed, true);
-    assert_eq!(rt; output.failures(), 0);
-    Ok(())
+}
+
+#[test]
+fn a_drip_tells_whether_it_is_flushed(rt: HostRuntime) {
+    let mut held = [0; 2];
+    let mut output = Drip::new(&mut held, 1, None, false);
+    let answer = done(&mut output, Call::Write(b"abc"));
+    assert_eq!(rt; (answer, output.flushed), ((Ok(1), 0), false));
+    let answer = done(&mut output, Call::Flush);
+    assert_eq!(rt; (answer, output.flushed), ((Ok(0), 0), true));
 }

@@ -72,48 +72,57 @@ fn faults_have_numbers_and_texts(rt: HostRuntime) -> Result<(), Fail> {
     Ok(())
 }
 
-#[test]
-fn header_is_read_and_written(rt: HostRuntime) -> Result<(), Fail> {
-    let bytes = [
-        0, 0, 1, 0, 0, 16, 0, 0, 255, 255, 255, 255, 0, 0, 0, 128, 127, 9, 15, 0x7d,
-    ];
-    let mut input = Pieces::new(&bytes, 3, None);
-    let Ok(header) = Header::read(&mut input) else {
-        return Err(Fail::from("refused"));
-    };
-    assert_eq!(rt; header.xd, 1_048_576);
-    assert_eq!(rt; header.yd, 4_294_967_295);
-    assert_eq!(rt; header.l0, 128);
-    assert_eq!(rt; header.mx, 127);
-    assert_eq!(rt; header.options, 0x7d);
-    let written = [
-        0, 0, 1, 0, 0, 16, 0, 0, 255, 255, 255, 255, 0, 0, 0, 128, 127, 0, 0, 0x7d,
-    ];
-    assert_eq!(rt; header.bytes().as_slice(), written.as_slice());
-    Ok(())
+/// The width, the height, the stripe length, the range and the options that a header tells, and the
+/// bytes that it is written as.
+fn read_and_written(bytes: &[u8]) -> Result<((u32, u32, u32, u8, u8), [u8; 20]), Fault> {
+    let header = Header::read(&mut Pieces::new(bytes, 3, None))?;
+    let fields = (header.xd, header.yd, header.l0, header.mx, header.options);
+    Ok((fields, header.bytes()))
 }
 
 #[test]
-fn headers_are_refused_in_order(rt: HostRuntime) -> Result<(), Fail> {
-    // Each line sets one more byte that is refused, and an earlier refusal wins.
-    let mut bytes = HEADER;
-    let steps = [
-        (19, 0x0e, Fault::PrivateTable),
-        (16, 128, Fault::MoveRange),
-        (5, 17, Fault::TooWide),
-        (11, 0, Fault::ZeroSize),
-        (2, 2, Fault::Planes),
-        (1, 1, Fault::Layers),
-        (18, 16, Fault::ReservedBits),
+fn header_is_read_and_written(rt: HostRuntime) {
+    let bytes = [
+        0, 0, 1, 0, 0, 16, 0, 0, 255, 255, 255, 255, 0, 0, 0, 128, 127, 9, 15, 0x7d,
     ];
-    for (at, byte, fault) in steps {
-        if at < 20 {
-            bytes[at] = byte;
-        }
-        let mut input = Pieces::new(&bytes, 20, None);
-        assert_eq!(rt; Header::read(&mut input), Err(fault), "byte {at}");
+    let written = [
+        0, 0, 1, 0, 0, 16, 0, 0, 255, 255, 255, 255, 0, 0, 0, 128, 127, 0, 0, 0x7d,
+    ];
+    assert_eq!(rt;
+        read_and_written(&bytes),
+        Ok(((1_048_576, 4_294_967_295, 128, 127, 0x7d), written))
+    );
+}
+
+/// Each line sets one more byte of a header that is refused, and an earlier refusal wins.
+static REFUSED: [(usize, u8, Fault); 7] = [
+    (19, 0x0e, Fault::PrivateTable),
+    (16, 128, Fault::MoveRange),
+    (5, 17, Fault::TooWide),
+    (11, 0, Fault::ZeroSize),
+    (2, 2, Fault::Planes),
+    (1, 1, Fault::Layers),
+    (18, 16, Fault::ReservedBits),
+];
+
+#[test]
+fn headers_are_refused_in_order(rt: HostRuntime) {
+    let mut bytes = HEADER;
+    for &(at, byte, fault) in &REFUSED {
+        assert!(rt; at < 20);
+        bytes[at] = byte;
+        let answer = Header::read(&mut Pieces::new(&bytes, 20, None));
+        assert_eq!(rt; answer, Err(fault), "byte {at}");
     }
-    Ok(())
+}
+
+/// What `info` answers, and whether it tells this line.
+fn tells(stream: &[u8], line: &[u8]) -> (Result<(), Fault>, bool) {
+    let mut input = Pieces::new(stream, 4096, None);
+    let mut held = [0; 64];
+    let mut output = Drip::new(&mut held, 64, None, false);
+    let answer = info(&mut input, &mut output);
+    (answer, output.written() == line)
 }
 
 #[test]
@@ -121,10 +130,5 @@ fn info_tells_a_line(rt: HostRuntime) {
     let mut stream = [0; 26];
     stream[..20].copy_from_slice(&HEADER);
     stream[20..].copy_from_slice(&[0xe0, 0xff, 2, 0xe0, 0xff, 2]);
-    let mut input = Pieces::new(&stream, 4096, None);
-    let mut held = [0; 64];
-    let mut output = Drip::new(&mut held, 64, None, false);
-    let answer = info(&mut input, &mut output);
-    assert_eq!(rt; answer, Ok(()));
-    assert_eq!(rt; output.written(), b"1 2 1 0 8 2 2 0 0\n".as_slice());
+    assert_eq!(rt; tells(&stream, b"1 2 1 0 8 2 2 0 0\n"), (Ok(()), true));
 }

@@ -1,13 +1,13 @@
 //! Codes of rasters worked out by hand, and rows of every kind against a model that goes by
 //! coordinates.
 
-ghost use Rattle.std.specs.Prelude.{◌≡◌, ◌+◌, ◌<◌, ◌≤◌, ◌^◌, length};
+ghost use Rattle.std.specs.Prelude.{◌≡◌, ◌+◌, ◌<◌, ◌≤◌, ◌^◌};
 
 use qm_core::{
     CodeBytes, CodeSink, CoderFault, Context, Decoder, Encoder, Learned, Pulled, SinkFault, Stop,
 };
 use raster_core::{Kept, Shape, Tally, Window, decode_row, encode_row, window_bytes};
-use std::alloc::Global;
+use std::alloc::{AllocError, Global};
 use std::process::Abort;
 use std::test::Fail;
 
@@ -116,9 +116,67 @@ const START: Kept = Kept {
     previous_typical: false,
 };
 
-fn shape(width: u32, two_line: bool, typical: bool) -> Shape
-    ensures { result.width ≡ width }
-{
+/// How rows are coded, and what is kept from one to the next.
+#[derive(Drop)]
+struct Course {
+    shape: Shape,
+    kept: Kept,
+    learned: Learned,
+}
+
+impl Course {
+    fn new(shape: Shape, offset: u8) -> Course {
+        Course {
+            shape,
+            kept: Kept {
+                offset,
+                previous_typical: false,
+            },
+            learned: Learned::new(),
+        }
+    }
+
+    /// Codes a row below those of a window.
+    fn encode<W: CodeSink>(
+        &mut self,
+        rt: &impl Abort,
+        window: &mut Window,
+        row: &[u8],
+        encoder: &mut Encoder,
+        out: &mut W,
+    ) -> Result<(), CoderFault> {
+        let Course {
+            shape,
+            kept,
+            learned,
+        } = self;
+        window.turn();
+        write_row(rt, window, row);
+        assert!(rt; window.width() == shape.width && shape.width >= 1 && kept.offset <= 127);
+        assert!(rt; encoder.events() < 0x1000_0000_0000 && out.failures() < 10);
+        encode_row(*shape, kept, window, learned, encoder, out)
+    }
+
+    /// Decodes the current row of a window.
+    fn decode<S: CodeBytes>(
+        &mut self,
+        rt: &impl Abort,
+        window: &mut Window,
+        decoder: &mut Decoder,
+        source: &mut S,
+    ) -> Result<(), Stop> {
+        let Course {
+            shape,
+            kept,
+            learned,
+        } = self;
+        assert!(rt; window.width() == shape.width && shape.width >= 1 && kept.offset <= 127);
+        assert!(rt; source.failures() < 10);
+        decode_row(*shape, kept, window, learned, decoder, source)
+    }
+}
+
+fn shape(width: u32, two_line: bool, typical: bool) -> Shape {
     Shape {
         width,
         two_line,
@@ -137,6 +195,26 @@ fn is_row(window: &Window, k: u8, row: &[u8]) -> bool {
     k < 3 && window.row(k) == row
 }
 
+/// The code of rows below those of a window, in one stripe.
+fn stripe(
+    rt: &impl Abort,
+    alloc: Global,
+    course: &mut Course,
+    window: &mut Window,
+    rows: &[&[u8]],
+) -> Vec<u8> {
+    let mut out = Taken {
+        bytes: Vec::new(alloc),
+    };
+    let mut encoder = Encoder::start();
+    for row in rows {
+        let done = course.encode(rt, window, row, &mut encoder, &mut out);
+        assert!(rt; done == Ok(()));
+    }
+    assert!(rt; encoder.finish(&mut out) == Ok(()));
+    out.bytes
+}
+
 /// The code of rows in one stripe.
 fn code(
     rt: &impl Abort,
@@ -144,35 +222,30 @@ fn code(
     shape: Shape,
     offset: u8,
     rows: &[&[u8]],
-) -> Result<Vec<u8>, Fail> {
+) -> Result<Vec<u8>, AllocError> {
     let mut bytes = vec![in alloc; 0xaau8; window_bytes(shape.width)]?;
     let mut window = Window::over(bytes.as_mut_slice(), shape.width);
-    let mut out = Taken {
-        bytes: Vec::new(alloc),
-    };
-    let mut encoder = Encoder::start();
-    let mut learned = Learned::new();
-    let mut kept = Kept {
-        offset,
-        previous_typical: false,
-    };
+    let mut course = Course::new(shape, offset);
+    Ok(stripe(rt, alloc, &mut course, &mut window, rows))
+}
+
+/// Whether a code gives these rows below those of a window, in one stripe.
+fn gives_below(
+    rt: &impl Abort,
+    course: &mut Course,
+    window: &mut Window,
+    code: &[u8],
+    rows: &[&[u8]],
+) -> bool {
+    let mut source = Given::new(code, true);
+    let mut decoder = Decoder::start();
+    let mut same = true;
     for row in rows {
         window.turn();
-        write_row(rt, &mut window, row);
-        assert!(rt; window.width() == shape.width && shape.width >= 1 && kept.offset <= 127);
-        assert!(rt; encoder.events() < 0x1000_0000_0000);
-        let done = encode_row(
-            shape,
-            &mut kept,
-            &window,
-            &mut learned,
-            &mut encoder,
-            &mut out,
-        );
-        assert!(rt; done == Ok(()));
+        let done = course.decode(rt, window, &mut decoder, &mut source);
+        same = same && done == Ok(()) && source.failures() == 0 && is_row(window, 0, row);
     }
-    assert!(rt; encoder.finish(&mut out) == Ok(()));
-    Ok(out.bytes)
+    same
 }
 
 /// Whether a code gives these rows in one stripe.
@@ -183,35 +256,27 @@ fn gives(
     offset: u8,
     code: &[u8],
     rows: &[&[u8]],
-) -> Result<bool, Fail> {
+) -> Result<bool, AllocError> {
     let mut bytes = vec![in alloc; 0xaau8; window_bytes(shape.width)]?;
     let mut window = Window::over(bytes.as_mut_slice(), shape.width);
-    let mut source = Given::new(code, true);
-    let mut decoder = Decoder::start();
-    let mut learned = Learned::new();
-    let mut kept = Kept {
-        offset,
-        previous_typical: false,
-    };
-    for row in rows {
-        window.turn();
-        assert_eq!(rt; window.width(), shape.width);
-        assert!(rt; kept.offset <= 127);
-        assert!(rt; shape.width >= 1);
-        assert_eq!(rt; source.failures(), 0);
-        let done = decode_row(
-            shape,
-            &mut kept,
-            &mut window,
-            &mut learned,
-            &mut decoder,
-            &mut source,
-        );
-        if done != Ok(()) || !is_row(&window, 0, row) {
-            return Ok(false);
-        }
+    let mut course = Course::new(shape, offset);
+    Ok(gives_below(rt, &mut course, &mut window, code, rows))
+}
+
+/// Whether rows in one stripe have this code, and come back from it.
+fn is_code(
+    rt: &impl Abort,
+    alloc: Global,
+    shape: Shape,
+    offset: u8,
+    expected: &[u8],
+    rows: &[&[u8]],
+) -> Result<bool, AllocError> {
+    let found = code(rt, alloc, shape, offset, rows)?;
+    if found.as_slice() != expected {
+        return Ok(false);
     }
-    Ok(true)
+    gives(rt, alloc, shape, offset, expected, rows)
 }
 
 /// Rows, their shape, the offset, and their code, by hand.
@@ -236,28 +301,39 @@ static CODES: [((u32, bool, bool), u8, &[&[u8]], &[u8]); 11] = [
 
 #[test]
 fn codes_by_hand(rt: HostRuntime) -> Result<(), Fail> {
-    for ((width, two_line, typical), offset, rows, expected) in CODES {
+    for &((width, two_line, typical), offset, rows, expected) in &CODES {
         let shape = shape(width, two_line, typical);
-        let found = code(&rt, rt.alloc(), shape, offset, rows)?;
-        assert_eq!(rt; found.as_slice(), expected);
-        assert!(rt; gives(&rt, rt.alloc(), shape, offset, expected, rows)?);
+        let met = is_code(&rt, rt.alloc(), shape, offset, expected, rows)?;
+        assert!(rt; met, "{expected:?}");
     }
     Ok(())
 }
 
+/// Codes a pixel.
+fn put(
+    rt: &impl Abort,
+    encoder: &mut Encoder,
+    learned: &mut Learned,
+    n: u16,
+    black: bool,
+    out: &mut Taken,
+) {
+    assert!(rt; n < 1024 && encoder.events() < 0x1000_0000_0000);
+    assert!(rt; encoder.put(learned, Context::of(n), black, out) == Ok(()));
+}
+
 /// The code of black pixels in these contexts.
-fn code_in(rt: &impl Abort, alloc: Global, contexts: &[u16]) -> Result<Vec<u8>, Fail> {
+fn code_in(rt: &impl Abort, alloc: Global, contexts: &[u16]) -> Vec<u8> {
     let mut out = Taken {
         bytes: Vec::new(alloc),
     };
     let mut encoder = Encoder::start();
     let mut learned = Learned::new();
     for n in contexts {
-        assert!(rt; *n < 1024 && encoder.events() < 1000);
-        assert!(rt; encoder.put(&mut learned, Context::of(*n), true, &mut out) == Ok(()));
+        put(rt, &mut encoder, &mut learned, *n, true, &mut out);
     }
     assert!(rt; encoder.finish(&mut out) == Ok(()));
-    Ok(out.bytes)
+    out.bytes
 }
 
 /// Black rows, their shape, the offset, and the contexts of their pixels, by hand.
@@ -295,102 +371,82 @@ static CONTEXTS: [((u32, bool, bool), u8, &[&[u8]], &[u16]); 4] = [
 
 #[test]
 fn contexts_by_hand(rt: HostRuntime) -> Result<(), Fail> {
-    for ((width, two_line, typical), offset, rows, contexts) in CONTEXTS {
+    for &((width, two_line, typical), offset, rows, contexts) in &CONTEXTS {
         let shape = shape(width, two_line, typical);
-        let found = code(&rt, rt.alloc(), shape, offset, rows)?;
-        let expected = code_in(&rt, rt.alloc(), contexts)?;
-        assert_eq!(rt; found.as_slice(), expected.as_slice());
+        let expected = code_in(&rt, rt.alloc(), contexts);
+        let met = is_code(&rt, rt.alloc(), shape, offset, expected.as_slice(), rows)?;
+        assert!(rt; met, "{contexts:?}");
     }
     Ok(())
+}
+
+/// What a tally chooses after the current row, of 8, alone.
+fn chosen(rt: &impl Abort, tally: &mut Tally, window: &Window, offset: u8) -> Option<u8> {
+    tally.restart();
+    assert!(rt; window.width() == 8 && offset <= 127);
+    tally.add_row(window, 8, offset);
+    tally.choose(offset)
 }
 
 /// Two stripes of a black row each: the tally of the first moves the adaptive pixel of the second
 /// by 3.
 #[test]
-fn moves_between_stripes(rt: HostRuntime) -> Result<(), Fail> {
-    let shape = shape(8, false, false);
-    let mut bytes = vec![in rt.alloc(); 0u8; window_bytes(8)]?;
-    let mut window = Window::over(bytes.as_mut_slice(), 8);
-    let mut kept = START;
-    let mut learned = Learned::new();
+fn moves_between_stripes(rt: HostRuntime) {
+    let mut bytes = [0; 3];
+    let mut window = Window::over(&mut bytes, 8);
+    let mut course = Course::new(shape(8, false, false), 0);
     let mut tally = Tally::new(false, 3);
     assert_eq!(rt; tally.choose(0), None);
     for (offset, expected, next) in [(0, 0xf0, Some(3)), (3, 0xf8, None)] {
-        kept.offset = offset;
-        let mut out = Taken {
-            bytes: Vec::new(rt.alloc()),
-        };
-        let mut encoder = Encoder::start();
-        window.turn();
-        write_row(&rt, &mut window, &[0xff]);
-        assert!(rt; window.width() == 8 && kept.offset <= 127);
-        let done = encode_row(
-            shape,
-            &mut kept,
-            &window,
-            &mut learned,
-            &mut encoder,
-            &mut out,
-        );
-        assert!(rt; done == Ok(()));
-        assert!(rt; encoder.finish(&mut out) == Ok(()));
-        assert_eq!(rt; out.bytes.as_slice(), [expected].as_slice());
-        tally.restart();
-        assert_eq!(rt; window.width(), 8);
-        tally.add_row(&window, 8, offset);
+        course.kept.offset = offset;
+        let found = stripe(&rt, rt.alloc(), &mut course, &mut window, &[&[0xff]]);
+        assert_eq!(rt; found.as_slice(), [expected].as_slice());
         // Five pixels of each row have a black one 3 to the left.
-        assert_eq!(rt; tally.choose(offset), next);
+        assert_eq!(rt; chosen(&rt, &mut tally, &window, offset), next);
     }
-    Ok(())
 }
 
 /// What a tally chooses after one row of 8 below another.
-fn choice(
-    rt: &impl Abort,
-    alloc: Global,
-    two_line: bool,
-    most: u8,
-    above: u8,
-    row: u8,
-    offset: u8,
-) -> Result<Option<u8>, Fail> {
-    let mut bytes = vec![in alloc; 0u8; window_bytes(8)]?;
-    let mut window = Window::over(bytes.as_mut_slice(), 8);
+fn choice(rt: &impl Abort, two_line: bool, most: u8, above: u8, row: u8, offset: u8) -> Option<u8> {
+    let mut bytes = [0; 3];
+    let mut window = Window::over(&mut bytes, 8);
     write_row(rt, &mut window, &[above]);
     window.turn();
     write_row(rt, &mut window, &[row]);
     assert!(rt; most <= 127 && offset <= 127 && window.width() == 8);
     let mut tally = Tally::new(two_line, most);
     tally.add_row(&window, 8, offset);
-    Ok(tally.choose(offset))
+    tally.choose(offset)
 }
 
+/// Whether there are two lines, the greatest lag, the row above, the row, the offset, and what is
+/// chosen.
+static CHOICES: [(bool, u8, u8, u8, u8, Option<u8>); 9] = [
+    // Five pixels agree at lag 3 and none in the nominal place.
+    (false, 127, 0x00, 0xff, 0, Some(3)),
+    // Below a black row six agree in the nominal place.
+    (false, 127, 0xff, 0xff, 0, None),
+    // At lag 5, the least with two lines, three agree.
+    (true, 127, 0x00, 0xff, 0, Some(5)),
+    // No lag is within reach.
+    (false, 2, 0x00, 0xff, 0, None),
+    (true, 4, 0x00, 0xff, 0, None),
+    // Seven agree in the nominal place, and no more at any lag.
+    (false, 127, 0x00, 0x80, 0, None),
+    // Six agree at lag 4, and three at lag 3.
+    (false, 4, 0x33, 0xcc, 3, Some(4)),
+    // Six agree at lag 3. A gain of one is an eighth of the pixels, and no more than that; a gain of
+    // two is more.
+    (false, 3, 0x0c, 0x80, 0, None),
+    (false, 3, 0x1c, 0x80, 0, Some(3)),
+];
+
 #[test]
-fn offsets_by_hand(rt: HostRuntime) -> Result<(), Fail> {
-    let cases = [
-        // Five pixels agree at lag 3 and none in the nominal place.
-        (false, 127, 0x00, 0xff, 0, Some(3)),
-        // Below a black row six agree in the nominal place.
-        (false, 127, 0xff, 0xff, 0, None),
-        // At lag 5, the least with two lines, three agree.
-        (true, 127, 0x00, 0xff, 0, Some(5)),
-        // No lag is within reach.
-        (false, 2, 0x00, 0xff, 0, None),
-        (true, 4, 0x00, 0xff, 0, None),
-        // Seven agree in the nominal place, and no more at any lag.
-        (false, 127, 0x00, 0x80, 0, None),
-        // Six agree at lag 4, and three at lag 3.
-        (false, 4, 0x33, 0xcc, 3, Some(4)),
-        // Six agree at lag 3. A gain of one is an eighth of the pixels, and no more than that; a
-        // gain of two is more.
-        (false, 3, 0x0c, 0x80, 0, None),
-        (false, 3, 0x1c, 0x80, 0, Some(3)),
-    ];
-    for (two_line, most, above, row, offset, expected) in cases {
-        let found = choice(&rt, rt.alloc(), two_line, most, above, row, offset)?;
-        assert!(rt; found == expected, "at {row}, {most}");
+fn offsets_by_hand(rt: HostRuntime) {
+    for &(two_line, most, above, row, offset, expected) in &CHOICES {
+        let found = choice(&rt, two_line, most, above, row, offset);
+        assert_eq!(rt; found, expected, "at {row}, {most}");
     }
-    Ok(())
 }
 
 /// Zeros follow the end of a code: the second row is not white.
@@ -421,105 +477,63 @@ fn decodes_an_equal_plain_row(rt: HostRuntime) -> Result<(), Fail> {
 
 /// Three bytes decide the first row, and the sixth pixel of the second wants a fourth.
 #[test]
-fn stops_in_the_second_row(rt: HostRuntime) -> Result<(), Fail> {
-    let shape = shape(8, false, false);
-    let mut bytes = vec![in rt.alloc(); 0u8; window_bytes(8)]?;
-    let mut window = Window::over(bytes.as_mut_slice(), 8);
+fn stops_in_the_second_row(rt: HostRuntime) {
+    let mut bytes = [0; 3];
+    let mut window = Window::over(&mut bytes, 8);
     let mut source = Given::new(&[0xf0, 0x00, 0x00], false);
     let mut decoder = Decoder::start();
-    let mut learned = Learned::new();
-    let mut kept = START;
-    assert_eq!(rt; window.width(), 8);
-    let first = decode_row(
-        shape,
-        &mut kept,
-        &mut window,
-        &mut learned,
-        &mut decoder,
-        &mut source,
-    );
-    assert!(rt; first == Ok(()));
-    assert!(rt; is_row(&window, 0, &[0xff]));
-    assert_eq!(rt; source.failures(), 0);
+    let mut course = Course::new(shape(8, false, false), 0);
+    let first = course.decode(&rt, &mut window, &mut decoder, &mut source);
+    let found = (first, is_row(&window, 0, &[0xff]), source.failures());
+    assert_eq!(rt; found, (Ok(()), true, 0));
     window.turn();
-    for failures in [1, 1] {
-        assert!(rt; window.width() == 8 && source.failures() < 10 && kept.offset == 0);
-        let stopped = decode_row(
-            shape,
-            &mut kept,
-            &mut window,
-            &mut learned,
-            &mut decoder,
-            &mut source,
-        );
-        assert!(rt; stopped == Err(Stop));
-        assert_eq!(rt; source.failures(), failures);
-        assert!(rt; is_row(&window, 1, &[0xff]));
+    for _ in 0..2u8 {
+        let stopped = course.decode(&rt, &mut window, &mut decoder, &mut source);
+        let found = (stopped, is_row(&window, 1, &[0xff]), source.failures());
+        assert_eq!(rt; found, (Err(Stop), true, 1));
     }
-    Ok(())
 }
 
 /// A sink that takes nothing is met once: from then on the encoder has failed.
 #[test]
-fn fails_once(rt: HostRuntime) -> Result<(), Fail> {
-    let shape = shape(8, false, false);
-    let mut bytes = vec![in rt.alloc(); 0u8; window_bytes(8)]?;
-    let mut window = Window::over(bytes.as_mut_slice(), 8);
+fn fails_once(rt: HostRuntime) {
+    let mut bytes = [0; 3];
+    let mut window = Window::over(&mut bytes, 8);
     let mut out = Full { failed: 0 };
     let mut encoder = Encoder::start();
-    let mut learned = Learned::new();
-    let mut kept = START;
-    let mut faults = 0u32;
+    let mut course = Course::new(shape(8, false, false), 0);
+    let mut last = Ok(());
     for n in 0..200u32 {
-        window.turn();
-        write_row(&rt, &mut window, &[(n * 37 % 256) as u8]);
-        assert!(rt; window.width() == 8 && kept.offset == 0);
-        assert!(rt; encoder.events() < 10000 && out.failures() < 10 && faults < 1000);
-        let done = encode_row(
-            shape,
-            &mut kept,
-            &window,
-            &mut learned,
-            &mut encoder,
-            &mut out,
-        );
-        match done {
-            Ok(()) => assert_eq!(rt; faults, 0),
-            Err(CoderFault::Write) => {
-                assert_eq!(rt; faults, 0);
-                faults += 1;
-            }
-            Err(CoderFault::Failed) => assert_eq!(rt; faults, 1),
-        }
-        kept = START;
+        let row = [(n * 37 % 256) as u8];
+        let done = course.encode(&rt, &mut window, &row, &mut encoder, &mut out);
+        let has_failed = done == Err(CoderFault::Failed);
+        assert_eq!(rt; has_failed, last != Ok(()), "row {n}");
+        last = done;
+        course.kept = START;
     }
-    assert_eq!(rt; faults, 1);
-    assert_eq!(rt; out.failures(), 1);
-    Ok(())
+    assert_eq!(rt; (last.is_err(), out.failures()), (true, 1));
+}
+
+/// Whether a window has these rows, the current one first.
+fn has_rows(window: &Window, rows: [[u8; 2]; 3]) -> bool {
+    let [current, above, second] = rows;
+    is_row(window, 0, &current) && is_row(window, 1, &above) && is_row(window, 2, &second)
 }
 
 #[test]
-fn turns_and_clears(rt: HostRuntime) -> Result<(), Fail> {
+fn turns_and_clears(rt: HostRuntime) {
+    assert_eq!(rt; (window_bytes(9), window_bytes(1_048_576)), (6, 393_216));
     let mut bytes = [0xaa; 6];
-    assert_eq!(rt; window_bytes(9), 6);
-    assert_eq!(rt; window_bytes(1_048_576), 393_216);
     let mut window = Window::over(&mut bytes, 9);
     assert_eq!(rt; window.width(), 9);
-    for k in 0..3u8 {
-        assert!(rt; is_row(&window, k, &[0, 0]));
-    }
+    assert!(rt; has_rows(&window, [[0, 0]; 3]));
     for byte in [1, 2, 3, 4] {
         window.turn();
         write_row(&rt, &mut window, &[byte, 0]);
     }
-    assert!(rt; is_row(&window, 0, &[4, 0]));
-    assert!(rt; is_row(&window, 1, &[3, 0]));
-    assert!(rt; is_row(&window, 2, &[2, 0]));
+    assert!(rt; has_rows(&window, [[4, 0], [3, 0], [2, 0]]));
     window.clear();
-    for k in 0..3u8 {
-        assert!(rt; is_row(&window, k, &[0, 0]));
-    }
-    Ok(())
+    assert!(rt; has_rows(&window, [[0, 0]; 3]));
 }
 
 /// The pixel of a row that stands so far to the right of x, or so far to the left; white outside of
@@ -537,9 +551,7 @@ fn pixel(row: &[u8], width: u32, x: u32, right: u32, left: u32) -> bool {
 }
 
 /// The context of x by the coordinates of its ten pixels.
-fn context_by_coordinates(shape: Shape, offset: u8, rows: [&[u8]; 3], x: u32) -> u16
-    ensures { result < 1024 }
-{
+fn context_by_coordinates(shape: Shape, offset: u8, rows: [&[u8]; 3], x: u32) -> u16 {
     let [row, above, second] = rows;
     let width = shape.width;
     let adaptive = if offset == 0 {
@@ -582,7 +594,7 @@ fn context_by_coordinates(shape: Shape, offset: u8, rows: [&[u8]; 3], x: u32) ->
 }
 
 /// A row of pixels without order, that ends in white padding.
-fn row_of(alloc: Global, width: u32, seed: u32) -> Result<Vec<u8>, Fail> {
+fn row_of(alloc: Global, width: u32, seed: u32) -> Result<Vec<u8>, AllocError> {
     let mut bytes = Vec::new(alloc);
     let mut state = seed;
     for i in 0..width.div_ceil(8) {
@@ -594,44 +606,70 @@ fn row_of(alloc: Global, width: u32, seed: u32) -> Result<Vec<u8>, Fail> {
     Ok(bytes)
 }
 
-/// Whether three rows without order have the code that the model gives, and come back from it.
-fn meets_model(rt: &impl Abort, alloc: Global, shape: Shape, offset: u8) -> Result<bool, Fail> {
-    let first = row_of(alloc, shape.width, 1)?;
-    let second = row_of(alloc, shape.width, 2)?;
-    let third = row_of(alloc, shape.width, 3)?;
-    let white = row_of(alloc, 0, 0)?;
-    let rows: [&[u8]; 5] = [
-        white.as_slice(),
-        white.as_slice(),
-        first.as_slice(),
-        second.as_slice(),
-        third.as_slice(),
-    ];
+/// Codes a row below two others by the model.
+fn put_row(
+    rt: &impl Abort,
+    shape: Shape,
+    offset: u8,
+    rows: [&[u8]; 3],
+    encoder: &mut Encoder,
+    learned: &mut Learned,
+    out: &mut Taken,
+) {
+    for x in 0..shape.width {
+        let context = context_by_coordinates(shape, offset, rows, x);
+        let black = pixel(rows[0], shape.width, x, 0, 0);
+        put(rt, encoder, learned, context, black, out);
+    }
+}
+
+/// The code that the model gives three rows.
+fn code_of_model(
+    rt: &impl Abort,
+    alloc: Global,
+    shape: Shape,
+    offset: u8,
+    rows: [&[u8]; 3],
+) -> Vec<u8> {
     let mut out = Taken {
         bytes: Vec::new(alloc),
     };
     let mut encoder = Encoder::start();
     let mut learned = Learned::new();
-    for y in 2..5usize {
-        for x in 0..shape.width {
-            let context = context_by_coordinates(
-                shape,
-                offset,
-                [rows[y], rows[y - 1], rows[y - 2]],
-                x,
-            );
-            assert!(rt; encoder.events() < 0x1000_0000_0000);
-            let black = pixel(rows[y], shape.width, x, 0, 0);
-            let done = encoder.put(&mut learned, Context::of(context), black, &mut out);
-            assert!(rt; done == Ok(()));
-        }
+    let [first, second, third] = rows;
+    let white: &[u8] = &[];
+    for rows in [
+        [first, white, white],
+        [second, first, white],
+        [third, second, first],
+    ] {
+        put_row(
+            rt,
+            shape,
+            offset,
+            rows,
+            &mut encoder,
+            &mut learned,
+            &mut out,
+        );
     }
     assert!(rt; encoder.finish(&mut out) == Ok(()));
-    let found = code(rt, alloc, shape, offset, &rows[2..])?;
-    Ok(
-        found.as_slice() == out.bytes.as_slice()
-            && gives(rt, alloc, shape, offset, found.as_slice(), &rows[2..])?,
-    )
+    out.bytes
+}
+
+/// Whether three rows without order have the code that the model gives, and come back from it.
+fn meets_model(
+    rt: &impl Abort,
+    alloc: Global,
+    shape: Shape,
+    offset: u8,
+) -> Result<bool, AllocError> {
+    let first = row_of(alloc, shape.width, 1)?;
+    let second = row_of(alloc, shape.width, 2)?;
+    let third = row_of(alloc, shape.width, 3)?;
+    let rows = [first.as_slice(), second.as_slice(), third.as_slice()];
+    let expected = code_of_model(rt, alloc, shape, offset, rows);
+    is_code(rt, alloc, shape, offset, expected.as_slice(), &rows)
 }
 
 /// Widths about a byte's edges, in the nominal place and a moved one.
