@@ -6,6 +6,7 @@ pub struct Stream {
     pub hex: &'static str,
     /// How many bytes are asked for, one at a time.
     pub reads: u64,
+    /// The size of the image; empty where nothing is written.
     pub size: &'static str,
     /// The rows that are written.
     pub rows: &'static str,
@@ -13,7 +14,7 @@ pub struct Stream {
     pub fault: Option<&'static str>,
 }
 
-pub static STREAMS: [Stream; 44] = [
+pub static STREAMS: [Stream; 48] = [
     Stream {
         hex: "00000100 00000008 00000001 00000080 00 0000 08 FF02",
         reads: 22,
@@ -321,5 +322,33 @@ pub static STREAMS: [Stream; 44] = [
         size: "1 1",
         rows: "",
         fault: Some("new height is not allowed"),
+    },
+    Stream {
+        hex: "00000100 00000008 00000001 00000080 00 0000",
+        reads: 20,
+        size: "",
+        rows: "",
+        fault: Some("header is shorter than 20 bytes"),
+    },
+    Stream {
+        hex: "00000100 00100001 00000001 00000080 00 0000 00",
+        reads: 20,
+        size: "",
+        rows: "",
+        fault: Some("image is wider than 1048576"),
+    },
+    Stream {
+        hex: "01010201 00000000 00000000 00000000 00 0000 00",
+        reads: 20,
+        size: "",
+        rows: "",
+        fault: Some("reserved bits of the header are set"),
+    },
+    Stream {
+        hex: "00000100 00000001 00000005 00000080 00 0000 20 C0 FF02 FF05 00000001 FF02",
+        reads: 20,
+        size: "",
+        rows: "",
+        fault: Some("not built yet"),
     },
 ];

@@ -2,26 +2,21 @@
 
 use crate::line::Job;
 use crate::run::run;
-use crate::trial::leaves;
+use crate::trial::{leaves, leaves_at_each_size, tells_each_write};
 use crate::words::job;
 use pbm_core::trial::{Drip, Pieces};
 use program_core::LineFault;
-use program_core::trial::{Devices, FAILING_FLUSH, SMOOTH, failing_read, failing_write};
+use program_core::trial::{BYTEWISE, Devices, FAILING_FLUSH, SMOOTH, bytes_of};
 use std::alloc::{AllocError, Global};
+use std::process::Abort;
 use std::test::Fail;
 use t85_core::Fault;
-
-fn info_job(alloc: Global) -> Result<Job, Fail> {
-    match job(alloc, ["jbgtopbm85", "--info"].as_slice()) {
-        Ok(job) => Ok(job),
-        Err(_) => Err(Fail::from("the line was refused")),
-    }
-}
 
 /// Two stripes of one row, one black pixel wide.
 const TWO_STRIPES: &str = "00000100 00000001 00000002 00000001 00 0000 08 E0 FF02 E0 FF02";
 
 /// A stream, and what is told of it.
+#[derive(Drop)]
 struct Told {
     hex: &'static str,
     /// How many bytes are asked for, one at a time; the end of the input is asked for too.
@@ -118,189 +113,249 @@ static STREAMS: [Told; 17] = [
     },
 ];
 
-/// The words, and the status with which they are refused, or what they ask for.
+/// Words, and what they ask for.
+struct Asked {
+    words: &'static [&'static str],
+    info: bool,
+    input: Option<&'static str>,
+    output: Option<&'static str>,
+}
+
+static ASKED: [Asked; 2] = [
+    Asked {
+        words: &["jbgtopbm85", "--info", "a.jbg", "-"],
+        info: true,
+        input: Some("a.jbg"),
+        output: Some("-"),
+    },
+    Asked {
+        words: &["jbgtopbm85"],
+        info: false,
+        input: None,
+        output: None,
+    },
+];
+
+impl Asked {
+    fn is(&self, job: &Job) -> bool {
+        job.info == self.info
+            && job.input.as_deref() == self.input
+            && job.output.as_deref() == self.output
+    }
+
+    /// Whether the words are taken, and ask for that.
+    fn is_read(&self, alloc: Global) -> bool {
+        match job(alloc, self.words) {
+            Ok(job) => self.is(&job),
+            Err(_) => false,
+        }
+    }
+}
+
 #[test]
-fn reads_the_words(rt: HostRuntime) -> Result<(), Fail> {
-    let alloc = rt.alloc();
-    let words = ["jbgtopbm85", "--info", "a.jbg", "-"];
-    let Ok(asked) = job(alloc, words.as_slice()) else {
-        return Err(Fail::from("refused"));
-    };
-    assert!(rt; asked.info);
-    let (Some(input), Some(output)) = (&asked.input, &asked.output) else {
-        return Err(Fail::from("no names"));
-    };
-    assert_eq!(rt; input.as_str(), "a.jbg");
-    assert_eq!(rt; output.as_str(), "-");
-    let Ok(plain) = job(alloc, ["jbgtopbm85"].as_slice()) else {
-        return Err(Fail::from("refused"));
-    };
-    assert!(rt; !plain.info && plain.input.is_none() && plain.output.is_none());
-    Ok(())
+fn reads_the_words(rt: HostRuntime) {
+    for asked in &ASKED {
+        assert!(rt; asked.is_read(rt.alloc()), "{:?}", asked.words);
+    }
+}
+
+/// Words, and the status with which they are refused.
+static REFUSED: [(&[&str], u8); 5] = [
+    (&["jbgtopbm85", "-h"], 0),
+    (&["jbgtopbm85", "--help"], 0),
+    (&["jbgtopbm85", "-x"], 2),
+    (&["jbgtopbm85", "--info=1"], 2),
+    (&["jbgtopbm85", "--info", "--info"], 2),
+];
+
+/// Whether the words are refused with this status.
+fn refuses(alloc: Global, words: &[&str], status: u8) -> bool {
+    match job(alloc, words) {
+        Ok(_) => false,
+        Err(fault) => fault.status() == status,
+    }
+}
+
+fn status_of(fault: Fault) -> u8 {
+    LineFault::Fault(fault).status()
 }
 
 #[test]
 fn refuses_words(rt: HostRuntime) {
-    let lines = [
-        ("-h", "", 0u8),
-        ("--help", "", 0),
-        ("-x", "", 2),
-        ("--info=1", "", 2),
-        ("--info", "--info", 2),
-    ];
-    for (first, second, status) in lines {
-        let words = ["jbgtopbm85", first, second];
-        let count = if second.is_empty() { 2 } else { 3 };
-        match job(rt.alloc(), &words[..count]) {
-            Ok(_) => panic!(rt; "{first} was taken"),
-            Err(fault) => assert_eq!(rt; fault.status(), status, "{first}"),
+    for (words, status) in &REFUSED {
+        assert!(rt; refuses(rt.alloc(), words, *status), "{words:?}");
+    }
+    assert!(rt; status_of(Fault::OutOfMemory) == 1);
+}
+
+/// What is tried on a stream.
+#[derive(Clone, Copy)]
+enum Trial {
+    /// Reads and writes of each size.
+    Sizes,
+    /// Each failing read.
+    Reads,
+    /// Each failing write, and a failing flush.
+    Writes,
+    /// Reads of all that there is, of which this one fails.
+    Ahead(u64),
+}
+
+/// Whether each of these failing reads is told, with nothing written, and one read more is never asked for.
+fn tells_each_read(alloc: Global, job: &Job, bytes: &[u8], reads: u64) -> Result<bool, AllocError> {
+    for at in 0..reads {
+        let text = Some("input cannot be read");
+        if !leaves(
+            alloc,
+            job,
+            bytes,
+            Devices {
+                failing_read: Some(at + 1),
+                ..BYTEWISE
+            },
+            b"",
+            text,
+        )? {
+            return Ok(false);
         }
     }
-    let memory = LineFault::Fault(Fault::OutOfMemory);
-    assert_eq!(rt; memory.status(), 1);
+    Ok(true)
+}
+
+impl Told {
+    /// Whether a run has told the line or the text of the fault, and nothing else, and stands the trial.
+    fn tells(
+        &self,
+        alloc: Global,
+        job: &Job,
+        bytes: &[u8],
+        trial: Trial,
+    ) -> Result<bool, AllocError> {
+        let (line, fault) = match self.answer {
+            Ok(line) => (line.as_bytes(), None),
+            Err(text) => (b"".as_slice(), Some(text)),
+        };
+        let (is_told, devices, fault) = match trial {
+            Trial::Sizes => return leaves_at_each_size(alloc, job, bytes, line, fault),
+            Trial::Reads => (
+                tells_each_read(alloc, job, bytes, self.reads)?,
+                Devices {
+                    failing_read: Some(self.reads.saturating_add(1)),
+                    ..BYTEWISE
+                },
+                fault,
+            ),
+            Trial::Writes => (
+                tells_each_write(alloc, job, bytes, line)?,
+                FAILING_FLUSH,
+                fault.or(Some("output cannot be written")),
+            ),
+            Trial::Ahead(at) => (
+                true,
+                Devices {
+                    failing_read: Some(at),
+                    ..SMOOTH
+                },
+                fault,
+            ),
+        };
+        Ok(is_told && leaves(alloc, job, bytes, devices, line, fault)?)
+    }
+}
+
+/// Whether the stream of these digits tells that, and stands the trial.
+fn stands(alloc: Global, hex: &str, told: &Told, trial: Trial) -> Result<bool, LineFault> {
+    let bytes = bytes_of(alloc, hex)?;
+    let job = job(alloc, &["jbgtopbm85", "--info"])?;
+    let held = told.tells(alloc, &job, &bytes, trial);
+    drop(job);
+    drop(bytes);
+    Ok(held?)
+}
+
+/// Asserts that each stream stands the trial.
+fn all_stand(rt: &impl Abort, alloc: Global, trial: Trial) -> Result<(), Fail> {
+    for told in &STREAMS {
+        assert!(rt; stands(alloc, told.hex, told, trial)?, "{}", told.hex);
+    }
+    Ok(())
 }
 
 #[test]
 fn tells_each_stream(rt: HostRuntime) -> Result<(), Fail> {
-    let alloc = rt.alloc();
-    let job = info_job(alloc)?;
-    for stream in &STREAMS {
-        for most in [1, 2, 3, 4095, 4096, 4097] {
-            let devices = Devices { most, ..SMOOTH };
-            assert!(rt;
-                tells(alloc, &job, stream.hex, devices, stream.answer)?,
-                "{}",
-                stream.hex
-            );
-        }
-    }
-    Ok(())
-}
-
-/// Comments of more bytes than the buffer holds are passed as well.
-#[test]
-fn passes_a_long_comment(rt: HostRuntime) -> Result<(), Fail> {
-    let alloc = rt.alloc();
-    let job = info_job(alloc)?;
-    let mut hex = String::from_str(
-        alloc,
-        "00000100 00000008 00000001 00000080 00 0000 00 FF07 00001388",
-    )?;
-    for _ in 0..5000u32 {
-        hex.push_str(" 41")?;
-    }
-    hex.push_str(" 60 FF02")?;
-    for most in [1, 2, 3, 4095, 4096, 4097] {
-        let devices = Devices { most, ..SMOOTH };
-        let answer = Ok("8 1 128 0 0 1 1 0 1\n");
-        assert!(rt; tells(alloc, &job, &hex, devices, answer)?, "{most}");
-    }
-    Ok(())
-}
-
-/// Whether a run has told the line or the text of the fault, and nothing else.
-fn tells(
-    alloc: Global,
-    job: &Job,
-    hex: &str,
-    devices: Devices,
-    answer: Result<&str, &str>,
-) -> Result<bool, AllocError> {
-    match answer {
-        Ok(line) => leaves(alloc, job, hex, devices, line.as_bytes(), None),
-        Err(text) => leaves(alloc, job, hex, devices, b"", Some(text)),
-    }
+    all_stand(&rt, rt.alloc(), Trial::Sizes)
 }
 
 /// Each read of each stream fails in turn, and one read more is never asked for.
 #[test]
 fn each_read_fails(rt: HostRuntime) -> Result<(), Fail> {
-    let alloc = rt.alloc();
-    let job = info_job(alloc)?;
-    for stream in &STREAMS {
-        for at in 0..stream.reads {
-            let devices = failing_read(at + 1);
-            let answer = Err("input cannot be read");
-            assert!(rt;
-                tells(alloc, &job, stream.hex, devices, answer)?,
-                "{at} reads of {}",
-                stream.hex
-            );
-        }
-        let devices = failing_read(stream.reads.saturating_add(1));
-        assert!(rt;
-            tells(alloc, &job, stream.hex, devices, stream.answer)?,
-            "{}",
-            stream.hex
-        );
-    }
+    all_stand(&rt, rt.alloc(), Trial::Reads)
+}
+
+/// Each write of each line fails in turn, and then the flush.
+#[test]
+fn each_write_fails(rt: HostRuntime) -> Result<(), Fail> {
+    all_stand(&rt, rt.alloc(), Trial::Writes)
+}
+
+/// Comments of more bytes than the buffer holds are passed as well.
+static COMMENT: Told = Told {
+    hex: "00000100 00000008 00000001 00000080 00 0000 00 FF07 00001388",
+    reads: 0,
+    answer: Ok("8 1 128 0 0 1 1 0 1\n"),
+};
+
+fn tells_comment(alloc: Global) -> Result<bool, LineFault> {
+    let digits = "41".repeat(alloc, 5000)?;
+    let hex = format!(in alloc; "{} {digits} 60 FF02", COMMENT.hex)?;
+    stands(alloc, &hex, &COMMENT, Trial::Sizes)
+}
+
+#[test]
+fn passes_a_long_comment(rt: HostRuntime) -> Result<(), Fail> {
+    assert!(rt; tells_comment(rt.alloc())?);
     Ok(())
 }
 
-/// Where reads are large, one is for the header and one for what follows.
+/// What is told of two stripes where the read of this number fails: where reads are large, one is for the header and
+/// one for what follows.
+static AHEAD: [(u64, Result<&str, &str>); 3] = [
+    (1, Err("input cannot be read")),
+    (2, Err("input cannot be read")),
+    (3, Ok("1 2 1 0 8 2 2 0 0\n")),
+];
+
 #[test]
 fn reads_ahead(rt: HostRuntime) -> Result<(), Fail> {
-    let alloc = rt.alloc();
-    let job = info_job(alloc)?;
-    for at in 1..=3u64 {
-        let devices = Devices {
-            failing_read: Some(at),
-            ..SMOOTH
-        };
-        let answer = if at <= 2 {
-            Err("input cannot be read")
-        } else {
-            Ok("1 2 1 0 8 2 2 0 0\n")
+    for &(at, answer) in &AHEAD {
+        let told = Told {
+            hex: TWO_STRIPES,
+            reads: 0,
+            answer,
         };
         assert!(rt;
-            tells(alloc, &job, TWO_STRIPES, devices, answer)?,
+            stands(rt.alloc(), TWO_STRIPES, &told, Trial::Ahead(at))?,
             "read {at}"
         );
     }
     Ok(())
 }
 
-/// Each write of each line fails in turn, and then the flush.
-#[test]
-fn each_write_fails(rt: HostRuntime) -> Result<(), Fail> {
-    let alloc = rt.alloc();
-    let job = info_job(alloc)?;
-    for stream in &STREAMS {
-        let Ok(line) = stream.answer else {
-            continue;
-        };
-        let line = line.as_bytes();
-        for at in 1..=line.len() {
-            let devices = failing_write(at as u64);
-            let text = Some("output cannot be written");
-            assert!(rt;
-                leaves(alloc, &job, stream.hex, devices, &line[..at - 1], text)?,
-                "write {at} of {}",
-                stream.hex
-            );
-        }
-        let text = Some("output cannot be written");
-        assert!(rt;
-            leaves(alloc, &job, stream.hex, FAILING_FLUSH, line, text)?,
-            "{}",
-            stream.hex
-        );
-    }
-    Ok(())
-}
-
-/// A message that can't be written changes no status.
-#[test]
-fn loses_a_message(rt: HostRuntime) -> Result<(), Fail> {
-    let alloc = rt.alloc();
-    let job = info_job(alloc)?;
+/// Whether a run tells a fault by its status alone, where the second piece of the message can't be written.
+fn loses(alloc: Global) -> Result<bool, LineFault> {
+    let job = job(alloc, &["jbgtopbm85", "--info"])?;
     let mut input = Pieces::new(b"", 1, None);
     let mut held = [0; 8];
     let mut output = Drip::new(&mut held, 8, None, false);
     let mut told = [0; 64];
     let mut messages = Drip::new(&mut told, 8, Some(2), false);
     let status = run(alloc, &job, &mut input, &mut output, &mut messages);
-    assert_eq!(rt; status, 1);
-    assert_eq!(rt; messages.written(), b"jbgtopbm".as_slice());
+    Ok(status == 1 && messages.written() == b"jbgtopbm".as_slice())
+}
+
+/// A message that can't be written changes no status.
+#[test]
+fn loses_a_message(rt: HostRuntime) -> Result<(), Fail> {
+    assert!(rt; loses(rt.alloc())?);
     Ok(())
 }

@@ -4,21 +4,16 @@ use crate::NAME;
 use crate::run::run;
 use crate::work::Job;
 use pbm_core::trial::{Drip, Pieces};
-use program_core::trial::{Devices, Ran, has_told};
+use program_core::trial::{Devices, Ran, SMOOTH, has_told};
 use std::alloc::{AllocError, Global};
 use t85_core::to_pbm;
 
-/// Runs a job on these bytes, into lent room.
-pub fn run_into(
-    alloc: Global,
-    job: &Job,
-    bytes: &[u8],
-    devices: Devices,
-    held: &mut [u8],
-) -> Result<Ran, AllocError> {
+/// Runs a job on these bytes, into room for 24,576 bytes.
+pub fn run_on(alloc: Global, job: &Job, bytes: &[u8], devices: Devices) -> Result<Ran, AllocError> {
     let most = devices.most.max(1);
     let mut input = Pieces::new(bytes, most, devices.failing_read);
-    let mut output = Drip::new(held, most, devices.failing_write, devices.flush_fails);
+    let mut held = [0; 24576];
+    let mut output = Drip::new(&mut held, most, devices.failing_write, devices.flush_fails);
     let mut told = [0; 128];
     let mut messages = Drip::new(&mut told, 128, None, false);
     let status = run(alloc, job, &mut input, &mut output, &mut messages);
@@ -29,23 +24,8 @@ pub fn run_into(
     })
 }
 
-/// Runs a job on these bytes, into room for 256 bytes.
-pub fn run_on(alloc: Global, job: &Job, bytes: &[u8], devices: Devices) -> Result<Ran, AllocError> {
-    let mut held = [0; 256];
-    run_into(alloc, job, bytes, devices, &mut held)
-}
-
-/// Whether a run has written just these bytes, and told just the text of this fault, or nothing where there is none.
-pub fn has_left(
-    alloc: Global,
-    ran: &Ran,
-    output: &[u8],
-    fault: Option<&str>,
-) -> Result<bool, AllocError> {
-    Ok(has_told(alloc, ran, NAME, fault)? && ran.output.as_slice() == output)
-}
-
-/// Whether a run on these bytes leaves that.
+/// Whether a run on these bytes writes just that output, and tells just the text of this fault, or nothing where there
+/// is none.
 pub fn leaves(
     alloc: Global,
     job: &Job,
@@ -55,16 +35,30 @@ pub fn leaves(
     fault: Option<&str>,
 ) -> Result<bool, AllocError> {
     let ran = run_on(alloc, job, bytes, devices)?;
-    has_left(alloc, &ran, output, fault)
+    Ok(has_told(alloc, &ran, NAME, fault)? && ran.output.as_slice() == output)
 }
 
-/// The image of a stream, in room for 8,192 bytes; nothing where the stream is refused.
-pub fn image_of(alloc: Global, stream: &[u8]) -> Result<Vec<u8>, AllocError> {
+/// Whether a run on these bytes leaves that, whatever the size of its reads and writes.
+pub fn leaves_at_each_size(
+    alloc: Global,
+    job: &Job,
+    bytes: &[u8],
+    output: &[u8],
+    fault: Option<&str>,
+) -> Result<bool, AllocError> {
+    for most in [1, 2, 3, 4095, 4096, 4097] {
+        let devices = Devices { most, ..SMOOTH };
+        if !leaves(alloc, job, bytes, devices, output, fault)? {
+            return Ok(false);
+        }
+    }
+    Ok(true)
+}
+
+/// Whether a stream is taken, and gives this image of at most 8,192 bytes.
+pub fn gives(alloc: Global, stream: &[u8], image: &[u8]) -> bool {
     let mut held = [0; 8192];
     let mut input = Pieces::new(stream, 4096, None);
     let mut output = Drip::new(&mut held, 4096, None, false);
-    match to_pbm(alloc, &mut input, &mut output) {
-        Ok(()) => output.written().to_vec(alloc),
-        Err(_) => Ok(Vec::new(alloc)),
-    }
+    to_pbm(alloc, &mut input, &mut output).is_ok() && output.written() == image
 }

@@ -9,7 +9,7 @@ mod message;
 mod program;
 pub mod trial;
 
-pub use args::{default_arg, file_arg, flag_arg, number_arg, text_arg};
+pub use args::{default_arg, file_arg, flag_arg, text_arg};
 pub use files::{Readable, Writable};
 pub use line_fault::{LineFault, fault_of};
 pub use matches::{flag, matches_of, number, text};

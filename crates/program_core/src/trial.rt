@@ -1,6 +1,6 @@
 //! For the tests of the programs: how devices in memory behave, bytes as texts, and what a run left.
 
-ghost use Rattle.std.specs.Prelude.{◌≡◌, ◌↔◌, IfOk, IsTrue, None, Some, filter_map, option_map, false};
+ghost use Rattle.std.specs.Prelude.{◌≡◌, ◌↔◌, IfOk, IsTrue, filter_map, option_map};
 ghost use Rattle.program_core.specs.Trial.{HasTold, hex_digit, paired};
 
 use std::alloc::{AllocError, Global};
@@ -10,6 +10,7 @@ use std::alloc::{AllocError, Global};
 pub struct Devices {
     /// The most bytes that a read or a write moves.
     pub most: usize,
+    /// The number of the read that fails, from 1.
     pub failing_read: Option<u64>,
     pub failing_write: Option<u64>,
     pub flush_fails: bool,
@@ -35,27 +36,8 @@ pub const FAILING_FLUSH: Devices = Devices {
     ..SMOOTH
 };
 
-/// Single bytes, with the read of this number failing.
-pub fn failing_read(at: u64) -> Devices
-    ensures { result ≡ record { most = 1; failing_read = Some at; failing_write = None; flush_fails = false } }
-{
-    Devices {
-        most: 1,
-        failing_read: Some(at),
-        ..SMOOTH
-    }
-}
-
-/// Single bytes, with the write of this number failing.
-pub fn failing_write(at: u64) -> Devices
-    ensures { result ≡ record { most = 1; failing_read = None; failing_write = Some at; flush_fails = false } }
-{
-    Devices {
-        most: 1,
-        failing_write: Some(at),
-        ..SMOOTH
-    }
-}
+/// Single bytes.
+pub const BYTEWISE: Devices = Devices { most: 1, ..SMOOTH };
 
 /// The bytes that a text has as upper-case hexadecimal digits. Its other characters are passed.
 pub fn bytes_of(alloc: Global, hex: &str) -> Result<Vec<u8>, AllocError>
