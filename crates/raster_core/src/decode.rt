@@ -236,7 +236,7 @@ fn decode_below<S: CodeBytes>(
 {
     // What the proof cites of the coder.
     laws::answers();
-    laws::pixels();
+    laws::apart();
     let mut flag = false;
     if shape.typical {
         flag = decode_flag(shape, kept.previous_typical, learned, decoder, source)?;

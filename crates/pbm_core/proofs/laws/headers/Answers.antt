@@ -1,6 +1,4 @@
-use Rattle.pbm_core.proofs.Judged.{one_header}
-use Rattle.pbm_core.proofs.Judged.{one_fault}
-use Rattle.pbm_core.proofs.Judged.{header_or_fault}
+use Rattle.pbm_core.proofs.Judged.{one_header, one_fault, header_or_fault}
 use Rattle.pbm_core.proofs.Writing.{written_is_read}
 use Rattle.pbm_core.proofs.laws.headers.Goals as goal
 

@@ -1,5 +1,4 @@
-use Rattle.pbm_core.proofs.Unpacking.{one_image}
-use Rattle.pbm_core.proofs.Unpacking.{written_image_is_read}
+use Rattle.pbm_core.proofs.Unpacking.{one_image, written_image_is_read}
 use Rattle.pbm_core.proofs.laws.images.Goals as goal
 
 pub returns-clause-one_image : goal.returns-clause-one_image

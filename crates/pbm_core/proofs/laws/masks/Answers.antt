@@ -1,5 +1,4 @@
-use Rattle.pbm_core.proofs.Bits.{mask_keeps_pixels}
-use Rattle.pbm_core.proofs.Bits.{mask_is_white}
+use Rattle.pbm_core.proofs.Bits.{mask_keeps_pixels, mask_is_white}
 use Rattle.pbm_core.proofs.Packing.{masked_is_packed}
 use Rattle.pbm_core.proofs.laws.masks.Goals as goal
 

@@ -1,13 +1,8 @@
 use Rattle.std.proofs.Common.{sym}
-use Rattle.qm_core.proofs.CodeOf.{chosen-IsChosen}
-use Rattle.qm_core.proofs.OneCode.{chosen_is}
-use Rattle.qm_core.proofs.CodeOf.{code_of-IsCode}
-use Rattle.qm_core.proofs.OneCode.{code_is}
+use Rattle.qm_core.proofs.CodeOf.{chosen-IsChosen, code_of-IsCode}
+use Rattle.qm_core.proofs.OneCode.{chosen_is, code_is}
 use Rattle.qm_core.proofs.Shortest.{code-Lies}
 use Rattle.qm_core.proofs.Inverse.{front_begins}
-use Rattle.qm_core.proofs.Shortest.{code_in_all}
-use Rattle.qm_core.proofs.Pixels.{after-IsPlace}
-use Rattle.qm_core.proofs.Shortest.{shortest_lem}
 use Rattle.qm_core.proofs.laws.codes.Goals as goal
 
 pub returns-clause-one_chosen : goal.returns-clause-one_chosen
@@ -21,9 +16,3 @@ returns-clause-code_lies c = code-Lies
 
 pub returns-clause-front_begins : goal.returns-clause-front_begins
 returns-clause-front_begins c = front_begins
-
-pub returns-clause-inverse : goal.returns-clause-inverse
-returns-clause-inverse c = λ s before later b h code. let l = code_in_all s before later b (after-IsPlace before s h) code in (l, λ front f. front_begins _ b front code.bytes l f)
-
-pub returns-clause-shortest : goal.returns-clause-shortest
-returns-clause-shortest c = shortest_lem

@@ -28,7 +28,7 @@ returns-in_err-decode_pixels-clause-row g c = λ p answers lines h w.
           (first_none (Pulls g.S.CodeBytes.gives g.S.CodeBytes.failed) c.args.source.now (mode_of c.args.shape) c.args.kept.now.previous_typical c.if-shape.flag p c.args.learned.now answers c.args.decoder.now w.if-shape.false h)))
     ] in
     let f = subst (λ b. FirstDecoded (Pulls g.S.CodeBytes.gives g.S.CodeBytes.failed) c.args.source.now c.if-shape.source (mode_of c.args.shape) c.args.kept.now.previous_typical b p c.args.learned.now answers c.if-shape.decoder c.if-shape.learned) c.if-flag.false first in
-    stop_pixels c.answers.ensures.answers_lie c.pixels.ensures.apart (Pulls g.S.CodeBytes.gives g.S.CodeBytes.failed) c.args.source.now c.decode_pixels.new.source c.args.shape c.args.kept.now c.args.kept.now (record { place = p; learned = c.args.learned.now }) c.decode_pixels.new.learned answers lines
+    stop_pixels c.answers.ensures.answers_lie c.apart.ensures (Pulls g.S.CodeBytes.gives g.S.CodeBytes.failed) c.args.source.now c.decode_pixels.new.source c.args.shape c.args.kept.now c.args.kept.now (record { place = p; learned = c.args.learned.now }) c.decode_pixels.new.learned answers lines
     (record { width = c.args.shape.width; current = c.decode_pixels.new.current; above = c.args.above.now; second = c.args.second.now }) c.decode_pixels.new.decoder c.from_residual-in_err-decode_pixels.result c.from_residual-in_err-decode_pixels.ensures.0
     (c.in_err-decode_pixels.ensures.err c.args.source.now (first_events (mode_of c.args.shape) c.args.kept.now.previous_typical false) (record { place = p; learned = c.args.learned.now }) answers lines
     (begin_pixels (Pulls g.S.CodeBytes.gives g.S.CodeBytes.failed) c.args.source.now c.if-shape.source c.args.shape c.args.kept.now.previous_typical c.args.kept.now.offset p c.args.learned.now c.if-shape.learned answers lines c.if-shape.decoder f)

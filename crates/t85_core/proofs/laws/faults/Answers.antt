@@ -1,8 +1,7 @@
 use Rattle.std.proofs.Common.{◌∙◌, sym, arith}
 use Rattle.t85_core.proofs.Cut.{parts_or_fault}
 use Rattle.t85_core.proofs.Parsed.{parsed}
-use Rattle.t85_core.proofs.FixedRows.{some_fixed_at}
-use Rattle.t85_core.proofs.FixedRows.{one_fixed_at}
+use Rattle.t85_core.proofs.FixedRows.{some_fixed_at, one_fixed_at}
 use Rattle.t85_core.proofs.laws.faults.Goals as goal
 
 pub returns-clause-whole_or_broken : goal.returns-clause-whole_or_broken
