@@ -485,7 +485,16 @@ struct Cut {
     stands: &'static [usize],
 }
 
-static CUTS: [Cut; 3] = [
+static CUTS: [Cut; 4] = [
+    Cut {
+        coded: Coded {
+            words: &["pbmtojbg85", "-p", "0", "-s", "1"],
+            size: "8 2",
+            rows: "FF FF",
+            hex: "00000100 00000008 00000002 00000001 00 0000 00 F0 FF02 F4 FF02",
+        },
+        stands: &[20, 23],
+    },
     Cut {
         coded: Coded {
             words: &["pbmtojbg85", "-s", "1"],
