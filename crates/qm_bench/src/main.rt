@@ -4,15 +4,113 @@
 //! any other number, as none, also decodes them.
 #![tactic(auto)]
 
-ghost use Rattle.std.specs.Prelude.{◌+◌, ◌<◌, ◌^◌};
+ghost use Rattle.std.specs.Prelude.{◌≡◌, ◌+◌, ◌<◌, ◌^◌};
 
-mod draws;
-mod memory;
-
-use draws::Draws;
-use memory::{MemorySink, MemorySource};
-use qm_core::{Context, Decoder, Encoder, Learned};
+use qm_core::{CodeBytes, CodeSink, Context, Decoder, Encoder, Learned, Pulled, SinkFault};
+use std::alloc::Global;
 use std::io;
+
+/// A linear congruential generator. In context k black comes with probability 2^(k mod 8) / 256.
+#[derive(Drop)]
+struct Draws {
+    seed: u32,
+}
+
+impl Draws {
+    fn new() -> Draws {
+        Draws { seed: 1 }
+    }
+
+    /// A context and the pixel that stands there.
+    #[inline(always)]
+    fn next_pixel(&mut self) -> (Context, bool) {
+        self.seed = self
+            .seed
+            .wrapping_mul(1_664_525)
+            .wrapping_add(1_013_904_223);
+        let number = ((self.seed >> 20) % 1024) as u16;
+        let pixel = (self.seed >> 8) % 256 < 1 << (number % 8);
+        (Context::of(number), pixel)
+    }
+}
+
+/// A sink that keeps its bytes.
+#[derive(Drop)]
+struct MemorySink {
+    bytes: Vec<u8>,
+    failed: u64,
+}
+
+impl MemorySink {
+    fn new(alloc: Global) -> MemorySink
+        ensures { result.failed ≡ 0 }
+    {
+        MemorySink {
+            bytes: Vec::new(alloc),
+            failed: 0,
+        }
+    }
+
+    fn bytes(&self) -> &[u8] {
+        self.bytes.as_slice()
+    }
+}
+
+impl CodeSink for MemorySink {
+    ghost took = { λ _ _ _. Unit {0} };
+
+    ghost refused = { λ _ _. Unit {0} };
+
+    ghost failed = { λ s. s.failed };
+
+    fn push(&mut self, byte: u8) -> Result<(), SinkFault> {
+        if self.bytes.push(byte).is_err() {
+            self.failed += 1;
+            return Err(SinkFault);
+        }
+        Ok(())
+    }
+
+    fn failures(&self) -> u64 {
+        self.failed
+    }
+}
+
+/// A source of a stuffed code without an end marker.
+#[derive(Drop)]
+struct MemorySource<'a> {
+    bytes: &'a [u8],
+}
+
+impl<'a> MemorySource<'a> {
+    fn new(bytes: &'a [u8]) -> MemorySource<'a> {
+        MemorySource { bytes }
+    }
+}
+
+impl CodeBytes for MemorySource<'_> {
+    ghost gives = { λ _ _ _. Unit {0} };
+
+    ghost failed = { λ _. 0 };
+
+    fn pull(&mut self) -> Pulled {
+        let Some((&byte, rest)) = self.bytes.split_first() else {
+            return Pulled::End;
+        };
+        self.bytes = rest;
+        if byte == 255 {
+            let Some((_, behind)) = rest.split_first() else {
+                return Pulled::End;
+            };
+            self.bytes = behind;
+        }
+        Pulled::Byte(byte)
+    }
+
+    fn failures(&self) -> u64 {
+        0
+    }
+}
 
 fn number(words: &[String], i: usize, otherwise: u32) -> u32 {
     match words.get(i) {
