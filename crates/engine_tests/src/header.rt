@@ -3,16 +3,17 @@
 use pbm_core::PbmFault;
 use pbm_core::trial::{Drip, Pieces};
 use std::alloc::{AllocError, Global};
+use std::fmt::Display;
 use std::test::Fail;
 use t85_core::{Fault, Header, info};
 
 /// The header of a stream of two typical rows, one black pixel wide, in stripes of one row.
 const HEADER: [u8; 20] = [0, 0, 1, 0, 0, 0, 0, 1, 0, 0, 0, 2, 0, 0, 0, 1, 0, 0, 0, 8];
 
-/// Whether a fault has this number and this text.
-fn is_told(alloc: Global, fault: Fault, number: u8, text: &str) -> Result<bool, AllocError> {
+/// Whether a fault has this text.
+fn shows<F: Display>(alloc: Global, fault: &F, text: &str) -> Result<bool, AllocError> {
     let shown = format!(in alloc; "{fault}")?;
-    Ok(fault.number() == number && shown.as_str() == text)
+    Ok(shown.as_str() == text)
 }
 
 /// The faults, their numbers and their texts.
@@ -67,7 +68,28 @@ static FAULTS: [(Fault, u8, &str); 25] = [
 #[test]
 fn faults_have_numbers_and_texts(rt: HostRuntime) -> Result<(), Fail> {
     for &(fault, number, text) in &FAULTS {
-        assert!(rt; is_told(rt.alloc(), fault, number, text)?, "{text}");
+        let met = shows(rt.alloc(), &fault, text)?;
+        assert!(rt; met && fault.number() == number, "{text}");
+    }
+    Ok(())
+}
+
+/// The faults of a PBM, their numbers and their texts.
+static PBM_FAULTS: [(PbmFault, u8, &str); 7] = [
+    (PbmFault::NotPbm, 1, "input is not a raw PBM"),
+    (PbmFault::BadNumber, 2, "bad number in the PBM header"),
+    (PbmFault::ZeroSize, 3, "PBM width or height is zero"),
+    (PbmFault::TooWide, 4, "PBM is wider than 1048576"),
+    (PbmFault::TooTall, 5, "PBM is taller than 4294967295"),
+    (PbmFault::Truncated, 6, "PBM ends too early"),
+    (PbmFault::Read, 7, "input cannot be read"),
+];
+
+#[test]
+fn pbm_faults_have_numbers_and_texts(rt: HostRuntime) -> Result<(), Fail> {
+    for &(fault, number, text) in &PBM_FAULTS {
+        let met = shows(rt.alloc(), &fault, text)?;
+        assert!(rt; met && fault.number() == number, "{text}");
     }
     Ok(())
 }
@@ -88,9 +110,8 @@ fn header_is_read_and_written(rt: HostRuntime) {
     let written = [
         0, 0, 1, 0, 0, 16, 0, 0, 255, 255, 255, 255, 0, 0, 0, 128, 127, 0, 0, 0x7d,
     ];
-    assert_eq!(rt;
-        read_and_written(&bytes),
-        Ok(((1_048_576, 4_294_967_295, 128, 127, 0x7d), written))
+    assert!(rt;
+        read_and_written(&bytes) == Ok(((1_048_576, 4_294_967_295, 128, 127, 0x7d), written))
     );
 }
 
@@ -112,7 +133,7 @@ fn headers_are_refused_in_order(rt: HostRuntime) {
         assert!(rt; at < 20);
         bytes[at] = byte;
         let answer = Header::read(&mut Pieces::new(&bytes, 20, None));
-        assert_eq!(rt; answer, Err(fault), "byte {at}");
+        assert!(rt; answer == Err(fault), "byte {at}");
     }
 }
 
@@ -130,5 +151,5 @@ fn info_tells_a_line(rt: HostRuntime) {
     let mut stream = [0; 26];
     stream[..20].copy_from_slice(&HEADER);
     stream[20..].copy_from_slice(&[0xe0, 0xff, 2, 0xe0, 0xff, 2]);
-    assert_eq!(rt; tells(&stream, b"1 2 1 0 8 2 2 0 0\n"), (Ok(()), true));
+    assert!(rt; tells(&stream, b"1 2 1 0 8 2 2 0 0\n") == (Ok(()), true));
 }

@@ -3,6 +3,7 @@
 
 ghost use Rattle.std.specs.Prelude.{◌≡◌, ◌+◌, ◌<◌, ◌≤◌, ◌^◌};
 
+use crate::coder::Room;
 use qm_core::{
     CodeBytes, CodeSink, CoderFault, Context, Decoder, Encoder, Learned, Pulled, SinkFault, Stop,
 };
@@ -31,29 +32,6 @@ impl CodeSink for Taken {
 
     fn failures(&self) -> u64 {
         0
-    }
-}
-
-/// A sink that takes nothing.
-#[derive(Drop)]
-struct Full {
-    failed: u64,
-}
-
-impl CodeSink for Full {
-    ghost took = { λ _ _ _. Unit {0} };
-
-    ghost refused = { λ _ _. Unit {0} };
-
-    ghost failed = { λ s. s.failed };
-
-    fn push(&mut self, _byte: u8) -> Result<(), SinkFault> {
-        self.failed += 1;
-        Err(SinkFault)
-    }
-
-    fn failures(&self) -> u64 {
-        self.failed
     }
 }
 
@@ -186,13 +164,18 @@ fn shape(width: u32, two_line: bool, typical: bool) -> Shape {
 
 /// Writes the current row.
 fn write_row(rt: &impl Abort, window: &mut Window, row: &[u8]) {
-    assert_eq!(rt; row.len(), window.current.len());
+    assert!(rt; row.len() == window.current.len());
     window.current.copy_from_slice(row);
 }
 
 /// Whether this is row k of a window.
 fn is_row(window: &Window, k: u8, row: &[u8]) -> bool {
     k < 3 && window.row(k) == row
+}
+
+/// A white window of rows of 8 pixels.
+fn over_8(bytes: &mut [u8; 3]) -> Window<'_> {
+    Window::over(bytes, 8)
 }
 
 /// The code of rows below those of a window, in one stripe.
@@ -336,6 +319,19 @@ fn code_in(rt: &impl Abort, alloc: Global, contexts: &[u16]) -> Vec<u8> {
     out.bytes
 }
 
+/// Whether rows in one stripe have the code of black pixels in these contexts, and come back from it.
+fn is_code_in(
+    rt: &impl Abort,
+    alloc: Global,
+    shape: Shape,
+    offset: u8,
+    contexts: &[u16],
+    rows: &[&[u8]],
+) -> Result<bool, AllocError> {
+    let expected = code_in(rt, alloc, contexts);
+    is_code(rt, alloc, shape, offset, expected.as_slice(), rows)
+}
+
 /// Black rows, their shape, the offset, and the contexts of their pixels, by hand.
 static CONTEXTS: [((u32, bool, bool), u8, &[&[u8]], &[u16]); 4] = [
     (
@@ -373,8 +369,7 @@ static CONTEXTS: [((u32, bool, bool), u8, &[&[u8]], &[u16]); 4] = [
 fn contexts_by_hand(rt: HostRuntime) -> Result<(), Fail> {
     for &((width, two_line, typical), offset, rows, contexts) in &CONTEXTS {
         let shape = shape(width, two_line, typical);
-        let expected = code_in(&rt, rt.alloc(), contexts);
-        let met = is_code(&rt, rt.alloc(), shape, offset, expected.as_slice(), rows)?;
+        let met = is_code_in(&rt, rt.alloc(), shape, offset, contexts, rows)?;
         assert!(rt; met, "{contexts:?}");
     }
     Ok(())
@@ -388,28 +383,45 @@ fn chosen(rt: &impl Abort, tally: &mut Tally, window: &Window, offset: u8) -> Op
     tally.choose(offset)
 }
 
+/// Whether a black row of 8 below those of a window has this code, and what the tally chooses after
+/// it.
+fn moves(
+    rt: &impl Abort,
+    alloc: Global,
+    course: &mut Course,
+    window: &mut Window,
+    tally: &mut Tally,
+    expected: u8,
+) -> (bool, Option<u8>) {
+    let offset = course.kept.offset;
+    let found = stripe(rt, alloc, course, window, &[&[0xff]]);
+    (
+        found.as_slice() == [expected].as_slice(),
+        chosen(rt, tally, window, offset),
+    )
+}
+
 /// Two stripes of a black row each: the tally of the first moves the adaptive pixel of the second
 /// by 3.
 #[test]
 fn moves_between_stripes(rt: HostRuntime) {
     let mut bytes = [0; 3];
-    let mut window = Window::over(&mut bytes, 8);
+    let mut window = over_8(&mut bytes);
     let mut course = Course::new(shape(8, false, false), 0);
     let mut tally = Tally::new(false, 3);
-    assert_eq!(rt; tally.choose(0), None);
-    for (offset, expected, next) in [(0, 0xf0, Some(3)), (3, 0xf8, None)] {
-        course.kept.offset = offset;
-        let found = stripe(&rt, rt.alloc(), &mut course, &mut window, &[&[0xff]]);
-        assert_eq!(rt; found.as_slice(), [expected].as_slice());
-        // Five pixels of each row have a black one 3 to the left.
-        assert_eq!(rt; chosen(&rt, &mut tally, &window, offset), next);
-    }
+    assert!(rt; tally.choose(0) == None);
+    // Five pixels of each row have a black one 3 to the left.
+    let first = moves(&rt, rt.alloc(), &mut course, &mut window, &mut tally, 0xf0);
+    assert!(rt; first == (true, Some(3)));
+    course.kept.offset = 3;
+    let second = moves(&rt, rt.alloc(), &mut course, &mut window, &mut tally, 0xf8);
+    assert!(rt; second == (true, None));
 }
 
 /// What a tally chooses after one row of 8 below another.
 fn choice(rt: &impl Abort, two_line: bool, most: u8, above: u8, row: u8, offset: u8) -> Option<u8> {
     let mut bytes = [0; 3];
-    let mut window = Window::over(&mut bytes, 8);
+    let mut window = over_8(&mut bytes);
     write_row(rt, &mut window, &[above]);
     window.turn();
     write_row(rt, &mut window, &[row]);
@@ -445,73 +457,86 @@ static CHOICES: [(bool, u8, u8, u8, u8, Option<u8>); 9] = [
 fn offsets_by_hand(rt: HostRuntime) {
     for &(two_line, most, above, row, offset, expected) in &CHOICES {
         let found = choice(&rt, two_line, most, above, row, offset);
-        assert_eq!(rt; found, expected, "at {row}, {most}");
+        assert!(rt; found == expected, "at {row}, {most}");
     }
 }
 
-/// Zeros follow the end of a code: the second row is not white.
+/// Codes that no row is coded to, their shape, and the rows that they give.
+static DECODED: [((u32, bool, bool), &[u8], &[&[u8]]); 2] = [
+    // Zeros follow the end of a code: the second row is not white.
+    ((8, false, false), &[0xf0], &[&[0xff], &[0x32]]),
+    // A row that equals the one above may be coded as plain.
+    ((8, false, true), &[0xb0], &[&[0x00]]),
+];
+
 #[test]
-fn decodes_past_the_end(rt: HostRuntime) -> Result<(), Fail> {
-    let first: &[u8] = &[0xff];
-    let second: &[u8] = &[0x32];
-    assert!(rt;
-        gives(
-            &rt,
-            rt.alloc(),
-            shape(8, false, false),
-            0,
-            &[0xf0],
-            &[first, second]
-        )?
-    );
+fn other_codes_are_decoded(rt: HostRuntime) -> Result<(), Fail> {
+    for &((width, two_line, typical), code, rows) in &DECODED {
+        let shape = shape(width, two_line, typical);
+        assert!(rt; gives(&rt, rt.alloc(), shape, 0, code, rows)?, "{code:?}");
+    }
     Ok(())
 }
 
-/// A row that equals the one above may be coded as plain.
-#[test]
-fn decodes_an_equal_plain_row(rt: HostRuntime) -> Result<(), Fail> {
-    let white: &[u8] = &[0x00];
-    assert!(rt; gives(&rt, rt.alloc(), shape(8, false, true), 0, &[0xb0], &[white])?);
-    Ok(())
+/// What decoding the current row answers, whether row k is black, and how often the source failed.
+fn decoded(
+    rt: &impl Abort,
+    course: &mut Course,
+    window: &mut Window,
+    decoder: &mut Decoder,
+    source: &mut Given,
+    k: u8,
+) -> (Result<(), Stop>, bool, u64) {
+    let answer = course.decode(rt, window, decoder, source);
+    (answer, is_row(window, k, &[0xff]), source.failures())
 }
 
 /// Three bytes decide the first row, and the sixth pixel of the second wants a fourth.
 #[test]
 fn stops_in_the_second_row(rt: HostRuntime) {
     let mut bytes = [0; 3];
-    let mut window = Window::over(&mut bytes, 8);
+    let mut window = over_8(&mut bytes);
     let mut source = Given::new(&[0xf0, 0x00, 0x00], false);
     let mut decoder = Decoder::start();
     let mut course = Course::new(shape(8, false, false), 0);
-    let first = course.decode(&rt, &mut window, &mut decoder, &mut source);
-    let found = (first, is_row(&window, 0, &[0xff]), source.failures());
-    assert_eq!(rt; found, (Ok(()), true, 0));
+    let first = decoded(&rt, &mut course, &mut window, &mut decoder, &mut source, 0);
+    assert!(rt; first == (Ok(()), true, 0));
     window.turn();
-    for _ in 0..2u8 {
-        let stopped = course.decode(&rt, &mut window, &mut decoder, &mut source);
-        let found = (stopped, is_row(&window, 1, &[0xff]), source.failures());
-        assert_eq!(rt; found, (Err(Stop), true, 1));
-    }
+    let second = decoded(&rt, &mut course, &mut window, &mut decoder, &mut source, 1);
+    assert!(rt; second == (Err(Stop), true, 1));
+    let third = decoded(&rt, &mut course, &mut window, &mut decoder, &mut source, 1);
+    assert!(rt; third == (Err(Stop), true, 1));
+}
+
+/// Codes row n, whatever was kept of those before it.
+fn code_anew(
+    rt: &impl Abort,
+    course: &mut Course,
+    window: &mut Window,
+    n: u8,
+    encoder: &mut Encoder,
+    out: &mut Room,
+) -> Result<(), CoderFault> {
+    course.kept = START;
+    course.encode(rt, window, &[n.wrapping_mul(37)], encoder, out)
 }
 
 /// A sink that takes nothing is met once: from then on the encoder has failed.
 #[test]
 fn fails_once(rt: HostRuntime) {
     let mut bytes = [0; 3];
-    let mut window = Window::over(&mut bytes, 8);
-    let mut out = Full { failed: 0 };
+    let mut window = over_8(&mut bytes);
+    let mut out = Room::new(0);
     let mut encoder = Encoder::start();
     let mut course = Course::new(shape(8, false, false), 0);
     let mut last = Ok(());
-    for n in 0..200u32 {
-        let row = [(n * 37 % 256) as u8];
-        let done = course.encode(&rt, &mut window, &row, &mut encoder, &mut out);
+    for n in 0..200u8 {
+        let done = code_anew(&rt, &mut course, &mut window, n, &mut encoder, &mut out);
         let has_failed = done == Err(CoderFault::Failed);
-        assert_eq!(rt; has_failed, last != Ok(()), "row {n}");
+        assert!(rt; has_failed == last.is_err(), "row {n}");
         last = done;
-        course.kept = START;
     }
-    assert_eq!(rt; (last.is_err(), out.failures()), (true, 1));
+    assert!(rt; last.is_err() && out.failures() == 1);
 }
 
 /// Whether a window has these rows, the current one first.
@@ -520,17 +545,22 @@ fn has_rows(window: &Window, rows: [[u8; 2]; 3]) -> bool {
     is_row(window, 0, &current) && is_row(window, 1, &above) && is_row(window, 2, &second)
 }
 
+/// Writes four rows, each below the one before.
+fn write_turning(rt: &impl Abort, window: &mut Window) {
+    for byte in 1..5u8 {
+        window.turn();
+        write_row(rt, window, &[byte, 0]);
+    }
+}
+
 #[test]
 fn turns_and_clears(rt: HostRuntime) {
-    assert_eq!(rt; (window_bytes(9), window_bytes(1_048_576)), (6, 393_216));
+    assert!(rt; (window_bytes(9), window_bytes(1_048_576)) == (6, 393_216));
     let mut bytes = [0xaa; 6];
     let mut window = Window::over(&mut bytes, 9);
-    assert_eq!(rt; window.width(), 9);
+    assert!(rt; window.width() == 9);
     assert!(rt; has_rows(&window, [[0, 0]; 3]));
-    for byte in [1, 2, 3, 4] {
-        window.turn();
-        write_row(&rt, &mut window, &[byte, 0]);
-    }
+    write_turning(&rt, &mut window);
     assert!(rt; has_rows(&window, [[4, 0], [3, 0], [2, 0]]));
     window.clear();
     assert!(rt; has_rows(&window, [[0, 0]; 3]));
@@ -539,13 +569,9 @@ fn turns_and_clears(rt: HostRuntime) {
 /// The pixel of a row that stands so far to the right of x, or so far to the left; white outside of
 /// it.
 fn pixel(row: &[u8], width: u32, x: u32, right: u32, left: u32) -> bool {
-    let end = x.saturating_add(right);
-    if end < left || end - left >= width {
-        return false;
-    }
-    let at = end - left;
+    let at = x.wrapping_add(right).wrapping_sub(left);
     match row.get((at / 8) as usize) {
-        Some(byte) => (*byte >> (7 - at % 8)) % 2 == 1,
+        Some(byte) => at < width && *byte & (0x80 >> (at % 8)) != 0,
         None => false,
     }
 }
@@ -600,8 +626,12 @@ fn row_of(alloc: Global, width: u32, seed: u32) -> Result<Vec<u8>, AllocError> {
     for i in 0..width.div_ceil(8) {
         state = state.wrapping_mul(1_664_525).wrapping_add(1_013_904_223);
         let byte = (state >> 24) as u8;
-        let padding = if i == width / 8 { 8 - width % 8 } else { 0 };
-        bytes.push(byte >> padding << padding)?;
+        let padding = if i == width / 8 {
+            0xff >> (width % 8)
+        } else {
+            0
+        };
+        bytes.push(byte & !padding)?;
     }
     Ok(bytes)
 }
@@ -672,17 +702,21 @@ fn meets_model(
     is_code(rt, alloc, shape, offset, expected.as_slice(), &rows)
 }
 
+/// Rows of this width meet the model, with three lines and with two.
+fn meet_model(rt: &impl Abort, alloc: Global, width: u32, offset: u8) -> Result<(), AllocError> {
+    for &two_line in &[false, true] {
+        let met = meets_model(rt, alloc, shape(width, two_line, false), offset)?;
+        assert!(rt; met, "at {width}, {offset}");
+    }
+    Ok(())
+}
+
 /// Widths about a byte's edges, in the nominal place and a moved one.
 #[test]
 fn widths_meet_the_model(rt: HostRuntime) -> Result<(), Fail> {
-    for width in [1, 2, 7, 8, 9, 15, 16, 17] {
-        for two_line in [false, true] {
-            for offset in [0, 5] {
-                let shape = shape(width, two_line, false);
-                let met = meets_model(&rt, rt.alloc(), shape, offset)?;
-                assert!(rt; met, "at {width}, {offset}");
-            }
-        }
+    for &width in &[1, 2, 7, 8, 9, 15, 16, 17] {
+        meet_model(&rt, rt.alloc(), width, 0)?;
+        meet_model(&rt, rt.alloc(), width, 5)?;
     }
     Ok(())
 }
@@ -690,21 +724,14 @@ fn widths_meet_the_model(rt: HostRuntime) -> Result<(), Fail> {
 /// The greatest width.
 #[test]
 fn widest_meets_the_model(rt: HostRuntime) -> Result<(), Fail> {
-    for two_line in [false, true] {
-        let shape = shape(1_048_576, two_line, false);
-        assert!(rt; meets_model(&rt, rt.alloc(), shape, 0)?);
-    }
-    Ok(())
+    Ok(meet_model(&rt, rt.alloc(), 1_048_576, 0)?)
 }
 
 /// Each offset, with the left edge inside its reach.
 #[test]
 fn offsets_meet_the_model(rt: HostRuntime) -> Result<(), Fail> {
     for offset in 1..128u8 {
-        for two_line in [false, true] {
-            let met = meets_model(&rt, rt.alloc(), shape(150, two_line, false), offset)?;
-            assert!(rt; met, "at {offset}");
-        }
+        meet_model(&rt, rt.alloc(), 150, offset)?;
     }
     Ok(())
 }
