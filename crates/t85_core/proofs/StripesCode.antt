@@ -25,7 +25,7 @@ use Rattle.t85_core.proofs.Streams.{Appends-more}
 use Rattle.t85_core.proofs.Inked.{appends_none}
 use Rattle.t85_core.proofs.RowsHeld.{rows_wide}
 use Rattle.t85_core.proofs.RowsJoined.{reads_none, reads_join}
-use Rattle.t85_core.proofs.RowsOn.{rows_continue, rows_go_on}
+use Rattle.t85_core.proofs.RowsOn.{RowsGoOn, rows_continue, rows_go_on}
 use Rattle.t85_core.proofs.Courses.{CourseAt, course_begins, course_step, stripe_within, stripes_more}
 
 -- so many stripes were read and set out
@@ -69,6 +69,10 @@ first_begins width height' first rows raster b = record {
       sym (take-take (length first) (length (first ++ rows)) raster.rows (omega (arith, length-append first rows)))
       ∙ ap (take (length first)) b.first ∙ take-append_seam first rows;
 }
+
+-- a beginning of a beginning
+begins_on : (a b c : List ℕ) → IsBeginning a b → IsBeginning b c → IsBeginning a c
+begins_on a b c p q = record { rest = p.rest ++ q.rest; bytes_are = q.bytes_are ∙ ap (λ z. z ++ q.rest) p.bytes_are ∙ append_assoc a p.rest q.rest }
 
 module _ (s : Settings) (width height' i : ℕ) (some : 1 ≤ s.stripe_rows) (inside : i < stripe_count height' s.stripe_rows) (known mid known' text put text' : Option (List ℕ)) (carried : Carried) (tally : Tally)
     (so : StripesCoded s width height' i known mid text put carried tally) where
@@ -122,6 +126,30 @@ module _ (s : Settings) (width height' i : ℕ) (some : 1 ≤ s.stripe_rows) (in
             ∙ append_assoc (stripes_up_to s raster n) b.rest (stripe_bytes (coded_stripe (coding_of s raster) (n + m)));
       }
 
+  -- a beginning of stripe i, behind the stripes before it
+  stripe_begins : (raster : Raster) (rows : List (List Bool)) (bytes : List ℕ) → BeginsWith width height' so.rows raster → RowsGoOn (white_row raster.width) raster.rows (i * l) l rows
+      → ((later : List (List Bool)) → length rows + length later ≡ min l (height raster - i * l) → IsBeginning bytes (stripe_bytes (stripe_on s width so.at (rows ++ later))))
+      → IsBeginning (so.bytes ++ bytes) (stripes_up_to s raster (i + 1))
+  stripe_begins raster rows bytes front go part = behind (part go.later go.many) (ap stripe_bytes (go_is go)) where
+    go_is : (g : RowsGoOn (white_row raster.width) raster.rows (i * l) l rows) → stripe_on s width so.at (rows ++ g.later) ≡ coded_stripe (coding_of s raster) i
+    go_is g = subst (λ w. stripe_on s w so.at (rows ++ g.later) ≡ coded_stripe (coding_of s raster) i) front.width_is
+        (course_step s raster i so.at (rows ++ g.later) some (subst (λ n. i < stripe_count n l) (sym front.height_is) inside) (so.course inside raster front) g.continues (length-append rows g.later ∙ g.many)).stripe
+
+    behind : {stripe : List ℕ} → IsBeginning bytes stripe → stripe ≡ stripe_bytes (coded_stripe (coding_of s raster) i) → IsBeginning (so.bytes ++ bytes) (stripes_up_to s raster (i + 1))
+    behind {stripe} p is = record {
+      rest = p.rest;
+      bytes_are =
+          stripes_more s raster i ∙ ap (λ z. z ++ stripe_bytes (coded_stripe (coding_of s raster) i)) (sym (so.bytes_are raster front))
+          ∙ ap (λ z. so.bytes ++ z) (sym is ∙ p.bytes_are) ∙ sym (append_assoc so.bytes bytes p.rest);
+    }
+
+  -- the first stripes begin all
+  all_begin : (raster : Raster) → height raster ≡ height' → IsBeginning (stripes_up_to s raster (i + 1)) (stripes_of s raster)
+  all_begin raster high =
+      let count : (i + 1) + (stripe_count height' l - (i + 1)) ≡ stripe_count height' l = omega (arith, inside) in
+      subst (λ z. IsBeginning (stripes_up_to s raster (i + 1)) z) (ap (stripes_up_to s raster) count ∙ ap (λ n. stripes_up_to s raster (stripe_count n l)) (sym high))
+      (stripes_begin raster (i + 1) (stripe_count height' l - (i + 1)))
+
   -- a stripe isn't whole
   pub stripes_short : (count : ℕ) (fault : PbmFault) → count ≡ min l (height' - i * l) → StripeShort s width count so.at mid known' put text' fault
       → ImageShort s width height' (λ raster n. stripes_up_to s raster n) (λ raster. stripes_of s raster) known known' text text' fault
@@ -146,23 +174,11 @@ module _ (s : Settings) (width height' i : ℕ) (some : 1 ≤ s.stripe_rows) (in
 
     begins : (raster : Raster) → BeginsWith width height' (so.rows ++ r.rows) raster → IsBeginning (so.bytes ++ r.bytes) (stripes_of s raster)
     begins raster b =
-        let front = first_begins width height' so.rows r.rows raster b in
-        let go = rows_go_on (white_row raster.width) raster.rows so.rows r.rows (i * l) l b.first many (omega (arith, r.few, count_is, b.height_is)) in
-        let all : length (r.rows ++ go.later) ≡ min l (height raster - i * l) = omega (arith, length-append r.rows go.later, go.many) in
-        let goes = course_step s raster i so.at (r.rows ++ go.later) some (subst (λ n. i < stripe_count n l) (sym b.height_is) inside) (so.course inside raster front) go.continues all in
-        let stripe : stripe_on s width so.at (r.rows ++ go.later) ≡ coded_stripe (coding_of s raster) i = subst (λ w. stripe_on s w so.at (r.rows ++ go.later) ≡ coded_stripe (coding_of s raster) i) b.width_is goes.stripe in
-        let part = r.begins go.later (omega (arith, go.many, count_is, b.height_is)) in
-        let beyond = stripes_begin raster (i + 1) (stripe_count height' l - (i + 1)) in
-        let count : (i + 1) + (stripe_count height' l - (i + 1)) ≡ stripe_count height' l = omega (arith, inside) in
-        let here : stripes_up_to s raster (i + 1) ≡ so.bytes ++ (r.bytes ++ part.rest) =
-        stripes_more s raster i ∙ ap (λ z. z ++ stripe_bytes (coded_stripe (coding_of s raster) i)) (sym (so.bytes_are raster front))
-        ∙ ap (λ z. so.bytes ++ stripe_bytes z) (sym stripe) ∙ ap (λ z. so.bytes ++ z) part.bytes_are in
-        record {
-          rest = part.rest ++ beyond.rest;
-          bytes_are =
-              ap (λ n. stripes_up_to s raster (stripe_count n l)) b.height_is ∙ ap (stripes_up_to s raster) (sym count) ∙ beyond.bytes_are
-              ∙ ap (λ z. z ++ beyond.rest) (here ∙ sym (append_assoc so.bytes r.bytes part.rest)) ∙ append_assoc (so.bytes ++ r.bytes) part.rest beyond.rest;
-        }
+        begins_on _ _ _
+        (stripe_begins raster r.rows r.bytes (first_begins width height' so.rows r.rows raster b)
+        (rows_go_on (white_row raster.width) raster.rows so.rows r.rows (i * l) l b.first many (omega (arith, r.few, count_is, b.height_is)))
+        (λ later is. r.begins later (omega (arith, is, count_is, b.height_is))))
+        (all_begin raster b.height_is)
 
 -- all rows were read
 pub stripes_coded : (s : Settings) (width height' i : ℕ) (known known' text text' : Option (List ℕ)) (carried : Carried) (tally : Tally) → i ≡ stripe_count height' s.stripe_rows → 1 ≤ s.stripe_rows

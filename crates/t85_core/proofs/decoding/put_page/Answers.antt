@@ -37,3 +37,6 @@ returns-in-Err-hand_on g c =
       same_source = c.in-Err.ensures.same_source;
       same_target = c.hand_on-in_default.ensures.same_target ∙ c.in-Err.ensures.same_target;
     }
+
+pub returns-in-Write-clause-err : goal.returns-in-Write-clause-err
+returns-in-Write-clause-err g c = λ n. absurd (n (let is : c.in-Err.fault ≡ Write = cc in is))

@@ -1,6 +1,8 @@
-use Rattle.std.proofs.Common.{◌∙◌}
+use Rattle.std.proofs.Common.{◌≡◌, ◌∙◌, sym, subst, arith}
+use Rattle.t85_core.specs.Encodes.{IsEncodeFault}
+use Rattle.t85_core.specs.declared.fault.Fault.TheVariants.{Write, Pbm}
 use Rattle.t85_core.proofs.Ends.{on_ok, always}
-use Rattle.t85_core.proofs.PagePut.{all_handed, counts_any}
+use Rattle.t85_core.proofs.PagePut.{all_handed, counts_any, counts_written, no_failed_write}
 use Rattle.t85_core.proofs.PageFilled.{coded_handed, short_handed}
 use Rattle.t85_core.proofs.encoding.fill_page.Goals as goal
 
@@ -17,5 +19,23 @@ returns-in-Ok-hand_on g c =
       among = c.in-Err.ensures.among;
       reads = counts_any _ _ _ c.in-Err.ensures.reads;
       writes = c.in-Ok-hand_on.ensures.counts ∙ c.in-Err.ensures.writes;
+      same_target = c.hand_on-in_default.ensures.same_target ∙ c.in-Err.ensures.same_target;
+    }
+
+pub hand_on-requires-in_default : goal.hand_on-requires-in_default
+hand_on-requires-in_default g c =
+    let none = no_failed_write c.in-Err.fault c.in_default.not-Write in
+    omega (arith, c.in-Err.ensures.writes, none, c.requires.page)
+
+pub returns-in-Err-hand_on : goal.returns-in-Err-hand_on
+returns-in-Err-hand_on g c =
+    let last = c.in-Err-hand_on.ensures.err in
+    let none = no_failed_write c.in-Err.fault c.in_default.not-Write in
+    record {
+      ok = tt;
+      short = λ fault is. absurd (let both : Write ≡ Pbm fault = sym last ∙ (cc) in let bot : ⊥ = cc in bot);
+      among = subst IsEncodeFault (sym last) tt;
+      reads = counts_written _ _ c.in-Err.fault _ c.in-Err.ensures.reads last;
+      writes = (let a = c.in-Err.ensures.writes in let b = c.in-Err-hand_on.ensures.counts in omega (arith, a, b, none));
       same_target = c.hand_on-in_default.ensures.same_target ∙ c.in-Err.ensures.same_target;
     }

@@ -1,4 +1,4 @@
-use Rattle.std.proofs.Common.{◌∙◌, arith, refl}
+use Rattle.std.proofs.Common.{◌≡◌, ◌∙◌, arith, refl}
 use Rattle.t85_core.specs.Chosen.{fields_of}
 use Rattle.t85_core.proofs.Ends.{exit}
 use Rattle.t85_core.proofs.Passed.{stripes_none, stripes_more, cut_stripes}
@@ -18,3 +18,11 @@ stripes-preserved g c = record {
   same_source = c.in_ok-passed.ensures.same_source ∙ c.stripes.invariant.same_source;
   unfailed = c.in_ok-passed.ensures.counts ∙ c.stripes.invariant.unfailed;
 }
+
+pub returns-clause-ok : goal.returns-clause-ok
+returns-clause-ok g c =
+    let all : c.stripes.counter ≡ c.args.count = omega (arith, c.stripes.auto.counter-end, c.stripes-test.false) in
+    rw all at c.stripes.invariant.passed
+
+pub returns-clause-counts : goal.returns-clause-counts
+returns-clause-counts g c = c.stripes.invariant.unfailed
