@@ -24,19 +24,21 @@ fn info_arg<'a>(alloc: Global) -> Arg<'a>
 fn command<'a>(alloc: Global) -> Result<Command<'a>, AllocError>
     ensures { IfOk result (λ c. app_of c ≡ the_command) }
 {
-    let command = Command::new(alloc, "jbgtopbm85")
-        .arg(info_arg(alloc))?
-        .arg(file_arg(
+    let args = [
+        info_arg(alloc),
+        file_arg(
             alloc,
             "input",
             "The JBIG1 stream, or `-` for standard input",
-        ))?
-        .arg(file_arg(
+        ),
+        file_arg(
             alloc,
             "output",
             "The file to write, or `-` for standard output",
-        ))?;
-    Ok(command)
+        ),
+    ];
+    let args = Vec::from_array(alloc, args)?;
+    Command::new(alloc, "jbgtopbm85").args(args)
 }
 
 /// The job that the matches ask for.

@@ -28,9 +28,9 @@ use Rattle.clap.specs.declared.parser.matches.MatchedArg.{MatchedArg}
 use Rattle.clap.proofs.CallerLemmas.{default_present, entry_by_id, same_rules_by_id}
 use Rattle.clap.proofs.CallerReads.{signed_reads}
 use Rattle.clap.proofs.WalkLemmas.{both}
-use Rattle.program_core.specs.Line.{decimal, number_rule}
+use Rattle.pbmtojbg85.specs.Options.{decimal, number_rule}
 use Rattle.pbmtojbg85.specs.Line.{command}
-use Rattle.program_core.proofs.Getters.{decimal_reads}
+use Rattle.pbmtojbg85.proofs.Numbers.{decimal_reads}
 
 is_nil : {X : Type 0} (xs : List X) → is_empty xs ≡ true → xs ≡ []
 is_nil [] e = refl

@@ -4,9 +4,10 @@ use Rattle.clap.specs.Words.{App, Kinds, Row, fault_of, Text, first_of, matches_
 use Rattle.t85_core.specs.Options.{refusal_of}
 use Rattle.t85_core.specs.declared.fault.Fault.{Fault}
 use Rattle.t85_core.specs.declared.fault.Fault.TheVariants as fault
-use Rattle.program_core.specs.Line.{number_rule, text_rule, flag_rule, number_in, flag_in, IsRefusal}
+use Rattle.program_core.specs.Line.{flag_in, IsRefusal}
 use Rattle.program_core.specs.declared.line_fault.LineFault.{LineFault}
 use Rattle.program_core.specs.declared.line_fault.LineFault.TheVariants as line_fault
+use Rattle.pbmtojbg85.specs.Options.{number_rule, text_rule, flag_rule, number_in}
 use Rattle.pbmtojbg85.specs.declared.work.Job.{Job}
 
 -- `pbmtojbg85 [options] [input [output]]`

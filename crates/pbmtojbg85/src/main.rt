@@ -1,6 +1,7 @@
 //! Turns a raw PBM image into a JBIG1 image.
 #![tactic(auto)]
 
+mod args;
 #[cfg(test)]
 mod coding_tests;
 mod run;

@@ -2,14 +2,13 @@
 
 ghost use Rattle.std.specs.Prelude.{◌≡◌, Some, is_some, IfErr, IfOk, map, option_map, string_bytes, true};
 ghost use Rattle.clap.specs.Words.{app_of, found_of, is_simple, rows_of};
-ghost use Rattle.program_core.specs.Line.{number_in};
+ghost use Rattle.pbmtojbg85.specs.Options.{number_in};
 ghost use Rattle.pbmtojbg85.specs.Line.{HasDefaults, IsFaultOf, IsJobOf, IsOptionFault, command as the_command, matched};
 
+use crate::args::{default_arg, flag_arg, text_arg};
 use crate::work::Job;
 use clap::{ArgMatches, Command};
-use program_core::{
-    LineFault, default_arg, file_arg, flag, flag_arg, matches_of, number, text, text_arg,
-};
+use program_core::{LineFault, file_arg, flag, matches_of, text};
 use std::alloc::{AllocError, Global};
 use std::convert::AsStr;
 use t85_core::Options;
@@ -17,39 +16,41 @@ use t85_core::Options;
 fn command<'a>(alloc: Global) -> Result<Command<'a>, AllocError>
     ensures { IfOk result (λ c. app_of c ≡ the_command) }
 {
-    let command = Command::new(alloc, "pbmtojbg85")
-        .arg(default_arg(
+    let args = [
+        default_arg(
             alloc,
             "options",
             'p',
             "8",
             "Options: 64 two lines, 8 typical prediction, or their sum",
-        ))?
-        .arg(default_arg(alloc, "stripe", 's', "128", "Rows in a stripe"))?
-        .arg(default_arg(
+        ),
+        default_arg(alloc, "stripe", 's', "128", "Rows in a stripe"),
+        default_arg(
             alloc,
             "move",
             'm',
             "0",
             "Greatest offset of the adaptive pixel",
-        ))?
-        .arg(text_arg(alloc, "comment", 'C', "A comment in the stream"))?
-        .arg(flag_arg(alloc, "reset", 'r', "Begin each stripe anew"))?
-        .arg(file_arg(
+        ),
+        text_arg(alloc, "comment", 'C', "A comment in the stream"),
+        flag_arg(alloc, "reset", 'r', "Begin each stripe anew"),
+        file_arg(
             alloc,
             "input",
             "The raw PBM image, or `-` for standard input",
-        ))?
-        .arg(file_arg(
+        ),
+        file_arg(
             alloc,
             "output",
             "The file to write, or `-` for standard output",
-        ))?;
-    Ok(command)
+        ),
+    ];
+    let args = Vec::from_array(alloc, args)?;
+    Command::new(alloc, "pbmtojbg85").args(args)
 }
 
 /// The bytes of a text that may be there.
-pub fn bytes_of(text: &Option<String>) -> Option<&[u8]>
+pub(crate) fn bytes_of(text: &Option<String>) -> Option<&[u8]>
     ensures { option_map (λ b. b.now) result ≡ option_map string_bytes text.now }
 {
     match text {
@@ -63,7 +64,7 @@ fn given(matches: &ArgMatches<'_>, id: &str) -> u32
     requires { is_some (number_in id.now (rows_of (found_of matches.now))) ≡ true }
     ensures { number_in id.now (rows_of (found_of matches.now)) ≡ Some result }
 {
-    number(matches, id).unwrap()
+    matches.get_one(id).unwrap()
 }
 
 /// The job that the matches ask for.

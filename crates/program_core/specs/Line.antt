@@ -1,44 +1,13 @@
 -- What words say to a command, as clap's contracts see one.
-use Rattle.std.specs.Prelude.{◌≡◌, ◌≢◌, ⊤, ◌^◌, ◌&&◌, ℕ, Bool, List, Option, Some, None, false, pos, codes, if◌then◌else◌, nat_lt, option_and_then}
+use Rattle.std.specs.Prelude.{◌≡◌, ◌≢◌, ⊤, ℕ, Bool, List, false, codes}
 use Rattle.std.specs.Option.{option_map_or}
 use Rattle.std.specs.Str.{bytes_eq}
-use Rattle.std.specs.Str.Parse.{digits_value, without_leading_plus}
-use Rattle.clap.specs.ValueTests.{is_numeral}
 use Rattle.clap.specs.declared.error.ErrorKind.{ErrorKind}
 use Rattle.clap.specs.declared.error.ErrorKind.TheVariants as kind
-use Rattle.clap.specs.Words.{IsAmong, Kinds, Row, Rule, Text, new_rule, one_of}
-use Rattle.clap.specs.declared.builder.ArgAction.TheVariants.{Set, SetTrue}
-use Rattle.clap.specs.declared.builder.value_parser.ValueParser.TheVariants as parser
+use Rattle.clap.specs.Words.{IsAmong, Kinds, Row, Text, one_of}
 use Rattle.t85_core.specs.declared.fault.Fault.TheVariants as fault
 use Rattle.program_core.specs.declared.line_fault.LineFault.{LineFault}
 use Rattle.program_core.specs.declared.line_fault.LineFault.TheVariants as line_fault
-
--- an option of one letter with a number, and with a default where there is one
-abbrev pub number_rule : Text → ℕ → List Text → Rule
-number_rule id letter defaults = record (new_rule id) {
-  short = Some letter;
-  action = Some Set;
-  parser = Some (parser.Signed (pos 0) (pos 4294967295));
-  value_names = 1;
-  defaults = defaults;
-}
-
--- an option of one letter with a text
-abbrev pub text_rule : Text → ℕ → Rule
-text_rule id letter = record (new_rule id) { short = Some letter; value_names = 1 }
-
--- an option of one letter alone
-abbrev pub flag_rule : Text → ℕ → Rule
-flag_rule id letter = record (new_rule id) { short = Some letter; action = Some SetTrue }
-
--- the number below 2^32 that a text writes in decimal
-abbrev pub decimal : Text → Option ℕ
-decimal text = let digits = without_leading_plus text in
-    if is_numeral digits && nat_lt (digits_value 10 digits) (2 ^ 32) then Some (digits_value 10 digits) else None
-
--- the number that the matches give an option
-abbrev pub number_in : Text → List Row → Option ℕ
-number_in id rows = option_and_then decimal (one_of id rows)
 
 -- whether the matches say that a flag is set
 abbrev pub flag_in : Text → List Row → Bool

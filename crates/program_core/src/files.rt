@@ -17,7 +17,7 @@ pub enum Readable {
 
 impl Readable {
     /// The standard input where there is no name or `-`, else the file of that name.
-    pub fn open(rt: &HostRuntime, name: &Option<String>) -> io::Result<Readable>
+    pub(crate) fn open(rt: &HostRuntime, name: &Option<String>) -> io::Result<Readable>
         ensures chosen { IfOk result (λ input. reads_file input ≡ names_file (option_map string_bytes name.now)) }
         ensures fails { OnErr result (names_file (option_map string_bytes name.now) ≡ true) }
     {
@@ -48,7 +48,7 @@ pub enum Writable {
 
 impl Writable {
     /// The standard output where there is no name or `-`, else the file of that name, emptied.
-    pub fn create(rt: &HostRuntime, name: &Option<String>) -> io::Result<Writable>
+    pub(crate) fn create(rt: &HostRuntime, name: &Option<String>) -> io::Result<Writable>
         ensures chosen { IfOk result (λ output. writes_file output ≡ names_file (option_map string_bytes name.now)) }
         ensures fails { OnErr result (names_file (option_map string_bytes name.now) ≡ true) }
     {

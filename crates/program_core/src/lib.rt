@@ -9,9 +9,9 @@ mod message;
 mod program;
 pub mod trial;
 
-pub use args::{default_arg, file_arg, flag_arg, text_arg};
+pub use args::file_arg;
 pub use files::{Readable, Writable};
-pub use line_fault::{LineFault, fault_of};
-pub use matches::{flag, matches_of, number, text};
+pub use line_fault::LineFault;
+pub use matches::{flag, matches_of, text};
 pub use message::report;
-pub use program::{complain, open_files, refuse, words_of};
+pub use program::{open_files, refuse, words_of};

@@ -43,7 +43,7 @@ impl From<AllocError> for LineFault {
 }
 
 /// What is answered for an error of clap.
-pub fn fault_of(alloc: Global, error: clap::Error) -> LineFault
+pub(crate) fn fault_of(alloc: Global, error: clap::Error) -> LineFault
     ensures { Tells (kind_of error) result }
 {
     let kind = error.kind();

@@ -1,10 +1,8 @@
 //! What the matches of clap say.
 
-ghost use Rattle.std.specs.Prelude.{◌≡◌, IfErr, IfOk, map, option_and_then, option_map, string_bytes, codes, false, true};
-ghost use Rattle.std.specs.Option.{option_map_or};
-ghost use Rattle.std.specs.Str.{bytes_eq};
-ghost use Rattle.clap.specs.Words.{IsParsedFrom, app_of, fault_of as refusals_of, first_value, found_of, is_simple, is_simple_and_free, matches_of as rows_matched, one_text, rows_of};
-ghost use Rattle.program_core.specs.Line.{IsRefusal, decimal};
+ghost use Rattle.std.specs.Prelude.{◌≡◌, IfErr, IfOk, map, option_map, string_bytes, true};
+ghost use Rattle.clap.specs.Words.{IsParsedFrom, app_of, fault_of as refusals_of, first_of, found_of, is_simple, is_simple_and_free, matches_of as rows_matched, rows_of};
+ghost use Rattle.program_core.specs.Line.{IsRefusal, flag_in};
 
 use crate::line_fault::{LineFault, fault_of};
 use clap::{ArgMatches, Command};
@@ -32,7 +30,7 @@ pub fn matches_of<'a, S: AsStr>(
 
 /// The text that the words give.
 pub fn text(alloc: Global, matches: &ArgMatches<'_>, id: &str) -> Result<Option<String>, AllocError>
-    ensures { IfOk result (λ t. option_map string_bytes t ≡ first_value (found_of matches.now) id.now) }
+    ensures { IfOk result (λ t. option_map string_bytes t ≡ first_of id.now (rows_of (found_of matches.now))) }
 {
     match matches.get_str(id) {
         Some(text) => Ok(Some(String::from_str(alloc, text)?)),
@@ -40,16 +38,9 @@ pub fn text(alloc: Global, matches: &ArgMatches<'_>, id: &str) -> Result<Option<
     }
 }
 
-/// The number that the words give an option.
-pub fn number(matches: &ArgMatches<'_>, id: &str) -> Option<u32>
-    ensures { result ≡ option_and_then decimal (one_text (found_of matches.now) id.now) }
-{
-    matches.get_one(id)
-}
-
 /// Whether the words set a flag.
 pub fn flag(matches: &ArgMatches<'_>, id: &str) -> bool
-    ensures { result ≡ option_map_or (λ text. bytes_eq text (codes "true")) (one_text (found_of matches.now) id.now) false }
+    ensures { result ≡ flag_in id.now (rows_of (found_of matches.now)) }
 {
     matches.get_one::<bool>(id).unwrap_or(false)
 }

@@ -12,7 +12,7 @@ use std::process::ExitCode;
 use t85_core::Fault;
 
 /// Tells why a program ends.
-pub fn complain(rt: &HostRuntime, program: &str, text: &str, status: u8) -> ExitCode
+fn complain(rt: &HostRuntime, program: &str, text: &str, status: u8) -> ExitCode
     ensures { exit_status result ≡ status }
 {
     let _ = rt.eprintln(format_args!("{program}: {text}"));

@@ -1,10 +1,11 @@
 use Rattle.std.proofs.Common.{sym, ◌∙◌}
 use Rattle.clap.specs.Words.{found_of}
-use Rattle.program_core.proofs.Getters.{is_there, number_of_rows}
+use Rattle.pbmtojbg85.proofs.Numbers.{is_there, number_is}
 use Rattle.pbmtojbg85.proofs.words.given.Goals as goal
 
 pub unwrap-requires : goal.unwrap-requires
-unwrap-requires c = is_there _ _ (c.number.ensures ∙ number_of_rows (found_of c.args.matches.now) c.args.id.now) c.requires
+unwrap-requires c =
+    is_there _ _ (number_is (found_of c.args.matches.now) c.args.id.now _ c.get_one.ensures.none c.get_one.ensures.value) c.requires
 
 pub returns : goal.returns
-returns c = sym (number_of_rows (found_of c.args.matches.now) c.args.id.now) ∙ sym c.number.ensures ∙ c.unwrap.ensures
+returns c = sym (number_is (found_of c.args.matches.now) c.args.id.now _ c.get_one.ensures.none c.get_one.ensures.value) ∙ c.unwrap.ensures

@@ -1,4 +1,4 @@
-use Rattle.program_core.proofs.Getters.{number_of_rows}
+use Rattle.pbmtojbg85.proofs.Numbers.{number_of_rows}
 use Rattle.pbmtojbg85.proofs.Defaults.{default_given, lone_move, lone_options, lone_stripe, named_move, named_options, named_stripe, own_move, own_options, own_stripe}
 use Rattle.std.proofs.Common.{arith, codes, inl, inr, is_some, refl, sym, ap, map, subst, ◌≡◌, ◌∙◌, List}
 use Rattle.std.proofs.lemmas.Result.{IfErr-weaker, err_from_is_err_and}

@@ -1,6 +1,6 @@
 use Rattle.std.proofs.Common.{Some, ap, ◌∙◌}
 use Rattle.clap.specs.Words.{Rule, rule_of}
-use Rattle.program_core.proofs.args.text_arg.Goals as goal
+use Rattle.pbmtojbg85.proofs.args.text_arg.Goals as goal
 
 pub returns-clause-rule : goal.returns-clause-rule
 returns-clause-rule c =
