@@ -65,7 +65,7 @@ number_of_rows f id = ap (option_and_then decimal) (one_text-rows f id)
 -- `get_one::<u32>`
 pub number_is : (f : Found) (id : Text) (r : Option ℕ) → (one_text f id ≡ None → r ≡ None)
     → ((t : Text) → one_text f id ≡ Some t
-      → ReadsOne (λ bs x. ParsesUnsigned 32 10 bs x × ExplainsUnsignedError 10 bs x × HasUnsignedDigitsIfOk bs x) t r)
+    → ReadsOne (λ bs x. ParsesUnsigned 32 10 bs x × ExplainsUnsignedError 10 bs x × HasUnsignedDigitsIfOk bs x) t r)
     → r ≡ number_in id (rows_of f)
 number_is f id r none value =
     number_read (λ bs x. ParsesUnsigned 32 10 bs x × ExplainsUnsignedError 10 bs x × HasUnsignedDigitsIfOk bs x) (λ t x g. g.0) (one_text f id) r none value
