@@ -1,5 +1,5 @@
 -- What the typed getter of a flag reads, as a function of the text.
-use Rattle.std.proofs.Common.{◌≡◌, Bool, Option, Some, None, true, false, refl, ap, sym, codes, ◌∙◌}
+use Rattle.std.proofs.Common.{◌≡◌, Bool, Option, Some, None, true, false, refl, ap, sym, codes}
 use Rattle.std.specs.Prelude.{Result, Ok, Err}
 use Rattle.std.proofs.lemmas.Slice.Eq.{bytes_eq-Decides}
 use Rattle.std.specs.Option.{option_map_or, unwrap_or}
