@@ -1,11 +1,10 @@
 -- How a source stands after a stripe's rows, and what the stripe is then.
-use Rattle.std.proofs.Common.{◌≡◌, ◌+◌, ℕ, Bool, true, false, List, Option, None, Some, refl, sym, ap, ◌∙◌, subst}
+use Rattle.std.proofs.Common.{◌≡◌, ◌+◌, ℕ, Bool, true, List, Option, None, Some, refl, sym, ap, ◌∙◌, subst}
 use Rattle.std.specs.Prelude.{IfSome}
 use Rattle.qm_core.specs.Answers.{heard_of, IsClosed, Gives}
 use Rattle.qm_core.specs.declared.source.Pulled.{Pulled}
 use Rattle.qm_core.specs.declared.source.Heard.{Heard}
 use Rattle.qm_core.specs.declared.source.Heard.TheVariants.{More, Ended, Stopped}
-use Rattle.raster_core.specs.Rows.{width_of}
 use Rattle.raster_core.specs.declared.shape.Shape.{Shape}
 use Rattle.t85_core.specs.declared.fault.Fault.{Fault}
 use Rattle.t85_core.specs.declared.fault.Fault.TheVariants.{Truncated, Read}
@@ -16,8 +15,8 @@ use Rattle.t85_core.specs.Grammar.{Segment}
 use Rattle.t85_core.specs.Walk.{Ends, failed_reads, failed_writes, counted_as}
 use Rattle.t85_core.specs.Info.{IsWalkFault}
 use Rattle.t85_core.specs.Entity.{Standing, BreaksIn, Finishes}
-use Rattle.t85_core.specs.Carried.{Carry, Between, begin, end_of, first_carry}
-use Rattle.t85_core.specs.Decoding.{IsCarried, IsFirst, CodeBegins, CodeBegun, RowsOfStripe, RowsOfCut, RowsOfUnset, StripeRead, StripeCut}
+use Rattle.t85_core.specs.Carried.{Carry, Between, begin, end_of}
+use Rattle.t85_core.specs.Decoding.{IsCarried, CodeBegins, CodeBegun, RowsOfStripe, RowsOfCut, RowsOfUnset, StripeRead, StripeCut}
 use Rattle.t85_core.specs.CoderLaws.{CoderLaws}
 use Rattle.t85_core.proofs.Faults.{rest_faults, uncounted, unwritten}
 use Rattle.t85_core.proofs.Entities.{Pull, LastIs, Parted, pulls_part}
@@ -119,19 +118,10 @@ broke_fault s t fault b is =
     let same : fault ≡ b.why = subst (λ o. IfSome o (λ f. fault ≡ f)) b.fault is in
     subst (λ f. (f ≡ Read → t.known ≡ t.beyond) × (t.reads ≡ s.reads + failed_reads f) × (failed_writes f ≡ 0)) (sym same) (b.drained, b.reads, unwritten b.why b.among)
 
--- what is carried to the next stripe, after SDNORM and after SDRST
-pub keeps_norm : (width : ℕ) (reset : Bool) (carried : Carried) → reset ≡ false → (last : Between) → IsCarried last carried → IsCarried (begin (end_of width reset last)) carried
-keeps_norm width reset carried e last is = subst (λ b. IsCarried (begin (end_of width b last)) carried) (sym e) (record {
-  offset_is = is.offset_is;
-  previous_is = is.previous_is;
-  learned_is = is.learned_is;
-  third = is.third;
-  lines_are = is.lines_are;
-})
-
-pub keeps_reset : (width : ℕ) (reset : Bool) (carried : Carried) → reset ≡ true → width_of carried.window.now ≡ width → IsFirst carried → (last : Between) → IsCarried (begin (end_of width reset last)) carried
-keeps_reset width reset carried e wide is last =
-    subst (λ b. IsCarried (begin (end_of width b last)) carried) (sym e) (subst (λ w. IsCarried (begin (first_carry w)) carried) wide is)
+-- what stays behind an end marker, where the width goes by another name
+pub kept_wide : (wide width : ℕ) (reset : Bool) (carried next : Carried) → wide ≡ width → ((last : Between) → IsCarried last carried → IsCarried (begin (end_of wide reset last)) next)
+    → (last : Between) → IsCarried last carried → IsCarried (begin (end_of width reset last)) next
+kept_wide wide width reset carried next e kept last is = subst (λ w. IsCarried (begin (end_of w reset last)) next) e (kept last is)
 
 -- a code that breaks behind the rows
 pub broken_among : (first : Option Code) (a b : Option (List ℕ)) (fault : Fault) → Ends Truncated a b (BreaksIn first) fault → IsWalkFault fault

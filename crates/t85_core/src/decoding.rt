@@ -229,8 +229,6 @@ fn put_code<S: Stream, P: Sheet>(
         Err(RowFault::Stopped) => return Err(entity.fault()),
     }
     let reset = entity.finish()?;
-    if reset {
-        carried.reset();
-    }
+    carried.end_stripe(reset);
     Ok(())
 }

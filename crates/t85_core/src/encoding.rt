@@ -291,9 +291,7 @@ fn put_entity<R: Input, P: Sheet>(
 {
     put_code(size, shape, rows, counted, carried, tally, source, sheet)?;
     put_marker(reset, sheet)?;
-    if reset {
-        carried.reset();
-    }
+    carried.end_stripe(reset);
     sheet.send()
 }
 

@@ -1,10 +1,10 @@
 //! The rows of a stripe.
 
-ghost use Rattle.std.specs.Prelude.{◌≡◌, ◌≤◌, ◌<◌, ◌+◌, ◌-◌, ◌^◌, OnOk, IsErrOf, IfSome, option_map};
+ghost use Rattle.std.specs.Prelude.{◌≡◌, ◌≤◌, ◌<◌, ◌+◌, ◌-◌, ◌^◌, OnOk, IsErrOf, IfSome, option_map, if◌then◌else◌};
 ghost use Rattle.qm_core.specs.Answers.{Pulls};
 ghost use Rattle.raster_core.specs.Rows.{width_of};
-ghost use Rattle.t85_core.specs.Carried.{offset_at};
-ghost use Rattle.t85_core.specs.Decoding.{pair_of, CountsPut, IsFirst, RowMore, NoRowMore, RowUnset, RowsOfStripe, RowsOfCut, RowsOfUnset};
+ghost use Rattle.t85_core.specs.Carried.{Between, begin, end_of, offset_at};
+ghost use Rattle.t85_core.specs.Decoding.{pair_of, CountsPut, IsCarried, IsFirst, RowMore, NoRowMore, RowUnset, RowsOfStripe, RowsOfCut, RowsOfUnset};
 ghost use Rattle.t85_core.specs.declared.rows.RowFault.TheVariants as row_fault;
 
 use crate::laws::coder_laws;
@@ -43,15 +43,17 @@ impl<'a, 'b> Carried<'a, 'b> {
 }
 
 impl Carried<'_, '_> {
-    /// Makes all as it is at the top of an image.
-    pub fn reset(&mut self)
-        ensures first { IsFirst self.new }
+    /// Goes on behind an end marker. All stays, or is as at the top of an image where the marker resets.
+    pub fn end_stripe(&mut self, reset: bool)
+        ensures next { (last : Between) → IsCarried last self.old → IsCarried (begin (end_of (width_of self.old.window.now) reset last)) self.new }
         ensures width { width_of self.new.window.now ≡ width_of self.old.window.now }
-        ensures offset { self.new.kept.offset ≡ 0 }
+        ensures offset { self.new.kept.offset ≡ if reset then 0 else self.old.kept.offset }
     {
-        self.window.clear();
-        self.kept = START;
-        self.learned = Learned::new();
+        if reset {
+            self.window.clear();
+            self.kept = START;
+            self.learned = Learned::new();
+        }
     }
 }
 

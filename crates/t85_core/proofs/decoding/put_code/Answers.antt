@@ -4,7 +4,7 @@ use Rattle.t85_core.specs.Walk.{CountsRead, CountsWrite}
 use Rattle.t85_core.proofs.Ends.{exit}
 use Rattle.t85_core.proofs.Told.{exit_all}
 use Rattle.t85_core.proofs.Faults.{unwritten}
-use Rattle.t85_core.proofs.CodePut.{rows_quiet, unset_quiet, rows_broke, broke_fault, broken_among, code_whole, code_rest, code_stopped, keeps_norm, keeps_reset}
+use Rattle.t85_core.proofs.CodePut.{rows_quiet, unset_quiet, rows_broke, broke_fault, broken_among, code_whole, code_rest, code_stopped, kept_wide}
 use Rattle.t85_core.proofs.decoding.put_code.Goals as goal
 
 -- ---- a write failed
@@ -77,33 +77,19 @@ returns-in_err-reset-clause-same_input g c = c.finish.ensures.same_input ∙ (ro
 
 -- ---- the stripe is whole
 
-pub returns-then-reset-clause-ok : goal.returns-then-reset-clause-ok
-returns-then-reset-clause-ok g c = λ h c' segments known begins.
+pub returns-clause-ok : goal.returns-clause-ok
+returns-clause-ok g c = λ h c' segments known begins.
     code_whole _ _ c.args.entity.now c.put_rows.new.source _ _ _ h c' segments known begins c.coder_laws.ensures _ _ _ _ _ _ _ c.in-Ok.ensures.ok c.in_ok-reset.ensures.ok
-    (λ last _. keeps_reset _ _ _ c.if-reset.true (c.reset.ensures.width ∙ c.in-Ok.ensures.width ∙ c.requires.width ∙ begins.shape_is.width_is) c.reset.ensures.first last)
+    (kept_wide _ _ _ _ _ (c.in-Ok.ensures.width ∙ c.requires.width ∙ begins.shape_is.width_is) c.end_stripe.ensures.next)
 
-pub returns-then-reset-clause-reads : goal.returns-then-reset-clause-reads
-returns-then-reset-clause-reads g c = c.in_ok-reset.ensures.counts ∙ (rows_quiet _ _ c.args.entity.now c.put_rows.new.source _ _ _ _ _ _ _ c.requires.begun c.in-Ok.ensures.ok).reads
+pub returns-clause-reads : goal.returns-clause-reads
+returns-clause-reads g c = c.in_ok-reset.ensures.counts ∙ (rows_quiet _ _ c.args.entity.now c.put_rows.new.source _ _ _ _ _ _ _ c.requires.begun c.in-Ok.ensures.ok).reads
 
-pub returns-then-reset-clause-same_source : goal.returns-then-reset-clause-same_source
-returns-then-reset-clause-same_source g c = c.finish.ensures.same_source ∙ (rows_quiet _ _ c.args.entity.now c.put_rows.new.source _ _ _ _ _ _ _ c.requires.begun c.in-Ok.ensures.ok).source
+pub returns-clause-same_source : goal.returns-clause-same_source
+returns-clause-same_source g c = c.finish.ensures.same_source ∙ (rows_quiet _ _ c.args.entity.now c.put_rows.new.source _ _ _ _ _ _ _ c.requires.begun c.in-Ok.ensures.ok).source
 
-pub returns-then-reset-clause-same_input : goal.returns-then-reset-clause-same_input
-returns-then-reset-clause-same_input g c = c.finish.ensures.same_input ∙ (rows_quiet _ _ c.args.entity.now c.put_rows.new.source _ _ _ _ _ _ _ c.requires.begun c.in-Ok.ensures.ok).input
-
-pub returns-else-reset-clause-ok : goal.returns-else-reset-clause-ok
-returns-else-reset-clause-ok g c = λ h c' segments known begins.
-    code_whole _ _ c.args.entity.now c.put_rows.new.source _ _ _ h c' segments known begins c.coder_laws.ensures _ _ _ _ _ _ _ c.in-Ok.ensures.ok c.in_ok-reset.ensures.ok
-    (keeps_norm _ _ _ c.if-reset.false)
-
-pub returns-else-reset-clause-reads : goal.returns-else-reset-clause-reads
-returns-else-reset-clause-reads g c = c.in_ok-reset.ensures.counts ∙ (rows_quiet _ _ c.args.entity.now c.put_rows.new.source _ _ _ _ _ _ _ c.requires.begun c.in-Ok.ensures.ok).reads
-
-pub returns-else-reset-clause-same_source : goal.returns-else-reset-clause-same_source
-returns-else-reset-clause-same_source g c = c.finish.ensures.same_source ∙ (rows_quiet _ _ c.args.entity.now c.put_rows.new.source _ _ _ _ _ _ _ c.requires.begun c.in-Ok.ensures.ok).source
-
-pub returns-else-reset-clause-same_input : goal.returns-else-reset-clause-same_input
-returns-else-reset-clause-same_input g c = c.finish.ensures.same_input ∙ (rows_quiet _ _ c.args.entity.now c.put_rows.new.source _ _ _ _ _ _ _ c.requires.begun c.in-Ok.ensures.ok).input
+pub returns-clause-same_input : goal.returns-clause-same_input
+returns-clause-same_input g c = c.finish.ensures.same_input ∙ (rows_quiet _ _ c.args.entity.now c.put_rows.new.source _ _ _ _ _ _ _ c.requires.begun c.in-Ok.ensures.ok).input
 
 pub returns-in-Err-Stopped-clause-cut_behind : goal.returns-in-Err-Stopped-clause-cut_behind
 returns-in-Err-Stopped-clause-cut_behind g c = λ _. (rows_broke _ _ c.args.entity.now c.put_rows.new.source _ _ _ _ _ _ c.requires.begun (c.in-Err-Stopped.ensures.stopped (ap Err c.in-Err-Stopped.field-0-is))).behind
