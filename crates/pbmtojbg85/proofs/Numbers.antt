@@ -50,6 +50,7 @@ decimal_reads text = go (fits (without_leading_plus text)) refl
         let inner = both _ _ outer.0 in
         rw t (((ltb-true _ _ inner.0, digits_from (without_leading_plus text) inner.1), ltb-true _ _ outer.1), refl)
 
+-- what the getter reads of a text that may be there is its number
 number_read : {E : Type 0} (G : Text → Result ℕ E → Type 0) → ((t : Text) (x : Result ℕ E) → G t x → ParsesUnsigned 32 10 t x)
     → (o : Option Text) (r : Option ℕ) → (o ≡ None → r ≡ None) → ((t : Text) → o ≡ Some t → ReadsOne G t r) → r ≡ option_and_then decimal o
 number_read {E} G only None r none value = none refl
@@ -71,6 +72,7 @@ number_is f id r none value =
     number_read (λ bs x. ParsesUnsigned 32 10 bs x × ExplainsUnsignedError 10 bs x × HasUnsignedDigitsIfOk bs x) (λ t x g. g.0) (one_text f id) r none value
     ∙ number_of_rows f id
 
+-- a default is there to be read
 pub is_there : (o r : Option ℕ) → o ≡ r → is_some r ≡ true → IsSome o
 is_there None r e h =
     let bad : false ≡ true = rw (← e) at h in

@@ -8,7 +8,7 @@ ghost use Rattle.program_core.specs.Run.{exit_status};
 ghost use Rattle.pbmtojbg85.specs.Run.{settings_asked};
 
 use crate::NAME;
-use crate::words::bytes_of;
+use crate::words::comment_bytes;
 use crate::work::Job;
 use pbm_core::{Input, Output};
 use program_core::report;
@@ -36,7 +36,7 @@ pub fn run<R: Input, W: Output, M: Output>(
     ensures quiet { result ≡ 0 → Keeps (M.contents messages.old) (M.contents messages.new) × (M.failures messages.new ≡ M.failures messages.old) }
     ensures once { M.failures messages.new ≤ M.failures messages.old + 1 }
 {
-    let outcome = match Options::new(job.p, job.s, job.m, job.reset, bytes_of(&job.comment)) {
+    let outcome = match Options::new(job.p, job.s, job.m, job.reset, comment_bytes(&job.comment)) {
         Ok(options) => to_jbg(alloc, input, output, &options),
         Err(fault) => Err(fault),
     };

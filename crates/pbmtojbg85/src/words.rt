@@ -49,11 +49,11 @@ fn command<'a>(alloc: Global) -> Result<Command<'a>, AllocError>
     Command::new(alloc, "pbmtojbg85").args(args)
 }
 
-/// The bytes of a text that may be there.
-pub(crate) fn bytes_of(text: &Option<String>) -> Option<&[u8]>
-    ensures { option_map (λ b. b.now) result ≡ option_map string_bytes text.now }
+/// The bytes of a comment that may be there.
+pub(crate) fn comment_bytes(comment: &Option<String>) -> Option<&[u8]>
+    ensures { option_map (λ b. b.now) result ≡ option_map string_bytes comment.now }
 {
-    match text {
+    match comment {
         Some(text) => Some(text.as_bytes()),
         None => None,
     }
@@ -80,7 +80,7 @@ fn job_of(alloc: Global, matches: &ArgMatches<'_>) -> Result<Job, LineFault>
     let comment = text(alloc, matches, "comment")?;
     let input = text(alloc, matches, "input")?;
     let output = text(alloc, matches, "output")?;
-    if let Err(fault) = Options::new(p, s, m, reset, bytes_of(&comment)) {
+    if let Err(fault) = Options::new(p, s, m, reset, comment_bytes(&comment)) {
         return Err(LineFault::Fault(fault));
     }
     Ok(Job {

@@ -23,5 +23,5 @@ returns-in-Err-clause-fault c =
       has_p = c.given-p.ensures;
       has_s = c.given-s.ensures;
       has_m = c.given-m.ensures;
-      refused = ap (refusal_of c.given-p.result c.given-s.result c.given-m.result) (sym c.in_ok-comment.ensures ∙ sym c.bytes_of.ensures) ∙ c.in-Err.ensures.judged;
+      refused = ap (refusal_of c.given-p.result c.given-s.result c.given-m.result) (sym c.in_ok-comment.ensures ∙ sym c.comment_bytes.ensures) ∙ c.in-Err.ensures.judged;
     })
