@@ -1,26 +1,10 @@
 //! Turns a JBIG1 image into a raw PBM image.
 #![tactic(auto)]
 
-#[cfg(test)]
-mod decode_tests;
-mod line;
-mod run;
-#[cfg(test)]
-mod streams;
-#[cfg(test)]
-mod tests;
-#[cfg(test)]
-mod trial;
-mod words;
-
-use line::Job;
 use pbm_core::{FromRead, ToWrite};
+use program_core::jbgtopbm85::{Job, NAME, job, run};
 use program_core::{open_files, refuse, words_of};
-use run::run;
 use std::process::ExitCode;
-use words::job;
-
-const NAME: &str = "jbgtopbm85";
 
 /// Opens the files, and does the job.
 fn perform(rt: &HostRuntime, job: &Job) -> ExitCode {

@@ -1,27 +1,12 @@
 //! Turns a raw PBM image into a JBIG1 image.
 #![tactic(auto)]
 
-mod args;
-#[cfg(test)]
-mod coding_tests;
-mod run;
-#[cfg(test)]
-mod tests;
-#[cfg(test)]
-mod trial;
-mod words;
-mod work;
-
 use pbm_core::{FromRead, ToWrite};
+use program_core::pbmtojbg85::{Job, NAME, job, run};
 use program_core::{LineFault, open_files, refuse, words_of};
-use run::run;
 use std::io::BufReader;
 use std::process::ExitCode;
 use t85_core::Fault;
-use words::job;
-use work::Job;
-
-const NAME: &str = "pbmtojbg85";
 
 /// How many bytes of the input are read at once.
 const HELD: usize = 4096;

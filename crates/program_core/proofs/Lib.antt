@@ -1,5 +1,5 @@
 pub mod Getters
 pub mod Faults
 pub mod Messages
-pub mod Hex
-pub mod Told
+pub mod Numbers
+pub mod Defaults

@@ -2,4 +2,6 @@ pub mod Line
 pub mod Run
 pub mod Message
 pub mod Files
-pub mod Trial
+pub mod Options
+pub mod Jbgtopbm85
+pub mod Pbmtojbg85

@@ -7,7 +7,7 @@ use clap::Arg;
 use std::alloc::Global;
 
 /// The name of a file.
-pub fn file_arg<'a>(alloc: Global, name: &'a str, help: &'a str) -> Arg<'a>
+pub(crate) fn file_arg<'a>(alloc: Global, name: &'a str, help: &'a str) -> Arg<'a>
     ensures rule { rule_of result ≡ new_rule name.entry.now }
     ensures local { result.global ≡ false }
     ensures help { result.help ≡ Some help.entry }

@@ -1,17 +1,15 @@
-//! What the two programs share: their files, the line about a fault, and what clap's matches say.
+//! What the two programs do between their words and the engine. Each program itself is but a `main`.
 #![tactic(auto)]
 
 mod args;
 mod files;
+pub mod jbgtopbm85;
 mod line_fault;
 mod matches;
 mod message;
+pub mod pbmtojbg85;
 mod program;
-pub mod trial;
 
-pub use args::file_arg;
 pub use files::{Readable, Writable};
 pub use line_fault::LineFault;
-pub use matches::{flag, matches_of, text};
-pub use message::report;
 pub use program::{open_files, refuse, words_of};

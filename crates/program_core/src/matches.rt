@@ -11,7 +11,7 @@ use std::convert::AsStr;
 use std::str::FromStr;
 
 /// The matches of the words, of which the first is the program's name.
-pub fn matches_of<'a, S: AsStr>(
+pub(crate) fn matches_of<'a, S: AsStr>(
     alloc: Global,
     command: Command<'a>,
     words: &'a [S],
@@ -29,7 +29,11 @@ pub fn matches_of<'a, S: AsStr>(
 }
 
 /// The text that the words give.
-pub fn text(alloc: Global, matches: &ArgMatches<'_>, id: &str) -> Result<Option<String>, AllocError>
+pub(crate) fn text(
+    alloc: Global,
+    matches: &ArgMatches<'_>,
+    id: &str,
+) -> Result<Option<String>, AllocError>
     ensures { IfOk result (λ t. option_map string_bytes t ≡ first_of id.now (rows_of (found_of matches.now))) }
 {
     match matches.get_str(id) {
@@ -39,7 +43,7 @@ pub fn text(alloc: Global, matches: &ArgMatches<'_>, id: &str) -> Result<Option<
 }
 
 /// Whether the words set a flag.
-pub fn flag(matches: &ArgMatches<'_>, id: &str) -> bool
+pub(crate) fn flag(matches: &ArgMatches<'_>, id: &str) -> bool
     ensures { result ≡ flag_in id.now (rows_of (found_of matches.now)) }
 {
     matches.get_one::<bool>(id).unwrap_or(false)

@@ -1,0 +1,27 @@
+use Rattle.std.proofs.Common.{ap, inr, sym, ◌∙◌}
+use Rattle.t85_core.specs.Options.{refusal_of}
+use Rattle.program_core.proofs.pbmtojbg85.words.job_of.Goals as goal
+
+pub returns-clause-values : goal.returns-clause-values
+returns-clause-values c =
+    record {
+      p = c.given-p.ensures;
+      s = c.given-s.ensures;
+      m = c.given-m.ensures;
+      reset = c.flag-reset.ensures;
+      comment = c.in_ok-comment.ensures;
+      input = c.in_ok-input.ensures;
+      output = c.in_ok-output.ensures;
+    }
+
+pub returns-in-Err-clause-fault : goal.returns-in-Err-clause-fault
+returns-in-Err-clause-fault c =
+    inr (record {
+      p = c.given-p.result;
+      s = c.given-s.result;
+      m = c.given-m.result;
+      has_p = c.given-p.ensures;
+      has_s = c.given-s.ensures;
+      has_m = c.given-m.ensures;
+      refused = ap (refusal_of c.given-p.result c.given-s.result c.given-m.result) (sym c.in_ok-comment.ensures ∙ sym c.comment_bytes.ensures) ∙ c.in-Err.ensures.judged;
+    })

@@ -1,0 +1,38 @@
+-- The command of `jbgtopbm85`, as clap's contracts see one, what the words say by it, and what `run` does for a job.
+use Rattle.std.specs.Prelude.{◌≡◌, ℕ, Bool, true, false, List, Option, Result, Some, codes, option_map, string_bytes}
+use Rattle.clap.specs.Words.{App, Kinds, Row, fault_of, Rule, Text, first_of, matches_of, new_app, new_rule, with_rule}
+use Rattle.clap.specs.declared.builder.ArgAction.TheVariants.{SetTrue}
+use Rattle.t85_core.specs.declared.fault.Fault.{Fault}
+use Rattle.t85_core.specs.Info.{Informs}
+use Rattle.t85_core.specs.Converts.{Converts}
+use Rattle.program_core.specs.Line.{flag_in}
+use Rattle.program_core.specs.declared.jbgtopbm85.work.Job.{Job}
+
+-- `--info`
+abbrev pub info_rule : Rule
+info_rule = record (new_rule (codes "info")) { long = Some (codes "info"); action = Some SetTrue }
+
+-- `jbgtopbm85 [options] [input [output]]`
+abbrev pub command : App
+command = with_rule (with_rule (with_rule (new_app (codes "jbgtopbm85")) info_rule) (new_rule (codes "input"))) (new_rule (codes "output"))
+
+-- the matches that clap's walk over the words gives the command
+unfoldable pub matched : List Text → List Row
+matched words = matches_of command words
+
+-- the job that has the values of these matches
+pub record IsJobOf (rows : List Row) (job : Job) : Type 0 where
+  pub info : job.info ≡ flag_in (codes "info") rows
+  pub input : option_map string_bytes job.input ≡ first_of (codes "input") rows
+  pub output : option_map string_bytes job.output ≡ first_of (codes "output") rows
+
+-- the kinds of refusal that clap's walk over the words gives the command, none where it takes them
+unfoldable pub refusals : List Text → Kinds
+refusals words = fault_of command words
+
+-- what a job asks of the engine, with or without `--info`
+abbrev pub Does : Bool → Option (List ℕ) → Option (List ℕ) → ℕ → ℕ → Option (List ℕ) → Option (List ℕ) → ℕ → ℕ → Bool → Result (Unit {0}) Fault → Type 0
+Does true in_old in_new reads_old reads_new out_old out_new writes_old writes_new flushed outcome =
+    Informs in_old in_new reads_old reads_new out_old out_new writes_old writes_new flushed outcome
+Does false in_old in_new reads_old reads_new out_old out_new writes_old writes_new flushed outcome =
+    Converts in_old in_new reads_old reads_new out_old out_new writes_old writes_new flushed outcome

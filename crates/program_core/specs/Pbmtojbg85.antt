@@ -1,0 +1,78 @@
+-- The command of `pbmtojbg85`, what the words say by it, and what a job asks of the engine.
+use Rattle.std.specs.Prelude.{◌≡◌, ◌⊎◌, ℕ, List, [], ◌∷◌, Some, is_some, true, codes, option_map, string_bytes}
+use Rattle.clap.specs.Words.{App, Kinds, Row, fault_of, Text, first_of, matches_of, new_app, new_rule, with_rule}
+use Rattle.t85_core.specs.Jbg.{Settings}
+use Rattle.t85_core.specs.Options.{refusal_of}
+use Rattle.t85_core.specs.declared.fault.Fault.{Fault}
+use Rattle.t85_core.specs.declared.fault.Fault.TheVariants as fault
+use Rattle.program_core.specs.Line.{flag_in, IsRefusal}
+use Rattle.program_core.specs.declared.line_fault.LineFault.{LineFault}
+use Rattle.program_core.specs.declared.line_fault.LineFault.TheVariants as line_fault
+use Rattle.program_core.specs.Options.{number_rule, text_rule, flag_rule, number_in}
+use Rattle.program_core.specs.declared.pbmtojbg85.work.Job.{Job}
+
+-- `pbmtojbg85 [options] [input [output]]`
+abbrev pub command : App
+command = with_rule (with_rule (with_rule (with_rule (with_rule (with_rule (with_rule
+    (new_app (codes "pbmtojbg85"))
+    (number_rule (codes "options") 112 (codes "8" ∷ [])))
+    (number_rule (codes "stripe") 115 (codes "128" ∷ [])))
+    (number_rule (codes "move") 109 (codes "0" ∷ [])))
+    (text_rule (codes "comment") 67))
+    (flag_rule (codes "reset") 114))
+    (new_rule (codes "input")))
+    (new_rule (codes "output"))
+
+-- the matches that clap's walk over the words gives the command
+unfoldable pub matched : List Text → List Row
+matched words = matches_of command words
+
+-- the kinds of refusal that clap's walk over the words gives the command, none where it takes them
+unfoldable pub refusals : List Text → Kinds
+refusals words = fault_of command words
+
+-- the job that has the values of these matches
+pub record IsJobOf (rows : List Row) (job : Job) : Type 0 where
+  pub p : number_in (codes "options") rows ≡ Some job.p
+  pub s : number_in (codes "stripe") rows ≡ Some job.s
+  pub m : number_in (codes "move") rows ≡ Some job.m
+  pub reset : job.reset ≡ flag_in (codes "reset") rows
+  pub comment : option_map string_bytes job.comment ≡ first_of (codes "comment") rows
+  pub input : option_map string_bytes job.input ≡ first_of (codes "input") rows
+  pub output : option_map string_bytes job.output ≡ first_of (codes "output") rows
+
+-- the values of these matches are refused as options by f
+pub record IsRefused (rows : List Row) (f : Fault) : Type 0 where
+  pub p : ℕ
+  pub s : ℕ
+  pub m : ℕ
+  pub has_p : number_in (codes "options") rows ≡ Some p
+  pub has_s : number_in (codes "stripe") rows ≡ Some s
+  pub has_m : number_in (codes "move") rows ≡ Some m
+  pub refused : refusal_of p s m (first_of (codes "comment") rows) ≡ Some f
+
+-- want of memory, or values that are refused as options
+abbrev pub IsOptionFault : List Row → LineFault → Type 0
+IsOptionFault rows (line_fault.Help text) = ⊥
+IsOptionFault rows (line_fault.Usage text) = ⊥
+IsOptionFault rows (line_fault.Fault f) = (f ≡ fault.OutOfMemory) ⊎ IsRefused rows f
+
+-- the refusals of the words, or of the options that they give
+abbrev pub IsFaultOf : List Text → LineFault → Type 0
+IsFaultOf words fault = IsRefusal (refusals words) fault ⊎ IsOptionFault (matched words) fault
+
+-- each option with a default has a number
+pub record HasDefaults (rows : List Row) : Type 0 where
+  pub p : is_some (number_in (codes "options") rows) ≡ true
+  pub s : is_some (number_in (codes "stripe") rows) ≡ true
+  pub m : is_some (number_in (codes "move") rows) ≡ true
+
+-- the options that a job asks for
+abbrev pub settings_asked : Job → Settings
+settings_asked job = record {
+  options = job.p;
+  stripe_rows = job.s;
+  most_offset = job.m;
+  reset = job.reset;
+  comment = option_map string_bytes job.comment;
+}

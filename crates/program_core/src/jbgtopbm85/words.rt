@@ -1,0 +1,71 @@
+//! The command line.
+
+ghost use Rattle.std.specs.Prelude.{◌≡◌, IfErr, IfOk, map, false, true};
+ghost use Rattle.clap.specs.Words.{app_of, found_of, is_simple, rows_of, rule_of};
+ghost use Rattle.program_core.specs.Line.{IsRefusal};
+ghost use Rattle.program_core.specs.Jbgtopbm85.{IsJobOf, command as the_command, info_rule, matched, refusals};
+
+use super::NAME;
+use super::work::Job;
+use crate::args::file_arg;
+use crate::line_fault::LineFault;
+use crate::matches::{flag, matches_of, text};
+use clap::{Arg, ArgAction, ArgMatches, Command};
+use std::alloc::{AllocError, Global};
+use std::convert::AsStr;
+
+fn info_arg<'a>(alloc: Global) -> Arg<'a>
+    ensures rule { rule_of result ≡ info_rule }
+    ensures local { result.global ≡ false }
+{
+    Arg::new(alloc, "info")
+        .long("info")
+        .action(ArgAction::SetTrue)
+        .help("Write a line of numbers about the stream in place of its image")
+}
+
+fn command<'a>(alloc: Global) -> Result<Command<'a>, AllocError>
+    ensures { IfOk result (λ c. app_of c ≡ the_command) }
+{
+    let args = [
+        info_arg(alloc),
+        file_arg(
+            alloc,
+            "input",
+            "The JBIG1 stream, or `-` for standard input",
+        ),
+        file_arg(
+            alloc,
+            "output",
+            "The file to write, or `-` for standard output",
+        ),
+    ];
+    let args = Vec::from_array(alloc, args)?;
+    Command::new(alloc, NAME).args(args)
+}
+
+/// The job that the matches ask for.
+fn job_of(alloc: Global, matches: &ArgMatches<'_>) -> Result<Job, AllocError>
+    ensures { IfOk result (IsJobOf (rows_of (found_of matches.now))) }
+{
+    let info = flag(matches, "info");
+    let input = text(alloc, matches, "input")?;
+    let output = text(alloc, matches, "output")?;
+    Ok(Job {
+        info,
+        input,
+        output,
+    })
+}
+
+/// The job that the words ask for, of which the first is the program's name.
+pub fn job<S: AsStr>(alloc: Global, words: &[S]) -> Result<Job, LineFault>
+    ensures simple { is_simple the_command ≡ true }
+    ensures values { IfOk result (IsJobOf (matched (map S.text words.now))) }
+    ensures fault { IfErr result (IsRefusal (refusals (map S.text words.now))) }
+{
+    let command = command(alloc)?;
+    let matches = matches_of(alloc, command, words)?;
+    let job = job_of(alloc, &matches)?;
+    Ok(job)
+}
