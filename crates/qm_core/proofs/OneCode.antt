@@ -1,13 +1,12 @@
 -- The code of a place is one.
-use Rattle.std.proofs.Common.{cond, ◌≡◌, ℕ, zero, suc, ◌+◌, ◌-◌, ◌*◌, ◌/◌, ◌%◌, ◌^◌, ◌<◌, ◌≤◌, ◌⊎◌, inl, inr, List, [], ◌∷◌, length, arith, refl, ap, ◌∙◌, sym, subst}
+use Rattle.std.proofs.Common.{cond, ◌≡◌, ℕ, zero, suc, ◌+◌, ◌-◌, ◌*◌, ◌/◌, ◌%◌, ◌^◌, ◌<◌, ◌≤◌, ◌⊎◌, inl, inr, List, length, arith, ap, ◌∙◌, sym, subst}
 use Rattle.std.proofs.lemmas.Bool.{lt-ltb, le-ltb, cases_lt}
-use Rattle.std.proofs.lemmas.Nat.{pow_pos, same_from_place}
-use Rattle.std.proofs.lemmas.Int.Digits.{number_lt}
+use Rattle.std.proofs.lemmas.Nat.{pow_pos}
 use Rattle.std.proofs.Math.Nat.{pow-suc, lt_of_mul-lt-mul_right, le_of_mul-le-mul_right, mul-le-mul_right, eq_of_mul-eq-mul_right}
 use Rattle.qm_core.specs.Place.{Place, IsPlace}
-use Rattle.qm_core.specs.Code.{IsBytes, IsChosen, IsCode, number, multiple_from, chosen_within, chosen, code_of}
-use Rattle.qm_core.proofs.Decided.{number-cons}
+use Rattle.qm_core.specs.Code.{IsChosen, IsCode, number, multiple_from, chosen_within, chosen, code_of}
 use Rattle.qm_core.proofs.Shortest.{code-Lies, shortest_lem}
+use Rattle.qm_core.proofs.Inverse.{same_number}
 use Rattle.qm_core.proofs.CodeOf.{multiple_above, multiple_least, chosen-IsChosen, code_of-IsCode}
 
 -- no multiple of 2^t is in the place
@@ -97,21 +96,6 @@ chosen_is p v h c = went (cases_lt 0 p.low) where
           let u0 : w ≡ 0 = omega (arith, u) in
           let n : w * 2 ^ (18 + p.doublings) ≡ 0 = ap (λ k. k * 2 ^ (18 + p.doublings)) u0 ∙ (let n : 0 * 2 ^ (18 + p.doublings) ≡ 0 = omega arith in n) in
           omega (arith, from, n, some)
-
-same_number : (xs ys : List ℕ) → IsBytes xs → IsBytes ys → length xs ≡ length ys → number xs ≡ number ys → xs ≡ ys
-same_number [] [] h k l n = refl
-same_number [] (y ∷ ys) h k l n = absurd (omega arith)
-same_number (x ∷ xs) [] h k l n = absurd (omega arith)
-same_number (x ∷ xs) (y ∷ ys) h k l n =
-    let l' : length xs ≡ length ys = omega arith in
-    let w : 256 ^ length xs ≡ 256 ^ length ys = ap (λ z. 256 ^ z) l' in
-    let e : x * 256 ^ length xs + number xs ≡ y * 256 ^ length xs + number ys = sym (number-cons x xs) ∙ (n ∙ (number-cons y ys ∙ ap (λ z. y * z + number ys) (sym w))) in
-    let a : number xs < 256 ^ length xs = number_lt 256 xs h.1 in
-    let b : number ys < 256 ^ length xs = subst (λ z. number ys < z) (sym w) (number_lt 256 ys k.1) in
-    let s = same_from_place x (number xs) y (number ys) (256 ^ length xs) a b e in
-    let tail = same_number xs ys h.1 k.1 l' s.1 in
-    let head = s.0 in
-    cc
 
 -- every code of a place is the one of the function
 pub code_is : (p : Place) (b : List ℕ) → IsPlace p → IsCode p b → b ≡ code_of p

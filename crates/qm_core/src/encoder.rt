@@ -356,9 +356,7 @@ impl Encoder {
         self.low = shifted.low;
         self.bits = shifted.bits;
         let written = write_both(shifted.first, shifted.second, out);
-        if written.is_err() {
-            self.failed = true;
-        }
+        self.failed = written.is_err();
         written
     }
 

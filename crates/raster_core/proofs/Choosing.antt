@@ -1,7 +1,8 @@
 -- The first number of a range with the greatest value.
-use Rattle.std.proofs.Common.{◌≡◌, ℕ, zero, suc, ◌+◌, ◌<◌, ◌≤◌, Bool, true, false, ◌&&◌, List, [], ◌∷◌, refl, sym, ◌∙◌, ap, subst, arith, Option, None, Some, replicate, get_or, inl, inr, ◌⊎◌, cond}
+use Rattle.std.proofs.Common.{◌≡◌, ℕ, zero, suc, ◌+◌, ◌<◌, ◌≤◌, Bool, true, false, ◌&&◌, List, [], ◌∷◌, refl, sym, ◌∙◌, ap, subst, arith, None, Some, replicate, get_or, inl, inr, ◌⊎◌, cond}
 use Rattle.std.specs.Prelude.{find, nat_le}
 use Rattle.std.specs.List.{list_all}
+use Rattle.std.specs.Bool.{then_some}
 use Rattle.std.proofs.lemmas.Bool.Decides.{nat_tests}
 use Rattle.std.specs.Prelude.{◌-◌, ◌*◌, ◌/◌, length, nat_lt, if◌then◌else◌, option_and_then}
 use Rattle.raster_core.specs.Lines.{Lines, numbers_from}
@@ -80,18 +81,6 @@ chosen_is two_line most width current stripe b low high greatest first =
     (best_found (agreement stripe) (least_lag two_line) (most + 1 - least_lag two_line) b low (omega arith)
     (λ u from below. greatest u from (omega arith)) first)
 
-pub gains : (a b : ℕ) (x : ℕ) → a < b → ◌≡◌ {A = Option ℕ} (if nat_lt a b then Some x else None) (Some x)
-gains a b x h = let e : nat_lt a b ≡ true = is_lt a b h in ap (λ t. if t then Some x else None) e
-  where
-    is_lt : (x y : ℕ) → x < y → nat_lt x y ≡ true
-    is_lt x y h = grind (arith, nat_tests)
-
-pub gains_not : (a b : ℕ) (x : ℕ) → b ≤ a → ◌≡◌ {A = Option ℕ} (if nat_lt a b then Some x else None) None
-gains_not a b x h = let e : nat_lt a b ≡ false = is_not_lt a b h in ap (λ t. if t then Some x else None) e
-  where
-    is_not_lt : (x y : ℕ) → y ≤ x → nat_lt x y ≡ false
-    is_not_lt x y h = grind (arith, nat_tests)
-
 -- the same for a tally: what its counts say of the best lag, and whether it gains
 pub record IsBest (t : Tally) (b : ℕ) : Type 0 where
   pub low : least_lag t.two_line ≤ b
@@ -111,7 +100,7 @@ threshold t width current (r ∷ rows) k =
     let w : t.width ≡ width = k.width_is some in
     ap (λ n. n / 8) (ap (λ x. x * length (r ∷ rows)) (sym w) ∙ ap (λ n. t.width * n) (sym k.number))
 
-chosen_by : (t : Tally) (width current : ℕ) (rows : List Lines) (b : ℕ) → Counts t width current rows → IsBest t b →
+pub chosen_by : (t : Tally) (width current : ℕ) (rows : List Lines) (b : ℕ) → Counts t width current rows → IsBest t b →
     chosen_offset t.two_line t.most width rows current
     ≡ (if nat_lt (t.width * t.rows / 8) (get_or t.counts b 0 - t.held) then Some b else None)
 chosen_by t width current rows b k h =
@@ -125,12 +114,6 @@ chosen_by t width current rows b k h =
     subst2 : (R : ℕ → ℕ → Type 0) {a b x y : ℕ} → a ≡ x → b ≡ y → R a b → R x y
     subst2 R {a} {b} {x} {y} e f r = subst (λ (z : ℕ). R x z) f (subst (λ (z : ℕ). R z b) e r)
 
-pub chosen_some : (t : Tally) (width current : ℕ) (rows : List Lines) (b : ℕ) → Counts t width current rows → IsBest t b →
-    t.width * t.rows / 8 < get_or t.counts b 0 - t.held → Some b ≡ chosen_offset t.two_line t.most width rows current
-chosen_some t width current rows b k h gain =
-    sym (chosen_by t width current rows b k h ∙ gains (t.width * t.rows / 8) (get_or t.counts b 0 - t.held) b gain)
-
-pub chosen_none : (t : Tally) (width current : ℕ) (rows : List Lines) (b : ℕ) → Counts t width current rows → IsBest t b →
-    get_or t.counts b 0 - t.held ≤ t.width * t.rows / 8 → None ≡ chosen_offset t.two_line t.most width rows current
-chosen_none t width current rows b k h gain =
-    sym (chosen_by t width current rows b k h ∙ gains_not (t.width * t.rows / 8) (get_or t.counts b 0 - t.held) b gain)
+pub some_if : (b : Bool) (x : ℕ) → then_some b x ≡ (if b then Some x else None)
+some_if true x = refl
+some_if false x = refl

@@ -99,6 +99,11 @@ pub first_left : {S : Type 0} (took : S → ℕ → S → Type 0) (old : S) (mod
 first_left took old mode previous flag s pushed e plain h =
     rw plain (record { more = []; taken = refl; codes = subst (λ b. Codes e s.place b) (sym (append-nil pushed)) h; taught = refl })
 
+-- the same for equal states
+pub encodes_as : {S : Type 0} {took : S → ℕ → S → Type 0} {from to to' : S} {s : State} {pushed : List ℕ} {events : List Event} {e e' : Encoder} {learned learned' : List Estimate} →
+    to' ≡ to → e' ≡ e → learned' ≡ learned → Encodes took from to s pushed events e learned → Encodes took from to' s pushed events e' learned'
+encodes_as a b f h = rw (a, b, f) h
+
 -- a fact of what is left, at an `Ok` or an `Err`
 pub at_ok : {E : Type 0} (r : Result (Unit {0}) E) (P : Type 0) → (r ≡ Ok tt → P) → OnOk r P
 at_ok (Ok x) P h = h refl

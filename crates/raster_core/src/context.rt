@@ -1,6 +1,6 @@
 //! Contexts from registers that go along the row.
 
-ghost use Rattle.std.specs.Prelude.{◌≡◌, ℕ, ◌+◌, ◌-◌, ◌*◌, ◌%◌, ◌^◌, ◌≤◌, Bool};
+ghost use Rattle.std.specs.Prelude.{◌≡◌, ℕ, ◌+◌, ◌-◌, ◌*◌, ◌%◌, ◌^◌, ◌≤◌, Bool, if◌then◌else◌};
 ghost use Rattle.raster_core.specs.Lines.{Lines, context_at};
 ghost use Rattle.raster_core.specs.Registers.{AreAt, bit, is_moved, past_bits};
 
@@ -52,6 +52,14 @@ fn moved_context<const TWO_LINE: bool>(offset: u8, second: u32, above: u32, past
         (second >> 7) % 8 * 128 + (above >> 8) % 16 * 8 + adaptive * 4 + (past % 4) as u32
     };
     Context::of(number as u16)
+}
+
+/// The context of the pixel before a row, which says whether the row is typical.
+#[inline(always)]
+pub(crate) fn flag_context(two_line: bool) -> Context
+    ensures { result.number ≡ (if two_line then 0x195 else 0x0E5) }
+{
+    Context::of(if two_line { 0x195 } else { 0x0e5 })
 }
 
 /// The context of a pixel, with the adaptive pixel wherever it stands.

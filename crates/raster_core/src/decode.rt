@@ -15,10 +15,10 @@ ghost use Rattle.raster_core.specs.RowDecoded.{FirstDecoded, FirstStopped, RowDe
 ghost use Rattle.raster_core.specs.Rows.{held, width_of};
 
 use crate::bytes::byte_at;
-use crate::context::{by_template, context_of, past_and};
+use crate::context::{by_template, context_of, flag_context, past_and};
 use crate::shape::{Kept, Shape};
 use crate::window::Window;
-use qm_core::{CodeBytes, Context, Decoder, Learned, Stop, laws};
+use qm_core::{CodeBytes, Decoder, Learned, Stop, laws};
 
 /// Decodes n pixels of a byte. The registers `second_bytes` and `above_bytes` have the byte before,
 /// the byte and the one behind it of the two rows above, `before` and the result the last pixels of
@@ -186,9 +186,8 @@ fn decode_flag<S: CodeBytes>(
         FirstStopped (Pulls S.gives S.failed) source.old source.new (mode_of shape) p learned.old
         answers decoder.new) }
 {
-    let number = if shape.two_line { 0x195 } else { 0x0e5 };
-    let pixel = decoder.next(learned, Context::of(number), source)?;
-    Ok(if pixel { previous } else { !previous })
+    let pixel = decoder.next(learned, flag_context(shape.two_line), source)?;
+    Ok(pixel == previous)
 }
 
 /// Decodes a row below two others, which stay as they are.

@@ -13,10 +13,10 @@ ghost use Rattle.raster_core.specs.RowEncoded.{RowEncoded};
 ghost use Rattle.raster_core.specs.Rows.{held, width_of};
 
 use crate::bytes::byte_at;
-use crate::context::{by_template, context_of, past_and};
+use crate::context::{by_template, context_of, flag_context, past_and};
 use crate::shape::{Kept, Shape};
 use crate::window::Window;
-use qm_core::{CodeSink, CoderFault, Context, Encoder, Learned, MAX_EVENTS};
+use qm_core::{CodeSink, CoderFault, Encoder, Learned, MAX_EVENTS};
 
 /// Encodes the first n pixels of a byte. The registers are those of decoding.
 #[inline(always)]
@@ -209,9 +209,7 @@ fn encode_flag<W: CodeSink>(
         Fails W.took W.refused out.old out.new (record { place = p; learned = learned.old }) pushed
         (pseudo_event (mode_of shape) previous flag ∷ [])) }
 {
-    let number = if shape.two_line { 0x195 } else { 0x0e5 };
-    let pixel = if previous { flag } else { !flag };
-    encoder.put(learned, Context::of(number), pixel, out)
+    encoder.put(learned, flag_context(shape.two_line), flag == previous, out)
 }
 
 /// Encodes the current row of a window, as a typical one wherever it may be.

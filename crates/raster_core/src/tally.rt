@@ -24,7 +24,7 @@ pub struct Tally {
 
 impl Tally {
     ghost use Rattle.std.specs.Prelude.{◌<◌, ◌-◌, [], ◌∷◌, ◌++◌, List, IfSome};
-    ghost use Rattle.raster_core.specs.Counts.{Counts, is_two_line, most_of, rows_of};
+    ghost use Rattle.raster_core.specs.Counts.{Counts, is_two_line, least_lag, most_of, rows_of};
     ghost use Rattle.raster_core.specs.Lines.{Lines};
     ghost use Rattle.raster_core.specs.Offset.{chosen_offset};
     ghost use Rattle.raster_core.specs.Packed.{HasLines};
@@ -72,7 +72,7 @@ impl Tally {
         ensures two_line { is_two_line self.new ≡ is_two_line self.old }
         ensures most { most_of self.new ≡ most_of self.old }
     {
-        let least: usize = if self.two_line { 5 } else { 3 };
+        let least = self.least_lag() as usize;
         let most = self.most as usize;
         let words = (width as usize).div_ceil(64);
         let row = window.row(0);
@@ -109,7 +109,7 @@ impl Tally {
             → result ≡ chosen_offset (is_two_line self.now) (most_of self.now) width rows offset }
         ensures reach { IfSome result (λ lag. lag ≤ most_of self.now) }
     {
-        let least: u8 = if self.two_line { 5 } else { 3 };
+        let least = self.least_lag();
         if self.most < least {
             return None;
         }
@@ -120,10 +120,16 @@ impl Tally {
             }
         }
         let eighth = self.width as u64 * self.rows as u64 / 8;
-        if self.counts[best as usize].saturating_sub(self.held) > eighth {
-            Some(best)
-        } else {
-            None
-        }
+        let gain = self.counts[best as usize].saturating_sub(self.held);
+        (gain > eighth).then_some(best)
+    }
+
+    /// The least lag by which the adaptive pixel moves: the pixels before it are in the template.
+    fn least_lag(&self) -> u8
+        ensures lag { result ≡ least_lag (is_two_line self.now) }
+        ensures some { 1 ≤ result }
+        ensures small { result ≤ 5 }
+    {
+        if self.two_line { 5 } else { 3 }
     }
 }

@@ -2,7 +2,7 @@ use Rattle.std.proofs.Common.{◌≡◌, true, false, refl, sym, ◌∙◌, subs
 use Rattle.qm_core.specs.Answers.{Pulls}
 use Rattle.raster_core.specs.Modes.{mode_of}
 use Rattle.raster_core.specs.RowDecoded.{FirstDecoded, first_events}
-use Rattle.raster_core.proofs.Firsts.{first_none}
+use Rattle.raster_core.proofs.Firsts.{first_none, first_as}
 use Rattle.raster_core.proofs.RowsDone.{stop_first, stop_pixels, begin_pixels, done_plain, done_typical, carried}
 use Rattle.raster_core.proofs.decode.decode_below.Goals as goal
 use Rattle.raster_core.proofs.decode.decode_below.Goals.{then-shape+in_ok-flag, else-shape, then-flag, else-flag+in_ok-decode_pixels}
@@ -15,17 +15,10 @@ returns-in_err-flag-clause-row g c = λ p answers lines h w.
 pub returns-in_err-decode_pixels-clause-row : goal.returns-in_err-decode_pixels-clause-row
 returns-in_err-decode_pixels-clause-row g c = λ p answers lines h w.
     let first : FirstDecoded (Pulls g.S.CodeBytes.gives g.S.CodeBytes.failed) c.args.source.now c.if-shape.source (mode_of c.args.shape) c.args.kept.now.previous_typical c.if-shape.flag p c.args.learned.now answers c.if-shape.decoder c.if-shape.learned = elim c.if-shape.branch [
-      | then-shape+in_ok-flag w ↦
-          subst (λ s. FirstDecoded (Pulls g.S.CodeBytes.gives g.S.CodeBytes.failed) c.args.source.now s (mode_of c.args.shape) c.args.kept.now.previous_typical c.if-shape.flag p c.args.learned.now answers c.if-shape.decoder c.if-shape.learned) (sym w.source-is)
-          (subst (λ d. FirstDecoded (Pulls g.S.CodeBytes.gives g.S.CodeBytes.failed) c.args.source.now w.decode_flag.new.source (mode_of c.args.shape) c.args.kept.now.previous_typical c.if-shape.flag p c.args.learned.now answers d c.if-shape.learned) (sym w.decoder-is)
-          (subst (λ l. FirstDecoded (Pulls g.S.CodeBytes.gives g.S.CodeBytes.failed) c.args.source.now w.decode_flag.new.source (mode_of c.args.shape) c.args.kept.now.previous_typical c.if-shape.flag p c.args.learned.now answers w.decode_flag.new.decoder l) (sym w.learned-is)
-          (subst (λ b. FirstDecoded (Pulls g.S.CodeBytes.gives g.S.CodeBytes.failed) c.args.source.now w.decode_flag.new.source (mode_of c.args.shape) c.args.kept.now.previous_typical b p c.args.learned.now answers w.decode_flag.new.decoder w.decode_flag.new.learned) (sym w.flag-is)
-          (w.in_ok-flag.ensures.ok p answers h))))
+      | then-shape+in_ok-flag w ↦ first_as w.source-is w.flag-is w.decoder-is w.learned-is (w.in_ok-flag.ensures.ok p answers h)
       | else-shape w ↦
-          subst (λ s. FirstDecoded (Pulls g.S.CodeBytes.gives g.S.CodeBytes.failed) c.args.source.now s (mode_of c.args.shape) c.args.kept.now.previous_typical c.if-shape.flag p c.args.learned.now answers c.if-shape.decoder c.if-shape.learned) (sym w.source-is)
-          (subst (λ d. FirstDecoded (Pulls g.S.CodeBytes.gives g.S.CodeBytes.failed) c.args.source.now c.args.source.now (mode_of c.args.shape) c.args.kept.now.previous_typical c.if-shape.flag p c.args.learned.now answers d c.if-shape.learned) (sym w.decoder-is)
-          (subst (λ l. FirstDecoded (Pulls g.S.CodeBytes.gives g.S.CodeBytes.failed) c.args.source.now c.args.source.now (mode_of c.args.shape) c.args.kept.now.previous_typical c.if-shape.flag p c.args.learned.now answers c.args.decoder.now l) (sym w.learned-is)
-          (first_none (Pulls g.S.CodeBytes.gives g.S.CodeBytes.failed) c.args.source.now (mode_of c.args.shape) c.args.kept.now.previous_typical c.if-shape.flag p c.args.learned.now answers c.args.decoder.now w.if-shape.false h)))
+          first_as w.source-is refl w.decoder-is w.learned-is
+          (first_none (Pulls g.S.CodeBytes.gives g.S.CodeBytes.failed) c.args.source.now (mode_of c.args.shape) c.args.kept.now.previous_typical c.if-shape.flag p c.args.learned.now answers c.args.decoder.now w.if-shape.false h)
     ] in
     let f = subst (λ b. FirstDecoded (Pulls g.S.CodeBytes.gives g.S.CodeBytes.failed) c.args.source.now c.if-shape.source (mode_of c.args.shape) c.args.kept.now.previous_typical b p c.args.learned.now answers c.if-shape.decoder c.if-shape.learned) c.if-flag.false first in
     stop_pixels c.answers.ensures.answers_lie c.apart.ensures (Pulls g.S.CodeBytes.gives g.S.CodeBytes.failed) c.args.source.now c.decode_pixels.new.source c.args.shape c.args.kept.now c.args.kept.now (record { place = p; learned = c.args.learned.now }) c.decode_pixels.new.learned answers lines
@@ -37,17 +30,10 @@ returns-in_err-decode_pixels-clause-row g c = λ p answers lines h w.
 pub returns-clause-row : goal.returns-clause-row
 returns-clause-row g c = λ p answers lines h w.
     let first : FirstDecoded (Pulls g.S.CodeBytes.gives g.S.CodeBytes.failed) c.args.source.now c.if-shape.source (mode_of c.args.shape) c.args.kept.now.previous_typical c.if-shape.flag p c.args.learned.now answers c.if-shape.decoder c.if-shape.learned = elim c.if-shape.branch [
-      | then-shape+in_ok-flag w ↦
-          subst (λ s. FirstDecoded (Pulls g.S.CodeBytes.gives g.S.CodeBytes.failed) c.args.source.now s (mode_of c.args.shape) c.args.kept.now.previous_typical c.if-shape.flag p c.args.learned.now answers c.if-shape.decoder c.if-shape.learned) (sym w.source-is)
-          (subst (λ d. FirstDecoded (Pulls g.S.CodeBytes.gives g.S.CodeBytes.failed) c.args.source.now w.decode_flag.new.source (mode_of c.args.shape) c.args.kept.now.previous_typical c.if-shape.flag p c.args.learned.now answers d c.if-shape.learned) (sym w.decoder-is)
-          (subst (λ l. FirstDecoded (Pulls g.S.CodeBytes.gives g.S.CodeBytes.failed) c.args.source.now w.decode_flag.new.source (mode_of c.args.shape) c.args.kept.now.previous_typical c.if-shape.flag p c.args.learned.now answers w.decode_flag.new.decoder l) (sym w.learned-is)
-          (subst (λ b. FirstDecoded (Pulls g.S.CodeBytes.gives g.S.CodeBytes.failed) c.args.source.now w.decode_flag.new.source (mode_of c.args.shape) c.args.kept.now.previous_typical b p c.args.learned.now answers w.decode_flag.new.decoder w.decode_flag.new.learned) (sym w.flag-is)
-          (w.in_ok-flag.ensures.ok p answers h))))
+      | then-shape+in_ok-flag w ↦ first_as w.source-is w.flag-is w.decoder-is w.learned-is (w.in_ok-flag.ensures.ok p answers h)
       | else-shape w ↦
-          subst (λ s. FirstDecoded (Pulls g.S.CodeBytes.gives g.S.CodeBytes.failed) c.args.source.now s (mode_of c.args.shape) c.args.kept.now.previous_typical c.if-shape.flag p c.args.learned.now answers c.if-shape.decoder c.if-shape.learned) (sym w.source-is)
-          (subst (λ d. FirstDecoded (Pulls g.S.CodeBytes.gives g.S.CodeBytes.failed) c.args.source.now c.args.source.now (mode_of c.args.shape) c.args.kept.now.previous_typical c.if-shape.flag p c.args.learned.now answers d c.if-shape.learned) (sym w.decoder-is)
-          (subst (λ l. FirstDecoded (Pulls g.S.CodeBytes.gives g.S.CodeBytes.failed) c.args.source.now c.args.source.now (mode_of c.args.shape) c.args.kept.now.previous_typical c.if-shape.flag p c.args.learned.now answers c.args.decoder.now l) (sym w.learned-is)
-          (first_none (Pulls g.S.CodeBytes.gives g.S.CodeBytes.failed) c.args.source.now (mode_of c.args.shape) c.args.kept.now.previous_typical c.if-shape.flag p c.args.learned.now answers c.args.decoder.now w.if-shape.false h)))
+          first_as w.source-is refl w.decoder-is w.learned-is
+          (first_none (Pulls g.S.CodeBytes.gives g.S.CodeBytes.failed) c.args.source.now (mode_of c.args.shape) c.args.kept.now.previous_typical c.if-shape.flag p c.args.learned.now answers c.args.decoder.now w.if-shape.false h)
     ] in
     elim c.if-flag.branch [
       | then-flag v ↦

@@ -5,7 +5,7 @@ use Rattle.raster_core.specs.Encoded.{Encodes}
 use Rattle.raster_core.specs.RowDecoded.{first_events}
 use Rattle.raster_core.specs.RowEncoded.{canonical_events}
 use Rattle.raster_core.proofs.Joins.{had_not_failed, has_not_failed, not_both}
-use Rattle.raster_core.proofs.RowsCoded.{first_coded, first_left, fails_first, fails_pixels, begin_row, coded_typical, coded_plain, row_failed}
+use Rattle.raster_core.proofs.RowsCoded.{first_coded, first_left, fails_first, fails_pixels, begin_row, encodes_as, coded_typical, coded_plain, row_failed}
 use Rattle.raster_core.proofs.encode.encode_row.Goals as goal
 use Rattle.raster_core.proofs.encode.encode_row.Goals.{then-shape+in_ok-encode_flag, else-shape, then-not-flag+in_ok-encode_pixels, else-not-flag}
 
@@ -23,15 +23,11 @@ returns-in_err-encode_pixels-clause-row g c = λ p pushed lines going h w.
     let plain : c.is_typical-flag.result ≡ false = search (rules, c.if-not-flag.true) in
     let f : Encodes g.W.CodeSink.took c.args.out.now c.if-shape.out (record { place = p; learned = c.args.learned.now }) pushed (first_events (mode_of c.args.shape) c.args.kept.now.previous_typical c.is_typical-flag.result) c.if-shape.encoder c.if-shape.learned = elim c.if-shape.branch [
       | then-shape+in_ok-encode_flag w ↦
-          subst (λ o. Encodes g.W.CodeSink.took c.args.out.now o (record { place = p; learned = c.args.learned.now }) pushed (first_events (mode_of c.args.shape) c.args.kept.now.previous_typical c.is_typical-flag.result) c.if-shape.encoder c.if-shape.learned) (sym w.out-is)
-          (subst (λ e. Encodes g.W.CodeSink.took c.args.out.now w.encode_flag.new.out (record { place = p; learned = c.args.learned.now }) pushed (first_events (mode_of c.args.shape) c.args.kept.now.previous_typical c.is_typical-flag.result) e c.if-shape.learned) (sym w.encoder-is)
-          (subst (λ l. Encodes g.W.CodeSink.took c.args.out.now w.encode_flag.new.out (record { place = p; learned = c.args.learned.now }) pushed (first_events (mode_of c.args.shape) c.args.kept.now.previous_typical c.is_typical-flag.result) w.encode_flag.new.encoder l) (sym w.learned-is)
-          (first_coded g.W.CodeSink.took c.args.out.now w.encode_flag.new.out (mode_of c.args.shape) c.args.kept.now.previous_typical c.is_typical-flag.result (record { place = p; learned = c.args.learned.now }) pushed w.encode_flag.new.encoder w.encode_flag.new.learned w.if-shape.true (w.in_ok-encode_flag.ensures.ok p pushed h))))
+          encodes_as w.out-is w.encoder-is w.learned-is
+          (first_coded g.W.CodeSink.took c.args.out.now w.encode_flag.new.out (mode_of c.args.shape) c.args.kept.now.previous_typical c.is_typical-flag.result (record { place = p; learned = c.args.learned.now }) pushed w.encode_flag.new.encoder w.encode_flag.new.learned w.if-shape.true (w.in_ok-encode_flag.ensures.ok p pushed h))
       | else-shape w ↦
-          subst (λ o. Encodes g.W.CodeSink.took c.args.out.now o (record { place = p; learned = c.args.learned.now }) pushed (first_events (mode_of c.args.shape) c.args.kept.now.previous_typical c.is_typical-flag.result) c.if-shape.encoder c.if-shape.learned) (sym w.out-is)
-          (subst (λ e. Encodes g.W.CodeSink.took c.args.out.now c.args.out.now (record { place = p; learned = c.args.learned.now }) pushed (first_events (mode_of c.args.shape) c.args.kept.now.previous_typical c.is_typical-flag.result) e c.if-shape.learned) (sym w.encoder-is)
-          (subst (λ l. Encodes g.W.CodeSink.took c.args.out.now c.args.out.now (record { place = p; learned = c.args.learned.now }) pushed (first_events (mode_of c.args.shape) c.args.kept.now.previous_typical c.is_typical-flag.result) c.args.encoder.now l) (sym w.learned-is)
-          (first_left g.W.CodeSink.took c.args.out.now (mode_of c.args.shape) c.args.kept.now.previous_typical c.is_typical-flag.result (record { place = p; learned = c.args.learned.now }) pushed c.args.encoder.now w.if-shape.false h)))
+          encodes_as w.out-is w.encoder-is w.learned-is
+          (first_left g.W.CodeSink.took c.args.out.now (mode_of c.args.shape) c.args.kept.now.previous_typical c.is_typical-flag.result (record { place = p; learned = c.args.learned.now }) pushed c.args.encoder.now w.if-shape.false h)
     ] in
     let now : has_failed c.if-shape.encoder ≡ false = elim c.if-shape.branch [
       | then-shape+in_ok-encode_flag w ↦ ap has_failed w.encoder-is ∙ has_not_failed (has_failed w.encode_flag.new.encoder) w.encode_flag.result tt w.encode_flag.ensures.fails w.in_ok-encode_flag.was
@@ -72,32 +68,24 @@ returns-clause-row g c = λ p pushed lines going h w.
     let is = c.is_typical-flag.ensures.typical lines w.row_is w.above_is (w.row_wide ∙ sym w.above_wide) in
     let f : Encodes g.W.CodeSink.took c.args.out.now c.if-shape.out (record { place = p; learned = c.args.learned.now }) pushed (first_events (mode_of c.args.shape) c.args.kept.now.previous_typical c.is_typical-flag.result) c.if-shape.encoder c.if-shape.learned = elim c.if-shape.branch [
       | then-shape+in_ok-encode_flag w ↦
-          subst (λ o. Encodes g.W.CodeSink.took c.args.out.now o (record { place = p; learned = c.args.learned.now }) pushed (first_events (mode_of c.args.shape) c.args.kept.now.previous_typical c.is_typical-flag.result) c.if-shape.encoder c.if-shape.learned) (sym w.out-is)
-          (subst (λ e. Encodes g.W.CodeSink.took c.args.out.now w.encode_flag.new.out (record { place = p; learned = c.args.learned.now }) pushed (first_events (mode_of c.args.shape) c.args.kept.now.previous_typical c.is_typical-flag.result) e c.if-shape.learned) (sym w.encoder-is)
-          (subst (λ l. Encodes g.W.CodeSink.took c.args.out.now w.encode_flag.new.out (record { place = p; learned = c.args.learned.now }) pushed (first_events (mode_of c.args.shape) c.args.kept.now.previous_typical c.is_typical-flag.result) w.encode_flag.new.encoder l) (sym w.learned-is)
-          (first_coded g.W.CodeSink.took c.args.out.now w.encode_flag.new.out (mode_of c.args.shape) c.args.kept.now.previous_typical c.is_typical-flag.result (record { place = p; learned = c.args.learned.now }) pushed w.encode_flag.new.encoder w.encode_flag.new.learned w.if-shape.true (w.in_ok-encode_flag.ensures.ok p pushed h))))
+          encodes_as w.out-is w.encoder-is w.learned-is
+          (first_coded g.W.CodeSink.took c.args.out.now w.encode_flag.new.out (mode_of c.args.shape) c.args.kept.now.previous_typical c.is_typical-flag.result (record { place = p; learned = c.args.learned.now }) pushed w.encode_flag.new.encoder w.encode_flag.new.learned w.if-shape.true (w.in_ok-encode_flag.ensures.ok p pushed h))
       | else-shape w ↦
-          subst (λ o. Encodes g.W.CodeSink.took c.args.out.now o (record { place = p; learned = c.args.learned.now }) pushed (first_events (mode_of c.args.shape) c.args.kept.now.previous_typical c.is_typical-flag.result) c.if-shape.encoder c.if-shape.learned) (sym w.out-is)
-          (subst (λ e. Encodes g.W.CodeSink.took c.args.out.now c.args.out.now (record { place = p; learned = c.args.learned.now }) pushed (first_events (mode_of c.args.shape) c.args.kept.now.previous_typical c.is_typical-flag.result) e c.if-shape.learned) (sym w.encoder-is)
-          (subst (λ l. Encodes g.W.CodeSink.took c.args.out.now c.args.out.now (record { place = p; learned = c.args.learned.now }) pushed (first_events (mode_of c.args.shape) c.args.kept.now.previous_typical c.is_typical-flag.result) c.args.encoder.now l) (sym w.learned-is)
-          (first_left g.W.CodeSink.took c.args.out.now (mode_of c.args.shape) c.args.kept.now.previous_typical c.is_typical-flag.result (record { place = p; learned = c.args.learned.now }) pushed c.args.encoder.now w.if-shape.false h)))
+          encodes_as w.out-is w.encoder-is w.learned-is
+          (first_left g.W.CodeSink.took c.args.out.now (mode_of c.args.shape) c.args.kept.now.previous_typical c.is_typical-flag.result (record { place = p; learned = c.args.learned.now }) pushed c.args.encoder.now w.if-shape.false h)
     ] in
     let all : Encodes g.W.CodeSink.took c.args.out.now c.if-not-flag.out (record { place = p; learned = c.args.learned.now }) pushed (canonical_events c.args.shape c.args.kept.now lines) c.if-not-flag.encoder c.if-not-flag.learned = elim c.if-not-flag.branch [
       | then-not-flag+in_ok-encode_pixels v ↦
           let plain : c.is_typical-flag.result ≡ false = search (rules, v.if-not-flag.true) in
-          subst (λ o. Encodes g.W.CodeSink.took c.args.out.now o (record { place = p; learned = c.args.learned.now }) pushed (canonical_events c.args.shape c.args.kept.now lines) c.if-not-flag.encoder c.if-not-flag.learned) (sym v.out-is)
-          (subst (λ e. Encodes g.W.CodeSink.took c.args.out.now v.encode_pixels.new.out (record { place = p; learned = c.args.learned.now }) pushed (canonical_events c.args.shape c.args.kept.now lines) e c.if-not-flag.learned) (sym v.encoder-is)
-          (subst (λ l. Encodes g.W.CodeSink.took c.args.out.now v.encode_pixels.new.out (record { place = p; learned = c.args.learned.now }) pushed (canonical_events c.args.shape c.args.kept.now lines) v.encode_pixels.new.encoder l) (sym v.learned-is)
+          encodes_as v.out-is v.encoder-is v.learned-is
           (coded_plain g.W.CodeSink.took c.args.out.now v.encode_pixels.new.out c.args.shape c.args.kept.now (record { place = p; learned = c.args.learned.now }) pushed lines v.encode_pixels.new.encoder v.encode_pixels.new.learned (w.row_wide ∙ c.requires.width) (sym plain ∙ is)
           (v.in_ok-encode_pixels.ensures.ok c.args.out.now (first_events (mode_of c.args.shape) c.args.kept.now.previous_typical false) (record { place = p; learned = c.args.learned.now }) pushed lines
           (begin_row g.W.CodeSink.took c.args.out.now c.if-shape.out (mode_of c.args.shape) c.args.kept.now.offset (first_events (mode_of c.args.shape) c.args.kept.now.previous_typical false) (record { place = p; learned = c.args.learned.now }) pushed lines c.if-shape.encoder c.if-shape.learned
           (subst (λ b. Encodes g.W.CodeSink.took c.args.out.now c.if-shape.out (record { place = p; learned = c.args.learned.now }) pushed (first_events (mode_of c.args.shape) c.args.kept.now.previous_typical b) c.if-shape.encoder c.if-shape.learned) plain f))
-          w.row_is w.above_is w.second_is))))
+          w.row_is w.above_is w.second_is))
       | else-not-flag v ↦
-          subst (λ o. Encodes g.W.CodeSink.took c.args.out.now o (record { place = p; learned = c.args.learned.now }) pushed (canonical_events c.args.shape c.args.kept.now lines) c.if-not-flag.encoder c.if-not-flag.learned) (sym v.out-is)
-          (subst (λ e. Encodes g.W.CodeSink.took c.args.out.now c.if-shape.out (record { place = p; learned = c.args.learned.now }) pushed (canonical_events c.args.shape c.args.kept.now lines) e c.if-not-flag.learned) (sym v.encoder-is)
-          (subst (λ l. Encodes g.W.CodeSink.took c.args.out.now c.if-shape.out (record { place = p; learned = c.args.learned.now }) pushed (canonical_events c.args.shape c.args.kept.now lines) c.if-shape.encoder l) (sym v.learned-is)
+          encodes_as v.out-is v.encoder-is v.learned-is
           (coded_typical g.W.CodeSink.took c.args.out.now c.if-shape.out c.args.shape c.args.kept.now (record { place = p; learned = c.args.learned.now }) pushed lines c.if-shape.encoder c.if-shape.learned (sym v.if-not-flag.false ∙ is)
-          (subst (λ b. Encodes g.W.CodeSink.took c.args.out.now c.if-shape.out (record { place = p; learned = c.args.learned.now }) pushed (first_events (mode_of c.args.shape) c.args.kept.now.previous_typical b) c.if-shape.encoder c.if-shape.learned) v.if-not-flag.false f))))
+          (subst (λ b. Encodes g.W.CodeSink.took c.args.out.now c.if-shape.out (record { place = p; learned = c.args.learned.now }) pushed (first_events (mode_of c.args.shape) c.args.kept.now.previous_typical b) c.if-shape.encoder c.if-shape.learned) v.if-not-flag.false f))
     ] in
     record { ok = record { encodes = all; offset_is = refl; flag_is = is }; err = tt }

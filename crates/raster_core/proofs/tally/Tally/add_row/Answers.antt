@@ -2,11 +2,9 @@ use Rattle.std.proofs.Common.{◌≡◌, ℕ, ◌+◌, ◌*◌, ◌≤◌, ◌�
 use Rattle.raster_core.specs.Lines.{Lines}
 use Rattle.raster_core.specs.Offset.{agreement}
 use Rattle.raster_core.specs.Words.{word, led, is_within, part_agreement}
-use Rattle.raster_core.specs.Counts.{least_lag}
 use Rattle.raster_core.proofs.Packs.{led_white}
 use Rattle.raster_core.proofs.Parts.{row_part, part_none, part_more, part_all, agreement_push, all_push, length_push}
 use Rattle.raster_core.proofs.tally.Tally.add_row.Goals as goal
-use Rattle.raster_core.proofs.tally.Tally.add_row.Goals.{then-self, else-self}
 
 -- a sum of no places
 none : (lines : Lines) (width offset x : ℕ) → x ≡ x + part_agreement lines width offset 0 0
@@ -45,7 +43,6 @@ third_place k = omega arith
 pub loop-k-preserved : goal.loop-k-preserved
 loop-k-preserved c =
     let k : ℕ = c.loop-k.k in
-    let some : 1 ≤ c.if-self.least = elim c.if-self.branch [ then-self w ↦ omega (arith, w.least-is) | else-self w ↦ omega (arith, w.least-is) ] in
     record {
       second = c.loop-k.invariant.before;
       before = λ line e. c.word_at-word.ensures line e ∙ ap (λ x. word (led line) (64 * x) 64) (third_place k);
@@ -58,7 +55,7 @@ loop-k-preserved c =
           (c.loop-k.invariant.before lines.row e ∙ ap (λ x. word (led lines.row) x 64) (first_place k))
           (c.word_at-word.ensures lines.row e ∙ ap (λ x. word (led lines.row) x 64) (second_place k))
           c.mask_at-mask.ensures lag from to))
-          (row_part lines c.args.width lag k 64 (omega (arith, some, from)) high);
+          (row_part lines c.args.width lag k 64 (omega (arith, c.least_lag-least.ensures.some, from)) high);
       held = λ lines e f.
           more lines c.args.width c.args.offset k c.args.self.now.held c.loop-k.held (c.loop-k.held + c.held_in-held.result) c.held_in-held.result
           (c.loop-k.invariant.held lines e f) refl
@@ -76,19 +73,14 @@ returns-clause-counts c rows lines k w =
     let long = w.row_wide ∙ c.requires.width in
     let e = c.row-row.ensures ∙ w.row_is in
     let f = c.row-above.ensures ∙ w.above_is in
-    let least_is : c.if-self.least ≡ least_lag c.args.self.now.two_line =
-    elim c.if-self.branch [
-      | then-self w ↦ w.least-is ∙ sym (ap least_lag w.if-self.true)
-      | else-self w ↦ w.least-is ∙ sym (ap least_lag w.if-self.false)
-    ] in
     let whole : c.args.width ≤ 64 * c.loop-k.k = omega (arith, c.loop-k-test.false) in
     record {
       number = let g : length (rows ++ lines ∷ []) ≡ length rows + 1 = length_push rows lines in omega (arith, g, k.number);
       width_is = λ some. refl;
       wide = all_push (λ l. length l.row ≡ c.args.width) rows lines k.wide long;
       each = λ lag from to.
-          c.add_all.ensures.counts lag (omega (arith, least_is, from)) (omega (arith, to))
-          ∙ c.loop-k.invariant.counts lines e lag (omega (arith, least_is, from)) to
+          c.add_all.ensures.counts lag (omega (arith, c.least_lag-least.ensures.lag, from)) (omega (arith, to))
+          ∙ c.loop-k.invariant.counts lines e lag (omega (arith, c.least_lag-least.ensures.lag, from)) to
           ∙ ap (λ x. x + part_agreement lines c.args.width lag 0 (64 * c.loop-k.k)) (k.each lag from to)
           ∙ ap (λ x. agreement rows lag + x) (part_all lines c.args.width lag (64 * c.loop-k.k) long whole)
           ∙ sym (agreement_push rows lines lag);
