@@ -8,7 +8,7 @@ use Rattle.qm_core.specs.Encoding.{Codes, Put}
 use Rattle.qm_core.specs.declared.encoder.Encoder.{Encoder}
 use Rattle.qm_core.specs.declared.encoder.CoderFault.{CoderFault}
 use Rattle.raster_core.specs.Raster.{pixel_at}
-use Rattle.raster_core.specs.Lines.{Lines, Mode, numbers_from, pseudo_event, same_row, may_be_typical, pixel_events, row_events}
+use Rattle.raster_core.specs.Lines.{Lines, Mode, numbers_from, pseudo_context, pseudo_event, same_row, may_be_typical, pixel_events, row_events}
 use Rattle.raster_core.specs.Modes.{mode_of}
 use Rattle.raster_core.specs.Packed.{packed_row}
 use Rattle.raster_core.specs.Registers.{bit, past_bits}
@@ -69,7 +69,7 @@ one : (c k : ℕ) (a b : Bool) → c ≡ k → a ≡ b → (let e : Event = reco
 one c k a b h e = cc
 
 pub coded_first : {S : Type 0} (took : S → ℕ → S → Type 0) (refused : S → S → Type 0) (failed : S → ℕ) (old new : S) (mode : Mode) (previous flag : Bool) (p : Place) (pushed : List ℕ) (e e' : Encoder) (learned learned' : List Estimate)
-    (cx : ℕ) (pixel : Bool) (result : Result (Unit {0}) CoderFault) → result ≡ Ok tt → cx ≡ (if mode.two_line then 0x195 else 0x0E5) → pixel ≡ same previous flag →
+    (cx : ℕ) (pixel : Bool) (result : Result (Unit {0}) CoderFault) → result ≡ Ok tt → cx ≡ pseudo_context mode.two_line → pixel ≡ same previous flag →
     Put took refused failed old new (record { place = p; learned = learned }) pushed cx pixel e' learned' result →
     Encodes took old new (record { place = p; learned = learned }) pushed (pseudo_event mode previous flag ∷ []) e' learned'
 coded_first {S} took refused failed old new mode previous flag p pushed e e' learned learned' cx pixel result is number pixel_is put =
@@ -79,7 +79,7 @@ coded_first {S} took refused failed old new mode previous flag p pushed e e' lea
     (record { more = u.more; taken = u.writes.ok; codes = u.codes; taught = u.taught })
 
 pub failed_first : {S : Type 0} (took : S → ℕ → S → Type 0) (refused : S → S → Type 0) (failed : S → ℕ) (old new : S) (mode : Mode) (previous flag : Bool) (p : Place) (pushed : List ℕ) (e' : Encoder) (learned learned' : List Estimate)
-    (cx : ℕ) (pixel : Bool) (result : Result (Unit {0}) CoderFault) (fault : CoderFault) → result ≡ Err fault → cx ≡ (if mode.two_line then 0x195 else 0x0E5) → pixel ≡ same previous flag →
+    (cx : ℕ) (pixel : Bool) (result : Result (Unit {0}) CoderFault) (fault : CoderFault) → result ≡ Err fault → cx ≡ pseudo_context mode.two_line → pixel ≡ same previous flag →
     Put took refused failed old new (record { place = p; learned = learned }) pushed cx pixel e' learned' result →
     Fails took refused old new (record { place = p; learned = learned }) pushed (pseudo_event mode previous flag ∷ [])
 failed_first {S} took refused failed old new mode previous flag p pushed e' learned learned' cx pixel result fault is number pixel_is put =

@@ -1,7 +1,7 @@
 //! Contexts from registers that go along the row.
 
-ghost use Rattle.std.specs.Prelude.{◌≡◌, ℕ, ◌+◌, ◌-◌, ◌*◌, ◌%◌, ◌^◌, ◌≤◌, Bool, if◌then◌else◌};
-ghost use Rattle.raster_core.specs.Lines.{Lines, context_at};
+ghost use Rattle.std.specs.Prelude.{◌≡◌, ℕ, ◌+◌, ◌-◌, ◌*◌, ◌%◌, ◌^◌, ◌≤◌, Bool};
+ghost use Rattle.raster_core.specs.Lines.{Lines, context_at, pseudo_context};
 ghost use Rattle.raster_core.specs.Registers.{AreAt, bit, is_moved, past_bits};
 
 use qm_core::Context;
@@ -57,7 +57,7 @@ fn moved_context<const TWO_LINE: bool>(offset: u8, second: u32, above: u32, past
 /// The context of the pixel before a row, which says whether the row is typical.
 #[inline(always)]
 pub(crate) fn flag_context(two_line: bool) -> Context
-    ensures { result.number ≡ (if two_line then 0x195 else 0x0E5) }
+    ensures { result.number ≡ pseudo_context two_line }
 {
     Context::of(if two_line { 0x195 } else { 0x0e5 })
 }
