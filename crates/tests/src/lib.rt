@@ -1,8 +1,6 @@
-//! Tests of the engine and of both programs, through what the crates below show to others.
+//! Tests of the engine and of both programs, through what they show to others.
 #![tactic(auto)]
 
-#[cfg(test)]
-mod coder;
 #[cfg(test)]
 mod coding;
 #[cfg(test)]
@@ -10,15 +8,9 @@ mod command_line;
 #[cfg(test)]
 mod decoding;
 #[cfg(test)]
-mod devices;
-#[cfg(test)]
 mod header;
 #[cfg(test)]
 mod info;
-#[cfg(test)]
-mod pbm;
-#[cfg(test)]
-mod rows;
 #[cfg(test)]
 mod streams;
 #[cfg(test)]

@@ -1,354 +1,347 @@
 //! Streams, and what they give.
 
-/// A stream, and what is read and written where it is decoded.
-pub struct Stream {
-    /// Its bytes, as hexadecimal digits.
-    pub hex: &'static str,
-    /// How many bytes are asked for, one at a time.
-    pub reads: u64,
-    /// The size of the image; empty where nothing is written.
-    pub size: &'static str,
-    /// The rows that are written.
-    pub rows: &'static str,
-    /// The text of the fault.
-    pub fault: Option<&'static str>,
-}
+use crate::trial::Bytes::{Hex, Image, Raw};
+use crate::trial::Run;
 
-pub static STREAMS: [Stream; 48] = [
-    Stream {
-        hex: "00000100 00000008 00000001 00000080 00 0000 08 FF02",
+pub static STREAMS: [Run<'static>; 48] = [
+    Run {
+        words: &["jbgtopbm85"],
+        input: Hex("00000100 00000008 00000001 00000080 00 0000 08 FF02"),
         reads: 22,
-        size: "8 1",
-        rows: "00",
+        output: Image("8 1", "00"),
         fault: None,
     },
-    Stream {
-        hex: "00000100 00000008 00000001 00000080 00 0000 00 60 FF02",
+    Run {
+        words: &["jbgtopbm85"],
+        input: Hex("00000100 00000008 00000001 00000080 00 0000 00 60 FF02"),
         reads: 23,
-        size: "8 1",
-        rows: "00",
+        output: Image("8 1", "00"),
         fault: None,
     },
-    Stream {
-        hex: "00000100 00000001 00000001 00000080 00 0000 00 C0 FF02",
+    Run {
+        words: &["jbgtopbm85"],
+        input: Hex("00000100 00000001 00000001 00000080 00 0000 00 C0 FF02"),
         reads: 23,
-        size: "1 1",
-        rows: "80",
+        output: Image("1 1", "80"),
         fault: None,
     },
-    Stream {
-        hex: "00000100 00000001 00000001 00000080 00 0000 08 E0 FF02",
+    Run {
+        words: &["jbgtopbm85"],
+        input: Hex("00000100 00000001 00000001 00000080 00 0000 08 E0 FF02"),
         reads: 23,
-        size: "1 1",
-        rows: "80",
+        output: Image("1 1", "80"),
         fault: None,
     },
-    Stream {
-        hex: "00000100 00000008 00000001 00000080 00 0000 00 F0 FF02",
+    Run {
+        words: &["jbgtopbm85"],
+        input: Hex("00000100 00000008 00000001 00000080 00 0000 00 F0 FF02"),
         reads: 23,
-        size: "8 1",
-        rows: "FF",
+        output: Image("8 1", "FF"),
         fault: None,
     },
-    Stream {
-        hex: "00000100 00000008 00000001 00000080 00 0000 08 F8 FF02",
+    Run {
+        words: &["jbgtopbm85"],
+        input: Hex("00000100 00000008 00000001 00000080 00 0000 08 F8 FF02"),
         reads: 23,
-        size: "8 1",
-        rows: "FF",
+        output: Image("8 1", "FF"),
         fault: None,
     },
-    Stream {
-        hex: "00000100 00000003 00000003 00000080 00 0000 00 FF00 C0 FF02",
+    Run {
+        words: &["jbgtopbm85"],
+        input: Hex("00000100 00000003 00000003 00000080 00 0000 00 FF00 C0 FF02"),
         reads: 25,
-        size: "3 3",
-        rows: "E0 E0 E0",
+        output: Image("3 3", "E0 E0 E0"),
         fault: None,
     },
-    Stream {
-        hex: "00000100 00000008 00000003 00000080 00 0000 08 FF02",
+    Run {
+        words: &["jbgtopbm85"],
+        input: Hex("00000100 00000008 00000003 00000080 00 0000 08 FF02"),
         reads: 22,
-        size: "8 3",
-        rows: "00 00 00",
+        output: Image("8 3", "00 00 00"),
         fault: None,
     },
-    Stream {
-        hex: "00000100 00000001 00000002 00000001 00 0000 08 E0 FF02 E0 FF02",
+    Run {
+        words: &["jbgtopbm85"],
+        input: Hex("00000100 00000001 00000002 00000001 00 0000 08 E0 FF02 E0 FF02"),
         reads: 26,
-        size: "1 2",
-        rows: "80 80",
+        output: Image("1 2", "80 80"),
         fault: None,
     },
-    Stream {
-        hex: "00000100 00000001 00000002 00000001 00 0000 08 E0 FF03 E0 FF03",
+    Run {
+        words: &["jbgtopbm85"],
+        input: Hex("00000100 00000001 00000002 00000001 00 0000 08 E0 FF03 E0 FF03"),
         reads: 26,
-        size: "1 2",
-        rows: "80 80",
+        output: Image("1 2", "80 80"),
         fault: None,
     },
-    Stream {
-        hex: "00000100 00000002 00000001 00000080 00 0000 00 FF02",
+    Run {
+        words: &["jbgtopbm85"],
+        input: Hex("00000100 00000002 00000001 00000080 00 0000 00 FF02"),
         reads: 22,
-        size: "2 1",
-        rows: "40",
+        output: Image("2 1", "40"),
         fault: None,
     },
-    Stream {
-        hex: "00000100 00000008 00000001 00000080 00 0000 00 F0 00 00 00 FF02",
+    Run {
+        words: &["jbgtopbm85"],
+        input: Hex("00000100 00000008 00000001 00000080 00 0000 00 F0 00 00 00 FF02"),
         reads: 26,
-        size: "8 1",
-        rows: "FF",
+        output: Image("8 1", "FF"),
         fault: None,
     },
-    Stream {
-        hex: "00000100 00000003 00000002 00000080 00 0000 00 60 FF02",
+    Run {
+        words: &["jbgtopbm85"],
+        input: Hex("00000100 00000003 00000002 00000080 00 0000 00 60 FF02"),
         reads: 23,
-        size: "3 2",
-        rows: "00 00",
+        output: Image("3 2", "00 00"),
         fault: None,
     },
-    Stream {
-        hex: "00000100 00000002 00000003 00000080 00 0000 00 FE FF02",
+    Run {
+        words: &["jbgtopbm85"],
+        input: Hex("00000100 00000002 00000003 00000080 00 0000 00 FE FF02"),
         reads: 23,
-        size: "2 3",
-        rows: "C0 C0 C0",
+        output: Image("2 3", "C0 C0 C0"),
         fault: None,
     },
-    Stream {
-        hex: "00000100 00000002 00000003 00000080 00 0000 40 F8 FF02",
+    Run {
+        words: &["jbgtopbm85"],
+        input: Hex("00000100 00000002 00000003 00000080 00 0000 40 F8 FF02"),
         reads: 23,
-        size: "2 3",
-        rows: "C0 C0 C0",
+        output: Image("2 3", "C0 C0 C0"),
         fault: None,
     },
-    Stream {
-        hex: "00000100 00000008 00000002 00000080 00 0000 00 F0 FF02",
+    Run {
+        words: &["jbgtopbm85"],
+        input: Hex("00000100 00000008 00000002 00000080 00 0000 00 F0 FF02"),
         reads: 23,
-        size: "8 2",
-        rows: "FF 32",
+        output: Image("8 2", "FF 32"),
         fault: None,
     },
-    Stream {
-        hex: "00000100 00000008 00000001 00000080 00 0000 08 FF07 00000002 6869 FF02",
+    Run {
+        words: &["jbgtopbm85"],
+        input: Hex("00000100 00000008 00000001 00000080 00 0000 08 FF07 00000002 6869 FF02"),
         reads: 30,
-        size: "8 1",
-        rows: "00",
+        output: Image("8 1", "00"),
         fault: None,
     },
-    Stream {
-        hex: "00000100 00000008 00000001 00000080 00 0000 00 FF07 00000002 6869 60 FF02",
+    Run {
+        words: &["jbgtopbm85"],
+        input: Hex("00000100 00000008 00000001 00000080 00 0000 00 FF07 00000002 6869 60 FF02"),
         reads: 31,
-        size: "8 1",
-        rows: "00",
+        output: Image("8 1", "00"),
         fault: None,
     },
-    Stream {
-        hex: "00000100 00000008 00000001 00000080 00 0000 00 FF07 00000000 60 FF02",
+    Run {
+        words: &["jbgtopbm85"],
+        input: Hex("00000100 00000008 00000001 00000080 00 0000 00 FF07 00000000 60 FF02"),
         reads: 29,
-        size: "8 1",
-        rows: "00",
+        output: Image("8 1", "00"),
         fault: None,
     },
-    Stream {
-        hex: "00000100 00000008 00000003 00000080 08 0003 1C FF02",
+    Run {
+        words: &["jbgtopbm85"],
+        input: Hex("00000100 00000008 00000003 00000080 08 0003 1C FF02"),
         reads: 22,
-        size: "8 3",
-        rows: "00 00 00",
+        output: Image("8 3", "00 00 00"),
         fault: None,
     },
-    Stream {
-        hex: "00000100 00000008 00000001 00000080 00 0000 08 B0 FF02",
+    Run {
+        words: &["jbgtopbm85"],
+        input: Hex("00000100 00000008 00000001 00000080 00 0000 08 B0 FF02"),
         reads: 23,
-        size: "8 1",
-        rows: "00",
+        output: Image("8 1", "00"),
         fault: None,
     },
-    Stream {
-        hex: "00000100 00000001 00000002 00000001 00 0000 08 E0 FF02 FF02",
+    Run {
+        words: &["jbgtopbm85"],
+        input: Hex("00000100 00000001 00000002 00000001 00 0000 08 E0 FF02 FF02"),
         reads: 25,
-        size: "1 2",
-        rows: "80 00",
+        output: Image("1 2", "80 00"),
         fault: None,
     },
-    Stream {
-        hex: "00000100 00000008 00000002 00000001 00 0000 00 F0 FF03 F0 FF03",
+    Run {
+        words: &["jbgtopbm85"],
+        input: Hex("00000100 00000008 00000002 00000001 00 0000 00 F0 FF03 F0 FF03"),
         reads: 26,
-        size: "8 2",
-        rows: "FF FF",
+        output: Image("8 2", "FF FF"),
         fault: None,
     },
-    Stream {
-        hex: "00000100 00000008 00000001 00000080 03 0000 00 FF06 00000000 0300 F8 FF02",
+    Run {
+        words: &["jbgtopbm85"],
+        input: Hex("00000100 00000008 00000001 00000080 03 0000 00 FF06 00000000 0300 F8 FF02"),
         reads: 31,
-        size: "8 1",
-        rows: "FF",
+        output: Image("8 1", "FF"),
         fault: None,
     },
-    Stream {
-        hex: "00000100 00000008 00000002 00000001 03 0000 00 F0 FF02 FF06 00000000 0300 F8 FF02",
+    Run {
+        words: &["jbgtopbm85"],
+        input: Hex(
+            "00000100 00000008 00000002 00000001 03 0000 00 F0 FF02 FF06 00000000 0300 F8 FF02",
+        ),
         reads: 34,
-        size: "8 2",
-        rows: "FF FF",
+        output: Image("8 2", "FF FF"),
         fault: None,
     },
-    Stream {
-        hex: "00000100 00000008 00000001 00000080 03 0000 00 FF06 00000001 0300 F0 FF02",
+    Run {
+        words: &["jbgtopbm85"],
+        input: Hex("00000100 00000008 00000001 00000080 03 0000 00 FF06 00000001 0300 F0 FF02"),
         reads: 31,
-        size: "8 1",
-        rows: "FF",
+        output: Image("8 1", "FF"),
         fault: None,
     },
-    Stream {
-        hex: "00000100 00000008 00000001 00000080 03 0000 00 FF06 00000000 0000 F0 FF02",
+    Run {
+        words: &["jbgtopbm85"],
+        input: Hex("00000100 00000008 00000001 00000080 03 0000 00 FF06 00000000 0000 F0 FF02"),
         reads: 31,
-        size: "8 1",
-        rows: "FF",
+        output: Image("8 1", "FF"),
         fault: None,
     },
-    Stream {
-        hex: "00000100 00000008 00000003 00000001 03 0000 00 F0 FF03 FF06 00000000 0300 F8 FF03 FF06 00000000 0300 F8 FF03",
+    Run {
+        words: &["jbgtopbm85"],
+        input: Hex(
+            "00000100 00000008 00000003 00000001 03 0000 00 F0 FF03 FF06 00000000 0300 F8 FF03 FF06 00000000 0300 F8 FF03",
+        ),
         reads: 45,
-        size: "8 3",
-        rows: "FF FF FF",
+        output: Image("8 3", "FF FF FF"),
         fault: None,
     },
-    Stream {
-        hex: "00000100 00000008 00000001 00000080 00 0000 00 F0 00 00",
+    Run {
+        words: &["jbgtopbm85"],
+        input: Hex("00000100 00000008 00000001 00000080 00 0000 00 F0 00 00"),
         reads: 24,
-        size: "8 1",
-        rows: "FF",
+        output: Image("8 1", "FF"),
         fault: Some("input ends too early"),
     },
-    Stream {
-        hex: "00000100 00000008 00000001 00000080 00 0000 00 F0",
+    Run {
+        words: &["jbgtopbm85"],
+        input: Hex("00000100 00000008 00000001 00000080 00 0000 00 F0"),
         reads: 22,
-        size: "8 1",
-        rows: "",
+        output: Image("8 1", ""),
         fault: Some("input ends too early"),
     },
-    Stream {
-        hex: "00000100 00000001 00000001 00000080 00 0000 00 C0 FF",
+    Run {
+        words: &["jbgtopbm85"],
+        input: Hex("00000100 00000001 00000001 00000080 00 0000 00 C0 FF"),
         reads: 23,
-        size: "1 1",
-        rows: "",
+        output: Image("1 1", ""),
         fault: Some("input ends too early"),
     },
-    Stream {
-        hex: "00000100 00000008 00000002 00000080 00 0000 00 F0 00",
+    Run {
+        words: &["jbgtopbm85"],
+        input: Hex("00000100 00000008 00000002 00000080 00 0000 00 F0 00"),
         reads: 23,
-        size: "8 2",
-        rows: "",
+        output: Image("8 2", ""),
         fault: Some("input ends too early"),
     },
-    Stream {
-        hex: "00000100 00000008 00000002 00000080 00 0000 00 F0 00 00",
+    Run {
+        words: &["jbgtopbm85"],
+        input: Hex("00000100 00000008 00000002 00000080 00 0000 00 F0 00 00"),
         reads: 24,
-        size: "8 2",
-        rows: "FF",
+        output: Image("8 2", "FF"),
         fault: Some("input ends too early"),
     },
-    Stream {
-        hex: "00000100 00000008 00000002 00000080 00 0000 00 F0 00 00 00",
+    Run {
+        words: &["jbgtopbm85"],
+        input: Hex("00000100 00000008 00000002 00000080 00 0000 00 F0 00 00 00"),
         reads: 25,
-        size: "8 2",
-        rows: "FF 32",
+        output: Image("8 2", "FF 32"),
         fault: Some("input ends too early"),
     },
-    Stream {
-        hex: "00000100 00000008 00000002 00000080 00 0000 00 F0 00 00 00 FF",
+    Run {
+        words: &["jbgtopbm85"],
+        input: Hex("00000100 00000008 00000002 00000080 00 0000 00 F0 00 00 00 FF"),
         reads: 26,
-        size: "8 2",
-        rows: "FF 32",
+        output: Image("8 2", "FF 32"),
         fault: Some("input ends too early"),
     },
-    Stream {
-        hex: "00000100 00000008 00000002 00000080 00 0000 00 F0 00 00 FF04",
+    Run {
+        words: &["jbgtopbm85"],
+        input: Hex("00000100 00000008 00000002 00000080 00 0000 00 F0 00 00 FF04"),
         reads: 25,
-        size: "8 2",
-        rows: "FF",
+        output: Image("8 2", "FF"),
         fault: Some("image was aborted"),
     },
-    Stream {
-        hex: "00000100 00000008 00000002 00000080 00 0000 00 F0 00 00 FF05",
+    Run {
+        words: &["jbgtopbm85"],
+        input: Hex("00000100 00000008 00000002 00000080 00 0000 00 F0 00 00 FF05"),
         reads: 25,
-        size: "8 2",
-        rows: "FF",
+        output: Image("8 2", "FF"),
         fault: Some("unexpected escape code"),
     },
-    Stream {
-        hex: "00000100 00000008 00000002 00000080 00 0000 00 FF06 00000080 0000",
+    Run {
+        words: &["jbgtopbm85"],
+        input: Hex("00000100 00000008 00000002 00000080 00 0000 00 FF06 00000080 0000"),
         reads: 28,
-        size: "8 2",
-        rows: "",
+        output: Image("8 2", ""),
         fault: Some("adaptive pixel move is not allowed"),
     },
-    Stream {
-        hex: "00000100 00000008 00000002 00000080 00 0000 00 FF06 00000000 0001",
+    Run {
+        words: &["jbgtopbm85"],
+        input: Hex("00000100 00000008 00000002 00000080 00 0000 00 FF06 00000000 0001"),
         reads: 28,
-        size: "8 2",
-        rows: "",
+        output: Image("8 2", ""),
         fault: Some("adaptive pixel move is not allowed"),
     },
-    Stream {
-        hex: "00000100 00000008 00000001 00000080 03 0000 00 FF06 00000000 0400 F0 FF02",
+    Run {
+        words: &["jbgtopbm85"],
+        input: Hex("00000100 00000008 00000001 00000080 03 0000 00 FF06 00000000 0400 F0 FF02"),
         reads: 28,
-        size: "8 1",
-        rows: "",
+        output: Image("8 1", ""),
         fault: Some("adaptive pixel move is not allowed"),
     },
-    Stream {
-        hex: "00000100 00000008 00000002 00000080 00 0000 00 FF06 00000000 0000 FF06",
+    Run {
+        words: &["jbgtopbm85"],
+        input: Hex("00000100 00000008 00000002 00000080 00 0000 00 FF06 00000000 0000 FF06"),
         reads: 30,
-        size: "8 2",
-        rows: "",
+        output: Image("8 2", ""),
         fault: Some("second adaptive pixel move in a stripe"),
     },
-    Stream {
-        hex: "00000100 00000008 00000002 00000080 00 0000 00 FF07 00000005 68",
+    Run {
+        words: &["jbgtopbm85"],
+        input: Hex("00000100 00000008 00000002 00000080 00 0000 00 FF07 00000005 68"),
         reads: 28,
-        size: "8 2",
-        rows: "",
+        output: Image("8 2", ""),
         fault: Some("input ends too early"),
     },
-    Stream {
-        hex: "00000100 00000001 00000002 00000001 00 0000 08 E0 FF02 E0",
+    Run {
+        words: &["jbgtopbm85"],
+        input: Hex("00000100 00000001 00000002 00000001 00 0000 08 E0 FF02 E0"),
         reads: 25,
-        size: "1 2",
-        rows: "80",
+        output: Image("1 2", "80"),
         fault: Some("input ends too early"),
     },
-    Stream {
-        hex: "00000100 00000001 00000001 00000080 00 0000 00 FF05 00000001 C0 FF02",
+    Run {
+        words: &["jbgtopbm85"],
+        input: Hex("00000100 00000001 00000001 00000080 00 0000 00 FF05 00000001 C0 FF02"),
         reads: 22,
-        size: "1 1",
-        rows: "",
+        output: Image("1 1", ""),
         fault: Some("new height is not allowed"),
     },
-    Stream {
-        hex: "00000100 00000008 00000001 00000080 00 0000",
+    Run {
+        words: &["jbgtopbm85"],
+        input: Hex("00000100 00000008 00000001 00000080 00 0000"),
         reads: 20,
-        size: "",
-        rows: "",
+        output: Raw(b""),
         fault: Some("header is shorter than 20 bytes"),
     },
-    Stream {
-        hex: "00000100 00100001 00000001 00000080 00 0000 00",
+    Run {
+        words: &["jbgtopbm85"],
+        input: Hex("00000100 00100001 00000001 00000080 00 0000 00"),
         reads: 20,
-        size: "",
-        rows: "",
+        output: Raw(b""),
         fault: Some("image is wider than 1048576"),
     },
-    Stream {
-        hex: "01010201 00000000 00000000 00000000 00 0000 00",
+    Run {
+        words: &["jbgtopbm85"],
+        input: Hex("01010201 00000000 00000000 00000000 00 0000 00"),
         reads: 20,
-        size: "",
-        rows: "",
+        output: Raw(b""),
         fault: Some("reserved bits of the header are set"),
     },
-    Stream {
-        hex: "00000100 00000001 00000005 00000080 00 0000 20 C0 FF02 FF05 00000001 FF02",
+    Run {
+        words: &["jbgtopbm85"],
+        input: Hex("00000100 00000001 00000005 00000080 00 0000 20 C0 FF02 FF05 00000001 FF02"),
         reads: 20,
-        size: "",
-        rows: "",
+        output: Raw(b""),
         fault: Some("not built yet"),
     },
 ];

@@ -1,4 +1,4 @@
-//! Runs of both programs over devices in memory.
+//! Runs of both programs over devices in memory, and what is tried on them.
 
 ghost use Rattle.std.specs.Prelude.{◌≡◌, ◌↔◌, IfOk, IsTrue, filter_map, option_map};
 ghost use Rattle.tests.specs.Trial.{HasTold, hex_digit, paired};
@@ -6,6 +6,8 @@ ghost use Rattle.tests.specs.Trial.{HasTold, hex_digit, paired};
 use pbm_core::trial::{Drip, Pieces};
 use program_core::{LineFault, jbgtopbm85, pbmtojbg85};
 use std::alloc::{AllocError, Global};
+use std::process::Abort;
+use std::test::Fail;
 
 /// A program, and a job for it.
 #[derive(Drop)]
@@ -58,13 +60,8 @@ pub const SMOOTH: Devices = Devices {
     flush_fails: false,
 };
 
-pub const FAILING_FLUSH: Devices = Devices {
-    flush_fails: true,
-    ..SMOOTH
-};
-
 /// Single bytes.
-pub const BYTEWISE: Devices = Devices { most: 1, ..SMOOTH };
+const BYTEWISE: Devices = Devices { most: 1, ..SMOOTH };
 
 /// The bytes that a text has as upper-case hexadecimal digits. Its other characters are passed.
 pub fn bytes_of(alloc: Global, hex: &str) -> Result<Vec<u8>, AllocError>
@@ -108,7 +105,7 @@ pub fn has_told(
 }
 
 /// Runs a program on these bytes, into room for 24,576 bytes.
-pub fn run_on(
+fn run_on(
     alloc: Global,
     program: &Program,
     bytes: &[u8],
@@ -135,66 +132,362 @@ pub fn run_on(
     })
 }
 
-/// Whether a run on these bytes writes just that output, and tells just the text of this fault, or nothing where there
-/// is none.
-pub fn leaves(
-    alloc: Global,
-    program: &Program,
-    bytes: &[u8],
-    devices: Devices,
-    output: &[u8],
-    fault: Option<&str>,
-) -> Result<bool, AllocError> {
-    let ran = run_on(alloc, program, bytes, devices)?;
-    Ok(has_told(alloc, &ran, program.name(), fault)? && ran.output.as_slice() == output)
-}
-
-/// Whether a run on these bytes leaves that, whatever the size of its reads and writes.
-pub fn leaves_at_each_size(
-    alloc: Global,
-    program: &Program,
-    bytes: &[u8],
-    output: &[u8],
-    fault: Option<&str>,
-) -> Result<bool, AllocError> {
-    for most in [1, 2, 3, 4095, 4096, 4097] {
-        let devices = Devices { most, ..SMOOTH };
-        if !leaves(alloc, program, bytes, devices, output, fault)? {
-            return Ok(false);
-        }
-    }
-    Ok(true)
-}
-
-/// Whether each failing write of this output is told, with what came before it written.
-pub fn tells_each_write(
-    alloc: Global,
-    program: &Program,
-    bytes: &[u8],
-    output: &[u8],
-) -> Result<bool, AllocError> {
-    for at in 0..output.len() {
-        let devices = Devices {
-            failing_write: Some(at as u64 + 1),
-            ..BYTEWISE
-        };
-        let text = Some("output cannot be written");
-        if !leaves(alloc, program, bytes, devices, &output[..at], text)? {
-            return Ok(false);
-        }
-    }
-    Ok(true)
-}
-
-/// The image of this size and these rows; nothing where no size is given.
-pub fn pbm_of(alloc: Global, size: &str, rows: &str) -> Result<Vec<u8>, AllocError> {
-    if size.is_empty() {
-        return Ok(Vec::new(alloc));
-    }
+/// The image of this size and these rows.
+fn pbm_of(alloc: Global, size: &str, rows: &str) -> Result<Vec<u8>, AllocError> {
     let header = format!(in alloc; "P4\n{size}\n")?;
     let mut image = header.as_bytes().to_vec(alloc)?;
     image.extend_from_slice(bytes_of(alloc, rows)?.as_slice())?;
     Ok(image)
+}
+
+/// Bytes as a table writes them.
+#[derive(Clone, Copy)]
+pub enum Bytes<'a> {
+    Raw(&'a [u8]),
+    /// A stream, as hexadecimal digits.
+    Hex(&'a str),
+    /// An image of this size, with these rows as hexadecimal digits.
+    Image(&'a str, &'a str),
+}
+
+impl Bytes<'_> {
+    fn to_vec(self, alloc: Global) -> Result<Vec<u8>, AllocError> {
+        match self {
+            Bytes::Raw(bytes) => bytes.to_vec(alloc),
+            Bytes::Hex(digits) => bytes_of(alloc, digits),
+            Bytes::Image(size, rows) => pbm_of(alloc, size, rows),
+        }
+    }
+
+    /// How many bytes the header has, of a stream or of an image.
+    fn header(self) -> Option<usize> {
+        match self {
+            Bytes::Raw(_) => None,
+            Bytes::Hex(_) => Some(20),
+            Bytes::Image(size, _) => Some("P4\n\n".len().saturating_add(size.len())),
+        }
+    }
+}
+
+/// A run of a program: what it is asked for, what it reads, and what it leaves.
+#[derive(Clone, Copy)]
+pub struct Run<'a> {
+    pub words: &'a [&'a str],
+    pub input: Bytes<'a>,
+    /// How many bytes are asked for, one at a time; the end of the input is asked for too.
+    pub reads: u64,
+    pub output: Bytes<'a>,
+    /// The text of the fault that is told.
+    pub fault: Option<&'a str>,
+}
+
+impl<'a> Run<'a> {
+    /// The run that decodes what this one writes.
+    pub fn back(self) -> Run<'a> {
+        Run {
+            words: &["jbgtopbm85"],
+            input: self.output,
+            output: self.input,
+            ..self
+        }
+    }
+
+    /// Whether so many bytes may stand where the read after so many bytes fails: none before a whole header was read,
+    /// and at least the header from there on; of a line none.
+    fn may_stand(self, came: u64, count: usize) -> bool {
+        match (self.input.header(), self.output.header()) {
+            (Some(read), Some(written)) if came >= read as u64 => count >= written,
+            _ => count == 0,
+        }
+    }
+}
+
+/// What is tried on a run.
+#[derive(Clone, Copy)]
+pub enum Trial {
+    /// Reads and writes of each size.
+    Sizes,
+    /// Bytes behind the last that is asked for.
+    Rest,
+    /// Each failing read, and that one more is never asked for.
+    Reads,
+    /// Each failing write, and that one more is never asked for.
+    Writes,
+    /// A failing flush, which is asked for behind a whole output alone.
+    Flush,
+}
+
+static TRIALS: [(Trial, &str); 5] = [
+    (Trial::Sizes, "sizes"),
+    (Trial::Rest, "bytes behind the last"),
+    (Trial::Reads, "failing reads"),
+    (Trial::Writes, "failing writes"),
+    (Trial::Flush, "a failing flush"),
+];
+
+/// A run as it is tried.
+#[derive(Drop)]
+struct Case<'a> {
+    run: Run<'a>,
+    program: Program,
+    input: Vec<u8>,
+    output: Vec<u8>,
+}
+
+impl<'a> Case<'a> {
+    fn new(alloc: Global, run: Run<'a>) -> Result<Case<'a>, LineFault> {
+        Ok(Case {
+            run,
+            input: run.input.to_vec(alloc)?,
+            output: run.output.to_vec(alloc)?,
+            program: Program::of(alloc, run.words)?,
+        })
+    }
+
+    /// Whether a run on these bytes writes just so many of the output, and tells just the text of this fault, or nothing
+    /// where there is none.
+    fn leaves(
+        &self,
+        alloc: Global,
+        bytes: &[u8],
+        devices: Devices,
+        count: usize,
+        fault: Option<&str>,
+    ) -> Result<bool, AllocError> {
+        let ran = run_on(alloc, &self.program, bytes, devices)?;
+        let written = &self.output[..count.min(self.output.len())];
+        Ok(ran.output.as_slice() == written && has_told(alloc, &ran, self.program.name(), fault)?)
+    }
+
+    /// The same, whatever the size of reads and writes. A flush that fails is met only where there is no fault before it.
+    fn leaves_at_each_size(
+        &self,
+        alloc: Global,
+        bytes: &[u8],
+        count: usize,
+        fault: Option<&str>,
+    ) -> Result<bool, AllocError> {
+        for most in [1, 2, 3, 4095, 4096, 4097] {
+            let devices = Devices {
+                most,
+                flush_fails: fault.is_some(),
+                ..SMOOTH
+            };
+            if !self.leaves(alloc, bytes, devices, count, fault)? {
+                return Ok(false);
+            }
+        }
+        Ok(true)
+    }
+
+    /// Whether a run over these devices leaves the whole output, and tells this fault.
+    fn ends(
+        &self,
+        alloc: Global,
+        devices: Devices,
+        fault: Option<&str>,
+    ) -> Result<bool, AllocError> {
+        self.leaves(alloc, &self.input, devices, self.output.len(), fault)
+    }
+
+    /// Whether the failing read after so many bytes is told, with a beginning of the output written.
+    fn tells_read(&self, alloc: Global, came: u64) -> Result<bool, AllocError> {
+        let devices = Devices {
+            failing_read: Some(came.saturating_add(1)),
+            ..BYTEWISE
+        };
+        let ran = run_on(alloc, &self.program, &self.input, devices)?;
+        let text = Some("input cannot be read");
+        Ok(
+            self.run.may_stand(came, ran.output.len())
+                && self.output.as_slice().starts_with(ran.output.as_slice())
+                && has_told(alloc, &ran, self.program.name(), text)?,
+        )
+    }
+
+    fn tells_each_read(&self, alloc: Global) -> Result<bool, AllocError> {
+        for came in 0..self.run.reads {
+            if !self.tells_read(alloc, came)? {
+                return Ok(false);
+            }
+        }
+        Ok(true)
+    }
+
+    fn tells_each_write(&self, alloc: Global) -> Result<bool, AllocError> {
+        for count in 0..self.output.len() {
+            let devices = Devices {
+                failing_write: Some(count as u64 + 1),
+                ..BYTEWISE
+            };
+            let text = Some("output cannot be written");
+            if !self.leaves(alloc, &self.input, devices, count, text)? {
+                return Ok(false);
+            }
+        }
+        Ok(true)
+    }
+
+    /// Whether bytes behind the last that is asked for change nothing.
+    fn leaves_the_rest(&self, alloc: Global) -> Result<bool, AllocError> {
+        let mut bytes = self.input.as_slice().to_vec(alloc)?;
+        bytes.extend_from_slice(b"P4\n1 1\n\xFF")?;
+        self.leaves(alloc, &bytes, SMOOTH, self.output.len(), None)
+    }
+
+    /// Whether what the trial asks for holds.
+    fn stands(&self, alloc: Global, trial: Trial) -> Result<bool, AllocError> {
+        let fault = self.run.fault;
+        let (is_told, devices, fault) = match trial {
+            Trial::Sizes => (
+                self.leaves_at_each_size(alloc, &self.input, self.output.len(), fault)?,
+                SMOOTH,
+                fault,
+            ),
+            Trial::Rest => (
+                fault.is_some() || self.leaves_the_rest(alloc)?,
+                SMOOTH,
+                fault,
+            ),
+            Trial::Reads => (
+                self.tells_each_read(alloc)?,
+                Devices {
+                    failing_read: Some(self.run.reads.saturating_add(1)),
+                    ..BYTEWISE
+                },
+                fault,
+            ),
+            Trial::Writes => (
+                self.tells_each_write(alloc)?,
+                Devices {
+                    failing_write: Some((self.output.len() as u64).saturating_add(1)),
+                    ..BYTEWISE
+                },
+                fault,
+            ),
+            Trial::Flush => (
+                true,
+                Devices {
+                    flush_fails: true,
+                    ..SMOOTH
+                },
+                fault.or(Some("output cannot be written")),
+            ),
+        };
+        Ok(is_told && self.ends(alloc, devices, fault)?)
+    }
+
+    /// The name of the first trial that the run does not stand.
+    fn first_failing(&self, alloc: Global) -> Result<Option<&'static str>, AllocError> {
+        for &(trial, name) in &TRIALS {
+            if !self.stands(alloc, trial)? {
+                return Ok(Some(name));
+            }
+        }
+        Ok(None)
+    }
+
+    /// Whether just so many bytes of the output stand where the input ends, or can't be read, after so many bytes, and
+    /// this is told where it ends.
+    fn is_cut(
+        &self,
+        alloc: Global,
+        came: usize,
+        count: usize,
+        text: &str,
+    ) -> Result<bool, AllocError> {
+        let devices = Devices {
+            failing_read: Some((came as u64).saturating_add(1)),
+            ..BYTEWISE
+        };
+        let unread = Some("input cannot be read");
+        let bytes = &self.input[..came.min(self.input.len())];
+        Ok(
+            self.leaves(alloc, &self.input, devices, count, unread)?
+                && self.leaves_at_each_size(alloc, bytes, count, Some(text))?,
+        )
+    }
+}
+
+/// Whether the run stands the trial.
+pub fn stands(alloc: Global, run: Run<'_>, trial: Trial) -> Result<bool, LineFault> {
+    let held = Case::new(alloc, run)?.stands(alloc, trial);
+    Ok(held?)
+}
+
+/// Whether the run leaves what it says, over these devices.
+pub fn leaves(alloc: Global, run: Run<'_>, devices: Devices) -> Result<bool, LineFault> {
+    let held = Case::new(alloc, run)?.ends(alloc, devices, run.fault);
+    Ok(held?)
+}
+
+/// Whether the run and the one that decodes what it writes leave what they say, by reads and writes of each size.
+pub fn goes_there_and_back(alloc: Global, run: Run<'_>) -> Result<bool, LineFault> {
+    Ok(stands(alloc, run, Trial::Sizes)? && stands(alloc, run.back(), Trial::Sizes)?)
+}
+
+/// The name of the first trial that the run does not stand.
+fn first_failing(alloc: Global, run: Run<'_>) -> Result<Option<&'static str>, LineFault> {
+    let failing = Case::new(alloc, run)?.first_failing(alloc);
+    Ok(failing?)
+}
+
+/// Asserts that each run stands each trial.
+pub fn all_stand(rt: &impl Abort, alloc: Global, runs: &[Run<'_>]) -> Result<(), Fail> {
+    for (at, run) in runs.iter().enumerate() {
+        let failing = first_failing(alloc, *run)?;
+        assert!(rt; failing == None, "run {at}: {failing:?}");
+    }
+    Ok(())
+}
+
+/// A run whose input is cut short.
+pub struct Cut {
+    pub run: Run<'static>,
+    /// From how many bytes on how many of the output stand, and what is told where the input ends there.
+    pub stands: &'static [(usize, usize, &'static str)],
+}
+
+impl Cut {
+    /// How many bytes stand after so many, and what is told where the input ends there.
+    fn standing(&self, came: usize) -> (usize, &'static str) {
+        let mut standing = (0, "");
+        for &(from, count, text) in self.stands {
+            if from <= came {
+                standing = (count, text);
+            }
+        }
+        standing
+    }
+
+    /// After how many bytes something else stands first, or is told.
+    fn first_failing_in(
+        &self,
+        alloc: Global,
+        case: &Case<'_>,
+    ) -> Result<Option<usize>, AllocError> {
+        for came in 0..case.input.len() {
+            let (count, text) = self.standing(came);
+            if !case.is_cut(alloc, came, count, text)? {
+                return Ok(Some(came));
+            }
+        }
+        Ok(None)
+    }
+
+    fn first_failing(&self, alloc: Global) -> Result<Option<usize>, LineFault> {
+        let failing = self.first_failing_in(alloc, &Case::new(alloc, self.run)?);
+        Ok(failing?)
+    }
+}
+
+/// Asserts of each run that what it says stands, after each byte at which its input ends or can't be read.
+pub fn all_are_cut(rt: &impl Abort, alloc: Global, cuts: &[Cut]) -> Result<(), Fail> {
+    for (at, cut) in cuts.iter().enumerate() {
+        let failing = cut.first_failing(alloc)?;
+        assert!(rt; failing == None, "run {at}: after {failing:?} bytes");
+    }
+    Ok(())
 }
 
 /// An image of 6,000 rows of one pixel, and its code in as many stripes that each end in a reset: so each is the code

@@ -1,0 +1,11 @@
+//! Tests of the three lowest layers, through what they show to others.
+#![tactic(auto)]
+
+#[cfg(test)]
+mod coder;
+#[cfg(test)]
+mod devices;
+#[cfg(test)]
+mod pbm;
+#[cfg(test)]
+mod rows;
