@@ -26,7 +26,7 @@ impl Program {
         }
     }
 
-    pub fn name(&self) -> &'static str {
+    fn name(&self) -> &'static str {
         match self {
             Program::Encoder(_) => pbmtojbg85::NAME,
             Program::Decoder(_) => jbgtopbm85::NAME,
@@ -47,10 +47,10 @@ pub struct Devices {
 
 /// What a run left.
 #[derive(Drop)]
-pub struct Ran {
-    pub status: u8,
-    pub output: Vec<u8>,
-    pub messages: Vec<u8>,
+struct Ran {
+    status: u8,
+    output: Vec<u8>,
+    messages: Vec<u8>,
 }
 
 pub const SMOOTH: Devices = Devices {
@@ -64,7 +64,7 @@ pub const SMOOTH: Devices = Devices {
 const BYTEWISE: Devices = Devices { most: 1, ..SMOOTH };
 
 /// The bytes that a text has as upper-case hexadecimal digits. Its other characters are passed.
-pub fn bytes_of(alloc: Global, hex: &str) -> Result<Vec<u8>, AllocError>
+fn bytes_of(alloc: Global, hex: &str) -> Result<Vec<u8>, AllocError>
     ensures { IfOk result (λ v. v.items ≡ paired (filter_map hex_digit hex.now)) }
 {
     let mut bytes = Vec::new(alloc);
@@ -87,7 +87,7 @@ pub fn bytes_of(alloc: Global, hex: &str) -> Result<Vec<u8>, AllocError>
 }
 
 /// Whether a run of this program has told just the text of this fault, or nothing where there is none.
-pub fn has_told(
+fn has_told(
     alloc: Global,
     ran: &Ran,
     program: &str,
@@ -259,7 +259,7 @@ impl<'a> Case<'a> {
         Ok(ran.output.as_slice() == written && has_told(alloc, &ran, self.program.name(), fault)?)
     }
 
-    /// The same, whatever the size of reads and writes. A flush that fails is met only where there is no fault before it.
+    /// The same, whatever the size of reads and writes. Where a fault is told a flush would fail: none may be asked for.
     fn leaves_at_each_size(
         &self,
         alloc: Global,
