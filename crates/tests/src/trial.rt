@@ -32,6 +32,14 @@ impl Program {
             Program::Decoder(_) => jbgtopbm85::NAME,
         }
     }
+
+    /// What is told of an input that ends too early.
+    fn early_end(&self) -> &'static str {
+        match self {
+            Program::Encoder(_) => "PBM ends too early",
+            Program::Decoder(_) => "input ends too early",
+        }
+    }
 }
 
 /// How the devices of a run behave.
@@ -254,9 +262,14 @@ impl<'a> Case<'a> {
         count: usize,
         fault: Option<&str>,
     ) -> Result<bool, AllocError> {
+        if count > self.output.len() {
+            return Ok(false);
+        }
         let ran = run_on(alloc, &self.program, bytes, devices)?;
-        let written = &self.output[..count.min(self.output.len())];
-        Ok(ran.output.as_slice() == written && has_told(alloc, &ran, self.program.name(), fault)?)
+        Ok(
+            ran.output.as_slice() == &self.output[..count]
+                && has_told(alloc, &ran, self.program.name(), fault)?,
+        )
     }
 
     /// The same, whatever the size of reads and writes. Where a fault is told a flush would fail: none may be asked for.
@@ -328,6 +341,18 @@ impl<'a> Case<'a> {
         Ok(true)
     }
 
+    /// Whether no flush is asked for where the input ends before the last byte that is asked for.
+    fn ends_early(&self, alloc: Global) -> Result<bool, AllocError> {
+        let came = (self.input.len() as u64).min(self.run.reads.saturating_sub(1)) as usize;
+        let devices = Devices {
+            flush_fails: true,
+            ..SMOOTH
+        };
+        let ran = run_on(alloc, &self.program, &self.input[..came], devices)?;
+        let text = Some(self.program.early_end());
+        has_told(alloc, &ran, self.program.name(), text)
+    }
+
     /// Whether bytes behind the last that is asked for change nothing.
     fn leaves_the_rest(&self, alloc: Global) -> Result<bool, AllocError> {
         let mut bytes = self.input.as_slice().to_vec(alloc)?;
@@ -366,7 +391,7 @@ impl<'a> Case<'a> {
                 fault,
             ),
             Trial::Flush => (
-                true,
+                fault.is_some() || self.ends_early(alloc)?,
                 Devices {
                     flush_fails: true,
                     ..SMOOTH
