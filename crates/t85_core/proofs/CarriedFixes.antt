@@ -20,7 +20,7 @@ use Rattle.t85_core.specs.Coding.{Coding, fresh_stripe, lines_of, flag_of, event
 use Rattle.t85_core.specs.Denotes.{coding_in}
 use Rattle.t85_core.specs.Fixed.{AreDecided, IsLongest, Fixes, begun_stripes}
 use Rattle.t85_core.specs.Carried.{Between, Carry, begin, first_carry, after_row, lines_with, Run, StripesRun}
-use Rattle.t85_core.specs.Broken.{events_with, RunEnough, NoneDecided, BegunRun}
+use Rattle.t85_core.specs.Broken.{events_with, RunEnough, NoneDecided, BegunRun, FrontRun}
 use Rattle.t85_core.specs.CoderLaws.{CoderLaws}
 use Rattle.t85_core.proofs.Lists.{All-append}
 use Rattle.t85_core.proofs.Alike.{coding}
@@ -28,7 +28,7 @@ use Rattle.t85_core.proofs.Elements.{Continues, continues_all, continues_left, c
 use Rattle.t85_core.proofs.Joined.{one_row_more, numbers_from_last, fresh_le}
 use Rattle.t85_core.proofs.Agreed.{Agree, events_in, learned_agrees, above_agrees}
 use Rattle.t85_core.proofs.Longest.{beginnings_append, decided_agree}
-use Rattle.t85_core.proofs.FixedRows.{begun_length, begins_within}
+use Rattle.t85_core.proofs.FixedRows.{begun_length, begins_within, AreLying}
 use Rattle.t85_core.proofs.Carrying.{CarriedAt, CarryAt, Ran, flag_before, stripe_begins, rows_run, row_carried, row_is_coded, row_lines}
 use Rattle.t85_core.proofs.StripesCarried.{run_wide, run_flags, AllFollowed, stripes_follow}
 use Rattle.t85_core.proofs.CarriedDenotes.{run_many, stripes_wide, stripes_whole, begins_at}
@@ -113,7 +113,7 @@ module _ (w : ℕ) (mode : Mode) (l : ℕ) (some : 0 < l) (moves : List (Option 
 -- whole stripes that were run through, and then a stripe of which first rows were
 module _ (h : Fields) (height : ℕ) (ok : IsAccepted h) (stripes : List Stripe) (segments : List Segment) (code : List ℕ) (first more : List (List Bool)) (first_flags more_flags : List Bool) (mid : Carry)
     (fewer : length stripes < stripe_count height h.l0) (run : StripesRun h height (first_carry h.xd) stripes first first_flags mid)
-    (begins : BegunRun h (min (height - length stripes * h.l0) h.l0) mid segments code more more_flags) where
+    (begins : FrontRun h (min (height - length stripes * h.l0) h.l0) mid segments code more more_flags) where
   abbrev all : List Stripe
   all = begun_stripes stripes segments code
 
@@ -238,17 +238,17 @@ module _ (h : Fields) (height : ℕ) (ok : IsAccepted h) (stripes : List Stripe)
       ∙ ap (λ j. slice_index_or (map (λ (s : Stripe). s.code) stripes ++ code ∷ []) j []) (sym codes_many)
       ∙ get_here (map (λ (s : Stripe). s.code) stripes) code [] []
 
-  pub carried_decided : AreDecided h height all (length stripes) code flags rows
-  carried_decided = record {
+  pub carried_few : length (first ++ more) ≤ height
+  carried_few = omega (arith, all_many, begins.few, room)
+
+  pub carried_lying : AreLying h all (length stripes) flags rows
+  carried_lying = record {
     wide = All-append (λ row. length row ≡ h.xd) first more (stripes_wide h height (first_carry h.xd) stripes first first_flags mid run)
         (run_wide h.xd mode move 0 (begin mid) more more_flags begins.last begins.run);
     from = omega (arith, all_many);
-    to = omega (arith, all_many, begins.few, room);
+    to = omega (arith, all_many, few);
     legal = λ y lt. legal_at y lt (cases_lt y (length first));
     lies = λ i lt. lies_at i lt (cases_lt i (length stripes));
-    enough =
-        subst (λ m. AreEnough (length code) (begun (learned_at whole (length stripes))) (flat_map (events_of_row whole) (numbers_from (length stripes * h.l0) m))) in_stripe
-        (rows_enough whole (length stripes) (length code) move move_is more more_flags 0 (length stripes * h.l0) (begin mid) begins.last few y_is begins_at_row more_at more_flags_at begins.run begins.enough tt);
   } where
     legal_at : (y : ℕ) → y < length (first ++ more) → (y < length first) ⊎ (length first ≤ y) → IsLegalFlag mode (lines_of whole y) (flag_of whole y)
     legal_at y lt (inl less) =
@@ -272,8 +272,21 @@ module _ (h : Fields) (height : ℕ) (ok : IsAccepted h) (stripes : List Stripe)
         (subst (λ m. Lies code (after (begun (learned_at whole (length stripes))) (flat_map (events_of_row whole) (numbers_from (length stripes * h.l0) m))).place) in_stripe
         (subst (λ s. Lies code s.place) ran.carried.state begins.lies)))
 
-  pub carried_longest : CoderLaws → IsLongest h height all (length stripes) code rows
-  carried_longest q other row d = went begins.ends where
+  pub carried_decided : RunEnough (length code) mode move 0 (begin mid) more more_flags → AreDecided h height all (length stripes) code flags rows
+  carried_decided so = record {
+    wide = carried_lying.wide;
+    from = carried_lying.from;
+    to = omega (arith, all_many, begins.few, room);
+    legal = carried_lying.legal;
+    lies = carried_lying.lies;
+    enough =
+        subst (λ m. AreEnough (length code) (begun (learned_at whole (length stripes))) (flat_map (events_of_row whole) (numbers_from (length stripes * h.l0) m))) in_stripe
+        (rows_enough whole (length stripes) (length code) move move_is more more_flags 0 (length stripes * h.l0) (begin mid) begins.last few y_is begins_at_row more_at more_flags_at begins.run so tt);
+  }
+
+  pub carried_longest : CoderLaws → RunEnough (length code) mode move 0 (begin mid) more more_flags →
+      (length more ≡ min (height - length stripes * h.l0) h.l0) ⊎ NoneDecided h.xd mode move (length more) begins.last code → IsLongest h height all (length stripes) code rows
+  carried_longest q so ends other row d = went ends where
     longer : length ((first ++ more) ++ row ∷ []) ≡ suc (length (first ++ more))
     longer = length-push (first ++ more) row
 
@@ -296,7 +309,7 @@ module _ (h : Fields) (height : ℕ) (ok : IsAccepted h) (stripes : List Stripe)
       wide = (all_right (λ r. length r ≡ h.xd) (first ++ more) (row ∷ []) d.wide).0
 
       alike : Agree h.xd mode h.l0 ok.stripe_from (map (λ (s : Stripe). move_of s.segments) all) (map (λ (s : Stripe). s.reset) all) (first ++ more) ((first ++ more) ++ row ∷ []) flags other (length (first ++ more))
-      alike = decided_agree q h height ok all (length stripes) code last_one (first ++ more) ((first ++ more) ++ row ∷ []) flags other carried_decided d (length (first ++ more)) (omega arith) (omega (arith, longer))
+      alike = decided_agree q h height ok all (length stripes) code last_one (first ++ more) ((first ++ more) ++ row ∷ []) flags other (carried_decided so) d (length (first ++ more)) (omega arith) (omega (arith, longer))
 
       r_is : 0 + length more ≡ length more
       r_is = omega arith
@@ -344,6 +357,9 @@ module _ (h : Fields) (height : ℕ) (ok : IsAccepted h) (stripes : List Stripe)
           (subst (AreEnough (length code) (begun (learned_at with_row (length stripes)))) (rows_more with_row (length stripes * h.l0) (length more))
           (subst (λ m. AreEnough (length code) (begun (learned_at with_row (length stripes))) (flat_map (events_of_row with_row) (numbers_from (length stripes * h.l0) m))) one_more d.enough))))
 
+abbrev pub front_of : {h : Fields} {count : ℕ} {c : Carry} {segments : List Segment} {code : List ℕ} {rows : List (List Bool)} {flags : List Bool} → BegunRun h count c segments code rows flags → FrontRun h count c segments code rows flags
+front_of b = record { last = b.last; run = b.run; few = b.few; lies = b.lies }
+
 -- A body that breaks behind whole stripes fixes their rows, and the rows that were run through of the stripe that breaks.
 pub carried_fixes : CoderLaws → (h : Fields) (height : ℕ) (body tail : List ℕ) (fault : Fault) (stripes : List Stripe) (broken : StripeFault h tail fault)
     (first more : List (List Bool)) (first_flags more_flags : List Bool) (mid : Carry) → IsAccepted h →
@@ -355,7 +371,7 @@ carried_fixes q h height body tail fault stripes broken first more first_flags m
   broken = record { stripes = stripes; tail = tail; bytes_are = body_is; fewer = fewer; each = stripes_whole h height (first_carry h.xd) stripes first first_flags mid run; tail_has = broken };
   fixed = record {
     flags = first_flags ++ more_flags;
-    decided = carried_decided h height ok stripes broken.segments broken.code first more first_flags more_flags mid fewer run begins;
-    longest = carried_longest h height ok stripes broken.segments broken.code first more first_flags more_flags mid fewer run begins q;
+    decided = carried_decided h height ok stripes broken.segments broken.code first more first_flags more_flags mid fewer run (front_of begins) begins.enough;
+    longest = carried_longest h height ok stripes broken.segments broken.code first more first_flags more_flags mid fewer run (front_of begins) q begins.enough begins.ends;
   };
 }

@@ -20,7 +20,9 @@ use Rattle.t85_core.specs.Decoding.{IsCarried, CodeBegins, CodeBegun, RowsOfStri
 use Rattle.t85_core.specs.CoderLaws.{CoderLaws}
 use Rattle.t85_core.proofs.Faults.{rest_faults, uncounted, unwritten}
 use Rattle.t85_core.proofs.Entities.{Pull, LastIs, Parted, pulls_part}
-use Rattle.t85_core.proofs.StripePut.{stripe_whole, stripe_stopped, stripe_rest}
+use Rattle.std.specs.Io.KnownBytes.{Consumes}
+use Rattle.t85_core.specs.Unset.{StripeUnset}
+use Rattle.t85_core.proofs.StripePut.{stripe_whole, stripe_stopped, stripe_rest, stripe_unset}
 
 -- it is the same stream, and no read has failed
 pub record Quiet (s t : Standing) : Type 0 where
@@ -57,8 +59,8 @@ module _ {T : Type 0} (standing : T → Standing) (failed : T → ℕ) (s t : T)
       let r = (rows b.h b.c b.segments b.begins.move_is b.begins.shape_is b.begins.is_carried).1 in
       quiet r.answers r.unstopped (parted r.answers r.stands.closed r.gives b)
 
-  pub unset_quiet : CodeBegun shape move carried (standing s) → RowsOfUnset (Pull standing failed) s t shape move carried → Quiet (standing s) (standing t)
-  unset_quiet b rows =
+  pub unset_quiet : (count : ℕ) (text text' : Option (List ℕ)) → CodeBegun shape move carried (standing s) → RowsOfUnset (Pull standing failed) s t shape move count carried text text' → Quiet (standing s) (standing t)
+  unset_quiet count text text' b rows =
       let r = rows b.h b.c b.segments b.begins.move_is b.begins.shape_is b.begins.is_carried in
       quiet r.answers r.unstopped (parted r.answers r.closed r.gives b)
 
@@ -110,6 +112,13 @@ module _ {T : Type 0} (standing : T → Standing) (failed : T → ℕ) (s t : T)
         let same : fault ≡ last.0.why = subst (λ o. IfSome o (λ f. fault ≡ f)) last.0.fault is in
         subst (λ f. StripeCut h c known (standing t).known count text text' f) (sym same)
         (stripe_stopped standing failed h c known segments s t begins.begun begins.passed begins.first begins.first_is r.answers p count text text' r refl last.0)
+
+    -- the sheet took no more
+    pub code_unset : CoderLaws → (count : ℕ) (text text' u : Option (List ℕ)) (ahead : List ℕ) → Consumes (standing t).known u ahead → RowsOfUnset (Pull standing failed) s t shape move count carried text text' →
+        StripeUnset h c known u count text text'
+    code_unset q count text text' u ahead taken rows =
+        let r = rows h c segments begins.move_is begins.shape_is begins.is_carried in
+        stripe_unset standing failed h c known segments s t begins.begun begins.passed begins.first begins.first_is r.answers (parted r.answers r.closed r.gives begun) q count text text' r refl u ahead taken
 
 -- what is told of a fault that the code broke with
 pub broke_fault : (s t : Standing) (fault : Fault) → Broke s t → IfSome t.fault (λ f. fault ≡ f) →

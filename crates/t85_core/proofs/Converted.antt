@@ -1,15 +1,15 @@
 -- From a header and a body to what is said of the whole stream.
-use Rattle.std.proofs.Common.{◌≡◌, ◌≤◌, ◌+◌, inl, inr, ℕ, Bool, true, false, List, ◌++◌, length, drop, Option, None, Some, Ok, Err, refl, sym, ap, ◌∙◌, subst, arith}
+use Rattle.std.proofs.Common.{◌≡◌, ◌≤◌, ◌+◌, inl, inr, ℕ, Bool, true, false, List, ◌++◌, length, drop, Option, None, Some, Ok, Err, refl, sym, ap, ◌∙◌, subst, append_assoc, arith}
 use Rattle.std.specs.Prelude.{IfSome}
 use Rattle.std.specs.Io.KnownBytes.{Consumes, Keeps}
 use Rattle.t85_core.specs.declared.fault.Fault.{Fault}
 use Rattle.t85_core.specs.declared.fault.Fault.TheVariants.{ShortHeader, Truncated, Read, Write, OutOfMemory, NotYet}
 use Rattle.t85_core.specs.Header.{Fields, HeaderOf, header_fault}
-use Rattle.t85_core.specs.Image.{pbm_text}
+use Rattle.t85_core.specs.Image.{IsOutcome, pbm_text}
 use Rattle.t85_core.specs.Denotes.{Denotes, DenotesAt}
 use Rattle.t85_core.specs.Info.{IsWalkFault}
 use Rattle.t85_core.specs.Walk.{Ends, CountsBoth, counted_as, failed_reads}
-use Rattle.t85_core.specs.Converts.{WritesRaster, WritesRows, WritesImage, WritesBeginning, IsRefused, Decodes, Converts, is_variable}
+use Rattle.t85_core.specs.Converts.{WritesRaster, WritesRows, WritesFront, WritesStreamFront, WritesImage, WritesBeginning, IsRefused, Decodes, Converts, is_variable}
 use Rattle.t85_core.specs.CoderLaws.{CoderLaws}
 use Rattle.t85_core.proofs.Faults.{header_faults, uncounted, unwritten}
 use Rattle.t85_core.proofs.Held.{Keeps-same}
@@ -21,6 +21,9 @@ use Rattle.t85_core.proofs.Streams.{Appends-keeps, Consumes-more}
 no_walk_fault : (f : Fault) → f ≡ OutOfMemory → IsWalkFault f → ⊥
 no_walk_fault f e p = subst IsWalkFault e p
 
+no_write : (f : Fault) → f ≡ Write → IsWalkFault f → ⊥
+no_write f e p = subst IsWalkFault e p
+
 module _ (in_old in_new : Option (List ℕ)) (reads_old reads_new : ℕ) (out : Option (List ℕ)) (writes : ℕ) (flushed : Bool) where
   -- the header was refused
   pub converted_header : (f : Fault) → Ends ShortHeader in_old in_new (λ given fault. (length given ≤ 20) × (header_fault given ≡ Some fault)) f → reads_new ≡ reads_old + failed_reads f → Converts in_old in_new reads_old reads_new out out writes writes flushed (Err f)
@@ -31,6 +34,7 @@ module _ (in_old in_new : Option (List ℕ)) (reads_old reads_new : ℕ) (out : 
         flushed_last = tt;
         refused = λ read _ _. refused in_old (header_known in_old in_new f e read);
         no_memory = λ is. absurd (no_walk_fault f (let same : f ≡ OutOfMemory = cc in same) may);
+        cut = λ is. absurd (no_write f (let same : f ≡ Write = cc in same) may);
         unread = λ is. (e.given, e.taken, inl (subst (λ x. header_fault e.given ≡ Some (counted_as ShortHeader x)) (let same : f ≡ Read = cc in same) e.has_fault.1, Keeps-same out));
         reads = counts_any reads_old reads_new f counted;
         writes = (let none = unwritten f may in omega (arith, none));
@@ -46,6 +50,7 @@ module _ (in_old in_new : Option (List ℕ)) (reads_old reads_new : ℕ) (out : 
     flushed_last = tt;
     refused = λ _ _ _. refused in_old in_new taken;
     no_memory = λ e. absurd (let bot : ⊥ = cc in bot);
+    cut = λ e. absurd (let bot : ⊥ = cc in bot);
     unread = λ e. absurd (let bot : ⊥ = cc in bot);
     reads = omega (arith, counted);
     writes = omega arith;
@@ -71,6 +76,32 @@ module _ (in_old mid in_new : Option (List ℕ)) (reads_old reads_mid reads_new 
     writes = subst (λ z. WritesRows h h.yd z f out_old out_new) (sym (body_is bytes rest e)) w;
   }
 
+  -- a write failed, or the flush behind all that was written
+  cut_at : (out_last : Option (List ℕ)) → Keeps out_new out_last → WritesFront h h.yd mid in_new out_old out_new → WritesStreamFront in_old in_new out_old out_last
+  cut_at out_last keeps w = record {
+    given = given ++ w.given;
+    taken = Consumes-more in_old mid in_new given w.given taken w.taken;
+    header = h;
+    header_of = HeaderOf-append given w.given h is;
+    height_is_fixed = fixed;
+    appends = λ rest fault text o.
+        let p = w.appends rest fault text (subst (λ z. IsOutcome h h.yd z fault text) (ap (drop 20) (append_assoc given w.given rest) ∙ behind given (w.given ++ rest) long) o) in
+        record { front = p.front; rest = p.rest; text_is = p.text_is; appends = Appends-keeps out_old out_new out_last p.front p.appends keeps };
+  }
+
+  pub converted_unflushed : (flushed : Bool) (out_last : Option (List ℕ)) (writes_last : ℕ) → Decodes h h.yd mid in_new reads_mid reads_new out_old out_new writes_old writes_new (Ok tt) → Keeps out_new out_last → writes_last ≡ writes_new + 1 →
+      Converts in_old in_new reads_old reads_new out_old out_last writes_old writes_last flushed (Err Write)
+  converted_unflushed flushed out_last writes_last d keeps more = record {
+    whole = tt;
+    flushed_last = tt;
+    refused = λ _ n _. absurd (n refl);
+    no_memory = λ e. absurd (let bot : ⊥ = cc in bot);
+    unread = λ e. absurd (let bot : ⊥ = cc in bot);
+    cut = λ _. cut_at out_last keeps d.front;
+    reads = inl (d.reads ∙ counted);
+    writes = (let same = d.writes in omega (arith, more, same));
+  }
+
   -- the body breaks, or a device fails
   pub converted_broken : (flushed : Bool) (f : Fault) → Decodes h h.yd mid in_new reads_mid reads_new out_old out_new writes_old writes_new (Err f) → Converts in_old in_new reads_old reads_new out_old out_new writes_old writes_new flushed (Err f)
   converted_broken flushed f d = record {
@@ -79,6 +110,7 @@ module _ (in_old mid in_new : Option (List ℕ)) (reads_old reads_mid reads_new 
     refused = λ read write _. refused in_old mid taken (d.broken read write);
     no_memory = λ e. absurd (let same : f ≡ OutOfMemory = cc in no_walk_fault f same (d.among (λ w. let both : OutOfMemory ≡ Write = sym same ∙ w in let bot : ⊥ = cc in bot)));
     unread = λ e. (let u = d.unread e in (given ++ u.0, Consumes-more in_old mid in_new given u.0 taken u.1, inr (beginning (given ++ u.0) u.0 Truncated refl u.2)));
+    cut = λ _. cut_at out_new (Keeps-same out_new) d.front;
     reads = subst (λ n. CountsBoth n reads_new (Err f)) counted d.reads;
     writes = d.writes;
   } where
@@ -96,6 +128,7 @@ module _ (in_old mid in_new : Option (List ℕ)) (reads_old reads_mid reads_new 
     refused = tt;
     no_memory = λ e. absurd (let bot : ⊥ = cc in bot);
     unread = λ e. absurd (let bot : ⊥ = cc in bot);
+    cut = λ e. absurd (let bot : ⊥ = cc in bot);
     reads = d.reads ∙ counted;
     writes = same ∙ d.writes;
   } where

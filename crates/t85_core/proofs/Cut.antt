@@ -222,3 +222,72 @@ one_broken h small [] (t ∷ ts) x y f g p q v w e = absurd (no_stripe_in_fault 
 one_broken h small (s ∷ ss) (t ∷ ts) x y f g p q v w e =
     let first = one_stripe h small s t (flat_map stripe_bytes ss ++ x) (flat_map stripe_bytes ts ++ y) p.0 q.0 (sym (append_assoc (stripe_bytes s) (flat_map stripe_bytes ss) x) ∙ e ∙ append_assoc (stripe_bytes t) (flat_map stripe_bytes ts) y) in
     more_same s t ss ts v w first.0 (one_broken h small ss ts x y f g p.1 q.1 v w first.1)
+
+-- ---- a code that goes on
+
+-- a beginning of a code is a beginning of the code that no code byte stands behind
+code_front : (h : Fields) (n : ℕ) (t : Bool) (c d x y : List ℕ) → stuffed c ++ x ≡ stuffed d ++ y → EndsPieces h n t y → (more : List ℕ) × (d ≡ c ++ more)
+code_front h n t [] d x y e q = (d, refl)
+code_front h n t (b ∷ c) [] x y e q = absurd (no_code_at_end h n t b (stuffed c ++ x) (subst (EndsPieces h n t) (sym e ∙ stuffed_cons b c x) q))
+code_front h n t (b ∷ c) (b' ∷ d) x y e q =
+    let first = one_stuff b b' (stuffed c ++ x) (stuffed d ++ y) (sym (stuffed_cons b c x) ∙ e ∙ stuffed_cons b' d y) in
+    let rest = code_front h n t c d x y first.1 q in
+    (rest.0, ap (λ z. z ∷ d) (sym first.0) ∙ ap (λ z. b ∷ z) rest.1)
+
+-- a code that has begun goes on in the same stripe
+begun_cut : (h : Fields) → h.l0 < 2 ^ 32 → (m : ℕ) (ss ts : List Segment) (b : ℕ) (c d x y : List ℕ)
+    → flat_map segment_bytes ss ++ (stuffed (b ∷ c) ++ x) ≡ flat_map segment_bytes ts ++ (stuffed d ++ y)
+    → AllByRecursion (IsLegal h) ss → AllByRecursion (IsLegal h) ts → m + count_by is_move ss ≤ 1 → m + count_by is_move ts ≤ 1
+    → EndsPieces h (m + count_by is_move ts) (not (is_nil d)) y
+    → (ss ≡ ts) × (more : List ℕ) × (d ≡ (b ∷ c) ++ more)
+begun_cut h small m [] [] b c d x y e p q few few' ends = let k = code_front h _ _ (b ∷ c) d x y e ends in (refl, k.0, k.1)
+begun_cut h small m [] (t ∷ ts) b c d x y e p q few few' ends =
+    absurd (no_segment_in_code b (stuffed c ++ x) (flat_map segment_bytes ts ++ (stuffed d ++ y)) t (sym (stuffed_cons b c x) ∙ e ∙ append_assoc (segment_bytes t) (flat_map segment_bytes ts) (stuffed d ++ y)))
+begun_cut h small m (s ∷ ss) [] b c d x y e p q few few' ends =
+    let n = count_cons is_move s ss in
+    let z : m + count_by is_move [] ≡ m = omega arith in
+    absurd (no_segment_before h small m d y (flat_map segment_bytes ss ++ (stuffed (b ∷ c) ++ x)) s p.0 (omega (arith, few, n)) (subst (λ k. EndsPieces h k (not (is_nil d)) y) z ends)
+    (sym e ∙ append_assoc (segment_bytes s) (flat_map segment_bytes ss) (stuffed (b ∷ c) ++ x)))
+begun_cut h small m (s ∷ ss) (t ∷ ts) b c d x y e p q few few' ends =
+    let first = one_segment h small s t (flat_map segment_bytes ss ++ (stuffed (b ∷ c) ++ x)) (flat_map segment_bytes ts ++ (stuffed d ++ y)) p.0 q.0
+    (sym (append_assoc (segment_bytes s) (flat_map segment_bytes ss) (stuffed (b ∷ c) ++ x)) ∙ e ∙ append_assoc (segment_bytes t) (flat_map segment_bytes ts) (stuffed d ++ y)) in
+    let now : ℕ = m + cond (is_move s) 1 0 in
+    let same = ap (λ (u : Segment). cond {A = ℕ} (is_move u) 1 0) first.0 in
+    let a : m + count_by is_move (s ∷ ss) ≡ now + count_by is_move ss = omega (arith, count_cons is_move s ss) in
+    let k : m + count_by is_move (t ∷ ts) ≡ now + count_by is_move ts = omega (arith, count_cons is_move t ts, same) in
+    let rest = begun_cut h small now ss ts b c d x y first.1 p.1 q.1 (subst (λ n. n ≤ 1) a few) (subst (λ n. n ≤ 1) k few')
+    (subst (λ n. EndsPieces h n (not (is_nil d)) y) k ends) in
+    (ap (λ z. z ∷ ss) first.0 ∙ ap (λ z. t ∷ z) rest.0, rest.1, rest.2)
+
+-- in a whole stripe
+pub begun_in_stripe : (h : Fields) → h.l0 < 2 ^ 32 → (ss : List Segment) (b : ℕ) (c x : List ℕ) (t : Stripe) (y : List ℕ) → IsBegun h ss (b ∷ c) → IsStripe h t →
+    flat_map segment_bytes ss ++ (stuffed (b ∷ c) ++ x) ≡ stripe_bytes t ++ y → (ss ≡ t.segments) × (more : List ℕ) × (t.code ≡ (b ∷ c) ++ more)
+begun_in_stripe h small ss b c x t y p q e =
+    begun_cut h small 0 ss t.segments b c t.code x (marker_bytes t.reset ++ y) (e ∙ cut_at_marker t y) p.legal q.legal (few_in h _ _ p) (few_in h _ _ q) (marker_ends h _ _ t.reset y)
+
+-- in one that isn't whole
+pub begun_in_fault : (h : Fields) → h.l0 < 2 ^ 32 → (ss : List Segment) (b : ℕ) (c x tail : List ℕ) (f : Fault) → IsBegun h ss (b ∷ c) → (w : StripeFault h tail f) →
+    flat_map segment_bytes ss ++ (stuffed (b ∷ c) ++ x) ≡ tail → (ss ≡ w.segments) × (more : List ℕ) × (w.code ≡ (b ∷ c) ++ more)
+begun_in_fault h small ss b c x tail f p w e =
+    begun_cut h small 0 ss w.segments b c w.code x w.rest (e ∙ w.bytes_are) p.legal w.begun.legal (few_in h _ _ p) (few_in h _ _ w.begun)
+    (inr (f, subst (λ n. rest_fault h n (not (is_nil w.code)) w.rest ≡ Some f) (sym (counted_is w.segments)) w.rest_has))
+
+-- a whole stripe that is at the front of one that isn't
+pub stripe_in_fault : (h : Fields) → h.l0 < 2 ^ 32 → (s : Stripe) (x tail : List ℕ) (f : Fault) → IsStripe h s → StripeFault h tail f → stripe_bytes s ++ x ≡ tail → ⊥
+stripe_in_fault h small s x tail f p q e = no_stripe_in_fault h small s x tail f p q e
+
+-- Whole stripes are the first of each other reading: of more stripes, or of some and one that isn't whole.
+pub first_parts : (h : Fields) → h.l0 < 2 ^ 32 → (ss ts : List Stripe) (x y : List ℕ) → AllByRecursion (IsStripe h) ss → AllByRecursion (IsStripe h) ts →
+    (length ss ≤ length ts) ⊎ ((f : Fault) × StripeFault h y f) → flat_map stripe_bytes ss ++ x ≡ flat_map stripe_bytes ts ++ y →
+    (later : List Stripe) × (ts ≡ ss ++ later) × (x ≡ flat_map stripe_bytes later ++ y)
+first_parts h small [] ts x y p q n e = (ts, refl, e)
+first_parts h small (s ∷ ss) [] x y p q (inl n) e = absurd (omega (arith, n))
+first_parts h small (s ∷ ss) [] x y p q (inr w) e = absurd (no_stripe_in_fault h small s (flat_map stripe_bytes ss ++ x) y w.0 p.0 w.1 (sym (append_assoc (stripe_bytes s) (flat_map stripe_bytes ss) x) ∙ e))
+first_parts h small (s ∷ ss) (t ∷ ts) x y p q n e =
+    let first = one_stripe h small s t (flat_map stripe_bytes ss ++ x) (flat_map stripe_bytes ts ++ y) p.0 q.0 (sym (append_assoc (stripe_bytes s) (flat_map stripe_bytes ss) x) ∙ e ∙ append_assoc (stripe_bytes t) (flat_map stripe_bytes ts) y) in
+    let rest = first_parts h small ss ts x y p.1 q.1 (fewer n) first.1 in
+    (rest.0, ap (λ z. z ∷ ts) (sym first.0) ∙ ap (λ z. s ∷ z) rest.1, rest.2)
+  where
+    fewer : (length (s ∷ ss) ≤ length (t ∷ ts)) ⊎ ((f : Fault) × StripeFault h y f) → (length ss ≤ length ts) ⊎ ((f : Fault) × StripeFault h y f)
+    fewer (inl k) = inl (omega (arith, k))
+    fewer (inr w) = inr w

@@ -1,7 +1,8 @@
 -- From what decoding took and set out to what is said of the whole body.
-use Rattle.std.proofs.Common.{◌≡◌, ◌≢◌, ◌<◌, ◌^◌, ◌⊎◌, inl, inr, ℕ, Bool, List, ◌++◌, not, count_by, Option, None, Some, Result, Ok, Err, sym, ap, ◌∙◌, subst, append_assoc, append-nil, arith}
+use Rattle.std.proofs.Common.{◌≡◌, ◌≢◌, ◌<◌, ◌^◌, ◌≤◌, ◌+◌, ◌⊎◌, inl, inr, ℕ, Bool, List, [], ◌++◌, not, count_by, Option, None, Some, Result, Ok, Err, refl, sym, ap, ◌∙◌, subst, append_assoc, append-nil, arith}
 use Rattle.std.specs.Prelude.{IfSome, OnOk, IfErr, IsErrOf, flat_map}
-use Rattle.std.specs.Io.KnownBytes.{Appends, Consumes}
+use Rattle.std.specs.Io.KnownBytes.{Appends, Consumes, prepend_known, append_known}
+use Rattle.pbm_core.specs.Device.{AppendsBeginning}
 use Rattle.pbm_core.specs.Pbm.{header_text}
 use Rattle.qm_core.specs.Code.{stuffed}
 use Rattle.raster_core.specs.Raster.{Raster}
@@ -13,18 +14,24 @@ use Rattle.t85_core.specs.Grammar.{segment_bytes, stripe_bytes, stripe_count, is
 use Rattle.t85_core.specs.Refusal.{rest_fault}
 use Rattle.t85_core.specs.Denotes.{DenotesAt}
 use Rattle.t85_core.specs.Fixed.{Fixes}
-use Rattle.t85_core.specs.Image.{pbm_rows}
+use Rattle.t85_core.specs.Image.{IsOutcome, pbm_rows}
+use Rattle.t85_core.specs.Stream.{known_length}
+use Rattle.t85_core.specs.Unset.{ImageBegun}
 use Rattle.t85_core.specs.Info.{IsWalkFault}
 use Rattle.t85_core.specs.Walk.{CountsBoth, CountsWrite, counted_as}
 use Rattle.t85_core.specs.StreamLaws.{IsInUse}
 use Rattle.t85_core.specs.Decoding.{ImageRead, ImageCut}
-use Rattle.t85_core.specs.Converts.{WritesRaster, WritesRows, Decodes}
+use Rattle.t85_core.specs.Converts.{WritesRaster, WritesRows, WritesFront, Decodes}
 use Rattle.t85_core.specs.CoderLaws.{CoderLaws}
 use Rattle.t85_core.proofs.Faults.{body_faults, uncounted}
 use Rattle.t85_core.proofs.FixedRows.{one_fixed_at}
 use Rattle.t85_core.proofs.Known.{stable_rest, counted-other}
 use Rattle.t85_core.proofs.OneRaster.{one_raster_at}
-use Rattle.t85_core.proofs.Streams.{Appends-more}
+use Rattle.t85_core.proofs.Entities.{consumes_front}
+use Rattle.t85_core.proofs.Firsts.{pbm_of}
+use Rattle.t85_core.proofs.Pages.{beginning_handed}
+use Rattle.t85_core.proofs.Passed.{Consumes-none}
+use Rattle.t85_core.proofs.Streams.{Appends-more, Consumes-more, beginning_after, beginning_longer}
 
 -- what is fixed stays so, whatever bytes follow, but where the end is the fault
 fixes_more : (h : Fields) (height : ℕ) (given more : List ℕ) (fault : Fault) (rows : List (List Bool)) → Fixes h height given fault rows → (fault ≡ Truncated) ⊎ Fixes h height (given ++ more) fault rows
@@ -102,28 +109,67 @@ module _ (q : CoderLaws) (h : Fields) (height : ℕ) (use_ : IsInUse h height) (
   cut_among : (bytes known : Option (List ℕ)) (fault : Fault) → ImageCut h height bytes known out_mid out_new fault → IsWalkFault fault
   cut_among bytes known fault i = uncounted Truncated fault (body_faults h (stripe_count height h.l0) i.ends.given (counted_as Truncated fault) i.ends.has_fault.broken)
 
-  pub decoded : (known in_new : Option (List ℕ)) (reads_old reads_new writes_old writes_new : ℕ) (r : Result (Unit {0}) Fault) →
+  -- what stands written is a beginning of what was set out
+  front_written : (in_new : Option (List ℕ)) (in_held out_held : List ℕ) → known_length out_mid ≤ known_length out_new → ImageBegun h height in_old (prepend_known in_held in_new) out_mid (append_known out_new out_held) →
+      WritesFront h height in_old in_new out_old out_new
+  front_written in_new in_held out_held grows i = record {
+    given = (i.given ++ i.ahead) ++ in_held;
+    taken = Consumes-more in_old (prepend_known in_held in_new) in_new (i.given ++ i.ahead) in_held i.taken (consumes_front in_new in_held);
+    appends = λ rest fault text o.
+        let first = i.first (i.ahead ++ (in_held ++ rest)) fault text (subst (λ z. IsOutcome h height z fault text) (append_assoc (i.given ++ i.ahead) in_held rest ∙ append_assoc i.given i.ahead (in_held ++ rest)) o) in
+        subst (AppendsBeginning out_old out_new) (sym first.1)
+        (beginning_longer out_old out_new (pbm_rows h.xd height i.rows) first.0
+        (beginning_after out_old out_mid out_new (header_text h.xd height) (flat_map packed_row i.rows) header (beginning_handed out_mid out_new out_held (flat_map packed_row i.rows) grows i.set_out)));
+  }
+
+  pub decoded : (in_held out_held : List ℕ) (known in_new : Option (List ℕ)) (reads_old reads_new writes_old writes_new : ℕ) (r : Result (Unit {0}) Fault) →
       OnOk r (ImageRead h height in_old known out_mid out_new) → IfErr r (λ f. f ≢ Write → ImageCut h height in_old known out_mid out_new f) → (IsErrOf r Read → known ≡ in_new) →
       CountsBoth reads_old reads_new r → CountsWrite writes_old writes_new r →
+      known_length out_mid ≤ known_length out_new → ImageBegun h height in_old (prepend_known in_held in_new) out_mid (append_known out_new out_held) →
       Decodes h height in_old in_new reads_old reads_new out_old out_new writes_old writes_new r
-  decoded known in_new reads_old reads_new writes_old writes_new (Ok u) ok err drained reads writes = record {
+  decoded in_held out_held known in_new reads_old reads_new writes_old writes_new (Ok u) ok err drained reads writes grows begun = record {
     whole = raster_known in_old known ok;
     broken = tt;
     unread = λ e. absurd (let bot : ⊥ = cc in bot);
+    front = front_written in_new in_held out_held grows begun;
     among = tt;
     reads = reads;
     writes = writes;
   }
-  decoded known in_new reads_old reads_new writes_old writes_new (Err f) ok err drained reads writes = record {
+  decoded in_held out_held known in_new reads_old reads_new writes_old writes_new (Err f) ok err drained reads writes grows begun = record {
     whole = tt;
     broken = λ read write. rows_known in_old known f (err write) read;
     unread = λ e. unread (let is : f ≡ Read = cc in is) e;
+    front = front_written in_new in_held out_held grows begun;
     among = λ write. cut_among in_old known f (err write);
     reads = reads;
     writes = writes;
   } where
     unread : f ≡ Read → IsErrOf {T = Unit {0}} {E = Fault} (Err f) Read → (given : List ℕ) × Consumes in_old in_new given × WritesRows h height given Truncated out_old out_new
     unread is e = rows_unread in_old known in_new f (err (λ w. let both : Read ≡ Write = sym is ∙ w in let bot : ⊥ = cc in bot)) is (drained e)
+
+-- a beginning of the header is a beginning of whatever is to be written
+pub front_of_header : (h : Fields) (height : ℕ) (known out_old out_new : Option (List ℕ)) → AppendsBeginning out_old out_new (header_text h.xd height) → WritesFront h height known known out_old out_new
+front_of_header h height known out_old out_new p = record {
+  given = [];
+  taken = Consumes-none known;
+  appends = λ rest fault text o. all rest fault text o;
+} where
+  all : (rest : List ℕ) (fault : Option Fault) (text : List ℕ) → IsOutcome h height ([] ++ rest) fault text → AppendsBeginning out_old out_new text
+  all rest None text o = subst (AppendsBeginning out_old out_new) (sym (o.2 ∙ pbm_of h height o.0 rest o.1)) (beginning_longer out_old out_new (header_text h.xd height) (flat_map packed_row o.0.rows) p)
+  all rest (Some fault) text o = subst (AppendsBeginning out_old out_new) (sym o.2) (beginning_longer out_old out_new (header_text h.xd height) (flat_map packed_row o.0) p)
+
+pub decodes_unheaded : (h : Fields) (height : ℕ) (known : Option (List ℕ)) (reads writes writes_new : ℕ) (out_old out_new : Option (List ℕ)) → AppendsBeginning out_old out_new (header_text h.xd height) → writes_new ≡ writes + 1 →
+    Decodes h height known known reads reads out_old out_new writes writes_new (Err Write)
+decodes_unheaded h height known reads writes writes_new out_old out_new p counted = record {
+  whole = tt;
+  broken = λ _ n. absurd (n refl);
+  unread = λ e. absurd (let bot : ⊥ = cc in bot);
+  front = front_of_header h height known out_old out_new p;
+  among = λ n. absurd (n refl);
+  reads = inl refl;
+  writes = counted;
+}
 
 -- the devices as they are when their loans end
 pub decodes_at : {R W : Type 0} (remaining : R → Option (List ℕ)) (reads : R → ℕ) (contents : W → Option (List ℕ)) (writes : W → ℕ) (h : Fields) (height : ℕ) (first : R) (start : W) (input input' : R) (output output' : W) (r : Result (Unit {0}) Fault) →

@@ -1,9 +1,9 @@
 -- From what encoding took and set out to what is said of the whole body.
-use Rattle.std.proofs.Common.{◌≡◌, ◌≤◌, ◌<◌, ◌^◌, ◌==◌, ℕ, List, [], ◌++◌, length, Option, None, Some, Result, refl, sym, ap, subst, arith, Bor, option_map}
+use Rattle.std.proofs.Common.{◌≡◌, ◌≤◌, ◌<◌, ◌^◌, ◌==◌, ℕ, List, [], ◌++◌, length, Option, None, Some, Result, refl, sym, ap, ◌∙◌, append_assoc, subst, arith, Bor, option_map}
 use Rattle.std.specs.Prelude.{IfSome, OnOk, IfErr, IsErrOf, unwrap_or}
 use Rattle.std.specs.Option.{option_map_or}
 use Rattle.std.specs.List.{AllByRecursion}
-use Rattle.std.specs.Io.KnownBytes.{Consumes}
+use Rattle.std.specs.Io.KnownBytes.{Consumes, append_known}
 use Rattle.std.proofs.KnownBytes.{Consumes-whole}
 use Rattle.pbm_core.specs.declared.fault.PbmFault.{PbmFault}
 use Rattle.pbm_core.specs.declared.fault.PbmFault.TheVariants as pbm
@@ -12,15 +12,17 @@ use Rattle.t85_core.specs.declared.fault.Fault.{Fault}
 use Rattle.t85_core.specs.declared.fault.Fault.TheVariants.{Pbm}
 use Rattle.t85_core.specs.declared.options.Options.{Options}
 use Rattle.pbm_core.specs.Image.{HoldsRows}
-use Rattle.t85_core.specs.Encodes.{raster_of, IsEncodeFault, WritesCode, WritesBegun, Encodes}
-use Rattle.t85_core.specs.Encoding.{ImageCoded, ImageShort}
+use Rattle.t85_core.specs.Encodes.{raster_of, IsEncodeFault, WritesCode, WritesBegun, WritesFront, Encodes}
+use Rattle.t85_core.specs.Encoding.{ImageCoded, ImageShort, ImageFront}
+use Rattle.t85_core.specs.Stream.{known_length}
 use Rattle.t85_core.specs.Jbg.{Settings, AreSettings, jbg, jbg_up_to}
 use Rattle.t85_core.specs.Options.{settings_of}
 use Rattle.t85_core.specs.StreamLaws.{CodeDenotes}
 use Rattle.t85_core.specs.Walk.{CountsBoth, CountsWrite}
 use Rattle.t85_core.proofs.Ends.{on_ok, always}
 use Rattle.t85_core.proofs.RowsHeld.{rows_hold, rows_wide}
-use Rattle.t85_core.proofs.Streams.{Consumes-more}
+use Rattle.t85_core.proofs.Streams.{Consumes-more, beginning_all}
+use Rattle.t85_core.proofs.Pages.{beginning_handed}
 
 comment_fits : (comment : Option (Bor (List ℕ))) → option_map_or (λ c. length c.now) comment 0 < 2 ^ 32 → length (unwrap_or (option_map (λ c. c.now) comment) []) < 2 ^ 32
 comment_fits None fits = fits
@@ -98,15 +100,36 @@ module _ (s : Settings) (width height' : ℕ) (in_old in_new out_old out_new : O
     code_unread : (all : List ℕ) × Consumes in_old in_new all × WritesBegun s width height' all out_old out_new
     code_unread = (given, taken, begun)
 
-  pub encoded : CodeDenotes → AreSettings s → IsSize width height' → (reads_old reads_new writes_old writes_new : ℕ) (r : Result (Unit {0}) Fault) →
+  -- what stands written is a beginning of what was set out
+  front_written : (held : List ℕ) → known_length out_old ≤ known_length out_new → ImageFront width height' (λ raster. jbg s raster) in_old in_new out_old (append_known out_new held) →
+      (given : List ℕ) × Consumes in_old in_new given × WritesFront s width height' given out_old out_new
+  front_written held grows i =
+      let p = beginning_handed out_old out_new held i.bytes grows (beginning_all out_old (append_known out_new held) i.bytes i.set_out) in (
+        i.read.given ++ i.part,
+        Consumes-more in_old i.mid in_new i.read.given i.part i.read.taken i.part_taken,
+        record {
+          rows = i.rows;
+          rest = i.part;
+          holds = rows_hold width i.read.given i.part i.rows i.read.whole i.read.rows_are;
+          few = i.few;
+          part = i.short;
+          text = p.front;
+          begins = λ raster b. (let q = i.begins raster b in record { rest = p.rest ++ q.rest; bytes_are = q.bytes_are ∙ ap (λ z. z ++ q.rest) p.text_is ∙ append_assoc p.front p.rest q.rest });
+          appends = p.appends;
+        },
+      )
+
+  pub encoded : (held : List ℕ) → CodeDenotes → AreSettings s → IsSize width height' → (reads_old reads_new writes_old writes_new : ℕ) (r : Result (Unit {0}) Fault) →
       OnOk r (ImageCoded width height' (λ raster. jbg s raster) in_old in_new out_old out_new) →
       ((fault : PbmFault) → IsErrOf r (Pbm fault) → ImageShort s width height' (λ raster n. jbg_up_to s raster n) (λ raster. jbg s raster) in_old in_new out_old out_new fault) →
       IfErr r IsEncodeFault → CountsBoth reads_old reads_new r → CountsWrite writes_old writes_new r →
+      known_length out_old ≤ known_length out_new → ImageFront width height' (λ raster. jbg s raster) in_old in_new out_old (append_known out_new held) →
       Encodes s width height' in_old in_new reads_old reads_new out_old out_new writes_old writes_new r
-  encoded law are size reads_old reads_new writes_old writes_new r ok short among reads writes = record {
+  encoded held law are size reads_old reads_new writes_old writes_new r ok short among reads writes grows begun = record {
     whole = on_ok r (λ is i. code_whole law are is i) (always r size) ok;
     short = λ e. code_short pbm.Truncated (short pbm.Truncated e) refl;
     unread = λ e. code_unread pbm.Read (short pbm.Read e);
+    front = front_written held grows begun;
     among = among;
     reads = reads;
     writes = writes;

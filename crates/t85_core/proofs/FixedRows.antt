@@ -1,10 +1,13 @@
 -- A broken body fixes one fault and one list of rows.
-use Rattle.std.proofs.Common.{◌≡◌, ℕ, suc, ◌+◌, ◌*◌, ◌<◌, ◌≤◌, Bool, false, List, length, sym, ◌∙◌, subst, arith}
+use Rattle.std.proofs.Common.{◌≡◌, ℕ, suc, ◌+◌, ◌*◌, ◌<◌, ◌≤◌, Bool, false, List, length, map, sym, ◌∙◌, subst, arith}
+use Rattle.std.specs.List.{AllByRecursion}
 use Rattle.std.proofs.lemmas.Grind.{div_ceil_times}
 use Rattle.std.proofs.Math.Nat.{mul-le-mul_right}
 use Rattle.t85_core.specs.Header.{Fields, IsAccepted}
 use Rattle.t85_core.specs.Grammar.{Segment, Stripe, AreStripes, IsBegun, stripe_count}
 use Rattle.t85_core.specs.Refusal.{BodyFault}
+use Rattle.t85_core.specs.Coding.{HasLegalFlags}
+use Rattle.t85_core.specs.Denotes.{coding_in, EachLies}
 use Rattle.t85_core.specs.Fixed.{FixesRows, begun_stripes, Fixes}
 use Rattle.t85_core.specs.declared.fault.Fault.{Fault}
 use Rattle.t85_core.specs.CoderLaws.{CoderLaws}
@@ -25,6 +28,14 @@ begins_within height l n some few =
     let up : suc n * l ≤ stripe_count height l * l = mul-le-mul_right l few in
     let t = div_ceil_times height l some in
     omega (arith, up, t.1)
+
+-- first rows of stripes up to stripe n, where the codes lie
+pub record AreLying (h : Fields) (stripes : List Stripe) (n : ℕ) (flags : List Bool) (rows : List (List Bool)) : Type 0 where
+  pub wide : AllByRecursion (λ row. length row ≡ h.xd) rows
+  pub from : n * h.l0 ≤ length rows
+  pub to : length rows ≤ (n + 1) * h.l0
+  pub legal : HasLegalFlags (coding_in h stripes flags rows)
+  pub lies : EachLies (coding_in h stripes flags rows) (map (λ s. s.code) stripes)
 
 pub some_fixed_at : (q : CoderLaws) (h : Fields) (height : ℕ) (body : List ℕ) (fault : Fault) → IsAccepted h → BodyFault h height body fault → (rows : List (List Bool)) × Fixes h height body fault rows
 some_fixed_at q h height body fault ok b =

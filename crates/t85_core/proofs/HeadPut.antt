@@ -1,16 +1,18 @@
 -- A stream with its head, from its stripes.
-use Rattle.std.proofs.Common.{◌≡◌, ℕ, List, ◌++◌, length, map, Option, None, Some, option_to_list, sym, ap, ◌∙◌, subst, append_assoc, append-nil}
+use Rattle.std.proofs.Common.{◌≡◌, ℕ, Bool, List, [], ◌++◌, arith, length, map, Option, None, Some, option_to_list, sym, ap, ◌∙◌, subst, append_assoc, append-nil}
 use Rattle.std.specs.Prelude.{◌/◌, flat_map}
 use Rattle.std.specs.Io.KnownBytes.{Appends}
 use Rattle.pbm_core.specs.declared.fault.PbmFault.{PbmFault}
 use Rattle.raster_core.specs.Raster.{Raster, height}
 use Rattle.t85_core.specs.Encodes.{raster_of, BeginsWith}
-use Rattle.t85_core.specs.Encoding.{ImageCoded, ImageShort}
+use Rattle.t85_core.specs.Encoding.{ImageCoded, ImageShort, ImageRefused}
+use Rattle.pbm_core.specs.Device.{AppendsBeginning}
 use Rattle.t85_core.specs.Grammar.{Comment, segment_bytes}
 use Rattle.t85_core.specs.Header.{header_bytes}
 use Rattle.t85_core.specs.Jbg.{Settings, header_of, head_of, stripes_of, stripes_up_to, jbg, jbg_up_to}
 use Rattle.t85_core.specs.Written.{IsBeginning}
-use Rattle.t85_core.proofs.Streams.{Appends-more}
+use Rattle.t85_core.proofs.RowsJoined.{reads_none}
+use Rattle.t85_core.proofs.Streams.{Appends-more, beginning_longer, beginning_after}
 
 -- a beginning of bytes is one behind the same front
 behind_front : (front a b : List ℕ) → IsBeginning a b → IsBeginning (front ++ a) (front ++ b)
@@ -31,6 +33,37 @@ head_commented s width height' a b c bytes text is some put more =
     subst (λ z. Appends a c (z ++ comment_of s.comment)) is
     (Appends-more a b c bytes (comment_of s.comment) put
     (subst (λ z. Appends b c z) (sym (append-nil (segment_bytes (Comment text))) ∙ ap comment_of (sym some)) more))
+
+-- the head of each image that is meant
+same_head : (s : Settings) (width height' : ℕ) (rows : List (List Bool)) (raster : Raster) → BeginsWith width height' rows raster → head_of s width height' ≡ head_of s raster.width (height raster)
+same_head s width height' rows raster b = ap (λ n. head_of s n height') (sym b.width_is) ∙ ap (head_of s raster.width) (sym b.height_is)
+
+-- the sheet took no more of the head
+pub head_refused : (s : Settings) (width height' : ℕ) (known text text' : Option (List ℕ)) → AppendsBeginning text text' (head_of s width height') → ImageRefused width height' (λ raster. jbg s raster) known known text text'
+head_refused s width height' known text text' p = record {
+  rows = [];
+  few = omega arith;
+  read = reads_none width known;
+  bytes = p.front;
+  begins = λ raster b. record {
+    rest = p.rest ++ stripes_of s raster;
+    bytes_are = ap (λ z. z ++ stripes_of s raster) (sym (same_head s width height' [] raster b) ∙ p.text_is) ∙ append_assoc p.front p.rest (stripes_of s raster);
+  };
+  set_out = p.appends;
+}
+
+-- of the header
+pub header_cut : (s : Settings) (width height' : ℕ) (a b : Option (List ℕ)) (bytes : List ℕ) → bytes ≡ header_bytes (header_of s width height') → AppendsBeginning a b bytes → AppendsBeginning a b (head_of s width height')
+header_cut s width height' a b bytes is p =
+    subst (λ z. AppendsBeginning a b (z ++ comment_of s.comment)) is (beginning_longer a b bytes (comment_of s.comment) p)
+
+-- of the comment
+pub comment_cut : (s : Settings) (width height' : ℕ) (a b c : Option (List ℕ)) (bytes text : List ℕ) → bytes ≡ header_bytes (header_of s width height') → s.comment ≡ Some text →
+    Appends a b bytes → AppendsBeginning b c (segment_bytes (Comment text)) → AppendsBeginning a c (head_of s width height')
+comment_cut s width height' a b c bytes text is some put more =
+    subst (λ z. AppendsBeginning a c (z ++ comment_of s.comment)) is
+    (beginning_after a b c bytes (comment_of s.comment) put
+    (subst (λ z. AppendsBeginning b c z) (sym (append-nil (segment_bytes (Comment text))) ∙ ap comment_of (sym some)) more))
 
 module _ (s : Settings) (width height' : ℕ) (known known' text mid text' : Option (List ℕ)) (head : Appends text mid (head_of s width height')) where
   -- all stripes were set out behind the head
@@ -61,3 +94,15 @@ module _ (s : Settings) (width height' : ℕ) (known known' text mid text' : Opt
     -- the head of each image that is meant
     same : (raster : Raster) → BeginsWith width height' i.rows raster → head_of s width height' ≡ head_of s raster.width (height raster)
     same raster b = ap (λ n. head_of s n height') (sym b.width_is) ∙ ap (head_of s raster.width) (sym b.height_is)
+
+  -- the sheet took no more of the stripes
+  pub refused_headed : ImageRefused width height' (λ raster. stripes_of s raster) known known' mid text' → ImageRefused width height' (λ raster. jbg s raster) known known' text text'
+  refused_headed i = record {
+    rows = i.rows;
+    few = i.few;
+    read = i.read;
+    bytes = head_of s width height' ++ i.bytes;
+    begins = λ raster b. subst (λ z. IsBeginning (head_of s width height' ++ i.bytes) (z ++ stripes_of s raster)) (same_head s width height' i.rows raster b)
+        (behind_front (head_of s width height') i.bytes (stripes_of s raster) (i.begins raster b));
+    set_out = Appends-more text mid text' (head_of s width height') i.bytes head i.set_out;
+  }

@@ -132,6 +132,7 @@ module _ (s : Settings) (in_old in_new : Option (List ℕ)) (reads_old reads_new
     not_yet = λ e. absurd (let bot : ⊥ = cc in bot);
     no_memory = λ e. absurd (let bot : ⊥ = cc in bot);
     unread = λ is. (let same : fault ≡ pbm.Read = cc in (ends.given, ends.taken, inl (subst (λ x. HeaderFault ends.given (fault_of_given x)) same ends.has_fault, Keeps-same out)));
+    cut = λ e. absurd (let bot : ⊥ = cc in bot);
     among = λ _ _ _. (fault, refl);
     reads = counts_any reads_old reads_new (Pbm fault) (counts_told reads_old reads_new fault counted);
     writes = omega arith;
@@ -154,6 +155,7 @@ module _ (s : Settings) (in_old in_new : Option (List ℕ)) (reads_old reads_new
       not_yet = λ _. (variable, Keeps-same out, size_alone.0, size_alone.1, size_alone.2);
       no_memory = λ e. absurd (let bot : ⊥ = cc in bot);
       unread = λ e. absurd (let bot : ⊥ = cc in bot);
+      cut = λ e. absurd (let bot : ⊥ = cc in bot);
       among = λ n _ _. absurd (n refl);
       reads = omega (arith, counted);
       writes = omega arith;
@@ -169,6 +171,7 @@ module _ (s : Settings) (in_old in_new : Option (List ℕ)) (reads_old reads_new
       not_yet = λ e. absurd (let bot : ⊥ = cc in bot);
       no_memory = λ _. (fixed, Keeps-same out, size_alone.0, size_alone.1, size_alone.2);
       unread = λ e. absurd (let bot : ⊥ = cc in bot);
+      cut = λ e. absurd (let bot : ⊥ = cc in bot);
       among = λ _ n _. absurd (n refl);
       reads = omega (arith, counted);
       writes = omega arith;

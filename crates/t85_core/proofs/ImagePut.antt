@@ -1,5 +1,5 @@
 -- Stripes one after another are an image, or the rows that what came fixes.
-use Rattle.std.proofs.Common.{◌≡◌, ◌<◌, ◌≤◌, ◌+◌, ◌-◌, ◌*◌, ℕ, List, [], ◌∷◌, ◌++◌, length, min, Option, refl, sym, ap, ◌∙◌, subst, arith, length-append}
+use Rattle.std.proofs.Common.{◌≡◌, ◌<◌, ◌≤◌, ◌+◌, ◌-◌, ◌*◌, ℕ, List, [], ◌∷◌, ◌++◌, length, min, Option, refl, sym, ap, ◌∙◌, subst, arith, append_assoc, length-append}
 use Rattle.std.specs.Prelude.{flat_map}
 use Rattle.std.specs.Io.KnownBytes.{Appends, Consumes}
 use Rattle.std.proofs.lemmas.Grind.{flat_map-append}
@@ -14,13 +14,16 @@ use Rattle.t85_core.specs.Grammar.{stripe_bytes, stripe_count}
 use Rattle.t85_core.specs.Carried.{first_carry, StripeRun}
 use Rattle.t85_core.specs.Broken.{BegunRun}
 use Rattle.t85_core.specs.Decoding.{StripeRead, StripeCut, StripesRead, ImageRead, ImageCut}
+use Rattle.t85_core.specs.Unset.{StripeDecides, StripeUnset, ImageBegun}
+use Rattle.pbm_core.specs.Device.{AppendsBeginning}
 use Rattle.t85_core.specs.CoderLaws.{CoderLaws}
 use Rattle.t85_core.proofs.CarriedDenotes.{carried_denotes}
 use Rattle.t85_core.proofs.CarriedFixes.{carried_fixes}
 use Rattle.t85_core.proofs.Ends.{Ends-after}
 use Rattle.t85_core.proofs.Lists.{flat_map_push}
 use Rattle.t85_core.proofs.Runs.{stripes_push}
-use Rattle.t85_core.proofs.Streams.{Consumes-more, Appends-more}
+use Rattle.t85_core.proofs.Firsts.{are_first}
+use Rattle.t85_core.proofs.Streams.{Consumes-more, Appends-more, beginning_after}
 
 module _ (h : Fields) (height : ℕ) (known known' known'' : Option (List ℕ)) (count rows : ℕ) (carried carried' : Carried) (text text' text'' : Option (List ℕ))
     (r : StripesRead h height known known' count carried text text') (rows_are : rows ≡ min (height - count * h.l0) h.l0) where
@@ -49,6 +52,18 @@ module _ (h : Fields) (height : ℕ) (known known' known'' : Option (List ℕ)) 
         carried_fixes q h height (flat_map stripe_bytes r.stripes ++ given) given why r.stripes d.0 r.rows s.rows r.flags s.flags r.next use_.accepted refl (subst (λ n. n < stripe_count height h.l0) (sym r.many) fewer) r.run
         (subst (λ n. BegunRun h n r.next d.0.segments d.0.code s.rows s.flags) rows_is d.1)) s.ends;
     set_out = subst (Appends text text'') (sym (flat_map-append packed_row r.rows s.rows)) (Appends-more text text' text'' (flat_map packed_row r.rows) (flat_map packed_row s.rows) r.set_out s.set_out);
+  }
+
+  -- a stripe of which not all was set out
+  pub image_unset : CoderLaws → IsInUse h height → count < stripe_count height h.l0 → StripeUnset h r.next known' known'' rows text' text'' → ImageBegun h height known known'' text text''
+  image_unset q use_ fewer s = record {
+    given = flat_map stripe_bytes r.stripes ++ s.given;
+    ahead = s.ahead;
+    taken = subst (Consumes known known'') (sym (append_assoc (flat_map stripe_bytes r.stripes) s.given s.ahead)) (Consumes-more known known' known'' (flat_map stripe_bytes r.stripes) (s.given ++ s.ahead) r.taken s.taken);
+    rows = r.rows ++ s.rows;
+    first = are_first q h height use_ r.stripes r.rows r.flags r.next (subst (λ n. n < stripe_count height h.l0) (sym r.many) fewer) r.run s.given s.rows s.flags
+        (subst (λ n. StripeDecides h r.next n s.given s.rows s.flags) rows_is s.decides);
+    set_out = subst (AppendsBeginning text text'') (sym (flat_map-append packed_row r.rows s.rows)) (beginning_after text text' text'' (flat_map packed_row r.rows) (flat_map packed_row s.rows) r.set_out s.set_out);
   }
 
 -- all stripes

@@ -1,20 +1,52 @@
 -- From a header and the rows behind it to what is said of a whole image that was written, or begun.
-use Rattle.std.proofs.Common.{◌≡◌, ◌≢◌, inr, ℕ, Bool, true, List, ◌++◌, length, Option, None, Some, Ok, Err, sym, ◌∙◌, subst}
+use Rattle.std.proofs.Common.{◌≡◌, ◌≢◌, ◌+◌, inl, inr, ℕ, Bool, true, List, ◌++◌, length, Option, None, Some, Ok, Err, refl, sym, ◌∙◌, subst, arith}
 use Rattle.std.specs.Prelude.{IfSome, IsErrOf}
 use Rattle.std.specs.Io.KnownBytes.{Consumes, Keeps}
 use Rattle.pbm_core.specs.Outcome.{HasHeader}
 use Rattle.pbm_core.specs.declared.fault.PbmFault.{PbmFault}
 use Rattle.pbm_core.specs.declared.fault.PbmFault.TheVariants as pbm
 use Rattle.t85_core.specs.declared.fault.Fault.{Fault}
-use Rattle.t85_core.specs.declared.fault.Fault.TheVariants.{OutOfMemory, NotYet, Pbm}
-use Rattle.t85_core.specs.Encodes.{raster_of, is_variable, IsEncodeFault, WritesCode, WritesBegun, WritesStream, WritesSome, IsRefused, Encodes, EncodesImage}
+use Rattle.t85_core.specs.declared.fault.Fault.TheVariants.{Write, OutOfMemory, NotYet, Pbm}
+use Rattle.t85_core.specs.Encodes.{raster_of, is_variable, IsEncodeFault, WritesCode, WritesBegun, WritesFront, WritesImageFront, WritesStream, WritesSome, IsRefused, Encodes, EncodesImage}
 use Rattle.t85_core.specs.Jbg.{Settings, jbg}
 use Rattle.t85_core.specs.Walk.{CountsBoth}
 use Rattle.t85_core.proofs.ImageEncoded.{TakesHeader, told_truncated, among_faults, not_not_yet, not_no_memory}
+use Rattle.t85_core.proofs.Held.{Keeps-same}
 use Rattle.t85_core.proofs.Streams.{Appends-keeps, Consumes-more}
 
 module _ (s : Settings) (in_old mid in_new : Option (List ℕ)) (reads_old reads_mid reads_new : ℕ) (out_old out_new : Option (List ℕ)) (writes_old writes_new : ℕ)
     (width height' : ℕ) (t : TakesHeader in_old mid width height') (fixed : is_variable s ≢ true) (counted : reads_mid ≡ reads_old) where
+  -- a write failed, or the flush behind all that was written
+  cut_at : (out_last : Option (List ℕ)) → Keeps out_new out_last → (given : List ℕ) → Consumes mid in_new given → WritesFront s width height' given out_old out_new →
+      (all : List ℕ) × Consumes in_old in_new all × WritesImageFront s all out_old out_last
+  cut_at out_last keeps given taken w = (
+    t.front ++ given,
+    Consumes-more in_old mid in_new t.front given t.taken taken,
+    record {
+      width = width;
+      height' = height';
+      body = given;
+      header = t.header given;
+      writes = record { rows = w.rows; rest = w.rest; holds = w.holds; few = w.few; part = w.part; text = w.text; begins = w.begins; appends = Appends-keeps out_old out_new out_last w.text w.appends keeps };
+    },
+  )
+
+  pub image_unflushed : (flushed : Bool) (out_last : Option (List ℕ)) (writes_last : ℕ) → Encodes s width height' mid in_new reads_mid reads_new out_old out_new writes_old writes_new (Ok tt) → Keeps out_new out_last → writes_last ≡ writes_new + 1 →
+      EncodesImage s in_old in_new reads_old reads_new out_old out_last writes_old writes_last flushed (Err Write)
+  image_unflushed flushed out_last writes_last e keeps more = record {
+    whole = tt;
+    flushed_last = tt;
+    built = tt;
+    refused = λ fault _ is. absurd (let bot : ⊥ = cc in bot);
+    not_yet = λ is. absurd (let bot : ⊥ = cc in bot);
+    no_memory = λ is. absurd (let bot : ⊥ = cc in bot);
+    unread = λ is. absurd (let bot : ⊥ = cc in bot);
+    cut = λ _. cut_at out_last keeps e.front.0 e.front.1 e.front.2;
+    among = λ _ _ n. absurd (n refl);
+    reads = inl (e.reads ∙ counted);
+    writes = (let same = e.writes in omega (arith, more, same));
+  }
+
   -- rows are missing, or a device failed
   pub image_broken : (flushed : Bool) (f : Fault) → Encodes s width height' mid in_new reads_mid reads_new out_old out_new writes_old writes_new (Err f) →
       EncodesImage s in_old in_new reads_old reads_new out_old out_new writes_old writes_new flushed (Err f)
@@ -29,6 +61,7 @@ module _ (s : Settings) (in_old mid in_new : Option (List ℕ)) (reads_old reads
     not_yet = λ is. absurd (not_not_yet (subst IsEncodeFault (let same : f ≡ NotYet = cc in same) e.among));
     no_memory = λ is. absurd (not_no_memory (subst IsEncodeFault (let same : f ≡ OutOfMemory = cc in same) e.among));
     unread = λ is. (let u = e.unread is in (t.front ++ u.0, Consumes-more in_old mid in_new t.front u.0 t.taken u.1, inr (some u.0 u.2)));
+    cut = λ _. cut_at out_new (Keeps-same out_new) e.front.0 e.front.1 e.front.2;
     among = among_faults f e.among;
     reads = subst (λ n. CountsBoth n reads_new (Err f)) counted e.reads;
     writes = e.writes;
@@ -52,6 +85,7 @@ module _ (s : Settings) (in_old mid in_new : Option (List ℕ)) (reads_old reads
     not_yet = λ is. absurd (let bot : ⊥ = cc in bot);
     no_memory = λ is. absurd (let bot : ⊥ = cc in bot);
     unread = λ is. absurd (let bot : ⊥ = cc in bot);
+    cut = λ is. absurd (let bot : ⊥ = cc in bot);
     among = tt;
     reads = e.reads ∙ counted;
     writes = same ∙ e.writes;

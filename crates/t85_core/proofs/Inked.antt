@@ -1,5 +1,5 @@
 -- What a sheet took of a code.
-use Rattle.std.proofs.Common.{◌≡◌, ℕ, List, [], ◌∷◌, ◌++◌, refl, sym, ap, ◌∙◌, subst, Option, None, Some, Result, Ok, Err, ◌⊎◌, inl, inr}
+use Rattle.std.proofs.Common.{◌≡◌, ℕ, List, [], ◌∷◌, ◌++◌, refl, sym, ap, ◌∙◌, subst, Option, None, Some, Result, Ok, Err, ◌⊎◌, inl, inr, arith}
 use Rattle.std.specs.Prelude.{OnOk, IfErr, IsErrOf}
 use Rattle.std.specs.Io.KnownBytes.{Appends}
 use Rattle.qm_core.specs.Writing.{Took}
@@ -11,15 +11,15 @@ use Rattle.t85_core.specs.declared.fault.Fault.TheVariants.{ShortHeader, Reserve
 use Rattle.t85_core.specs.declared.rows.Carried.{Carried}
 use Rattle.t85_core.specs.Ink.{Inked, SameInk, TakesByte, RefusesByte}
 use Rattle.t85_core.specs.Encodes.{IsEncodeFault}
-use Rattle.t85_core.specs.Encoding.{CodeOfRows, CodeOfShort, GivesUp, SomeHeld}
-use Rattle.t85_core.proofs.Streams.{Appends-more}
+use Rattle.t85_core.specs.Encoding.{CodeOfRows, CodeOfShort, CodeOfRefused, GivesUpBehind, GivesUp, SomeHeld}
+use Rattle.t85_core.proofs.Streams.{Appends-more, Appends-keeps}
 
 -- nothing is taken
 pub appends_none : (a : Option (List ℕ)) → Appends a a []
 appends_none None = tt
 appends_none (Some a) = sym (Rattle.std.proofs.Common.append-nil a)
 
-which : (fault : Fault) → IsEncodeFault fault → (fault ≡ Write) ⊎ ((why : PbmFault) × (fault ≡ Pbm why))
+pub which : (fault : Fault) → IsEncodeFault fault → (fault ≡ Write) ⊎ ((why : PbmFault) × (fault ≡ Pbm why))
 which Write p = inl refl
 which (Pbm why) p = inr (why, refl)
 which ShortHeader p = absurd p
@@ -44,7 +44,7 @@ which MoveLarge p = absurd p
 which CommentLong p = absurd p
 which NotYet p = absurd p
 
-is_of : (fault f : Fault) → fault ≡ f → IsErrOf {T = Unit {0}} {E = Fault} (Err fault) f
+pub is_of : (fault f : Fault) → fault ≡ f → IsErrOf {T = Unit {0}} {E = Fault} (Err fault) f
 is_of fault f is = ap Err is
 
 module _ {S : Type 0} (view : S → Inked) where
@@ -55,17 +55,17 @@ module _ {S : Type 0} (view : S → Inked) where
   refuses s t = RefusesByte (view s) (view t)
 
   pub took_inked : (from to : S) (bytes : List ℕ) → Took takes from bytes to → SameInk (view from) (view to) × Appends (view from).text (view to).text bytes
-  took_inked from to [] took = subst (λ z. SameInk (view from) (view z) × Appends (view from).text (view z).text []) took (record { same_sheet = refl; same_target = refl }, appends_none (view from).text)
+  took_inked from to [] took = subst (λ z. SameInk (view from) (view z) × Appends (view from).text (view z).text []) took (record { same_sheet = refl; same_target = refl; grows = omega arith }, appends_none (view from).text)
   took_inked from to (byte ∷ bytes) (next, first, rest) =
       let later = took_inked next to bytes rest in (
-        record { same_sheet = later.0.same_sheet ∙ first.0.same_sheet; same_target = later.0.same_target ∙ first.0.same_target },
+        record { same_sheet = later.0.same_sheet ∙ first.0.same_sheet; same_target = later.0.same_target ∙ first.0.same_target; grows = (let a = first.0.grows in let b = later.0.grows in omega (arith, a, b)) },
         Appends-more (view from).text (view next).text (view to).text (byte ∷ []) bytes first.1 later.1,
       )
 
   gave_up : (from to : S) → GivesUp takes refuses from to → SameInk (view from) (view to)
   gave_up from to g =
       let front = (took_inked from g.last g.bytes g.taken).0 in
-      record { same_sheet = g.then.0.same_sheet ∙ front.same_sheet; same_target = g.then.0.same_target ∙ front.same_target }
+      record { same_sheet = g.then.0.same_sheet ∙ front.same_sheet; same_target = g.then.0.same_target ∙ front.same_target; grows = (let a = front.grows in let b = g.then.0.grows in omega (arith, a, b)) }
 
   -- whatever came, the sheet is the same one
   pub ink_stays : (from to : S) (shape : Shape) (count : ℕ) (counted : Option ℕ) (known known' : Option (List ℕ)) (carried carried' : Carried) (tally' : Tally) (result : Result (Unit {0}) Fault) → SomeHeld shape carried → IfErr result IsEncodeFault
@@ -96,3 +96,19 @@ module _ {S : Type 0} (view : S → Inked) where
     short_inked result short fault is = λ s move c is_shape held.
         let w = short fault is s move c is_shape held in
         record { rows = w.rows; few = w.few; mid = w.mid; read = w.read; part = w.part; pushed = w.pushed; taken = taken _ w.taken; begins = w.begins }
+
+    pub unset_inked : (result : Result (Unit {0}) Fault)
+        → (IsErrOf result Write → CodeOfRefused (λ bytes. GivesUpBehind takes refuses from bytes to) shape count known known' carried)
+        → (IsErrOf result Write → CodeOfRefused (λ bytes. Appends text text' bytes) shape count known known' carried)
+    unset_inked result refused is = λ s move c is_shape held.
+        let w = refused is s move c is_shape held in
+        let last : S = w.taken.0 in
+        let kept = Appends-keeps (view from).text (view last).text (view to).text w.pushed (took_inked from last w.pushed w.taken.1).1 w.taken.2.1 in
+        record {
+          rows = w.rows;
+          few = w.few;
+          read = w.read;
+          pushed = w.pushed;
+          taken = subst (λ z. Appends z text' w.pushed) text_is (subst (λ z. Appends (view from).text z w.pushed) text_is' kept);
+          begins = w.begins;
+        }

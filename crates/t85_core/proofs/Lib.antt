@@ -31,6 +31,7 @@ pub mod FixedRows
 pub mod Stays
 pub mod Outcomes
 pub mod CarriedFixes
+pub mod Firsts
 pub mod Runs
 pub mod StripeBegins
 pub mod RowsTaken

@@ -1,5 +1,5 @@
 -- The longest list of rows that is decided.
-use Rattle.std.proofs.Common.{◌≡◌, ℕ, zero, suc, ◌+◌, ◌-◌, ◌*◌, ◌<◌, ◌≤◌, ◌⊎◌, inl, inr, Bool, false, List, [], ◌∷◌, ◌++◌, length, map, arith, refl, ap, ◌∙◌, sym, subst, Option, append_assoc, length-append}
+use Rattle.std.proofs.Common.{◌≡◌, ℕ, zero, suc, ◌+◌, ◌-◌, ◌*◌, ◌<◌, ◌≤◌, ◌⊎◌, inl, inr, Bool, false, List, [], ◌∷◌, ◌++◌, length, map, take, drop, arith, refl, ap, ◌∙◌, sym, subst, Option, append_assoc, length-append}
 use Rattle.std.specs.Prelude.{slice_index_or, min, flat_map}
 use Rattle.std.specs.List.{AllByRecursion}
 use Rattle.std.proofs.lemmas.Bool.{cases_lt}
@@ -22,7 +22,7 @@ use Rattle.qm_core.specs.Code.{Lies, IsBytes, wanted_bytes}
 use Rattle.t85_core.specs.CoderLaws.{CoderLaws}
 use Rattle.t85_core.proofs.Agreed.{start_IsPlace, Agree, agree, events_in, learned_agrees}
 use Rattle.t85_core.proofs.Built.{Built, some_rows, one_more}
-use Rattle.t85_core.proofs.Elements.{get_left, all_left, length-push, same_list, longer_is}
+use Rattle.t85_core.proofs.Elements.{get_left, all_left, length-push, same_list, longer_is, split_at}
 
 pub beginnings_append : (s : State) (xs ys : List Event) → beginnings s (xs ++ ys) ≡ beginnings s xs ++ beginnings (after s xs) ys
 beginnings_append s [] ys = refl
@@ -172,6 +172,18 @@ module _ (q : CoderLaws) (h : Fields) (height : ℕ) (ok : IsAccepted h) (stripe
       let whole : rows' ≡ (rows ++ k.0 ∷ []) ++ k.1 = k.2 ∙ sym (append_assoc rows (k.0 ∷ []) k.1) in
       let one : length (rows ++ k.0 ∷ []) ≡ suc (length rows) = length-push rows k.0 in
       longest flags' k.0 (decided_prefix (rows ++ k.0 ∷ []) k.1 flags' (omega (arith, one, d.from)) (subst (Decided flags') whole d'))
+
+  -- what is decided is at the front of the longest list
+  pub decided_in_longest : (rows rows' : List (List Bool)) (flags flags' : List Bool) → Decided flags rows → Decided flags' rows' → Longest rows' → take (length rows) rows' ≡ rows
+  decided_in_longest rows rows' flags flags' d d' longest = went (cases_lt (length rows') (length rows)) where
+    went : (length rows' < length rows) ⊎ (length rows ≤ length rows') → take (length rows) rows' ≡ rows
+    went (inl less) = absurd (not_longer rows' rows flags' flags d' d longest less)
+    went (inr le) =
+        let cut = split_at (length rows) rows' le in
+        let a = decided_agree rows rows' flags flags' d d' (length rows) (omega arith) le in
+        same_list (white_row h.xd) (take (length rows) rows') rows cut.1 (λ i lt.
+        let less : i < length rows = omega (arith, lt, cut.1) in
+        sym (get_left (take (length rows) rows') (drop (length rows) rows') i (white_row h.xd) lt) ∙ ap (λ z. slice_index_or z i (white_row h.xd)) cut.0 ∙ sym (a.rows_are i less))
 
   -- the longest list is the only one
   pub one_longest : (rows rows' : List (List Bool)) (flags flags' : List Bool) → Decided flags rows → Decided flags' rows' → Longest rows → Longest rows' → rows ≡ rows'

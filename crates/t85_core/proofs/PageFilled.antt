@@ -1,9 +1,18 @@
 -- What a page holds back of a stream is handed on.
-use Rattle.std.proofs.Common.{ℕ, List, Option}
+use Rattle.std.proofs.Common.{◌≡◌, ◌≢◌, ◌≤◌, ◌<◌, ◌⊎◌, inl, inr, ℕ, List, [], take, Option, Err, sym, ap, ◌∙◌, append-nil, arith}
+use Rattle.std.specs.Prelude.{IsErrOf}
+use Rattle.std.proofs.lemmas.Grind.{div_ceil_times}
+use Rattle.std.proofs.Math.Seq.{take-length}
+use Rattle.pbm_core.specs.Pbm.{bytes_of_row}
 use Rattle.std.specs.Io.KnownBytes.{Keeps}
 use Rattle.pbm_core.specs.declared.fault.PbmFault.{PbmFault}
 use Rattle.raster_core.specs.Raster.{Raster}
-use Rattle.t85_core.specs.Encoding.{ImageCoded, ImageShort}
+use Rattle.t85_core.specs.Encoding.{ImageCoded, ImageShort, ImageRefused, ImageFront}
+use Rattle.t85_core.specs.declared.fault.Fault.{Fault}
+use Rattle.t85_core.specs.declared.fault.Fault.TheVariants.{Write, Pbm}
+use Rattle.t85_core.specs.Encodes.{raster_of, IsEncodeFault}
+use Rattle.t85_core.proofs.Inked.{which, is_of}
+use Rattle.t85_core.proofs.Passed.{Consumes-none}
 use Rattle.t85_core.specs.Jbg.{Settings}
 use Rattle.t85_core.proofs.Streams.{Appends-keeps}
 
@@ -13,3 +22,80 @@ module _ (width height' : ℕ) (whole : Raster → List ℕ) (known known' text 
 
   pub short_handed : (s : Settings) (up_to : Raster → ℕ → List ℕ) (fault : PbmFault) → ImageShort s width height' up_to whole known known' text old fault → Keeps old new → ImageShort s width height' up_to whole known known' text new fault
   short_handed s up_to fault i k = record { rows = i.rows; few = i.few; mid = i.mid; read = i.read; part = i.part; bytes = i.bytes; holds = i.holds; begins = i.begins; set_out = Appends-keeps text old new _ i.set_out k }
+
+  pub front_handed : ImageFront width height' whole known known' text old → Keeps old new → ImageFront width height' whole known known' text new
+  front_handed i k = record {
+    rows = i.rows;
+    few = i.few;
+    mid = i.mid;
+    read = i.read;
+    part = i.part;
+    part_taken = i.part_taken;
+    short = i.short;
+    bytes = i.bytes;
+    begins = i.begins;
+    set_out = Appends-keeps text old new _ i.set_out k;
+  }
+
+some_bytes : (width : ℕ) → 1 ≤ width → 0 < bytes_of_row width
+some_bytes width some = let enough = (div_ceil_times width 8 (omega arith)).0 in omega (arith, enough, some)
+
+module _ (width height' : ℕ) (whole : Raster → List ℕ) (known known' text text' : Option (List ℕ)) where
+  -- all rows were read
+  pub coded_front : 1 ≤ width → ImageCoded width height' whole known known' text text' → ImageFront width height' whole known known' text text'
+  coded_front some i = record {
+    rows = i.rows;
+    few = (let many = i.many in omega (arith, many));
+    mid = known';
+    read = i.read;
+    part = [];
+    part_taken = Consumes-none known';
+    short = some_bytes width some;
+    bytes = whole (raster_of width i.rows);
+    begins = λ raster b. record {
+      rest = [];
+      bytes_are =
+          ap (λ w. whole (raster_of w raster.rows)) b.width_is
+          ∙ ap (λ rows. whole (raster_of width rows)) (sym (take-length raster.rows) ∙ ap (λ n. take n raster.rows) (b.height_is ∙ sym i.many) ∙ b.first)
+          ∙ sym (append-nil (whole (raster_of width i.rows)));
+    };
+    set_out = i.set_out;
+  }
+
+  -- some were, and nothing more
+  pub refused_front : 1 ≤ width → ImageRefused width height' whole known known' text text' → ImageFront width height' whole known known' text text'
+  refused_front some i = record {
+    rows = i.rows;
+    few = i.few;
+    mid = known';
+    read = i.read;
+    part = [];
+    part_taken = Consumes-none known';
+    short = some_bytes width some;
+    bytes = i.bytes;
+    begins = i.begins;
+    set_out = i.set_out;
+  }
+
+  -- some were, and less than a row
+  pub short_front : (s : Settings) (up_to : Raster → ℕ → List ℕ) (fault : PbmFault) → ImageShort s width height' up_to whole known known' text text' fault → ImageFront width height' whole known known' text text'
+  short_front s up_to fault i = record {
+    rows = i.rows;
+    few = (let less = i.few in omega (arith, less));
+    mid = i.mid;
+    read = i.read;
+    part = i.part.given;
+    part_taken = i.part.taken;
+    short = i.part.has_fault.0;
+    bytes = i.bytes;
+    begins = i.begins;
+    set_out = i.set_out;
+  }
+
+  -- whatever was told
+  pub told_front : (s : Settings) (up_to : Raster → ℕ → List ℕ) (fault : Fault) → IsEncodeFault fault → fault ≢ Write →
+      ((why : PbmFault) → IsErrOf {T = Unit {0}} {E = Fault} (Err fault) (Pbm why) → ImageShort s width height' up_to whole known known' text text' why) → ImageFront width height' whole known known' text text'
+  told_front s up_to fault among other short = went (which fault among) where
+    went : (fault ≡ Write) ⊎ ((why : PbmFault) × (fault ≡ Pbm why)) → ImageFront width height' whole known known' text text'
+    went (inl is) = absurd (other is)
+    went (inr (why, is)) = short_front s up_to why (short why (is_of fault (Pbm why) is))

@@ -1,7 +1,8 @@
 -- What a page holds back is handed on.
 use Rattle.std.proofs.Common.{◌≡◌, ◌≢◌, ◌+◌, ◌⊎◌, inl, inr, ℕ, List, [], ◌++◌, Option, None, Some, Result, Ok, Err, refl, sym, ap, ◌∙◌, subst, append-nil, arith}
-use Rattle.std.specs.Prelude.{IfErr}
-use Rattle.std.specs.Io.KnownBytes.{Keeps, append_known}
+use Rattle.std.specs.Prelude.{IfErr, flat_map}
+use Rattle.std.specs.Io.KnownBytes.{Consumes, Keeps, append_known}
+use Rattle.raster_core.specs.Packed.{packed_row}
 use Rattle.pbm_core.specs.declared.fault.PbmFault.TheVariants as pbm
 use Rattle.t85_core.specs.declared.fault.Fault.{Fault}
 use Rattle.t85_core.specs.declared.fault.Fault.TheVariants.{ShortHeader, ReservedBits, Layers, Planes, ZeroSize, TooWide, MoveRange, PrivateTable, Truncated, BadEscape, Aborted, MoveRefused, SecondMove, LengthRefused, Read, Write, OutOfMemory, OptionBits, StripeZero, MoveLarge, CommentLong, NotYet, Pbm}
@@ -9,8 +10,12 @@ use Rattle.t85_core.specs.Header.{Fields}
 use Rattle.t85_core.specs.Stream.{held_of}
 use Rattle.t85_core.specs.Walk.{failed_reads, failed_writes, CountsFault, CountsBoth}
 use Rattle.t85_core.specs.Decoding.{ImageRead, ImageCut}
+use Rattle.t85_core.specs.StreamLaws.{IsInUse}
+use Rattle.t85_core.specs.CoderLaws.{CoderLaws}
+use Rattle.t85_core.specs.Unset.{ImageBegun}
 use Rattle.t85_core.proofs.Held.{none_held}
-use Rattle.t85_core.proofs.Streams.{Appends-keeps}
+use Rattle.t85_core.proofs.Firsts.{whole_first}
+use Rattle.t85_core.proofs.Streams.{Appends-keeps, beginning_all}
 
 append_nothing : (a : Option (List ℕ)) → Keeps (append_known a []) a
 append_nothing None = tt
@@ -33,6 +38,27 @@ image_handed h height known known' text old new i k = record { given = i.given; 
 
 pub cut_handed : (h : Fields) (height : ℕ) (known known' text old new : Option (List ℕ)) (fault : Fault) → ImageCut h height known known' text old fault → Keeps old new → ImageCut h height known known' text new fault
 cut_handed h height known known' text old new fault i k = record { rows = i.rows; ends = i.ends; set_out = Appends-keeps text old new _ i.set_out k }
+
+pub begun_handed : (h : Fields) (height : ℕ) (known known' text old new : Option (List ℕ)) → ImageBegun h height known known' text old → Keeps old new → ImageBegun h height known known' text new
+begun_handed h height known known' text old new i k = record {
+  given = i.given;
+  ahead = i.ahead;
+  taken = i.taken;
+  rows = i.rows;
+  first = i.first;
+  set_out = record { front = i.set_out.front; rest = i.set_out.rest; text_is = i.set_out.text_is; appends = Appends-keeps text old new _ i.set_out.appends k };
+}
+
+-- an image that was set out begins with all of its rows
+pub image_begun : CoderLaws → (h : Fields) (height : ℕ) → IsInUse h height → (known known' text text' : Option (List ℕ)) → ImageRead h height known known' text text' → ImageBegun h height known known' text text'
+image_begun q h height use_ known known' text text' i = record {
+  given = i.given;
+  ahead = [];
+  taken = subst (Consumes known known') (sym (append-nil i.given)) i.taken;
+  rows = i.rows;
+  first = whole_first q h height use_ i.given i.rows i.denotes;
+  set_out = beginning_all text text' (flat_map packed_row i.rows) i.set_out;
+}
 
 -- ---- failed reads
 

@@ -1,10 +1,11 @@
 -- Bytes that are held behind those that an output has taken.
-use Rattle.std.proofs.Common.{◌≡◌, ◌≤◌, ◌+◌, ◌-◌, ℕ, List, [], ◌++◌, Option, None, Some, length, take, drop, sym, ap, ◌∙◌, append_assoc, append-nil, length-take-le, arith}
+use Rattle.std.proofs.Common.{◌≡◌, ◌≤◌, ◌+◌, ◌-◌, ℕ, List, [], ◌∷◌, ◌++◌, Option, None, Some, length, take, drop, refl, sym, ap, ◌∙◌, append_assoc, append-nil, length-append, length-take-le, arith}
 use Rattle.std.specs.Io.KnownBytes.{Appends, Keeps, append_known}
 use Rattle.std.proofs.lemmas.List.{drop-take, drop-append-le}
 use Rattle.std.proofs.lemmas.Slice.{take-put_mid}
 use borrow.Rule.Slice.PartMut.{put_mid}
-use Rattle.t85_core.specs.Stream.{held_of}
+use Rattle.pbm_core.specs.Device.{AppendsBeginning}
+use Rattle.t85_core.specs.Stream.{held_of, known_length}
 
 -- a front of those that are held was written
 pub keeps_written : (a b c : Option (List ℕ)) (whole rest front back : List ℕ) → Keeps (append_known a whole) (append_known b rest) → Appends b c front → rest ≡ front ++ back → Keeps (append_known a whole) (append_known c back)
@@ -33,6 +34,34 @@ keeps_handed (Some a) (Some b) held p = append-nil b ∙ p
 pub appends_held : (a : Option (List ℕ)) (held more : List ℕ) → Appends (append_known a held) (append_known a (held ++ more)) more
 appends_held None held more = tt
 appends_held (Some a) held more = sym (append_assoc a held more)
+
+-- no byte is lost
+pub grows_with : (a b : Option (List ℕ)) (more : List ℕ) → Appends a b more → known_length a ≤ known_length b
+grows_with None b more p = omega arith
+grows_with (Some a) None more p = absurd p
+grows_with (Some a) (Some b) more p = let e = ap length p ∙ length-append a more in omega (arith, e)
+
+pub grows_kept : (a b : Option (List ℕ)) → Keeps a b → known_length a ≤ known_length b
+grows_kept None b p = omega arith
+grows_kept (Some a) None p = absurd p
+grows_kept (Some a) (Some b) p = let e = ap length p in omega (arith, e)
+
+cut_front : (a c held front : List ℕ) → length a ≤ length c → c ++ held ≡ a ++ front → (more : List ℕ) × (c ≡ a ++ more) × (front ≡ more ++ held)
+cut_front [] c held front le e = (c, refl, sym e)
+cut_front (x ∷ a) [] held front le e = absurd (omega (arith, le))
+cut_front (x ∷ a) (y ∷ c) held front le e =
+    let same : y ≡ x = cc in
+    let rest : c ++ held ≡ a ++ front = cc in
+    let k = cut_front a c held front (omega (arith, le)) rest in
+    (k.0, ap (λ z. z ∷ c) same ∙ ap (λ z. x ∷ z) k.1, k.2)
+
+-- what was handed on of a beginning is a beginning
+pub beginning_handed : (a c : Option (List ℕ)) (held text : List ℕ) → known_length a ≤ known_length c → AppendsBeginning a (append_known c held) text → AppendsBeginning a c text
+beginning_handed None c held text le p = record { front = p.front; rest = p.rest; text_is = p.text_is; appends = tt }
+beginning_handed (Some a) None held text le p = absurd p.appends
+beginning_handed (Some a) (Some c) held text le p =
+    let k = cut_front a c held p.front le p.appends in
+    record { front = k.0; rest = held ++ p.rest; text_is = p.text_is ∙ ap (λ z. z ++ p.rest) k.2 ∙ append_assoc k.0 held p.rest; appends = k.1 }
 
 held_is : (bytes : List ℕ) (at end : ℕ) → at ≤ end → held_of bytes at end ≡ drop at (take end bytes)
 held_is bytes at end h =

@@ -1,9 +1,9 @@
 -- A row of a stripe is read and coded.
-use Rattle.std.proofs.Common.{◌≡◌, ℕ, ◌+◌, suc, Bool, true, false, List, [], ◌∷◌, ◌++◌, length, refl, sym, ◌∙◌, ap, subst, arith, Option, None, Some, Result, Ok, Err, nat_eq, length-append}
+use Rattle.std.proofs.Common.{◌≡◌, ℕ, ◌+◌, ◌<◌, suc, Bool, true, false, List, [], ◌∷◌, ◌++◌, length, refl, sym, ◌∙◌, ap, subst, arith, Option, None, Some, Result, Ok, Err, nat_eq, append_assoc, length-append}
 use Rattle.std.specs.Prelude.{IfSome, IsTrue, IsErr, if◌then◌else◌, ◌==◌}
 use Rattle.std.proofs.lemmas.Bool.Decides.{nat_tests}
 use Rattle.qm_core.specs.Place.{Place, Estimate, after}
-use Rattle.qm_core.specs.Encoding.{Codes, has_failed}
+use Rattle.qm_core.specs.Encoding.{Codes, IsStuffedFront, has_failed}
 use Rattle.qm_core.specs.Runs.{PushesJoin}
 use Rattle.qm_core.specs.declared.encoder.Encoder.{Encoder}
 use Rattle.qm_core.specs.declared.encoder.CoderFault.{CoderFault}
@@ -20,7 +20,9 @@ use Rattle.t85_core.specs.Coding.{mode_of}
 use Rattle.t85_core.specs.Carried.{Between, Carry, begin, offset_at, lines_with, after_row}
 use Rattle.t85_core.specs.Jbg.{Settings}
 use Rattle.t85_core.specs.Written.{next_flag, after_rows, lines_down}
-use Rattle.t85_core.specs.Encoding.{IsShape, IsHeld, IsCountedTo, ReadsRows, RowTaken, RowsCoded, GivesUp}
+use Rattle.t85_core.specs.Encoding.{IsShape, IsHeld, IsCountedTo, ReadsRows, RowTaken, RowsCoded, RowsRefused, GivesUpBehind, GivesUp}
+use Rattle.t85_core.specs.WritingLaws.{WritingLaws}
+use Rattle.t85_core.proofs.RowShort.{fails_begins}
 use Rattle.t85_core.proofs.RowsJoined.{reads_join}
 use Rattle.t85_core.proofs.RowsDown.{after_more, lines_more}
 
@@ -118,3 +120,21 @@ module _ {S : Type 0} (took : S → ℕ → S → Type 0) (refused : S → S →
   row_refused why join gave =
       let cut = (gave b.state.place r.pushed (lines_with b row) r.going r.codes lines_are).err.fails.cut in
       record { bytes = r.pushed ++ cut.done; last = cut.last; taken = join from old cut.last r.pushed cut.done r.taken cut.taken; then = cut.then }
+
+  pub row_stuck : WritingLaws → (count : ℕ) → length rows < count → (why : CoderFault) → PushesJoin took → Gave took refused old new shape carried.kept carried'.kept carried.learned carried'.learned (held carried'.window.now) e e' (Err why) →
+      RowsRefused (λ bytes. GivesUpBehind took refused from bytes new) s shape.width move c count began known'
+  row_stuck laws count few why join gave =
+      let stuck = (gave b.state.place r.pushed (lines_with b row) r.going r.codes lines_are).err in
+      let cut = stuck.fails.cut in
+      let at : length rows ≡ 0 + length rows = omega arith in
+      record {
+        rows = rows ++ row ∷ [];
+        few = omega (arith, length-append rows (row ∷ []), few);
+        read = reads_join shape.width began known known' rows (row ∷ []) r.read (subst (λ w. ReadsRows w known known' (row ∷ [])) (sym wide) taken.read);
+        pushed = r.pushed ++ cut.done;
+        taken = (cut.last, join from old cut.last r.pushed cut.done r.taken cut.taken, cut.then);
+        begins = fails_begins laws mode move c rows row count stuck.events stuck.rest (r.pushed ++ cut.done) cut.left
+            (ap (λ n. row_events mode (lines_with b row) (offset_at move n b.offset) b.previous (next_flag mode b row)) (sym at) ∙ sym events_are ∙ stuck.all_are)
+            (subst (λ z. IsStuffedFront z (after b.state stuck.events).place) (ap (λ z. r.pushed ++ z) cut.all ∙ sym (append_assoc r.pushed cut.done cut.left))
+            (subst (λ l. IsStuffedFront (r.pushed ++ stuck.fails.more) (after (record { place = b.state.place; learned = l }) stuck.events).place) r.is_held.learned_is stuck.fails.begins));
+      }

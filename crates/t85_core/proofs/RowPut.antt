@@ -1,7 +1,8 @@
 -- A row of a stripe is decoded and set out, or the source stops in it.
 use Rattle.std.proofs.Common.{◌≡◌, ℕ, ◌+◌, ◌≤◌, List, [], ◌∷◌, ◌++◌, length, refl, sym, ◌∙◌, ap, subst, arith, Option, None, Some, Result, Ok, Err, append-nil, length-append}
 use Rattle.std.specs.Prelude.{flat_map, IsErr}
-use Rattle.std.specs.Io.KnownBytes.{Appends}
+use Rattle.std.specs.Io.KnownBytes.{Appends, append_known}
+use Rattle.pbm_core.specs.Device.{AppendsBeginning}
 use Rattle.qm_core.specs.Place.{Place, Estimate, start}
 use Rattle.qm_core.specs.Answers.{heard_of}
 use Rattle.qm_core.specs.Runs.{PullsJoin}
@@ -28,7 +29,7 @@ use Rattle.t85_core.specs.CoderLaws.{CoderLaws}
 use Rattle.t85_core.proofs.Lists.{flat_map_push}
 use Rattle.t85_core.proofs.Runs.{row_stands, row_taught}
 use Rattle.t85_core.proofs.RowsSoFar.{rows_none, rows_step, kept_step, rows_stop}
-use Rattle.t85_core.proofs.Streams.{Appends-more}
+use Rattle.t85_core.proofs.Streams.{Appends-more, beginning_after}
 
 -- what a call of `decode_row` gives, wherever the decoder stands
 abbrev pub Gave : {S : Type 0} → (S → Pulled → S → Type 0) → S → S → Shape → Kept → Kept → List Estimate → List Estimate → Held → Held → Decoder → Decoder → Result (Unit {0}) Stop → Type 0
@@ -41,6 +42,10 @@ is_err e = refl
 
 not_err : (x : Unit {0}) → IsErr {T = Unit {0}} {E = Stop} (Ok x) → ⊥
 not_err x e = cc
+
+appends_known : (a : Option (List ℕ)) (bytes : List ℕ) → Appends a (append_known a bytes) bytes
+appends_known None bytes = tt
+appends_known (Some a) bytes = refl
 
 module _ {S : Type 0} (pull : S → Pulled → S → Type 0) (from old new : S) (h : Fields) (shape : Shape) (c : Carry) (segments : List Segment) (row : ℕ)
     (carried carried' : Carried) (d d' : Decoder) (began text : Option (List ℕ)) (r : RowsRead pull from old h shape c segments row carried d began text)
@@ -106,14 +111,26 @@ module _ {S : Type 0} (pull : S → Pulled → S → Type 0) (from old new : S) 
       }
 
   -- it was decoded, but the sheet didn't take it
-  pub row_unset : PullsJoin pull → Gave pull old new shape kept carried'.kept carried.learned carried'.learned (held window) (held carried'.window.now) d d' (Ok tt) → RowsUnset pull from new
-  row_unset join gave =
+  pub row_unset : PullsJoin pull → (text' : Option (List ℕ)) → (count : ℕ) → row + 1 ≤ count → Gave pull old new shape kept carried'.kept carried.learned carried'.learned (held window) (held carried'.window.now) d d' (Ok tt) →
+      AppendsBeginning text text' (held carried'.window.now).current → RowsUnset pull from new h c segments count began text'
+  unfolding row_more
+  row_unset join text' count few gave put =
       let done' = done (Ok tt) gave in
+      let all = row_more join (append_known text (held carried'.window.now).current) gave (appends_known text (held carried'.window.now).current) in
       record {
-        answers = r.answers ++ done'.more;
-        gives = join from old new r.answers done'.more r.gives done'.gives;
-        closed = done'.ok.stands.closed;
-        unstopped = λ s. not_err tt (done'.stop.1 s);
+        answers = all.answers;
+        gives = all.gives;
+        closed = all.stands.closed;
+        unstopped = all.unstopped;
+        rows = all.rows;
+        flags = all.flags;
+        last = all.last;
+        so_far = all.so_far;
+        few = (let many = all.many in omega (arith, many, few));
+        decoder = d';
+        stands = all.stands;
+        set_out = subst (AppendsBeginning began text') (sym (flat_map_push packed_row r.rows done'.ok.row))
+            (beginning_after began text text' (flat_map packed_row r.rows) (packed_row done'.ok.row) r.set_out (subst (AppendsBeginning text text') done'.ok.lines_are.row_is put));
       }
 
   -- the source stopped

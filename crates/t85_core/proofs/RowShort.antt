@@ -1,8 +1,8 @@
 -- No row more came: what was pushed is a beginning of the code of each stripe that begins with the rows before.
-use Rattle.std.proofs.Common.{◌≡◌, ℕ, ◌+◌, ◌<◌, Bool, List, [], ◌∷◌, ◌++◌, length, refl, sym, ◌∙◌, ap, subst, Option}
+use Rattle.std.proofs.Common.{◌≡◌, ℕ, ◌+◌, ◌<◌, Bool, List, [], ◌∷◌, ◌++◌, length, refl, sym, ◌∙◌, ap, subst, Option, append_assoc}
 use Rattle.qm_core.specs.Place.{Event, State, IsPlace, after, step}
 use Rattle.qm_core.specs.Code.{code_of, stuffed}
-use Rattle.qm_core.specs.Encoding.{Codes}
+use Rattle.qm_core.specs.Encoding.{Codes, IsStuffedFront}
 use Rattle.qm_core.specs.Writing.{Took}
 use Rattle.qm_core.specs.declared.encoder.Encoder.{Encoder}
 use Rattle.pbm_core.specs.declared.fault.PbmFault.{PbmFault}
@@ -54,6 +54,27 @@ module _ (laws : WritingLaws) (mode : Mode) (move : Option (ℕ × ℕ)) where
       record {
         rest = stuffed begins.0;
         bytes_are = ap stuffed begins.1 ∙ laws.stuffed_append front.front begins.0 ∙ ap (λ z. z ++ stuffed begins.0) (sym front.is);
+      }
+
+  -- What was pushed of a row begins each code of rows that go on behind it.
+  pub fails_begins : (c : Carry) (rows : List (List Bool)) (row : List Bool) (count : ℕ) (events rest : List Event) (pushed left : List ℕ) →
+      row_events mode (lines_with (after_rows mode move 0 (begin c) rows) row) (offset_at move (0 + length rows) (after_rows mode move 0 (begin c) rows).offset) (after_rows mode move 0 (begin c) rows).previous (next_flag mode (after_rows mode move 0 (begin c) rows) row) ≡ events ++ rest →
+      IsStuffedFront (pushed ++ left) (after (after_rows mode move 0 (begin c) rows).state events).place → BeginsCode mode move c count (rows ++ row ∷ []) pushed
+  fails_begins c rows row count events rest pushed left row_is front later many =
+      let b : Between = after_rows mode move 0 (begin c) rows in
+      let last : State = (after_rows mode move 0 (begin c) (rows ++ row ∷ later)).state in
+      let tail : List Event = events_down mode move ((0 + length rows) + 1) (after_row mode move (0 + length rows) b row (next_flag mode b row)) later in
+      let here : IsPlace b.state.place = rows_place 0 (begin c) rows laws.start_is_place in
+      let there : IsPlace last.place = rows_place 0 (begin c) (rows ++ row ∷ later) laws.start_is_place in
+      let all : after b.state (events_down mode move (0 + length rows) b (row ∷ later)) ≡ last = sym (ap (λ n. n.state) (after_more mode move 0 (begin c) rows (row ∷ later)) ∙ state_down mode move (0 + length rows) b (row ∷ later)) in
+      let parts : events_down mode move (0 + length rows) b (row ∷ later) ≡ events ++ (rest ++ tail) = ap (λ z. z ++ tail) row_is ∙ append_assoc events rest tail in
+      let goes : after (after b.state events) (rest ++ tail) ≡ last = sym (after_append b.state events (rest ++ tail)) ∙ ap (after b.state) (sym parts) ∙ all in
+      let begins = (laws.code_lies_in_all b.state events (rest ++ tail) (code_of last.place) here (subst (λ z. Rattle.qm_core.specs.Code.IsCode z.place (code_of last.place)) (sym goes) (laws.one_code last.place there).is)).1 front.front front.begins in
+      record {
+        rest = left ++ stuffed begins.0;
+        bytes_are =
+            ap (λ z. stuffed (code_of (after_rows mode move 0 (begin c) z).state.place)) (append_assoc rows (row ∷ []) later)
+            ∙ ap stuffed begins.1 ∙ laws.stuffed_append front.front begins.0 ∙ ap (λ z. z ++ stuffed begins.0) (sym front.is) ∙ append_assoc pushed left (stuffed begins.0);
       }
 
 same_fault : (a b : PbmFault) (e : Fault) → e ≡ Pbm a → e ≡ Pbm b → a ≡ b

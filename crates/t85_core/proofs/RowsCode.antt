@@ -1,11 +1,11 @@
 -- The rows of a stripe, from its first to the end of its code.
-use Rattle.std.proofs.Common.{◌≡◌, ℕ, ◌+◌, ◌*◌, ◌<◌, ◌≤◌, Bool, false, List, [], ◌∷◌, ◌++◌, length, refl, ◌∙◌, ap, subst, arith, Option, Ok, Err, ◌^◌, length-append}
+use Rattle.std.proofs.Common.{◌≡◌, ℕ, ◌+◌, ◌*◌, ◌<◌, ◌≤◌, Bool, false, List, [], ◌∷◌, ◌++◌, length, refl, sym, ◌∙◌, ap, subst, arith, Option, Ok, Err, ◌^◌, append_assoc, append-nil, length-append}
 use Rattle.qm_core.specs.Place.{start}
 use Rattle.qm_core.specs.Code.{code_of, stuffed}
 use Rattle.qm_core.specs.Encoding.{Codes, Finish, has_failed}
 use Rattle.qm_core.specs.Runs.{PushesJoin}
 use Rattle.qm_core.specs.Place.{Place}
-use Rattle.qm_core.specs.Writing.{Took}
+use Rattle.qm_core.specs.Writing.{Took, Refused}
 use Rattle.qm_core.specs.declared.encoder.Encoder.{Encoder}
 use Rattle.qm_core.specs.declared.encoder.CoderFault.{CoderFault}
 use Rattle.raster_core.specs.declared.tally.Tally.{Tally}
@@ -13,9 +13,9 @@ use Rattle.t85_core.specs.declared.rows.Carried.{Carried}
 use Rattle.t85_core.specs.Coding.{mode_of}
 use Rattle.t85_core.specs.Carried.{Carry, begin}
 use Rattle.t85_core.specs.Jbg.{Settings}
-use Rattle.t85_core.specs.Written.{after_rows}
+use Rattle.t85_core.specs.Written.{after_rows, IsBeginning}
 use Rattle.t85_core.specs.WritingLaws.{WritingLaws}
-use Rattle.t85_core.specs.Encoding.{IsHeld, IsCountedTo, RowsCoded, GivesUp, CodeWritten}
+use Rattle.t85_core.specs.Encoding.{IsHeld, IsCountedTo, RowsCoded, RowsRefused, GivesUpBehind, GivesUp, CodeWritten}
 use Rattle.t85_core.proofs.RowsJoined.{reads_none}
 use Rattle.t85_core.proofs.RowShort.{rows_place}
 
@@ -62,6 +62,40 @@ end_refused took refused failed from old new s width move c counted known known'
     let r = so.2 in
     let cut = (finish (after_rows (mode_of s.options) move 0 (begin c) so.0).state.place r.pushed r.going r.codes).writes.err in
     record { bytes = r.pushed ++ cut.done; last = cut.last; taken = join from old cut.last r.pushed cut.done r.taken cut.taken; then = cut.then }
+
+pub end_stuck : {S : Type 0} (took : S → ℕ → S → Type 0) (refused : S → S → Type 0) (failed : S → ℕ) (from old new : S) (s : Settings) (width : ℕ) (move : Option (ℕ × ℕ)) (c : Carry) (counted : Option ℕ) (known known' : Option (List ℕ)) (count all : ℕ) (carried : Carried) (tally : Tally) (e : Encoder) (why : CoderFault) → count ≡ all
+    → WritingLaws → PushesJoin took → SoMany took from old s width move c counted known known' count carried tally e
+    → ((p : Place) (pushed : List ℕ) → has_failed e ≡ false → Codes e p pushed → Finish took refused failed old new p pushed (Err why))
+    → RowsRefused (λ bytes. GivesUpBehind took refused from bytes new) s width move c all known known'
+end_stuck took refused failed from old new s width move c counted known known' count all carried tally e why ended laws join so finish = record {
+  rows = so.0;
+  few = omega (arith, so.1, ended);
+  read = r.read;
+  pushed = r.pushed ++ cut.done;
+  taken = (cut.last, join from old cut.last r.pushed cut.done r.taken cut.taken, cut.then);
+  begins = λ later many. begins later many;
+} where
+  r : RowsCoded took from old s width move c counted known known' so.0 carried tally e
+  r = so.2
+
+  p : Place
+  p = (after_rows (mode_of s.options) move 0 (begin c) so.0).state.place
+
+  end : Finish took refused failed old new p r.pushed (Err why)
+  end = finish p r.pushed r.going r.codes
+
+  cut : Refused took refused old end.more new
+  cut = end.writes.err
+
+  begins : (later : List (List Bool)) → length so.0 + length later ≡ all → IsBeginning (r.pushed ++ cut.done) (stuffed (code_of (after_rows (mode_of s.options) move 0 (begin c) (so.0 ++ later)).state.place))
+  begins (x ∷ later) many = absurd (omega (arith, many, so.1, ended))
+  begins [] many = record {
+    rest = cut.left;
+    bytes_are =
+        ap (λ z. stuffed (code_of (after_rows (mode_of s.options) move 0 (begin c) z).state.place)) (append-nil so.0)
+        ∙ ap stuffed (sym ((laws.one_code p (rows_place laws (mode_of s.options) move 0 (begin c) so.0 laws.start_is_place)).only end.code end.is))
+        ∙ sym end.all ∙ ap (λ z. r.pushed ++ z) cut.all ∙ sym (append_assoc r.pushed cut.done cut.left);
+  }
 
 -- at most so many events
 pub few_events : (counter rows width events : ℕ) → events ≤ counter * (width + 1) → counter < rows → rows < 2 ^ 32 → width ≤ 1048576 → events + width + 1 ≤ 2 ^ 56

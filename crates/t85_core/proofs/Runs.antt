@@ -99,7 +99,7 @@ stripes_push h left c (t ∷ stripes) rows flags mid s more more_flags next run 
 -- ---- a code that decides no row
 
 -- a byte or none decides no pixel
-short_code : (two typical : Bool) (lines : Lines) (offset : ℕ) (previous flag : Bool) (s : State) (count : ℕ) → 1 ≤ length lines.row → count ≤ 1 →
+pub short_code : (two typical : Bool) (lines : Lines) (offset : ℕ) (previous flag : Bool) (s : State) (count : ℕ) → 1 ≤ length lines.row → count ≤ 1 →
     (IsTrue flag → IsTrue (typical && same_row lines.row lines.above)) → AreEnough count s (row_events (record { two_line = two; typical = typical }) lines offset previous flag) → ⊥
 short_code two true lines offset previous flag s count some few legal h = let first : wanted_bytes s.place.doublings ≤ count = h.0 in omega (arith, first, few)
 short_code two false lines offset previous true s count some few legal h = true≢false (sym (legal refl))

@@ -1,5 +1,5 @@
 -- What is decided stays so, however the stream goes on.
-use Rattle.std.proofs.Common.{◌≡◌, ℕ, zero, suc, ◌+◌, ◌-◌, ◌*◌, ◌<◌, ◌≤◌, ◌⊎◌, inl, inr, Bool, false, List, [], ◌∷◌, ◌++◌, length, map, take, drop, arith, refl, ap, ◌∙◌, sym, subst, Option, None, length-append}
+use Rattle.std.proofs.Common.{◌≡◌, ℕ, zero, suc, ◌+◌, ◌-◌, ◌*◌, ◌<◌, ◌≤◌, ◌⊎◌, inl, inr, Bool, false, List, [], ◌∷◌, ◌++◌, length, map, take, drop, arith, refl, ap, ◌∙◌, sym, subst, Option, None, length-append, append_assoc}
 use Rattle.std.specs.Prelude.{slice_index_or, min, flat_map}
 use Rattle.std.specs.List.{AllByRecursion}
 use Rattle.std.proofs.lemmas.Bool.{cases_lt}
@@ -13,7 +13,7 @@ use Rattle.t85_core.specs.Grammar.{Segment, Stripe}
 use Rattle.t85_core.specs.Coding.{mode_of, move_of}
 use Rattle.t85_core.specs.Denotes.{EachLies, coding_in, DenotesAt}
 use Rattle.raster_core.specs.Decoding.{beginnings}
-use Rattle.t85_core.specs.Fixed.{AreDecided, begun_stripes}
+use Rattle.t85_core.specs.Fixed.{AreDecided, AreEnoughFor, begun_stripes}
 use Rattle.t85_core.proofs.Alike.{coding, same_lines, same_place, same_learned, same_events_in}
 use Rattle.qm_core.specs.Place.{State, Event, IsPlace, after, step, start}
 use Rattle.qm_core.specs.Code.{Lies, IsBytes, wanted_bytes, first_bytes}
@@ -21,7 +21,8 @@ use Rattle.t85_core.specs.CoderLaws.{CoderLaws}
 use Rattle.t85_core.proofs.Agreed.{start_IsPlace, agree}
 use Rattle.t85_core.proofs.Built.{bytes_in_start}
 use Rattle.t85_core.proofs.Elements.{get_left, get_here, all_left, map_push, same_list, split_at}
-use Rattle.t85_core.proofs.FixedRows.{begun_length}
+use Rattle.t85_core.proofs.FixedRows.{begun_length, AreLying}
+use Rattle.t85_core.proofs.Runs.{enough_more}
 use Rattle.t85_core.proofs.Longest.{AllWithin, prefix_legal, prefix_lies}
 
 -- ---- a code that goes on
@@ -105,6 +106,9 @@ module _ (q : CoderLaws) (h : Fields) (height : ℕ) (ok : IsAccepted h) (stripe
 
   pub long_legal : (flags : List Bool) (rows : List (List Bool)) → AreDecided h height short n code flags rows → HasLegalFlags (coding_in h long flags rows)
   long_legal flags rows d = subst HasLegalFlags (same_coding flags rows) d.legal
+
+  pub long_lying : (flags : List Bool) (rows : List (List Bool)) → AreDecided h height short n code flags rows → AreLying h long n flags rows
+  long_lying flags rows d = record { wide = d.wide; from = d.from; to = (let to = d.to in omega (arith, to)); legal = long_legal flags rows d; lies = long_lies flags rows d }
 
   -- ---- a whole raster, cut behind as many rows
 
@@ -220,28 +224,73 @@ module _ (q : CoderLaws) (h : Fields) (height : ℕ) (ok : IsAccepted h) (stripe
             (subst (λ m. Lies (slice_index_or (map (λ (s : Stripe). s.code) long) n []) (after (begun (learned_at (coding_in h long flags one) n)) (flat_map (events_of_row (coding_in h long flags one)) (numbers_from (n * h.l0) m))).place) (sym none)
             (subst (λ u. Lies u start) (sym (code_at (code ++ more))) (bytes_in_start (code ++ more) (bytes_both code more bytes others))))
 
-    -- The decided rows are the first rows of every raster of which the stream goes on so.
-    pub decided_first : (flags flags' : List Bool) (rows one rest : List (List Bool)) → AreDecided h height short n code flags rows → length one ≡ length rows →
+    -- These rows are the first of every raster of which the stream goes on so.
+    pub lying_first : (flags flags' : List Bool) (rows one rest : List (List Bool)) → AreLying h long n flags rows → length one ≡ length rows →
         AllByRecursion (λ row. length row ≡ h.xd) (one ++ rest) → HasLegalFlags (coding_in h whole flags' (one ++ rest)) → EachLies (coding_in h whole flags' (one ++ rest)) (map (λ (s : Stripe). s.code) whole) → rows ≡ one
-    decided_first flags flags' rows one rest d many wide legal lies =
+    lying_first flags flags' rows one rest d many wide legal lies =
         let from : n * h.l0 ≤ length one = omega (arith, d.from, many) in
         let to : length one ≤ (n + 1) * h.l0 = omega (arith, d.to, many) in
         let codes : length (map (λ (s : Stripe). s.code) long) ≡ n + 1 = length-map long (λ (s : Stripe). s.code) ∙ begun_length stripes segments (code ++ more) in
         let enough : length rows ≤ length (map (λ (s : Stripe). s.code) long) * h.l0 = subst (λ k. length rows ≤ k * h.l0) (sym codes) (omega (arith, d.to)) in
         let a = agree h.xd (mode_of h.options) h.l0 ok.stripe_from (map (λ (s : Stripe). move_of s.segments) long) (map (λ (s : Stripe). s.reset) long) rows one flags flags' q (map (λ (s : Stripe). s.code) long)
-        d.wide (all_left (λ row. length row ≡ h.xd) one rest wide) (long_legal flags rows d) (cut_legal one rest flags' from to legal lies)
-        (long_lies flags rows d) (cut_lies one rest flags' from to legal lies) (length rows) (omega arith) (omega (arith, many)) enough in
+        d.wide (all_left (λ row. length row ≡ h.xd) one rest wide) d.legal (cut_legal one rest flags' from to legal lies)
+        d.lies (cut_lies one rest flags' from to legal lies) (length rows) (omega arith) (omega (arith, many)) enough in
         same_list (white_row h.xd) rows one (sym many) a.rows_are
+
+-- of a raster that the stream denotes
+pub lying_in_raster : (q : CoderLaws) (h : Fields) (height : ℕ) (stripes : List Stripe) (segments : List Segment) (code more : List ℕ) (reset : Bool) (later : List Stripe) (flags : List Bool) (rows : List (List Bool)) (body : List ℕ) (raster : Raster) →
+    IsAccepted h → IsBytes code → IsBytes more → AreLying h (begun_stripes stripes segments (code ++ more)) (length stripes) flags rows → length rows ≤ height →
+    (p : DenotesAt h height body raster) → p.parts.stripes ≡ stripes ++ record { segments = segments; code = code ++ more; reset = reset } ∷ later →
+    take (length rows) raster.rows ≡ rows
+lying_in_raster q h height stripes segments code more reset later flags rows body raster ok bytes others d to p e =
+    let many : length rows ≤ length raster.rows = omega (arith, to, p.height) in
+    let cut = split_at (length rows) raster.rows many in
+    let wide = subst (AllByRecursion (λ row. length row ≡ h.xd)) (sym cut.0) (subst (λ w. AllByRecursion (λ row. length row ≡ w) raster.rows) p.width p.proper.rows) in
+    let legal = subst (λ r. HasLegalFlags (coding_in h (stripes ++ broken_one segments (code ++ more) reset ∷ later) p.flags r)) (sym cut.0) (subst (λ s. HasLegalFlags (coding_in h s p.flags raster.rows)) e p.legal) in
+    let lies = subst (λ r. EachLies (coding_in h (stripes ++ broken_one segments (code ++ more) reset ∷ later) p.flags r) (map (λ (s : Stripe). s.code) (stripes ++ broken_one segments (code ++ more) reset ∷ later))) (sym cut.0)
+    (subst (λ s. EachLies (coding_in h s p.flags raster.rows) (map (λ (t : Stripe). t.code) s)) e p.lies) in
+    sym (lying_first q h height ok stripes segments code more bytes others reset later flags p.flags rows (take (length rows) raster.rows) (drop (length rows) raster.rows) d cut.1 wide legal lies)
+
+-- of rows that stripes behind it decide
+pub lying_in_rows : (q : CoderLaws) (h : Fields) (height : ℕ) (stripes : List Stripe) (segments : List Segment) (code more : List ℕ) (reset : Bool) (later : List Stripe) (flags : List Bool) (rows : List (List Bool))
+    (all : List Stripe) (segments' : List Segment) (code' : List ℕ) (flags' : List Bool) (rows' : List (List Bool)) →
+    IsAccepted h → IsBytes code → IsBytes more → AreLying h (begun_stripes stripes segments (code ++ more)) (length stripes) flags rows →
+    AreDecided h height (begun_stripes all segments' code') (length all) code' flags' rows' → all ≡ stripes ++ record { segments = segments; code = code ++ more; reset = reset } ∷ later →
+    take (length rows) rows' ≡ rows
+lying_in_rows q h height stripes segments code more reset later flags rows all segments' code' flags' rows' ok bytes others d p e =
+    let behind : length stripes + 1 ≤ length all = (let k = ap length e ∙ length-append stripes (broken_one segments (code ++ more) reset ∷ later) in omega (arith, k)) in
+    let up : (length stripes + 1) * h.l0 ≤ length all * h.l0 = mul-le-mul_right h.l0 behind in
+    let many : length rows ≤ length rows' = omega (arith, d.to, up, p.from) in
+    let cut = split_at (length rows) rows' many in
+    let whole_is : begun_stripes all segments' code' ≡ stripes ++ broken_one segments (code ++ more) reset ∷ (later ++ broken_one segments' code' false ∷ []) =
+    ap (λ z. z ++ broken_one segments' code' false ∷ []) e ∙ append_assoc stripes (broken_one segments (code ++ more) reset ∷ later) (broken_one segments' code' false ∷ []) in
+    let wide = subst (AllByRecursion (λ row. length row ≡ h.xd)) (sym cut.0) p.wide in
+    let legal = subst (λ r. HasLegalFlags (coding_in h (stripes ++ broken_one segments (code ++ more) reset ∷ (later ++ broken_one segments' code' false ∷ [])) flags' r)) (sym cut.0) (subst (λ s. HasLegalFlags (coding_in h s flags' rows')) whole_is p.legal) in
+    let lies = subst (λ r. EachLies (coding_in h (stripes ++ broken_one segments (code ++ more) reset ∷ (later ++ broken_one segments' code' false ∷ [])) flags' r) (map (λ (s : Stripe). s.code) (stripes ++ broken_one segments (code ++ more) reset ∷ (later ++ broken_one segments' code' false ∷ [])))) (sym cut.0)
+    (subst (λ s. EachLies (coding_in h s flags' rows') (map (λ (t : Stripe). t.code) s)) whole_is p.lies) in
+    sym (lying_first q h height ok stripes segments code more bytes others reset (later ++ broken_one segments' code' false ∷ []) flags flags' rows (take (length rows) rows') (drop (length rows) rows') d cut.1 wide legal lies)
+
+-- what a code decides, it decides where it goes on
+pub decided_longer : (q : CoderLaws) (h : Fields) (height : ℕ) (stripes : List Stripe) (segments : List Segment) (code more : List ℕ) (flags : List Bool) (rows : List (List Bool)) →
+    IsAccepted h → IsBytes code → IsBytes more → AreDecided h height (begun_stripes stripes segments code) (length stripes) code flags rows →
+    AreDecided h height (begun_stripes stripes segments (code ++ more)) (length stripes) (code ++ more) flags rows
+decided_longer q h height stripes segments code more flags rows ok bytes others d =
+    let l = long_lying q h height ok stripes segments code more bytes others flags rows d in
+    record {
+      wide = d.wide;
+      from = d.from;
+      to = d.to;
+      legal = l.legal;
+      lies = l.lies;
+      enough =
+          subst (λ c. AreEnoughFor c (length stripes) (length (code ++ more))) (same_coding q h height ok stripes segments code more bytes others flags rows)
+          (enough_more (length code) (length (code ++ more)) (begun (learned_at (coding_in h (begun_stripes stripes segments code) flags rows) (length stripes))) (events_of (coding_in h (begun_stripes stripes segments code) flags rows) (length stripes))
+          (let k = length-append code more in omega (arith, k)) d.enough);
+    }
 
 pub decided_stays_at : (q : CoderLaws) (h : Fields) (height : ℕ) (stripes : List Stripe) (segments : List Segment) (code more : List ℕ) (reset : Bool) (later : List Stripe) (flags : List Bool) (rows : List (List Bool)) (body : List ℕ) (raster : Raster) →
     IsAccepted h → IsBytes code → IsBytes more → AreDecided h height (begun_stripes stripes segments code) (length stripes) code flags rows →
     (p : DenotesAt h height body raster) → p.parts.stripes ≡ stripes ++ record { segments = segments; code = code ++ more; reset = reset } ∷ later →
     take (length rows) raster.rows ≡ rows
 decided_stays_at q h height stripes segments code more reset later flags rows body raster ok bytes others d p e =
-    let many : length rows ≤ length raster.rows = omega (arith, d.to, p.height) in
-    let cut = split_at (length rows) raster.rows many in
-    let wide = subst (AllByRecursion (λ row. length row ≡ h.xd)) (sym cut.0) (subst (λ w. AllByRecursion (λ row. length row ≡ w) raster.rows) p.width p.proper.rows) in
-    let legal = subst (λ r. HasLegalFlags (coding_in h (stripes ++ broken_one segments (code ++ more) reset ∷ later) p.flags r)) (sym cut.0) (subst (λ s. HasLegalFlags (coding_in h s p.flags raster.rows)) e p.legal) in
-    let lies = subst (λ r. EachLies (coding_in h (stripes ++ broken_one segments (code ++ more) reset ∷ later) p.flags r) (map (λ (s : Stripe). s.code) (stripes ++ broken_one segments (code ++ more) reset ∷ later))) (sym cut.0)
-    (subst (λ s. EachLies (coding_in h s p.flags raster.rows) (map (λ (t : Stripe). t.code) s)) e p.lies) in
-    sym (decided_first q h height ok stripes segments code more bytes others reset later flags p.flags rows (take (length rows) raster.rows) (drop (length rows) raster.rows) d cut.1 wide legal lies)
+    lying_in_raster q h height stripes segments code more reset later flags rows body raster ok bytes others (long_lying q h height ok stripes segments code more bytes others flags rows d) (let to = d.to in omega (arith, to)) p e

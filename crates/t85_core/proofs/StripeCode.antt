@@ -13,8 +13,11 @@ use Rattle.t85_core.specs.Carried.{begin}
 use Rattle.t85_core.specs.Decoding.{IsCarried}
 use Rattle.t85_core.specs.Grammar.{Move, segment_bytes, marker_bytes}
 use Rattle.t85_core.specs.Jbg.{Settings, move_segments}
-use Rattle.t85_core.specs.Written.{Course, move_on, course_on, lines_down}
-use Rattle.t85_core.specs.Encoding.{IsHeld, IsCountedTo, IsTallied, EntityWritten, RowsShort, StripeCoded, StripeShort}
+use Rattle.pbm_core.specs.Device.{AppendsBeginning}
+use Rattle.qm_core.specs.Code.{code_of, stuffed}
+use Rattle.t85_core.specs.Written.{Course, move_on, between_on, course_on, lines_down}
+use Rattle.t85_core.specs.Encoding.{IsHeld, IsCountedTo, IsTallied, EntityWritten, EntityRefused, RowsShort, StripeCoded, StripeRefused, StripeShort}
+use Rattle.t85_core.proofs.RowsJoined.{reads_none}
 use Rattle.t85_core.proofs.Inked.{appends_none}
 use Rattle.t85_core.proofs.Streams.{Appends-more}
 
@@ -74,6 +77,38 @@ module _ (s : Settings) (width : ℕ) (at : Course) (text text' : Option (List �
     }));
     set_out = subst (λ m. Appends text text' (flat_map segment_bytes (move_segments m))) (sym (chosen_move None none)) (subst (λ t. Appends text t []) (sym same) (appends_none text));
   }
+
+  -- the sheet took no more of the move
+  pub move_refused : (offset count : ℕ) (known : Option (List ℕ)) → chosen ≡ Some offset → AppendsBeginning text text' (segment_bytes (Move 0 offset)) → StripeRefused s width count at known known text text'
+  move_refused offset count known some p = record {
+    rows = [];
+    few = omega arith;
+    read = reads_none width known;
+    bytes = p.front;
+    begins = λ later many.
+        let behind : List ℕ = stuffed (code_of (between_on s width at later).state.place) ++ marker_bytes s.reset in
+        record {
+          rest = p.rest ++ behind;
+          bytes_are =
+              ap (λ m. flat_map segment_bytes (move_segments m) ++ behind) (chosen_move (Some offset) some)
+              ∙ ap (λ z. z ++ behind) (append-nil (segment_bytes (Move 0 offset)) ∙ p.text_is) ∙ append_assoc p.front p.rest behind;
+        };
+    set_out = p.appends;
+  }
+
+-- the sheet took no more of the stripe behind its move
+pub stripe_refused : (s : Settings) (width count : ℕ) (at : Course) (known known' text mid text' : Option (List ℕ)) (carried : Carried)
+    → MoveMade s width at text mid carried → EntityRefused s width (move_on s width at) at.carry count known known' mid text' → StripeRefused s width count at known known' text text'
+stripe_refused s width count at known known' text mid text' carried made e = record {
+  rows = e.rows;
+  few = e.few;
+  read = e.read;
+  bytes = front ++ e.bytes;
+  begins = λ later many. (let b = e.begins later many in record { rest = b.rest; bytes_are = ap (λ z. front ++ z) b.bytes_are ∙ sym (append_assoc front e.bytes b.rest) });
+  set_out = Appends-more text mid text' front e.bytes made.set_out e.set_out;
+} where
+  front : List ℕ
+  front = flat_map segment_bytes (move_segments (move_on s width at))
 
 -- the offset against which rows are counted is that with which the next stripe begins
 pub stripe_coded : (s : Settings) (width count : ℕ) (is_counted : Bool) (at : Course) (known known' text mid text' : Option (List ℕ)) (carried carried' : Carried) (current : ℕ) (counted : Option ℕ) (tally tally' : Tally)

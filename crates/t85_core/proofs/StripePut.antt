@@ -16,23 +16,28 @@ use Rattle.t85_core.specs.declared.walk.Code.{Code}
 use Rattle.t85_core.specs.declared.walk.Head.{Head}
 use Rattle.t85_core.specs.declared.rows.Carried.{Carried}
 use Rattle.t85_core.specs.Header.{Fields}
-use Rattle.t85_core.specs.Grammar.{Segment, segment_bytes, marker_bytes, is_move, is_nil, IsBegun}
+use Rattle.raster_core.specs.Packed.{packed_row}
+use Rattle.t85_core.specs.Grammar.{Segment, segment_bytes, stripe_bytes, marker_bytes, is_move, is_nil, IsBegun}
+use Rattle.t85_core.specs.Coding.{mode_of, move_of}
 use Rattle.t85_core.specs.Refusal.{rest_fault}
 use Rattle.t85_core.specs.Walk.{Ends}
 use Rattle.t85_core.specs.Piece.{code_bytes, PassesHead, PassesCode, HeadFault}
-use Rattle.t85_core.specs.Entity.{Standing, GivesFault, BreaksIn, Finishes}
+use Rattle.t85_core.specs.Entity.{Standing, GivesFault, BreaksIn, Finishes, entity_known}
 use Rattle.t85_core.specs.Carried.{Carry, begin, end_of}
-use Rattle.t85_core.specs.Broken.{BegunRun}
-use Rattle.t85_core.specs.Decoding.{pair_of, IsShapeOf, IsCarried, CodeBegins, RowsRead, RowsCut, StripeRead, StripeCut}
+use Rattle.t85_core.specs.Broken.{BegunRun, RunEnough}
+use Rattle.t85_core.specs.RowsSoFar.{RowsSoFar}
+use Rattle.t85_core.specs.Unset.{StripeUnset}
+use Rattle.t85_core.specs.Decoding.{pair_of, IsShapeOf, IsCarried, CodeBegins, RowsRead, RowsCut, RowsUnset, StripeRead, StripeCut}
 use Rattle.t85_core.specs.CoderLaws.{CoderLaws}
 use Rattle.t85_core.proofs.Ends.{Ends-after}
 use Rattle.t85_core.proofs.Lists.{All-append}
-use Rattle.t85_core.proofs.Streams.{Consumes-more}
+use Rattle.t85_core.proofs.Streams.{Consumes-more, beginning_all}
+use Rattle.t85_core.proofs.Passed.{Consumes-none}
 use Rattle.t85_core.proofs.Stuffing.{stuffed_append}
 use Rattle.t85_core.proofs.StripeBegins.{begun_none}
 use Rattle.t85_core.proofs.RowPut.{appends_nothing}
 use Rattle.t85_core.proofs.RowsSoFar.{rows_whole, rows_full}
-use Rattle.t85_core.proofs.Entities.{LastIs, Parted}
+use Rattle.t85_core.proofs.Entities.{LastIs, Parted, consumes_front}
 
 -- the segments were passed, where what the code begins with was read ahead
 segments_taken : (old mid : Option (List ℕ)) (front back : List ℕ) → Consumes old mid (front ++ back) → Consumes old (prepend_known back mid) front
@@ -129,6 +134,48 @@ module _ {T : Type 0} (standing : T → Standing) (failed : T → ℕ) (h : Fiel
       begun : BegunRun h count c segments (bytes_of answers) r.rows r.flags
       begun = subst (λ z. BegunRun h count c segments (bytes_of z) r.rows r.flags) same r.begun
 
+    -- the sheet took no more
+    pub stripe_unset : CoderLaws → {pull : T → Pulled → T → Type 0} (count : ℕ) (text text' : Option (List ℕ)) (r : RowsUnset pull s t h c segments count text text') → r.answers ≡ answers →
+        (u : Option (List ℕ)) (ahead : List ℕ) → Consumes (standing t).known u ahead → StripeUnset h c old u count text text'
+    stripe_unset q count text text' r same u ahead further = went (heard_of answers) refl part.last where
+      stands : Stands r.decoder r.last.state.place answers
+      stands = subst (Stands r.decoder r.last.state.place) same r.stands
+
+      so_far : RowsSoFar h c segments answers r.rows r.flags r.last
+      so_far = subst (λ z. RowsSoFar h c segments z r.rows r.flags r.last) same r.so_far
+
+      made : (given : List ℕ) → Consumes old (standing t).known given →
+          ((given ≡ flat_map segment_bytes segments ++ stuffed (bytes_of answers)) × RunEnough (length (bytes_of answers)) (mode_of h.options) (move_of segments) 0 (begin c) r.rows r.flags)
+          ⊎ ((reset : Bool) × (given ≡ stripe_bytes (record { segments = segments; code = bytes_of answers; reset = reset }))) → StripeUnset h c old u count text text'
+      made given taken decides = record {
+        given = given;
+        ahead = ahead;
+        taken = Consumes-more old (standing t).known u given ahead taken further;
+        rows = r.rows;
+        flags = r.flags;
+        decides = record {
+          segments = segments;
+          code = bytes_of answers;
+          begun = begun_with (bytes_of answers) stands.bytes;
+          front = record {
+            last = r.last;
+            run = so_far.run;
+            few = r.few;
+            lies = q.answers_lie r.decoder r.last.state.place answers (bytes_of answers) stands (record { rest = []; is = sym (append-nil (bytes_of answers)); bytes = tt; ended = λ _. refl });
+          };
+          decides = decides;
+        };
+        set_out = r.set_out;
+      }
+
+      went : (k : Heard) → heard_of answers ≡ k → LastIs standing part.mid k t → StripeUnset h c old u count text text'
+      went More e last = made (front ++ stuffed (bytes_of answers)) (subst (λ z. Consumes old (standing z).known (front ++ stuffed (bytes_of answers))) last taken_so_far) (inl (refl, so_far.enough e))
+      went Ended e last =
+          let g = last.0 in
+          made ((front ++ stuffed (bytes_of answers)) ++ marker_bytes g.reset) (Consumes-more old (standing part.mid).known (standing t).known (front ++ stuffed (bytes_of answers)) (marker_bytes g.reset) taken_so_far g.taken)
+          (inr (g.reset, append_assoc front (stuffed (bytes_of answers)) (marker_bytes g.reset)))
+      went Stopped e last = absurd (r.unstopped (ap heard_of same ∙ e))
+
     -- the code breaks behind the stripe's rows
     pub stripe_rest : CoderLaws → {pull : T → Pulled → T → Type 0} (shape : Shape) (count : ℕ) (carried : Carried) (d : Decoder) (text text' : Option (List ℕ)) (r : RowsRead pull s t h shape c segments count carried d text text') → r.answers ≡ answers →
         (u : Option (List ℕ)) (fault : Fault) → (standing t).marker ≡ None → Ends Truncated (standing t).known u (BreaksIn (standing t).first) fault → StripeCut h c old u count text text' fault
@@ -163,6 +210,34 @@ module _ {T : Type 0} (standing : T → Standing) (failed : T → ℕ) (h : Fiel
         some_code code (inr some) = let long = length-append (bytes_of answers) code in omega (arith, some, long)
       went Ended e last = absurd (let both : None ≡ Some last.0.reset = sym open_ ∙ last.0.marker in let bot : ⊥ = cc in bot)
       went Stopped e last = absurd (r.unstopped (ap heard_of same ∙ e))
+
+-- A stripe that breaks: all its rows that what came decides were set out.
+pub cut_unset : (h : Fields) (c : Carry) (old mid new : Option (List ℕ)) (ahead : List ℕ) (count : ℕ) (text text' : Option (List ℕ)) (fault : Fault) → StripeCut h c old mid count text text' fault → Consumes mid new ahead →
+    StripeUnset h c old new count text text'
+cut_unset h c old mid new ahead count text text' fault s further =
+    let d = s.ends.has_fault in
+    let part : List ℕ = flat_map segment_bytes d.0.segments ++ stuffed d.0.code in
+    record {
+      given = flat_map segment_bytes d.0.segments ++ stuffed d.0.code;
+      ahead = d.0.rest ++ ahead;
+      taken = subst (Consumes old new) (ap (λ z. z ++ ahead) (d.0.bytes_are ∙ sym (append_assoc (flat_map segment_bytes d.0.segments) (stuffed d.0.code) d.0.rest)) ∙ append_assoc part d.0.rest ahead)
+          (Consumes-more old mid new s.ends.given ahead s.ends.taken further);
+      rows = s.rows;
+      flags = s.flags;
+      decides = record {
+        segments = d.0.segments;
+        code = d.0.code;
+        begun = d.0.begun;
+        front = record { last = d.1.last; run = d.1.run; few = d.1.few; lies = d.1.lies };
+        decides = inl (refl, d.1.enough);
+      };
+      set_out = beginning_all text text' (flat_map packed_row s.rows) s.set_out;
+    }
+
+-- behind what was read ahead of a code
+pub ahead_of : (first : Option Code) (known : Option (List ℕ)) → (ahead : List ℕ) × Consumes (entity_known first known) known ahead
+ahead_of None known = ([], Consumes-none known)
+ahead_of (Some c) known = (code_bytes c, consumes_front known (code_bytes c))
 
 -- a stripe that breaks before its code begins
 pub stripe_head : (h : Fields) (c : Carry) (old new : Option (List ℕ)) (count : ℕ) (text : Option (List ℕ)) (fault : Fault) → 1 ≤ h.xd → Ends Truncated old new (HeadFault h) fault → StripeCut h c old new count text text fault

@@ -19,7 +19,7 @@ use Rattle.t85_core.specs.Grammar.{stripe_bytes, stripe_count}
 use Rattle.t85_core.specs.Jbg.{Settings, coding_of, coded_stripe, stripes_of, stripes_up_to}
 use Rattle.t85_core.specs.Written.{Course, first_course, stripe_on, course_on, IsBeginning}
 use Rattle.t85_core.specs.Encodes.{raster_of, BeginsWith}
-use Rattle.t85_core.specs.Encoding.{ReadsRows, IsOnCourse, StripeCoded, StripeShort, ImageCoded, ImageShort}
+use Rattle.t85_core.specs.Encoding.{ReadsRows, IsOnCourse, StripeCoded, StripeShort, StripeRefused, ImageCoded, ImageShort, ImageRefused}
 use Rattle.t85_core.proofs.Joined.{stripe_at}
 use Rattle.t85_core.proofs.Streams.{Appends-more}
 use Rattle.t85_core.proofs.Inked.{appends_none}
@@ -179,6 +179,22 @@ module _ (s : Settings) (width height' i : ℕ) (some : 1 ≤ s.stripe_rows) (in
         (rows_go_on (white_row raster.width) raster.rows so.rows r.rows (i * l) l b.first many (omega (arith, r.few, count_is, b.height_is)))
         (λ later is. r.begins later (omega (arith, is, count_is, b.height_is))))
         (all_begin raster b.height_is)
+
+  -- the sheet took no more of a stripe
+  pub stripes_refused : (count : ℕ) → count ≡ min l (height' - i * l) → StripeRefused s width count so.at mid known' put text' → ImageRefused width height' (λ raster. stripes_of s raster) known known' text text'
+  stripes_refused count count_is r = record {
+    rows = so.rows ++ r.rows;
+    few = omega (arith, length-append so.rows r.rows, many, r.few, count_is, within);
+    read = reads_join width known mid known' so.rows r.rows so.read r.read;
+    bytes = so.bytes ++ r.bytes;
+    begins = λ raster b.
+        begins_on _ _ _
+        (stripe_begins raster r.rows r.bytes (first_begins width height' so.rows r.rows raster b)
+        (rows_go_on (white_row raster.width) raster.rows so.rows r.rows (i * l) l b.first many (omega (arith, r.few, count_is, b.height_is)))
+        (λ later is. r.begins later (omega (arith, is, count_is, b.height_is))))
+        (all_begin raster b.height_is);
+    set_out = Appends-more text put text' _ _ so.set_out r.set_out;
+  }
 
 -- all rows were read
 pub stripes_coded : (s : Settings) (width height' i : ℕ) (known known' text text' : Option (List ℕ)) (carried : Carried) (tally : Tally) → i ≡ stripe_count height' s.stripe_rows → 1 ≤ s.stripe_rows

@@ -36,3 +36,10 @@ pub record BegunRun (h : Fields) (count : ℕ) (c : Carry) (segments : List Segm
   pub lies : Lies code last.state.place
   pub enough : RunEnough (length code) (mode_of h.options) (move_of segments) 0 (begin c) rows flags
   pub ends : (length rows ≡ count) ⊎ NoneDecided h.xd (mode_of h.options) (move_of segments) (length rows) last code
+
+-- The first rows of a stripe of so many rows, of which these segments and this code came: the code lies where they lead.
+pub record FrontRun (h : Fields) (count : ℕ) (c : Carry) (segments : List Segment) (code : List ℕ) (rows : List (List Bool)) (flags : List Bool) : Type 0 where
+  pub last : Between
+  pub run : Run h.xd (mode_of h.options) (move_of segments) 0 (begin c) rows flags last
+  pub few : length rows ≤ count
+  pub lies : Lies code last.state.place

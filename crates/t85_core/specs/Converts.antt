@@ -1,6 +1,7 @@
 -- What decoding leaves of its input and its output.
-use Rattle.std.specs.Prelude.{ℕ, ◌≡◌, ◌≢◌, ◌⊎◌, Bool, true, false, List, drop, Option, IfSome, Some, Result, OnOk, IfErr, IsErrOf}
+use Rattle.std.specs.Prelude.{ℕ, ◌≡◌, ◌≢◌, ◌⊎◌, Bool, true, false, List, ◌++◌, drop, Option, IfSome, Some, Result, OnOk, IfErr, IsErrOf}
 use Rattle.std.specs.Io.KnownBytes.{Appends, Consumes, Keeps}
+use Rattle.pbm_core.specs.Device.{AppendsBeginning}
 use Rattle.raster_core.specs.Raster.{Raster}
 use Rattle.t85_core.specs.declared.fault.Fault.{Fault}
 use Rattle.t85_core.specs.declared.fault.Fault.TheVariants.{ShortHeader, Truncated, Read, Write, OutOfMemory, NotYet}
@@ -8,7 +9,7 @@ use Rattle.t85_core.specs.Header.{Fields, HeaderOf, header_fault}
 use Rattle.t85_core.specs.Coding.{has_bit}
 use Rattle.t85_core.specs.Denotes.{Denotes, DenotesAt}
 use Rattle.t85_core.specs.Fixed.{Fixes}
-use Rattle.t85_core.specs.Image.{pbm_rows, pbm_text}
+use Rattle.t85_core.specs.Image.{IsOutcome, pbm_rows, pbm_text}
 use Rattle.t85_core.specs.Info.{IsWalkFault}
 use Rattle.t85_core.specs.Walk.{CountsBoth, CountsWrite}
 
@@ -26,6 +27,12 @@ pub record WritesRows (h : Fields) (height : ℕ) (body : List ℕ) (fault : Fau
   pub only : (other : Fault) (others : List (List Bool)) → Fixes h height body other others → (other ≡ fault) × (others ≡ rows)
   pub appends : Appends old new (pbm_rows h.xd height rows)
 
+-- What was written is a beginning of what is to be written for each body that begins with what was taken, however it goes on.
+pub record WritesFront (h : Fields) (height : ℕ) (in_old in_new out_old out_new : Option (List ℕ)) : Type 0 where
+  pub given : List ℕ
+  pub taken : Consumes in_old in_new given
+  pub appends : (rest : List ℕ) (fault : Option Fault) (text : List ℕ) → IsOutcome h height (given ++ rest) fault text → AppendsBeginning out_old out_new text
+
 -- What `decode` leaves for a header and a height. Of each device are given the known bytes and the count of failures,
 -- before the call and after it.
 pub record Decodes (h : Fields) (height : ℕ) (in_old in_new : Option (List ℕ)) (reads_old reads_new : ℕ)
@@ -34,6 +41,8 @@ pub record Decodes (h : Fields) (height : ℕ) (in_old in_new : Option (List ℕ
   pub broken : IfErr answer (λ f. f ≢ Read → f ≢ Write → IfSome in_old (λ body. WritesRows h height body f out_old out_new))
   -- a read failed, and what came up to there breaks at its end
   pub unread : IsErrOf answer Read → (given : List ℕ) × Consumes in_old in_new given × WritesRows h height given Truncated out_old out_new
+  -- whatever the answer: where a write failed, too, and a read before it
+  pub front : WritesFront h height in_old in_new out_old out_new
   pub among : IfErr answer (λ f. f ≢ Write → IsWalkFault f)
   pub reads : CountsBoth reads_old reads_new answer
   pub writes : CountsWrite writes_old writes_new answer
@@ -74,6 +83,16 @@ abbrev pub IsRefused : List ℕ → Fault → Option (List ℕ) → Option (List
 IsRefused bytes fault old new =
     ((header_fault bytes ≡ Some fault) × Keeps old new) ⊎ (IsVariable bytes × (fault ≡ NotYet) × Keeps old new) ⊎ WritesBeginning bytes fault old new
 
+-- A write failed: what was written is a beginning of what is to be written for each stream that begins with what was
+-- taken, however it goes on.
+pub record WritesStreamFront (in_old in_new out_old out_new : Option (List ℕ)) : Type 0 where
+  pub given : List ℕ
+  pub taken : Consumes in_old in_new given
+  pub header : Fields
+  pub header_of : HeaderOf given header
+  pub height_is_fixed : is_variable header ≡ false
+  pub appends : (rest : List ℕ) (fault : Option Fault) (text : List ℕ) → IsOutcome header header.yd (drop 20 (given ++ rest)) fault text → AppendsBeginning out_old out_new text
+
 -- What `to_pbm` leaves.
 pub record Converts (in_old in_new : Option (List ℕ)) (reads_old reads_new : ℕ)
     (out_old out_new : Option (List ℕ)) (writes_old writes_new : ℕ) (flushed : Bool) (answer : Result (Unit {0}) Fault) : Type 0 where
@@ -85,5 +104,6 @@ pub record Converts (in_old in_new : Option (List ℕ)) (reads_old reads_new : �
   -- a read failed, and what came up to there is no whole stream
   pub unread : IsErrOf answer Read → (given : List ℕ) × Consumes in_old in_new given
       × (((header_fault given ≡ Some ShortHeader) × Keeps out_old out_new) ⊎ WritesBeginning given Truncated out_old out_new)
+  pub cut : IsErrOf answer Write → WritesStreamFront in_old in_new out_old out_new
   pub reads : CountsBoth reads_old reads_new answer
   pub writes : CountsWrite writes_old writes_new answer

@@ -1,6 +1,7 @@
 -- What a decoder of rows and stripes leaves.
 use Rattle.std.specs.Prelude.{ℕ, ◌+◌, ◌≡◌, ◌≤◌, Bool, List, [], ◌++◌, length, Option, Some, None, flat_map, Result, Ok, Err}
 use Rattle.std.specs.Io.KnownBytes.{Appends, Consumes}
+use Rattle.pbm_core.specs.Device.{AppendsBeginning}
 use Rattle.qm_core.specs.Code.{IsBytes}
 use Rattle.qm_core.specs.Answers.{bytes_of, heard_of, IsClosed, Gives}
 use Rattle.qm_core.specs.Standing.{Stands}
@@ -86,12 +87,22 @@ pub record RowsCut {S : Type 0} (pull : S → Pulled → S → Type 0) (from to 
   pub begun : BegunRun h count c segments (bytes_of answers) rows flags
   pub set_out : Appends text text' (flat_map packed_row rows)
 
--- The sheet took no more: until then the source had not stopped.
-pub record RowsUnset {S : Type 0} (pull : S → Pulled → S → Type 0) (from to : S) : Type 0 where
+-- The sheet took no more, in a row that was decoded: until then the source had not stopped, and a beginning of the rows
+-- was set out.
+pub record RowsUnset {S : Type 0} (pull : S → Pulled → S → Type 0) (from to : S) (h : Fields) (c : Carry) (segments : List Segment) (count : ℕ)
+    (text text' : Option (List ℕ)) : Type 0 where
   pub answers : List Pulled
   pub gives : Gives pull from answers to
   pub closed : IsClosed answers
   pub unstopped : heard_of answers ≡ Stopped → ⊥
+  pub rows : List (List Bool)
+  pub flags : List Bool
+  pub last : Between
+  pub so_far : RowsSoFar h c segments answers rows flags last
+  pub few : length rows ≤ count
+  pub decoder : Decoder
+  pub stands : Stands decoder last.state.place answers
+  pub set_out : AppendsBeginning text text' (flat_map packed_row rows)
 
 -- a row more, in whatever stripe it stands
 abbrev pub RowMore : {S : Type 0} → (S → Pulled → S → Type 0) → S → S → Shape → Option (ℕ × ℕ) → ℕ → Carried → Carried → Decoder → Decoder → Option (List ℕ) → Option (List ℕ) → Type 0
@@ -108,10 +119,10 @@ NoRowMore {S} pull old new shape move row carried d text text' =
     RowsCut pull from new h c segments count began text'
 
 -- a row that the sheet didn't take, in whatever stripe
-abbrev pub RowUnset : {S : Type 0} → (S → Pulled → S → Type 0) → S → S → Shape → Option (ℕ × ℕ) → ℕ → Carried → Decoder → Option (List ℕ) → Type 0
-RowUnset {S} pull old new shape move row carried d text =
-    (from : S) (began : Option (List ℕ)) (h : Fields) (c : Carry) (segments : List Segment) → move ≡ move_of segments →
-    RowsRead pull from old h shape c segments row carried d began text → RowsUnset pull from new
+abbrev pub RowUnset : {S : Type 0} → (S → Pulled → S → Type 0) → S → S → Shape → Option (ℕ × ℕ) → ℕ → Carried → Decoder → Option (List ℕ) → Option (List ℕ) → Type 0
+RowUnset {S} pull old new shape move row carried d text text' =
+    (from : S) (began : Option (List ℕ)) (h : Fields) (c : Carry) (segments : List Segment) (count : ℕ) → move ≡ move_of segments → row + 1 ≤ count →
+    RowsRead pull from old h shape c segments row carried d began text → RowsUnset pull from new h c segments count began text'
 
 -- the rows of a stripe
 abbrev pub RowsOfStripe : {S : Type 0} → (S → Pulled → S → Type 0) → S → S → Shape → Option (ℕ × ℕ) → ℕ → Carried → Carried → Option (List ℕ) → Option (List ℕ) → Type 0
@@ -126,9 +137,10 @@ RowsOfCut {S} pull old new shape move count carried text text' =
     RowsCut pull old new h c segments count text text'
 
 -- the rows of a stripe that the sheet didn't take
-abbrev pub RowsOfUnset : {S : Type 0} → (S → Pulled → S → Type 0) → S → S → Shape → Option (ℕ × ℕ) → Carried → Type 0
-RowsOfUnset {S} pull old new shape move carried =
-    (h : Fields) (c : Carry) (segments : List Segment) → move ≡ move_of segments → IsShapeOf h shape → IsCarried (begin c) carried → RowsUnset pull old new
+abbrev pub RowsOfUnset : {S : Type 0} → (S → Pulled → S → Type 0) → S → S → Shape → Option (ℕ × ℕ) → ℕ → Carried → Option (List ℕ) → Option (List ℕ) → Type 0
+RowsOfUnset {S} pull old new shape move count carried text text' =
+    (h : Fields) (c : Carry) (segments : List Segment) → move ≡ move_of segments → IsShapeOf h shape → IsCarried (begin c) carried →
+    RowsUnset pull old new h c segments count text text'
 
 -- at the top of an image, and after a reset
 abbrev pub IsFirst : Carried → Type 0

@@ -1,5 +1,5 @@
 -- What encoding leaves of its input and its output.
-use Rattle.std.specs.Prelude.{ℕ, ◌/◌, ◌≡◌, ◌≢◌, ◌<◌, ◌⊎◌, ⊤, Bool, true, List, [], length, take, Option, IfSome, Result, OnOk, IfErr, IsErrOf}
+use Rattle.std.specs.Prelude.{ℕ, ◌/◌, ◌≡◌, ◌≢◌, ◌≤◌, ◌<◌, ◌⊎◌, ⊤, Bool, true, List, [], length, take, Option, IfSome, Result, OnOk, IfErr, IsErrOf}
 use Rattle.std.specs.Io.KnownBytes.{Appends, Consumes, Keeps}
 use Rattle.pbm_core.specs.Pbm.{bytes_of_row}
 use Rattle.pbm_core.specs.Image.{HoldsRows, IsPbm}
@@ -60,6 +60,18 @@ pub record WritesBegun (s : Settings) (width height' : ℕ) (body : List ℕ) (o
   pub begun : (raster : Raster) → BeginsWith width height' rows raster → HoldsStripes s raster (length rows) text
   pub appends : Appends old new text
 
+-- What was written is a beginning of the code of each raster that begins with the rows that stand in these bytes, behind
+-- which there is less than a row more.
+pub record WritesFront (s : Settings) (width height' : ℕ) (body : List ℕ) (old new : Option (List ℕ)) : Type 0 where
+  pub rows : List (List Bool)
+  pub rest : List ℕ
+  pub holds : HoldsRows body width rows rest
+  pub few : length rows ≤ height'
+  pub part : length rest < bytes_of_row width
+  pub text : List ℕ
+  pub begins : (raster : Raster) → BeginsWith width height' rows raster → IsBeginning text (jbg s raster)
+  pub appends : Appends old new text
+
 -- What `encode` leaves for these settings and an image of this size. Of each device are given the known bytes and the
 -- count of failures, before the call and after it.
 pub record Encodes (s : Settings) (width height' : ℕ) (in_old in_new : Option (List ℕ)) (reads_old reads_new : ℕ)
@@ -68,6 +80,8 @@ pub record Encodes (s : Settings) (width height' : ℕ) (in_old in_new : Option 
   pub short : IsErrOf answer (Pbm pbm.Truncated) → IfSome in_old (λ body. WritesBegun s width height' body out_old out_new)
   -- a read failed, and what came up to there ends within the rows
   pub unread : IsErrOf answer (Pbm pbm.Read) → (given : List ℕ) × Consumes in_old in_new given × WritesBegun s width height' given out_old out_new
+  -- whatever the answer, of just the bytes that were taken: where a write failed, too, and a read before it
+  pub front : (given : List ℕ) × Consumes in_old in_new given × WritesFront s width height' given out_old out_new
   pub among : IfErr answer IsEncodeFault
   pub reads : CountsBoth reads_old reads_new answer
   pub writes : CountsWrite writes_old writes_new answer
@@ -93,6 +107,14 @@ pub record WritesSome (s : Settings) (bytes : List ℕ) (old new : Option (List 
   pub header : HasHeader bytes width height' body
   pub writes : WritesBegun s width height' body old new
 
+-- A header that is accepted, and behind it rows of which a beginning was written.
+pub record WritesImageFront (s : Settings) (bytes : List ℕ) (old new : Option (List ℕ)) : Type 0 where
+  pub width : ℕ
+  pub height' : ℕ
+  pub body : List ℕ
+  pub header : HasHeader bytes width height' body
+  pub writes : WritesFront s width height' body old new
+
 -- a header that is accepted, and nothing behind it
 pub record HasSize (bytes : List ℕ) : Type 0 where
   pub width : ℕ
@@ -116,6 +138,8 @@ pub record EncodesImage (s : Settings) (in_old in_new : Option (List ℕ)) (read
   -- a read failed, and what came up to there is no whole image
   pub unread : IsErrOf answer (Pbm pbm.Read) → (given : List ℕ) × Consumes in_old in_new given
       × ((HeaderFault given pbm.Truncated × Keeps out_old out_new) ⊎ WritesSome s given out_old out_new)
+  -- a write failed, or the flush: of just the bytes that were taken
+  pub cut : IsErrOf answer Write → (given : List ℕ) × Consumes in_old in_new given × WritesImageFront s given out_old out_new
   pub among : IfErr answer (λ f. f ≢ NotYet → f ≢ OutOfMemory → f ≢ Write → (fault : PbmFault) × (f ≡ Pbm fault))
   pub reads : CountsBoth reads_old reads_new answer
   pub writes : CountsWrite writes_old writes_new answer

@@ -1,5 +1,5 @@
 -- What an encoder of rows and stripes leaves.
-use Rattle.std.specs.Prelude.{ℕ, ◌*◌, ◌/◌, ◌≡◌, ◌≤◌, ◌<◌, Bool, false, List, [], ◌∷◌, ◌++◌, length, Option, Some, None, IfSome, IsTrue}
+use Rattle.std.specs.Prelude.{ℕ, ◌*◌, ◌/◌, ◌≡◌, ◌≤◌, ◌<◌, Bool, false, List, [], ◌∷◌, ◌++◌, length, Option, Some, None, IfSome, IsTrue, ◌+◌}
 use Rattle.std.specs.Io.KnownBytes.{Appends, Consumes}
 use Rattle.pbm_core.specs.Pbm.{bytes_of_row}
 use Rattle.pbm_core.specs.Image.{rows_in}
@@ -94,6 +94,21 @@ pub record GivesUp {S : Type 0} (took : S → ℕ → S → Type 0) (refused : S
   pub taken : Took took from bytes last
   pub then : refused last to
 
+-- the sink took these bytes, and then refused one
+abbrev pub GivesUpBehind : {S : Type 0} → (S → ℕ → S → Type 0) → (S → S → Type 0) → S → List ℕ → S → Type 0
+GivesUpBehind {S} took refused from bytes to = (last : S) × Took took from bytes last × refused last to
+
+-- No more was taken of a row that was read, or of the end of the code: what was taken is a beginning of the code of each
+-- stripe that begins with the rows that were read, and nothing more was read.
+pub record RowsRefused (IsTaken : List ℕ → Type 0) (s : Settings) (width : ℕ) (move : Option (ℕ × ℕ)) (c : Carry)
+    (count : ℕ) (known known' : Option (List ℕ)) : Type 0 where
+  pub rows : List (List Bool)
+  pub few : length rows ≤ count
+  pub read : ReadsRows width known known' rows
+  pub pushed : List ℕ
+  pub taken : IsTaken pushed
+  pub begins : BeginsCode (mode_of s.options) move c count rows pushed
+
 -- a row more, in whatever stripe it stands
 abbrev pub RowMore : {S : Type 0} → (S → ℕ → S → Type 0) → S → S → Shape → Option ℕ → Option (List ℕ) → Option (List ℕ) → Carried → Carried → Tally → Tally → Encoder → Encoder → Type 0
 RowMore {S} took old new shape counted known known' carried carried' tally tally' e e' =
@@ -112,6 +127,12 @@ RowRefused {S} took refused old new shape counted known carried tally e =
     (from : S) (began : Option (List ℕ)) (s : Settings) (move : Option (ℕ × ℕ)) (c : Carry) (rows : List (List Bool)) → IsShape s shape.width shape →
     RowsCoded took from old s shape.width move c counted began known rows carried tally e →
     GivesUp took refused from new
+
+abbrev pub NoRowTaken : {S : Type 0} → (S → ℕ → S → Type 0) → (S → S → Type 0) → S → S → Shape → Option ℕ → Option (List ℕ) → Option (List ℕ) → Carried → Tally → Encoder → Type 0
+NoRowTaken {S} took refused old new shape counted known known' carried tally e =
+    (from : S) (began : Option (List ℕ)) (s : Settings) (move : Option (ℕ × ℕ)) (c : Carry) (rows : List (List Bool)) (count : ℕ) → IsShape s shape.width shape → length rows < count →
+    RowsCoded took from old s shape.width move c counted began known rows carried tally e →
+    RowsRefused (λ bytes. GivesUpBehind took refused from bytes new) s shape.width move c count began known'
 
 -- All rows of a stripe were read, and their code was taken.
 pub record CodeWritten (IsTaken : List ℕ → Type 0) (s : Settings) (width : ℕ) (move : Option (ℕ × ℕ)) (c : Carry)
@@ -134,6 +155,11 @@ CodeOfShort IsTaken shape count known known' carried fault =
     (s : Settings) (move : Option (ℕ × ℕ)) (c : Carry) → IsShape s shape.width shape → IsHeld move 0 (begin c) carried →
     RowsShort IsTaken s shape.width move c count known known' fault
 
+abbrev pub CodeOfRefused : (List ℕ → Type 0) → Shape → ℕ → Option (List ℕ) → Option (List ℕ) → Carried → Type 0
+CodeOfRefused IsTaken shape count known known' carried =
+    (s : Settings) (move : Option (ℕ × ℕ)) (c : Carry) → IsShape s shape.width shape → IsHeld move 0 (begin c) carried →
+    RowsRefused IsTaken s shape.width move c count known known'
+
 -- what is carried is that of some stripe
 abbrev pub SomeHeld : Shape → Carried → Type 0
 SomeHeld shape carried = (s : Settings) × (move : Option (ℕ × ℕ)) × (c : Carry) × IsShape s shape.width shape × IsHeld move 0 (begin c) carried
@@ -152,6 +178,21 @@ abbrev pub EntityOfRows : Shape → Bool → ℕ → Option ℕ → Option (List
 EntityOfRows shape reset count counted known known' carried carried' tally' text text' =
     (s : Settings) (move : Option (ℕ × ℕ)) (c : Carry) → IsShape s shape.width shape → s.reset ≡ reset → IsHeld move 0 (begin c) carried →
     EntityWritten s shape.width move c count counted known known' carried' tally' text text'
+
+-- The rows of a stripe that were read: what was set out is a beginning of each code, with its end marker, that begins with them.
+pub record EntityRefused (s : Settings) (width : ℕ) (move : Option (ℕ × ℕ)) (c : Carry) (count : ℕ) (known known' text text' : Option (List ℕ)) : Type 0 where
+  pub rows : List (List Bool)
+  pub few : length rows ≤ count
+  pub read : ReadsRows width known known' rows
+  pub bytes : List ℕ
+  pub begins : (later : List (List Bool)) → length rows + length later ≡ count →
+      IsBeginning bytes (stuffed (code_of (after_rows (mode_of s.options) move 0 (begin c) (rows ++ later)).state.place) ++ marker_bytes s.reset)
+  pub set_out : Appends text text' bytes
+
+abbrev pub EntityOfRefused : Shape → Bool → ℕ → Option (List ℕ) → Option (List ℕ) → Carried → Option (List ℕ) → Option (List ℕ) → Type 0
+EntityOfRefused shape reset count known known' carried text text' =
+    (s : Settings) (move : Option (ℕ × ℕ)) (c : Carry) → IsShape s shape.width shape → s.reset ≡ reset → IsHeld move 0 (begin c) carried →
+    EntityRefused s shape.width move c count known known' text text'
 
 -- What a tally counts where a stripe begins: the rows of the stripe before, where there are offsets to choose from.
 pub record IsTallied (s : Settings) (width : ℕ) (at : Course) (tally : Tally) : Type 0 where
@@ -186,6 +227,15 @@ pub record StripeShort (s : Settings) (width count : ℕ) (at : Course) (known k
   pub begins : BeginsStripe s width at count rows bytes
   pub set_out : Appends text text' bytes
 
+-- The rows of a stripe that were read, and no more: what was set out is a beginning of each stripe that begins with them.
+pub record StripeRefused (s : Settings) (width count : ℕ) (at : Course) (known known' text text' : Option (List ℕ)) : Type 0 where
+  pub rows : List (List Bool)
+  pub few : length rows ≤ count
+  pub read : ReadsRows width known known' rows
+  pub bytes : List ℕ
+  pub begins : BeginsStripe s width at count rows bytes
+  pub set_out : Appends text text' bytes
+
 -- some stripe begins with this
 abbrev pub SomeCourse : Shape → Bool → Carried → Tally → Type 0
 SomeCourse shape reset carried tally = (s : Settings) × (at : Course) × IsShape s shape.width shape × (s.reset ≡ reset) × IsOnCourse s shape.width at carried tally
@@ -200,6 +250,11 @@ abbrev pub NoStripeMore : Shape → Bool → ℕ → Option (List ℕ) → Optio
 NoStripeMore shape reset count known known' carried tally text text' fault =
     (s : Settings) (at : Course) → IsShape s shape.width shape → s.reset ≡ reset → IsOnCourse s shape.width at carried tally →
     StripeShort s shape.width count at known known' text text' fault
+
+abbrev pub NoStripeTaken : Shape → Bool → ℕ → Option (List ℕ) → Option (List ℕ) → Carried → Tally → Option (List ℕ) → Option (List ℕ) → Type 0
+NoStripeTaken shape reset count known known' carried tally text text' =
+    (s : Settings) (at : Course) → IsShape s shape.width shape → s.reset ≡ reset → IsOnCourse s shape.width at carried tally →
+    StripeRefused s shape.width count at known known' text text'
 
 -- All rows of an image were read, and this text of the raster that they are was set out.
 pub record ImageCoded (width height' : ℕ) (whole : Raster → List ℕ) (known known' text text' : Option (List ℕ)) : Type 0 where
@@ -218,5 +273,28 @@ pub record ImageShort (s : Settings) (width height' : ℕ) (up_to : Raster → �
   pub part : EndsInRow width mid known' fault
   pub bytes : List ℕ
   pub holds : (raster : Raster) → BeginsWith width height' rows raster → IsBeginning (up_to raster (length rows / s.stripe_rows)) bytes
+  pub begins : (raster : Raster) → BeginsWith width height' rows raster → IsBeginning bytes (whole raster)
+  pub set_out : Appends text text' bytes
+
+-- The rows of an image that were read, and no more: of each image that begins with them, what was set out is a beginning
+-- of this text.
+pub record ImageRefused (width height' : ℕ) (whole : Raster → List ℕ) (known known' text text' : Option (List ℕ)) : Type 0 where
+  pub rows : List (List Bool)
+  pub few : length rows ≤ height'
+  pub read : ReadsRows width known known' rows
+  pub bytes : List ℕ
+  pub begins : (raster : Raster) → BeginsWith width height' rows raster → IsBeginning bytes (whole raster)
+  pub set_out : Appends text text' bytes
+
+-- The same where less than a row more may have been read behind them.
+pub record ImageFront (width height' : ℕ) (whole : Raster → List ℕ) (known known' text text' : Option (List ℕ)) : Type 0 where
+  pub rows : List (List Bool)
+  pub few : length rows ≤ height'
+  pub mid : Option (List ℕ)
+  pub read : ReadsRows width known mid rows
+  pub part : List ℕ
+  pub part_taken : Consumes mid known' part
+  pub short : length part < bytes_of_row width
+  pub bytes : List ℕ
   pub begins : (raster : Raster) → BeginsWith width height' rows raster → IsBeginning bytes (whole raster)
   pub set_out : Appends text text' bytes

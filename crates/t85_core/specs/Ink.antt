@@ -1,17 +1,19 @@
 -- What a sheet takes of a code.
-use Rattle.std.specs.Prelude.{ℕ, ◌≡◌, List, [], ◌∷◌, Option}
+use Rattle.std.specs.Prelude.{ℕ, ◌≡◌, ◌≤◌, List, [], ◌∷◌, Option}
 use Rattle.std.specs.Io.KnownBytes.{Appends, Keeps}
 
--- of a sheet: which it is, which writer it has, and the bytes that it has taken
+-- of a sheet: which it is, which writer it has, how many bytes that has, and the bytes that the sheet has taken
 pub record Inked : Type 0 where
   pub sheet : ℕ
   pub target : ℕ
+  pub written : ℕ
   pub text : Option (List ℕ)
 
--- it is the same sheet with the same writer
+-- it is the same sheet with the same writer, which has lost nothing
 pub record SameInk (s t : Inked) : Type 0 where
   pub same_sheet : t.sheet ≡ s.sheet
   pub same_target : t.target ≡ s.target
+  pub grows : s.written ≤ t.written
 
 -- the byte was taken
 abbrev pub TakesByte : Inked → ℕ → Inked → Type 0

@@ -20,6 +20,7 @@ pub mod Broken
 pub mod RowsSoFar
 pub mod Entity
 pub mod Decoding
+pub mod Unset
 pub mod Converts
 pub mod Jbg
 pub mod Options

@@ -1,5 +1,5 @@
 -- The bytes of a stream that is read ahead.
-use Rattle.std.specs.Prelude.{ℕ, ◌-◌, ◌<◌, ◌≢◌, List, take, drop}
+use Rattle.std.specs.Prelude.{ℕ, ◌-◌, ◌<◌, ◌≢◌, List, length, take, drop, Option, Some, None}
 use Rattle.std.specs.List.{AllByRecursion}
 
 -- the bytes from one place of an array up to another, which are held
@@ -9,3 +9,8 @@ held_of bytes at end = take (end - at) (drop at bytes)
 -- bytes other than FF
 abbrev pub ArePlain : List ℕ → Type 0
 ArePlain code = AllByRecursion (λ b. (b < 256) × (b ≢ 255)) code
+
+-- how many bytes are known
+abbrev pub known_length : Option (List ℕ) → ℕ
+known_length None = 0
+known_length (Some bytes) = length bytes

@@ -6,8 +6,9 @@ ghost use Rattle.t85_core.specs.Carried.{Carry, begin};
 ghost use Rattle.t85_core.specs.Chosen.{fields_of};
 ghost use Rattle.std.specs.Io.KnownBytes.{append_known};
 ghost use Rattle.t85_core.specs.Converts.{Converts, Decodes};
-ghost use Rattle.t85_core.specs.Stream.{held_of};
+ghost use Rattle.t85_core.specs.Stream.{held_of, known_length};
 ghost use Rattle.t85_core.specs.Decoding.{pair_of, IsCarried, IsFirst, CodeBegun, CodeRead, CodeCut, StripeMore, NoStripeMore, ImageRead, ImageCut};
+ghost use Rattle.t85_core.specs.Unset.{CodeUnset, NoStripeSet, ImageBegun};
 ghost use Rattle.t85_core.specs.Entity.{entity_known};
 ghost use Rattle.t85_core.specs.Walk.{CountsBoth, CountsRead, CountsWrite};
 ghost use Rattle.t85_core.specs.declared.fault.Fault.TheVariants.{Read, Write};
@@ -105,12 +106,17 @@ fn put_page<S: Stream, W: Output>(
         (append_known (W.contents page.old.output.now) (held_of page.old.bytes page.old.at page.old.end)) (W.contents page.new.output.now)) }
     ensures err { IfErr result (λ f. f ≢ Write → ImageCut (fields_of header.now) height (S.known stream.old) (S.known stream.new)
         (append_known (W.contents page.old.output.now) (held_of page.old.bytes page.old.at page.old.end)) (W.contents page.new.output.now) f) }
+    ensures begun { ImageBegun (fields_of header.now) height (S.known stream.old) (S.known stream.new)
+        (append_known (W.contents page.old.output.now) (held_of page.old.bytes page.old.at page.old.end)) (append_known (W.contents page.new.output.now) (held_of page.new.bytes page.new.at page.new.end)) }
+    ensures grows { known_length (W.contents page.old.output.now) ≤ known_length (W.contents page.new.output.now) }
     ensures drained { IsErrOf result Read → S.known stream.new ≡ S.beyond stream.new }
     ensures reads { CountsBoth (S.failures stream.old) (S.failures stream.new) result }
     ensures writes { CountsWrite (W.failures page.old.output.now) (W.failures page.new.output.now) result }
     ensures same_source { S.source stream.new ≡ S.source stream.old }
     ensures same_target { page.new.output.ghost_name ≡ page.old.output.ghost_name }
 {
+    // What the proof cites of the coder.
+    coder_laws();
     match put_image(header, height, carried, stream, page) {
         Ok(()) => page.hand_on(),
         Err(fault) => match fault {
@@ -140,10 +146,12 @@ fn put_image<S: Stream, P: Sheet>(
     requires to { height ≤ header.now.yd }
     ensures ok { OnOk result (ImageRead (fields_of header.now) height (S.known stream.old) (S.known stream.new) (P.text sheet.old) (P.text sheet.new)) }
     ensures err { IfErr result (λ f. f ≢ Write → ImageCut (fields_of header.now) height (S.known stream.old) (S.known stream.new) (P.text sheet.old) (P.text sheet.new) f) }
+    ensures unset { IfErr result (λ _. ImageBegun (fields_of header.now) height (S.known stream.old) (S.known stream.new) (P.text sheet.old) (P.text sheet.new)) }
     ensures drained { IsErrOf result Read → S.known stream.new ≡ S.beyond stream.new }
     ensures reads { CountsRead (S.failures stream.old) (S.failures stream.new) result }
     ensures writes { CountsWrite (P.failures sheet.old) (P.failures sheet.new) result }
     ensures same_source { S.source stream.new ≡ S.source stream.old }
+    ensures grows { P.written sheet.old ≤ P.written sheet.new }
     ensures same_target { P.target sheet.new ≡ P.target sheet.old }
 {
     // What the proof cites of the coder.
@@ -172,12 +180,14 @@ fn put_stripe<S: Stream, P: Sheet>(
     requires carried { (c : Carry) × IsCarried (begin c) carried.old }
     ensures ok { OnOk result (StripeMore (fields_of header.now) (S.known stream.old) (S.known stream.new) rows carried.old carried.new (P.text sheet.old) (P.text sheet.new)) }
     ensures err { IfErr result (λ f. f ≢ Write → NoStripeMore (fields_of header.now) (S.known stream.old) (S.known stream.new) rows carried.old (P.text sheet.old) (P.text sheet.new) f) }
+    ensures unset { IfErr result (λ _. NoStripeSet (fields_of header.now) (S.known stream.old) (S.known stream.new) rows carried.old (P.text sheet.old) (P.text sheet.new)) }
     ensures drained { IsErrOf result Read → S.known stream.new ≡ S.beyond stream.new }
     ensures width { OnOk result (width_of carried.new.window.now ≡ width_of carried.old.window.now) }
     ensures offset { OnOk result (carried.new.kept.offset ≤ 127) }
     ensures reads { CountsRead (S.failures stream.old) (S.failures stream.new) result }
     ensures writes { CountsWrite (P.failures sheet.old) (P.failures sheet.new) result }
     ensures same_source { S.source stream.new ≡ S.source stream.old }
+    ensures grows { P.written sheet.old ≤ P.written sheet.new }
     ensures same_target { P.target sheet.new ≡ P.target sheet.old }
 {
     let head = read_head(header, stream)?;
@@ -210,6 +220,9 @@ fn put_code<S: Stream, P: Sheet>(
         (record { known = entity_known entity.old.first (S.known entity.old.stream.now); beyond = S.beyond entity.old.stream.now; reads = S.failures entity.old.stream.now; source = entity.old.stream.ghost_name; input = S.source entity.old.stream.now; first = entity.old.first; marker = entity.old.marker; fault = entity.old.fault })
         (record { known = entity_known entity.new.first (S.known entity.new.stream.now); beyond = S.beyond entity.new.stream.now; reads = S.failures entity.new.stream.now; source = entity.new.stream.ghost_name; input = S.source entity.new.stream.now; first = entity.new.first; marker = entity.new.marker; fault = entity.new.fault })
         shape (option_map pair_of at) rows carried.old (P.text sheet.old) (P.text sheet.new) f) }
+    ensures unset { IfErr result (λ _. CodeUnset
+        (record { known = entity_known entity.old.first (S.known entity.old.stream.now); beyond = S.beyond entity.old.stream.now; reads = S.failures entity.old.stream.now; source = entity.old.stream.ghost_name; input = S.source entity.old.stream.now; first = entity.old.first; marker = entity.old.marker; fault = entity.old.fault })
+        (S.known entity.new.stream.now) shape (option_map pair_of at) rows carried.old (P.text sheet.old) (P.text sheet.new)) }
     ensures behind { OnOk result (entity.new.first ≡ None) }
     ensures cut_behind { IfErr result (λ f. f ≢ Write → entity.new.first ≡ None) }
     ensures drained { IsErrOf result Read → entity_known entity.new.first (S.known entity.new.stream.now) ≡ S.beyond entity.new.stream.now }
@@ -219,6 +232,7 @@ fn put_code<S: Stream, P: Sheet>(
     ensures writes { CountsWrite (P.failures sheet.old) (P.failures sheet.new) result }
     ensures same_source { entity.new.stream.ghost_name ≡ entity.old.stream.ghost_name }
     ensures same_input { S.source entity.new.stream.now ≡ S.source entity.old.stream.now }
+    ensures grows { P.written sheet.old ≤ P.written sheet.new }
     ensures same_target { P.target sheet.new ≡ P.target sheet.old }
 {
     // What the proof cites of the coder.

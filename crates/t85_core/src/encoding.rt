@@ -1,7 +1,8 @@
 //! Encoding an image.
 
-ghost use Rattle.std.specs.Prelude.{◌≡◌, ◌≤◌, ◌<◌, ◌+◌, ◌-◌, ◌^◌, [], nat_lt, length, OnOk, IfErr, IfSome, IsErrOf, false, if◌then◌else◌};
+ghost use Rattle.std.specs.Prelude.{◌≡◌, ◌≤◌, ◌<◌, ◌+◌, ◌-◌, ◌^◌, [], nat_lt, length, OnOk, OnErr, IfErr, IfSome, IsErrOf, false, if◌then◌else◌};
 ghost use Rattle.std.specs.Io.KnownBytes.{Appends, append_known};
+ghost use Rattle.pbm_core.specs.Device.{AppendsBeginning};
 ghost use Rattle.pbm_core.specs.declared.fault.PbmFault.{PbmFault};
 ghost use Rattle.qm_core.specs.Encoding.{events_of, has_failed};
 ghost use Rattle.qm_core.specs.Writing.{Took};
@@ -12,11 +13,11 @@ ghost use Rattle.raster_core.specs.Rows.{held, width_of};
 ghost use Rattle.t85_core.specs.Coding.{mode_of as coding_mode_of};
 ghost use Rattle.t85_core.specs.Decoding.{IsFirst};
 ghost use Rattle.t85_core.specs.Encodes.{Encodes, EncodesImage, IsEncodeFault};
-ghost use Rattle.t85_core.specs.Encoding.{IsCountedTo, SomeHeld, SomeCourse, GivesUp, EntityOfRows, RowRefused, EndsInRow, RowTaken, RowMore, NoRowMore, CodeOfRows, CodeOfShort, StripeMore, NoStripeMore, ImageCoded, ImageShort};
+ghost use Rattle.t85_core.specs.Encoding.{IsCountedTo, SomeHeld, SomeCourse, GivesUp, EntityOfRows, RowRefused, NoRowTaken, GivesUpBehind, CodeOfRefused, EndsInRow, RowTaken, RowMore, NoRowMore, CodeOfRows, CodeOfShort, StripeMore, NoStripeMore, EntityOfRefused, NoStripeTaken, ImageRefused, ImageFront, ImageCoded, ImageShort};
 ghost use Rattle.t85_core.specs.Grammar.{Move, Comment, segment_bytes, marker_bytes};
 ghost use Rattle.t85_core.specs.Jbg.{jbg, jbg_up_to, stripes_of, stripes_up_to};
 ghost use Rattle.t85_core.specs.Options.{settings_of};
-ghost use Rattle.t85_core.specs.Stream.{held_of};
+ghost use Rattle.t85_core.specs.Stream.{held_of, known_length};
 ghost use Rattle.t85_core.specs.Walk.{CountsBoth, CountsRead, CountsWrite};
 ghost use Rattle.t85_core.specs.declared.fault.Fault.TheVariants.{Write, Pbm};
 
@@ -111,6 +112,9 @@ fn fill_page<R: Input, W: Output>(
     ensures short { (fault : PbmFault) → IsErrOf result (Pbm fault) → ImageShort (settings_of options.now) size.width size.height
         (λ raster n. jbg_up_to (settings_of options.now) raster n) (λ raster. jbg (settings_of options.now) raster) (R.remaining source.old) (R.remaining source.new)
         (append_known (W.contents page.old.output.now) (held_of page.old.bytes page.old.at page.old.end)) (W.contents page.new.output.now) fault }
+    ensures begun { ImageFront size.width size.height (λ raster. jbg (settings_of options.now) raster) (R.remaining source.old) (R.remaining source.new)
+        (append_known (W.contents page.old.output.now) (held_of page.old.bytes page.old.at page.old.end)) (append_known (W.contents page.new.output.now) (held_of page.new.bytes page.new.at page.new.end)) }
+    ensures grows { known_length (W.contents page.old.output.now) ≤ known_length (W.contents page.new.output.now) }
     ensures among { IfErr result IsEncodeFault }
     ensures reads { CountsBoth (R.failures source.old) (R.failures source.new) result }
     ensures writes { CountsWrite (W.failures page.old.output.now) (W.failures page.new.output.now) result }
@@ -145,9 +149,12 @@ fn code_image<R: Input, P: Sheet>(
         (R.remaining source.old) (R.remaining source.new) (P.text sheet.old) (P.text sheet.new)) }
     ensures short { (fault : PbmFault) → IsErrOf result (Pbm fault) → ImageShort (settings_of options.now) size.width size.height (λ raster n. jbg_up_to (settings_of options.now) raster n)
         (λ raster. jbg (settings_of options.now) raster) (R.remaining source.old) (R.remaining source.new) (P.text sheet.old) (P.text sheet.new) fault }
+    ensures unset { IsErrOf result Write → ImageRefused size.width size.height (λ raster. jbg (settings_of options.now) raster)
+        (R.remaining source.old) (R.remaining source.new) (P.text sheet.old) (P.text sheet.new) }
     ensures among { IfErr result IsEncodeFault }
     ensures reads { CountsRead (R.failures source.old) (R.failures source.new) result }
     ensures writes { CountsWrite (P.failures sheet.old) (P.failures sheet.new) result }
+    ensures grows { P.written sheet.old ≤ P.written sheet.new }
     ensures same_target { P.target sheet.new ≡ P.target sheet.old }
 {
     let header = options.header(size);
@@ -178,9 +185,12 @@ fn code_stripes<R: Input, P: Sheet>(
         (R.remaining source.old) (R.remaining source.new) (P.text sheet.old) (P.text sheet.new)) }
     ensures short { (fault : PbmFault) → IsErrOf result (Pbm fault) → ImageShort (settings_of options.now) size.width size.height (λ raster n. stripes_up_to (settings_of options.now) raster n)
         (λ raster. stripes_of (settings_of options.now) raster) (R.remaining source.old) (R.remaining source.new) (P.text sheet.old) (P.text sheet.new) fault }
+    ensures unset { IsErrOf result Write → ImageRefused size.width size.height (λ raster. stripes_of (settings_of options.now) raster)
+        (R.remaining source.old) (R.remaining source.new) (P.text sheet.old) (P.text sheet.new) }
     ensures among { IfErr result IsEncodeFault }
     ensures reads { CountsRead (R.failures source.old) (R.failures source.new) result }
     ensures writes { CountsWrite (P.failures sheet.old) (P.failures sheet.new) result }
+    ensures grows { P.written sheet.old ≤ P.written sheet.new }
     ensures same_target { P.target sheet.new ≡ P.target sheet.old }
 {
     let mut tally = Tally::new(shape.two_line, options.most_offset);
@@ -237,9 +247,12 @@ fn code_stripe<R: Input, P: Sheet>(
         carried.old carried.new tally.old tally.new (P.text sheet.old) (P.text sheet.new)) }
     ensures short { (fault : PbmFault) → IsErrOf result (Pbm fault) → NoStripeMore shape reset rows (R.remaining source.old) (R.remaining source.new)
         carried.old tally.old (P.text sheet.old) (P.text sheet.new) fault }
+    ensures unset { IsErrOf result Write → NoStripeTaken shape reset rows (R.remaining source.old) (R.remaining source.new)
+        carried.old tally.old (P.text sheet.old) (P.text sheet.new) }
     ensures among { IfErr result IsEncodeFault }
     ensures reads { CountsRead (R.failures source.old) (R.failures source.new) result }
     ensures writes { CountsWrite (P.failures sheet.old) (P.failures sheet.new) result }
+    ensures grows { P.written sheet.old ≤ P.written sheet.new }
     ensures same_target { P.target sheet.new ≡ P.target sheet.old }
 {
     if let Some(offset) = tally.choose(carried.kept.offset) {
@@ -282,11 +295,13 @@ fn put_entity<R: Input, P: Sheet>(
         carried.old carried.new tally.new (P.text sheet.old) (P.text sheet.new)) }
     ensures short { (fault : PbmFault) → IsErrOf result (Pbm fault) → CodeOfShort (λ bytes. Appends (P.text sheet.old) (P.text sheet.new) bytes) shape rows
         (R.remaining source.old) (R.remaining source.new) carried.old fault }
+    ensures unset { IsErrOf result Write → EntityOfRefused shape reset rows (R.remaining source.old) (R.remaining source.new) carried.old (P.text sheet.old) (P.text sheet.new) }
     ensures two_line { OnOk result (is_two_line tally.new ≡ is_two_line tally.old) }
     ensures most { OnOk result (most_of tally.new ≡ most_of tally.old) }
     ensures among { IfErr result IsEncodeFault }
     ensures reads { CountsRead (R.failures source.old) (R.failures source.new) result }
     ensures writes { CountsWrite (P.failures sheet.old) (P.failures sheet.new) result }
+    ensures grows { P.written sheet.old ≤ P.written sheet.new }
     ensures same_target { P.target sheet.new ≡ P.target sheet.old }
 {
     put_code(size, shape, rows, counted, carried, tally, source, sheet)?;
@@ -321,11 +336,14 @@ fn put_code<R: Input, P: Sheet>(
         (R.remaining source.old) (R.remaining source.new) carried.old carried.new tally.new) }
     ensures short { (fault : PbmFault) → IsErrOf result (Pbm fault) → CodeOfShort (λ bytes. Appends (P.text sheet.old) (P.text sheet.new) bytes) shape rows
         (R.remaining source.old) (R.remaining source.new) carried.old fault }
+    ensures unset { IsErrOf result Write → CodeOfRefused (λ bytes. Appends (P.text sheet.old) (P.text sheet.new) bytes) shape rows
+        (R.remaining source.old) (R.remaining source.new) carried.old }
     ensures two_line { OnOk result (is_two_line tally.new ≡ is_two_line tally.old) }
     ensures most { OnOk result (most_of tally.new ≡ most_of tally.old) }
     ensures among { IfErr result IsEncodeFault }
     ensures reads { CountsRead (R.failures source.old) (R.failures source.new) result }
     ensures writes { CountsWrite (P.failures sheet.old) (P.failures sheet.new) result }
+    ensures grows { P.written sheet.old ≤ P.written sheet.new }
     ensures same_target { P.target sheet.new ≡ P.target sheet.old }
 {
     let mut ink = Ink::new(sheet);
@@ -359,6 +377,8 @@ fn code_rows<R: Input, C: CodeSink>(
     ensures short { (fault : PbmFault) → IsErrOf result (Pbm fault) → CodeOfShort (λ bytes. Took C.took sink.old bytes sink.new) shape rows
         (R.remaining source.old) (R.remaining source.new) carried.old fault }
     ensures refused { IsErrOf result Write → SomeHeld shape carried.old → GivesUp C.took C.refused sink.old sink.new }
+    ensures unset { IsErrOf result Write → CodeOfRefused (λ bytes. GivesUpBehind C.took C.refused sink.old bytes sink.new) shape rows
+        (R.remaining source.old) (R.remaining source.new) carried.old }
     ensures two_line { OnOk result (is_two_line tally.new ≡ is_two_line tally.old) }
     ensures most { OnOk result (most_of tally.new ≡ most_of tally.old) }
     ensures among { IfErr result IsEncodeFault }
@@ -412,6 +432,8 @@ fn code_row<R: Input, C: CodeSink>(
     ensures short { (fault : PbmFault) → IsErrOf result (Pbm fault) → NoRowMore C.took sink.old sink.new shape counted
         (R.remaining source.old) (R.remaining source.new) carried.old tally.old encoder.old fault }
     ensures refused { IsErrOf result Write → RowRefused C.took C.refused sink.old sink.new shape counted (R.remaining source.old)
+        carried.old tally.old encoder.old }
+    ensures unset { IsErrOf result Write → NoRowTaken C.took C.refused sink.old sink.new shape counted (R.remaining source.old) (R.remaining source.new)
         carried.old tally.old encoder.old }
     ensures width { OnOk result (width_of carried.new.window.now ≡ width_of carried.old.window.now) }
     ensures offset { OnOk result (carried.new.kept.offset ≡ carried.old.kept.offset) }
@@ -467,8 +489,10 @@ fn put_comment<P: Sheet>(text: &[u8], sheet: &mut P) -> Result<(), Fault>
     requires sheet { P.failures sheet.old < 2 ^ 64 - 1 }
     requires fits { length text.now < 2 ^ 32 }
     ensures ok { OnOk result (Appends (P.text sheet.old) (P.text sheet.new) (segment_bytes (Comment text.now))) }
+    ensures cut { OnErr result (AppendsBeginning (P.text sheet.old) (P.text sheet.new) (segment_bytes (Comment text.now))) }
     ensures err { IfErr result (λ f. f ≡ Write) }
     ensures writes { CountsWrite (P.failures sheet.old) (P.failures sheet.new) result }
+    ensures grows { P.written sheet.old ≤ P.written sheet.new }
     ensures same_target { P.target sheet.new ≡ P.target sheet.old }
 {
     let mut head = [ESCAPE, COMMENT, 0, 0, 0, 0];
@@ -481,8 +505,10 @@ fn put_comment<P: Sheet>(text: &[u8], sheet: &mut P) -> Result<(), Fault>
 fn put_move<P: Sheet>(offset: u8, sheet: &mut P) -> Result<(), Fault>
     requires sheet { P.failures sheet.old < 2 ^ 64 - 1 }
     ensures ok { OnOk result (Appends (P.text sheet.old) (P.text sheet.new) (segment_bytes (Move 0 offset))) }
+    ensures cut { OnErr result (AppendsBeginning (P.text sheet.old) (P.text sheet.new) (segment_bytes (Move 0 offset))) }
     ensures err { IfErr result (λ f. f ≡ Write) }
     ensures writes { CountsWrite (P.failures sheet.old) (P.failures sheet.new) result }
+    ensures grows { P.written sheet.old ≤ P.written sheet.new }
     ensures same_target { P.target sheet.new ≡ P.target sheet.old }
 {
     sheet.put(&[ESCAPE, ATMOVE, 0, 0, 0, 0, offset, 0])
@@ -492,8 +518,10 @@ fn put_move<P: Sheet>(offset: u8, sheet: &mut P) -> Result<(), Fault>
 fn put_marker<P: Sheet>(reset: bool, sheet: &mut P) -> Result<(), Fault>
     requires sheet { P.failures sheet.old < 2 ^ 64 - 1 }
     ensures ok { OnOk result (Appends (P.text sheet.old) (P.text sheet.new) (marker_bytes reset)) }
+    ensures cut { OnErr result (AppendsBeginning (P.text sheet.old) (P.text sheet.new) (marker_bytes reset)) }
     ensures err { IfErr result (λ f. f ≡ Write) }
     ensures writes { CountsWrite (P.failures sheet.old) (P.failures sheet.new) result }
+    ensures grows { P.written sheet.old ≤ P.written sheet.new }
     ensures same_target { P.target sheet.new ≡ P.target sheet.old }
 {
     sheet.put(&[ESCAPE, if reset { SDRST } else { SDNORM }])

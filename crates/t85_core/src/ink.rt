@@ -22,13 +22,13 @@ impl<'a, P: Sheet> Ink<'a, P> {
 
 impl<P: Sheet> CodeSink for Ink<'_, P> {
     ghost took = { λ s byte t. TakesByte
-        (record { sheet = s.sheet.ghost_name; target = P.target s.sheet.now; text = P.text s.sheet.now })
+        (record { sheet = s.sheet.ghost_name; target = P.target s.sheet.now; written = P.written s.sheet.now; text = P.text s.sheet.now })
         byte
-        (record { sheet = t.sheet.ghost_name; target = P.target t.sheet.now; text = P.text t.sheet.now }) };
+        (record { sheet = t.sheet.ghost_name; target = P.target t.sheet.now; written = P.written t.sheet.now; text = P.text t.sheet.now }) };
 
     ghost refused = { λ s t. RefusesByte
-        (record { sheet = s.sheet.ghost_name; target = P.target s.sheet.now; text = P.text s.sheet.now })
-        (record { sheet = t.sheet.ghost_name; target = P.target t.sheet.now; text = P.text t.sheet.now }) };
+        (record { sheet = s.sheet.ghost_name; target = P.target s.sheet.now; written = P.written s.sheet.now; text = P.text s.sheet.now })
+        (record { sheet = t.sheet.ghost_name; target = P.target t.sheet.now; written = P.written t.sheet.now; text = P.text t.sheet.now }) };
 
     ghost failed = { λ s. P.failures s.sheet.now };
 

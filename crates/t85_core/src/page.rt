@@ -4,7 +4,7 @@ ghost use Rattle.std.specs.Prelude.{◌≡◌, ◌≤◌, ◌<◌, ◌-◌, ◌^
 ghost use Rattle.std.specs.Io.KnownBytes.{Appends, Keeps, append_known};
 ghost use Rattle.pbm_core.specs.Device.{AppendsBeginning, Counts};
 ghost use Rattle.t85_core.specs.declared.fault.Fault.TheVariants.{Write};
-ghost use Rattle.t85_core.specs.Stream.{held_of};
+ghost use Rattle.t85_core.specs.Stream.{held_of, known_length};
 ghost use Rattle.t85_core.specs.Walk.{CountsWrite};
 
 use crate::fault::Fault;
@@ -20,6 +20,9 @@ pub trait Sheet {
     /// The bytes of these that the writer has still to take.
     ghost held: { Self → List ℕ };
 
+    /// How many bytes the writer has taken, where it tells them.
+    ghost written: { Self → ℕ };
+
     /// How often the writer has failed.
     ghost failures: { Self → ℕ };
 
@@ -32,6 +35,7 @@ pub trait Sheet {
         ensures ok { OnOk result (Appends (text self.old) (text self.new) bytes.now) }
         ensures err { IfErr result (λ f. f ≡ Write) }
         ensures cut { OnErr result (AppendsBeginning (text self.old) (text self.new) bytes.now) }
+        ensures grows { written self.old ≤ written self.new }
         ensures counts { CountsWrite (failures self.old) (failures self.new) result }
         ensures same_target { target self.new ≡ target self.old };
 
@@ -41,6 +45,7 @@ pub trait Sheet {
         ensures ok { OnOk result (Appends (text self.old) (text self.new) (byte ∷ [])) }
         ensures err { IfErr result (λ f. f ≡ Write) }
         ensures kept { OnErr result (Keeps (text self.old) (text self.new)) }
+        ensures grows { written self.old ≤ written self.new }
         ensures counts { CountsWrite (failures self.old) (failures self.new) result }
         ensures same_target { target self.new ≡ target self.old };
 
@@ -49,6 +54,7 @@ pub trait Sheet {
         requires { failures self.old < 2 ^ 64 - 1 }
         ensures text { Keeps (text self.old) (text self.new) }
         ensures sent { OnOk result (held self.new ≡ []) }
+        ensures grows { written self.old ≤ written self.new }
         ensures err { IfErr result (λ f. f ≡ Write) }
         ensures counts { CountsWrite (failures self.old) (failures self.new) result }
         ensures same_target { target self.new ≡ target self.old };
@@ -90,6 +96,7 @@ impl<W: Output> Page<'_, W> {
         ensures text { Keeps (append_known (W.contents self.old.output.now) (held_of self.old.bytes self.old.at self.old.end))
             (append_known (W.contents self.new.output.now) (held_of self.new.bytes self.new.at self.new.end)) }
         ensures empty { OnOk result ((self.new.at ≡ 0) × (self.new.end ≡ 0)) }
+        ensures grows { known_length (W.contents self.old.output.now) ≤ known_length (W.contents self.new.output.now) }
         ensures err { IfErr result (λ f. f ≡ Write) }
         ensures counts { CountsWrite (W.failures self.old.output.now) (W.failures self.new.output.now) result }
         ensures same_target { self.new.output.ghost_name ≡ self.old.output.ghost_name }
@@ -118,6 +125,7 @@ fn write_part<W: Output>(output: &mut W, bytes: &[u8], at: usize, end: usize) ->
     ensures err { IfErr result (λ place. Keeps (append_known (W.contents output.old) (held_of bytes.now at end))
         (append_known (W.contents output.new) (held_of bytes.now place end))) }
     ensures bound { IfErr result (λ place. place ≤ end) }
+    ensures grows { known_length (W.contents output.old) ≤ known_length (W.contents output.new) }
     ensures counts { Counts (W.failures output.old) (W.failures output.new) result }
 {
     let mut place = at;
@@ -151,6 +159,8 @@ impl<W: Output> Sheet for Page<'_, W> {
     ghost text = { λ s. append_known (W.contents s.output.now) (held_of s.bytes s.at s.end) };
 
     ghost held = { λ s. held_of s.bytes s.at s.end };
+
+    ghost written = { λ s. known_length (W.contents s.output.now) };
 
     ghost failures = { λ s. W.failures s.output.now };
 

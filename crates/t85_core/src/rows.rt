@@ -85,10 +85,12 @@ pub fn put_rows<C: CodeBytes, P: Sheet>(
         carried.old carried.new (P.text sheet.old) (P.text sheet.new)) }
     ensures stopped { IsErrOf result row_fault.Stopped → RowsOfCut (Pulls C.gives C.failed) source.old source.new shape (option_map pair_of at) rows
         carried.old (P.text sheet.old) (P.text sheet.new) }
-    ensures unset { IsErrOf result row_fault.Write → RowsOfUnset (Pulls C.gives C.failed) source.old source.new shape (option_map pair_of at) carried.old }
+    ensures unset { IsErrOf result row_fault.Write → RowsOfUnset (Pulls C.gives C.failed) source.old source.new shape (option_map pair_of at) rows
+        carried.old (P.text sheet.old) (P.text sheet.new) }
     ensures width { OnOk result (width_of carried.new.window.now ≡ width_of carried.old.window.now) }
     ensures offset { OnOk result (carried.new.kept.offset ≤ 127) }
     ensures counts { CountsPut (P.failures sheet.old) (P.failures sheet.new) result }
+    ensures grows { P.written sheet.old ≤ P.written sheet.new }
     ensures same_target { P.target sheet.new ≡ P.target sheet.old }
 {
     let mut decoder = Decoder::start();
@@ -119,11 +121,12 @@ fn put_row<C: CodeBytes, P: Sheet>(
     ensures stopped { IsErrOf result row_fault.Stopped → NoRowMore (Pulls C.gives C.failed) source.old source.new shape (option_map pair_of at) row
         carried.old decoder.old (P.text sheet.old) (P.text sheet.new) }
     ensures unset { IsErrOf result row_fault.Write → RowUnset (Pulls C.gives C.failed) source.old source.new shape (option_map pair_of at) row
-        carried.old decoder.old (P.text sheet.old) }
+        carried.old decoder.old (P.text sheet.old) (P.text sheet.new) }
     ensures width { OnOk result (width_of carried.new.window.now ≡ width_of carried.old.window.now) }
     ensures offset { OnOk result (carried.new.kept.offset ≤ 127) }
     ensures counted { OnOk result (C.failed source.new ≡ C.failed source.old) }
     ensures counts { CountsPut (P.failures sheet.old) (P.failures sheet.new) result }
+    ensures grows { P.written sheet.old ≤ P.written sheet.new }
     ensures same_target { P.target sheet.new ≡ P.target sheet.old }
 {
     // What the proof cites of the coder.

@@ -4,23 +4,35 @@ use Rattle.t85_core.specs.Walk.{CountsRead, CountsWrite}
 use Rattle.t85_core.proofs.Ends.{exit}
 use Rattle.t85_core.proofs.Told.{exit_all}
 use Rattle.t85_core.proofs.Faults.{unwritten}
-use Rattle.t85_core.proofs.CodePut.{rows_quiet, unset_quiet, rows_broke, broke_fault, broken_among, code_whole, code_rest, code_stopped, kept_wide}
+use Rattle.t85_core.proofs.CodePut.{rows_quiet, unset_quiet, rows_broke, broke_fault, broken_among, code_whole, code_rest, code_stopped, code_unset, kept_wide}
+use Rattle.t85_core.proofs.StripePut.{ahead_of, cut_unset}
 use Rattle.t85_core.proofs.decoding.put_code.Goals as goal
 
 -- ---- a write failed
 
 pub returns-in-Err-Write-clause-reads : goal.returns-in-Err-Write-clause-reads
 returns-in-Err-Write-clause-reads g c =
-    let reads = (unset_quiet _ _ c.args.entity.now c.put_rows.new.source _ _ _ c.requires.begun (c.in-Err-Write.ensures.unset (ap Err c.in-Err-Write.field-0-is))).reads in
+    let reads = (unset_quiet _ _ c.args.entity.now c.put_rows.new.source _ _ _ _ _ _ c.requires.begun (c.in-Err-Write.ensures.unset (ap Err c.in-Err-Write.field-0-is))).reads in
     omega (arith, reads)
 
 pub returns-in-Err-Write-clause-same_source : goal.returns-in-Err-Write-clause-same_source
-returns-in-Err-Write-clause-same_source g c = (unset_quiet _ _ c.args.entity.now c.put_rows.new.source _ _ _ c.requires.begun (c.in-Err-Write.ensures.unset (ap Err c.in-Err-Write.field-0-is))).source
+returns-in-Err-Write-clause-same_source g c = (unset_quiet _ _ c.args.entity.now c.put_rows.new.source _ _ _ _ _ _ c.requires.begun (c.in-Err-Write.ensures.unset (ap Err c.in-Err-Write.field-0-is))).source
 
 pub returns-in-Err-Write-clause-same_input : goal.returns-in-Err-Write-clause-same_input
-returns-in-Err-Write-clause-same_input g c = (unset_quiet _ _ c.args.entity.now c.put_rows.new.source _ _ _ c.requires.begun (c.in-Err-Write.ensures.unset (ap Err c.in-Err-Write.field-0-is))).input
+returns-in-Err-Write-clause-same_input g c = (unset_quiet _ _ c.args.entity.now c.put_rows.new.source _ _ _ _ _ _ c.requires.begun (c.in-Err-Write.ensures.unset (ap Err c.in-Err-Write.field-0-is))).input
+
+pub returns-in-Err-Write-clause-unset : goal.returns-in-Err-Write-clause-unset
+returns-in-Err-Write-clause-unset g c = λ h c' segments known begins.
+    let ahead = ahead_of c.put_rows.new.source.first (g.S.Stream.known c.put_rows.new.source.stream.now) in
+    code_unset _ _ c.args.entity.now c.put_rows.new.source _ _ _ h c' segments known begins c.coder_laws.ensures _ _ _ _ ahead.0 ahead.1 (c.in-Err-Write.ensures.unset (ap Err c.in-Err-Write.field-0-is))
 
 -- ---- the source stopped
+
+pub returns-in-Err-Stopped-clause-unset : goal.returns-in-Err-Stopped-clause-unset
+returns-in-Err-Stopped-clause-unset g c = λ h c' segments known begins.
+    let ahead = ahead_of c.put_rows.new.source.first (g.S.Stream.known c.put_rows.new.source.stream.now) in
+    cut_unset _ _ _ _ _ ahead.0 _ _ _ _
+    (code_stopped _ _ c.args.entity.now c.put_rows.new.source _ _ _ h c' segments known begins _ _ _ _ (c.in-Err-Stopped.ensures.stopped (ap Err c.in-Err-Stopped.field-0-is)) c.fault.ensures) ahead.1
 
 pub returns-in-Err-Stopped-clause-err : goal.returns-in-Err-Stopped-clause-err
 returns-in-Err-Stopped-clause-err g c = λ _ h c' segments known begins.
@@ -58,6 +70,13 @@ pub returns-in_err-reset-clause-err : goal.returns-in_err-reset-clause-err
 returns-in_err-reset-clause-err g c =
     exit _ _ c.from_residual.ensures.1 (λ _ h c' segments known begins.
     code_rest _ _ c.args.entity.now c.put_rows.new.source _ _ _ h c' segments known begins c.coder_laws.ensures _ _ _ _ _ _ c.in-Ok.ensures.ok c.in_err-reset.ensures.open c.in_err-reset.ensures.err)
+
+pub returns-in_err-reset-clause-unset : goal.returns-in_err-reset-clause-unset
+returns-in_err-reset-clause-unset g c =
+    let ahead = ahead_of c.finish.new.self.first (g.S.Stream.known c.finish.new.self.stream.now) in
+    exit _ _ c.from_residual.ensures.1 (λ h c' segments known begins.
+    cut_unset _ _ _ _ _ ahead.0 _ _ _ _
+    (code_rest _ _ c.args.entity.now c.put_rows.new.source _ _ _ h c' segments known begins c.coder_laws.ensures _ _ _ _ _ _ c.in-Ok.ensures.ok c.in_err-reset.ensures.open c.in_err-reset.ensures.err) ahead.1)
 
 pub returns-in_err-reset-clause-reads : goal.returns-in_err-reset-clause-reads
 returns-in_err-reset-clause-reads g c =

@@ -1,7 +1,8 @@
 use Rattle.std.proofs.Common.{◌≡◌, ◌-◌, ◌*◌, ◌∙◌, min, arith}
 use Rattle.t85_core.specs.Chosen.{fields_of}
 use Rattle.t85_core.proofs.Ends.{exit}
-use Rattle.t85_core.proofs.ImagePut.{in_use, stripes_next, image_cut, image_read}
+use Rattle.t85_core.proofs.ImagePut.{in_use, stripes_next, image_cut, image_unset, image_read}
+use Rattle.t85_core.specs.Unset.{ImageBegun}
 use Rattle.t85_core.proofs.decoding.put_image.Goals as goal
 
 pub returns-in_err-put_stripe-clause-err : goal.returns-in_err-put_stripe-clause-err
@@ -11,6 +12,14 @@ returns-in_err-put_stripe-clause-err g c =
     exit _ _ c.from_residual.ensures.1 (λ written.
     image_cut (fields_of header) c.args.height _ _ _ c.stripes.counter c.min-rows.result c.stripes.carried c.put_stripe.new.carried _ _ _ c.stripes.invariant.read rows_are c.coder_laws.ensures (in_use header c.args.height c.requires.from c.requires.to) (rw c.div_ceil-end.ensures at c.stripes-test.true) _
     (c.in_err-put_stripe.ensures.err written _ c.stripes.invariant.read.is_carried))
+
+pub returns-in_err-put_stripe-clause-unset : goal.returns-in_err-put_stripe-clause-unset
+returns-in_err-put_stripe-clause-unset g c =
+    let header = c.args.header.now in
+    let rows_are : c.min-rows.result ≡ min (c.args.height - c.stripes.counter * header.l0) header.l0 = omega (arith, c.min-rows.ensures, c.stripes.invariant.left) in
+    exit (λ _. ImageBegun _ _ _ _ _ _) _ c.from_residual.ensures.1
+    (image_unset (fields_of header) c.args.height _ _ _ c.stripes.counter c.min-rows.result c.stripes.carried c.put_stripe.new.carried _ _ _ c.stripes.invariant.read rows_are c.coder_laws.ensures (in_use header c.args.height c.requires.from c.requires.to) (rw c.div_ceil-end.ensures at c.stripes-test.true)
+    (c.in_err-put_stripe.ensures.unset _ c.stripes.invariant.read.is_carried))
 
 pub stripes-preserved : goal.stripes-preserved
 stripes-preserved g c =
@@ -23,6 +32,7 @@ stripes-preserved g c =
       offset = c.in_ok-put_stripe.ensures.offset;
       unfailed = c.in_ok-put_stripe.ensures.reads ∙ c.stripes.invariant.unfailed;
       unwritten = c.in_ok-put_stripe.ensures.writes ∙ c.stripes.invariant.unwritten;
+      grows = (let more = c.in_ok-put_stripe.ensures.grows in let before = c.stripes.invariant.grows in omega (arith, more, before));
       same_source = c.in_ok-put_stripe.ensures.same_source ∙ c.stripes.invariant.same_source;
       same_target = c.in_ok-put_stripe.ensures.same_target ∙ c.stripes.invariant.same_target;
     }

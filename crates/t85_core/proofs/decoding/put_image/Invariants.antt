@@ -12,6 +12,7 @@ invariant-stripes g l = record {
   offset : l.carried.kept.offset ≤ 127;
   unfailed : g.S.Stream.failures l.stream ≡ g.S.Stream.failures l.fn.stream;
   unwritten : g.P.Sheet.failures l.sheet ≡ g.P.Sheet.failures l.fn.sheet;
+  grows : g.P.Sheet.written l.fn.sheet ≤ g.P.Sheet.written l.sheet;
   same_source : g.S.Stream.source l.stream ≡ g.S.Stream.source l.fn.stream;
   same_target : g.P.Sheet.target l.sheet ≡ g.P.Sheet.target l.fn.sheet;
 }

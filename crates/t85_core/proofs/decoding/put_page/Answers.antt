@@ -1,12 +1,18 @@
 use Rattle.std.proofs.Common.{◌≡◌, ◌∙◌, sym, arith}
 use Rattle.t85_core.specs.declared.fault.Fault.TheVariants.{Read, Write}
+use Rattle.t85_core.specs.Chosen.{fields_of}
+use Rattle.t85_core.proofs.ImagePut.{in_use}
 use Rattle.t85_core.proofs.Ends.{on_ok, always}
-use Rattle.t85_core.proofs.PagePut.{all_handed, image_handed, cut_handed, counts_any, counts_written, counts_whole, no_failed_write}
+use Rattle.t85_core.proofs.PagePut.{all_handed, image_handed, cut_handed, image_begun, begun_handed, counts_any, counts_written, counts_whole, no_failed_write}
 use Rattle.t85_core.proofs.decoding.put_page.Goals as goal
 
 pub returns-in-Ok-clause-ok : goal.returns-in-Ok-clause-ok
 returns-in-Ok-clause-ok g c =
     on_ok c.hand_on.result (λ empty image. image_handed _ _ _ _ _ _ _ image (all_handed _ _ _ _ _ empty.0 empty.1 c.hand_on.ensures.text)) c.hand_on.ensures.empty (always c.hand_on.result c.in-Ok.ensures.ok)
+
+pub returns-in-Ok-clause-begun : goal.returns-in-Ok-clause-begun
+returns-in-Ok-clause-begun g c =
+    begun_handed _ _ _ _ _ _ _ (image_begun c.coder_laws.ensures (fields_of c.args.header.now) c.args.height (in_use c.args.header.now c.args.height c.requires.from c.requires.to) _ _ _ _ c.in-Ok.ensures.ok) c.hand_on.ensures.text
 
 pub returns-in-Ok-clause-reads : goal.returns-in-Ok-clause-reads
 returns-in-Ok-clause-reads g c = counts_whole _ _ c.hand_on.result c.in-Ok.ensures.reads c.hand_on.ensures.err
@@ -17,6 +23,8 @@ returns-in-Ok-hand_on g c =
     record {
       ok = tt;
       err = λ n. cut_handed _ _ _ _ _ _ _ _ (c.in-Err.ensures.err n) (all_handed _ _ _ _ _ empty.0 empty.1 c.hand_on-in_default.ensures.text);
+      begun = begun_handed _ _ _ _ _ _ _ c.in-Err.ensures.unset c.hand_on-in_default.ensures.text;
+      grows = (let more = c.hand_on-in_default.ensures.grows in let before = c.in-Err.ensures.grows in omega (arith, more, before));
       drained = λ is. c.in-Err.ensures.drained is;
       reads = counts_any _ _ _ c.in-Err.ensures.reads;
       writes = c.in-Ok-hand_on.ensures.counts ∙ c.in-Err.ensures.writes;
@@ -31,6 +39,8 @@ returns-in-Err-hand_on g c =
     record {
       ok = tt;
       err = λ n. absurd (n last);
+      begun = begun_handed _ _ _ _ _ _ _ c.in-Err.ensures.unset c.hand_on-in_default.ensures.text;
+      grows = (let more = c.hand_on-in_default.ensures.grows in let before = c.in-Err.ensures.grows in omega (arith, more, before));
       drained = λ is. absurd (let both : Write ≡ Read = sym last ∙ (cc) in let bot : ⊥ = cc in bot);
       reads = counts_written _ _ c.in-Err.fault _ c.in-Err.ensures.reads last;
       writes = (let a = c.in-Err.ensures.writes in let b = c.in-Err-hand_on.ensures.counts in omega (arith, a, b, none));

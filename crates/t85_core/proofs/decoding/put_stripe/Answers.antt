@@ -6,7 +6,9 @@ use Rattle.t85_core.specs.Chosen.{fields_of}
 use Rattle.t85_core.specs.Decoding.{StripeRead, StripeCut}
 use Rattle.t85_core.proofs.Ends.{exit, on_ok, if_err}
 use Rattle.t85_core.proofs.StripeBegins.{move_within}
-use Rattle.t85_core.proofs.StripePut.{head_begins, stripe_head}
+use Rattle.t85_core.proofs.StripePut.{head_begins, stripe_head, cut_unset}
+use Rattle.t85_core.proofs.Passed.{Consumes-none}
+use Rattle.t85_core.specs.Unset.{NoStripeSet, StripeUnset}
 use Rattle.t85_core.proofs.decoding.put_stripe.Goals as goal
 
 pub returns-in_err-head-clause-err : goal.returns-in_err-head-clause-err
@@ -26,6 +28,22 @@ returns-clause-ok g c =
     (ap (λ x. entity_known x (g.S.Stream.known c.put_code.new.entity.stream.now)) none ∙ known)
     (read _ c' _ _ (head_begins c.in_ok-head.ensures.ok c' c.shape.result c.args.carried.now _ (record { width_is = c.shape.ensures.width; mode_is = c.shape.ensures.mode }) is begun entity.first entity.marker entity.fault)))
     c.put_code.ensures.behind c.put_code.ensures.ok
+
+pub returns-in_err-head-clause-unset : goal.returns-in_err-head-clause-unset
+returns-in_err-head-clause-unset g c =
+    exit (λ _. NoStripeSet (fields_of c.args.header.now) _ _ _ _ _ _) _ c.from_residual.ensures.1 (λ c' is.
+    cut_unset _ _ _ _ _ _ _ _ _ _ (stripe_head (fields_of c.args.header.now) c' _ _ c.args.rows _ _ c.args.header.now.some_width c.in_err-head.ensures.err) (Consumes-none (g.S.Stream.known c.read_head.new.stream)))
+
+pub returns-clause-unset : goal.returns-clause-unset
+returns-clause-unset g c =
+    let known = ap g.S.Stream.known (search rules) in
+    let entity = c.new-entity.ensures in
+    let begun = ap (λ x. entity_known x (g.S.Stream.known c.new-entity.result.stream.now)) entity.first ∙ ap (λ m. prepend_known (code_bytes c.in_ok-head.head.code) (g.S.Stream.known m.now)) entity.lent in
+    if_err c.put_code.result (λ f none cut c' is.
+    subst (λ k. StripeUnset (fields_of c.args.header.now) c' (g.S.Stream.known c.args.stream.now) k c.args.rows (g.P.Sheet.text c.args.sheet.now) (g.P.Sheet.text c.put_code.new.sheet))
+    known
+    (cut _ c' _ _ (head_begins c.in_ok-head.ensures.ok c' c.shape.result c.args.carried.now _ (record { width_is = c.shape.ensures.width; mode_is = c.shape.ensures.mode }) is begun entity.first entity.marker entity.fault)))
+    c.put_code.ensures.cut_behind c.put_code.ensures.unset
 
 pub returns-clause-err : goal.returns-clause-err
 returns-clause-err g c =

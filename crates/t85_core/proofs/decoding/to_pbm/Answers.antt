@@ -2,7 +2,7 @@ use Rattle.std.proofs.Common.{◌∙◌, sym}
 use Rattle.t85_core.specs.Chosen.{fields_of}
 use Rattle.t85_core.specs.Converts.{Converts}
 use Rattle.t85_core.proofs.Told.{exit_all}
-use Rattle.t85_core.proofs.Converted.{converted_header, converted_variable, converted_broken, converted_whole}
+use Rattle.t85_core.proofs.Converted.{converted_header, converted_variable, converted_broken, converted_unflushed, converted_whole}
 use Rattle.t85_core.proofs.decoding.to_pbm.Goals as goal
 
 pub returns-in_err-header : goal.returns-in_err-header
@@ -20,6 +20,12 @@ returns-in_err-decode g c =
     let header = c.in_ok-header.ensures.accepted in
     exit_all (Converts _ _ _ _ _ _ _ _ _) c.from_residual-in_err-decode.result c.from_residual-in_err-decode.ensures.1
     (converted_broken _ _ _ _ _ _ _ _ _ _ header.0 (fields_of c.in_ok-header.header) header.1 header.2 header.3 (sym c.is_variable.ensures ∙ c.if-is_variable.false) c.in_ok-header.ensures.counts _ _ c.in_err-decode.ensures)
+
+pub returns : goal.returns
+returns g c =
+    let header = c.in_ok-header.ensures.accepted in
+    converted_unflushed _ _ _ _ _ _ _ _ _ _ header.0 (fields_of c.in_ok-header.header) header.1 header.2 header.3 (sym c.is_variable.ensures ∙ c.if-is_variable.false) c.in_ok-header.ensures.counts _ _ _
+    c.in_ok-decode.ensures c.in-Err.ensures.bytes c.in-Err.ensures.counts
 
 pub returns-in-Ok-flush : goal.returns-in-Ok-flush
 returns-in-Ok-flush g c =

@@ -5,7 +5,7 @@ use Rattle.t85_core.specs.Header.{header_bytes}
 use Rattle.t85_core.specs.Jbg.{head_of}
 use Rattle.t85_core.specs.Options.{settings_of}
 use Rattle.t85_core.proofs.Ends.{on_ok, always}
-use Rattle.t85_core.proofs.HeadPut.{head_plain, head_commented, image_headed, short_headed}
+use Rattle.t85_core.proofs.HeadPut.{head_plain, head_commented, header_cut, comment_cut, head_refused, image_headed, short_headed, refused_headed}
 use Rattle.t85_core.proofs.encoding.code_image.Given as given
 use Rattle.t85_core.proofs.encoding.code_image.Goals as goal
 use Rattle.t85_core.proofs.encoding.code_image.Goals.{in-Some+in_ok-put_comment, in_default}
@@ -27,3 +27,16 @@ returns-clause-ok g c =
 
 pub returns-clause-short : goal.returns-clause-short
 returns-clause-short g c fault is = short_headed (settings_of c.args.options.now) c.args.size.width c.args.size.height _ _ _ _ _ (head_put g c) fault (c.code_stripes.ensures.short fault is)
+
+pub returns-in_err-put-clause-unset : goal.returns-in_err-put-clause-unset
+returns-in_err-put-clause-unset g c is =
+    head_refused (settings_of c.args.options.now) c.args.size.width c.args.size.height _ _ _
+    (header_cut (settings_of c.args.options.now) c.args.size.width c.args.size.height _ _ _ (c.bytes.ensures ∙ ap header_bytes c.header-header.ensures) c.in_err-put.ensures.cut)
+
+pub returns-in_err-put_comment-clause-unset : goal.returns-in_err-put_comment-clause-unset
+returns-in_err-put_comment-clause-unset g c is =
+    head_refused (settings_of c.args.options.now) c.args.size.width c.args.size.height _ _ _
+    (comment_cut (settings_of c.args.options.now) c.args.size.width c.args.size.height _ _ _ _ c.in-Some.text.now (c.bytes.ensures ∙ ap header_bytes c.header-header.ensures) (ap (option_map (λ text. text.now)) c.in-Some.is) c.in_ok-put.ensures.ok c.in_err-put_comment.ensures.cut)
+
+pub returns-clause-unset : goal.returns-clause-unset
+returns-clause-unset g c is = refused_headed (settings_of c.args.options.now) c.args.size.width c.args.size.height _ _ _ _ _ (head_put g c) (c.code_stripes.ensures.unset is)

@@ -2,7 +2,7 @@ use Rattle.std.proofs.Common.{rules, sym, subst, ◌++◌, ◌∷◌, []}
 use Rattle.raster_core.specs.Counts.{Counts}
 use borrow.Rule.Reborrow.{re_v}
 use Rattle.t85_core.proofs.Ends.{exit_of}
-use Rattle.t85_core.proofs.RowCode.{row_coded, row_refused, stands, counted_some, counted_none}
+use Rattle.t85_core.proofs.RowCode.{row_coded, row_refused, row_stuck, stands, counted_some, counted_none}
 use Rattle.t85_core.proofs.RowShort.{row_short}
 use Rattle.t85_core.proofs.encoding.code_row.Goals as goal
 
@@ -31,3 +31,9 @@ returns-in-Err-clause-refused g c is from began s move c' rows is_shape r =
     row_refused g.C.CodeSink.took g.C.CodeSink.refused from c.args.sink.now c.encode_row.new.out s c.args.shape c.args.size.width move c' c.args.counted began _ _ rows
     c.args.carried.now (record { window = re_v c.take_row.new.window (re_v c.take_row.new.window c.args.carried.now.window); kept = c.encode_row.new.kept; learned = c.encode_row.new.learned }) c.args.tally.now c.args.tally.now c.args.encoder.now c.encode_row.new.encoder
     c.requires.shape is_shape r c.in_ok-take_row.ensures.ok _ c.pushes_join.ensures c.in-Err.ensures.row
+
+pub returns-in-Err-clause-unset : goal.returns-in-Err-clause-unset
+returns-in-Err-clause-unset g c is from began s move c' rows count is_shape few r =
+    row_stuck g.C.CodeSink.took g.C.CodeSink.refused from c.args.sink.now c.encode_row.new.out s c.args.shape c.args.size.width move c' c.args.counted began _ _ rows
+    c.args.carried.now (record { window = re_v c.take_row.new.window (re_v c.take_row.new.window c.args.carried.now.window); kept = c.encode_row.new.kept; learned = c.encode_row.new.learned }) c.args.tally.now c.args.tally.now c.args.encoder.now c.encode_row.new.encoder
+    c.requires.shape is_shape r c.in_ok-take_row.ensures.ok c.writing_laws.ensures count few _ c.pushes_join.ensures c.in-Err.ensures.row

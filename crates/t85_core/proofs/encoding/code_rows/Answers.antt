@@ -1,7 +1,7 @@
 use Rattle.std.proofs.Common.{◌≡◌, refl, sym, subst, arith, ◌∙◌, []}
 use Rattle.t85_core.specs.Encoding.{IsCountedTo}
 use Rattle.t85_core.proofs.Ends.{exit_same}
-use Rattle.t85_core.proofs.RowsCode.{none_coded, one_coded, code_written, end_refused, few_events, events_more}
+use Rattle.t85_core.proofs.RowsCode.{none_coded, one_coded, code_written, end_refused, end_stuck, few_events, events_more}
 use Rattle.t85_core.proofs.encoding.code_rows.Goals as goal
 
 pub rows-init : goal.rows-init
@@ -59,3 +59,14 @@ pub returns-in-Err-clause-refused : goal.returns-in-Err-clause-refused
 returns-in-Err-clause-refused g c is some =
     end_refused g.C.CodeSink.took g.C.CodeSink.refused g.C.CodeSink.failed c.args.sink.now c.rows.sink c.finish.new.out some.0 c.args.shape.width some.1 some.2 c.args.counted _ _ c.rows.counter c.rows.carried c.rows.tally c.rows.encoder _
     c.pushes_join.ensures (c.rows.invariant.coded some.0 some.1 some.2 some.3 some.4) c.in-Err.ensures.code
+
+pub returns-in_err-code_row-clause-unset : goal.returns-in_err-code_row-clause-unset
+returns-in_err-code_row-clause-unset g c is s move c' is_shape held =
+    let so = c.rows.invariant.coded s move c' is_shape held in
+    exit_same c.from_residual.result c.from_residual.ensures.1 (λ e. c.in_err-code_row.ensures.unset e c.args.sink.now (g.R.Input.remaining c.args.source.now) s move c' so.0 c.args.rows is_shape (omega (arith, so.1, c.rows-test.true)) so.2) is
+
+pub returns-in-Err-clause-unset : goal.returns-in-Err-clause-unset
+returns-in-Err-clause-unset g c is s move c' is_shape held =
+    let all : c.rows.counter ≡ c.args.rows = omega (arith, c.rows.auto.counter-end, c.rows-test.false) in
+    end_stuck g.C.CodeSink.took g.C.CodeSink.refused g.C.CodeSink.failed c.args.sink.now c.rows.sink c.finish.new.out s c.args.shape.width move c' c.args.counted _ _ c.rows.counter c.args.rows c.rows.carried c.rows.tally c.rows.encoder _ all
+    c.writing_laws.ensures c.pushes_join.ensures (c.rows.invariant.coded s move c' is_shape held) c.in-Err.ensures.code

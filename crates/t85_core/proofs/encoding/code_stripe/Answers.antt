@@ -3,7 +3,7 @@ use Rattle.std.specs.Prelude.{if◌then◌else◌}
 use Rattle.t85_core.specs.Jbg.{Settings}
 use Rattle.t85_core.specs.Written.{Course, move_on}
 use Rattle.t85_core.proofs.Ends.{all_ok}
-use Rattle.t85_core.proofs.StripeCode.{MoveMade, choice_is, move_made, no_move, stripe_coded, stripe_short}
+use Rattle.t85_core.proofs.StripeCode.{MoveMade, choice_is, move_made, no_move, stripe_coded, stripe_short, stripe_refused, move_refused}
 use Rattle.t85_core.proofs.encoding.code_stripe.Goals as goal
 use Rattle.t85_core.proofs.encoding.code_stripe.Goals.{in-Some+in_ok-put_move, in_default, then-reset, else-reset, then-is_counted, else-is_counted}
 
@@ -49,3 +49,17 @@ returns-clause-short g c fault is s at is_shape reset_is course =
       | in_default w ↦ rw w.carried-is (rw w.sheet-is (no_move s c.args.shape.width at _ _ c.args.carried.now c.choose.result chosen_is course.is_carried _ (search rules) refl refl))
     ] in
     stripe_short s c.args.shape.width c.args.rows at _ _ _ (g.P.Sheet.text c.match-choose.sheet) _ c.match-choose.carried fault made (c.put_entity.ensures.short fault is s (move_on s c.args.shape.width at) at.carry is_shape made.held)
+
+pub returns-clause-unset : goal.returns-clause-unset
+returns-clause-unset g c is s at is_shape reset_is course =
+    let chosen_is = choice_is s c.args.shape.width at c.args.tally.now c.args.carried.now.kept.offset c.choose.result course.is_carried.offset_is course.is_tallied c.choose.ensures.chosen in
+    let made : MoveMade s c.args.shape.width at (g.P.Sheet.text c.args.sheet.now) (g.P.Sheet.text c.match-choose.sheet) c.match-choose.carried = elim c.match-choose.branch [
+      | in-Some+in_ok-put_move w ↦ rw w.carried-is (rw w.sheet-is (move_made s c.args.shape.width at _ _ c.args.carried.now c.choose.result chosen_is course.is_carried w.in-Some.offset _ w.in-Some.is refl w.in_ok-put_move.ensures.ok))
+      | in_default w ↦ rw w.carried-is (rw w.sheet-is (no_move s c.args.shape.width at _ _ c.args.carried.now c.choose.result chosen_is course.is_carried _ (search rules) refl refl))
+    ] in
+    stripe_refused s c.args.shape.width c.args.rows at _ _ _ (g.P.Sheet.text c.match-choose.sheet) _ c.match-choose.carried made (c.put_entity.ensures.unset is s (move_on s c.args.shape.width at) at.carry is_shape reset_is made.held)
+
+pub returns-in_err-put_move-clause-unset : goal.returns-in_err-put_move-clause-unset
+returns-in_err-put_move-clause-unset g c is s at is_shape reset_is course =
+    let chosen_is = choice_is s c.args.shape.width at c.args.tally.now c.args.carried.now.kept.offset c.choose.result course.is_carried.offset_is course.is_tallied c.choose.ensures.chosen in
+    move_refused s c.args.shape.width at _ _ c.args.carried.now c.choose.result chosen_is course.is_carried c.in-Some.offset c.args.rows _ c.in-Some.is c.in_err-put_move.ensures.cut

@@ -5,13 +5,13 @@ use Rattle.raster_core.specs.Offset.{candidates}
 use Rattle.t85_core.specs.Carried.{begin, first_carry}
 use Rattle.t85_core.specs.Coding.{mode_of as coding_mode_of}
 use Rattle.t85_core.specs.Decoding.{IsCarried}
-use Rattle.t85_core.specs.Encoding.{IsShape, IsOnCourse, StripeCoded, StripeShort}
+use Rattle.t85_core.specs.Encoding.{IsShape, IsOnCourse, StripeCoded, StripeShort, StripeRefused}
 use Rattle.t85_core.specs.Grammar.{stripe_count}
 use Rattle.t85_core.specs.Jbg.{Settings}
 use Rattle.t85_core.specs.Options.{settings_of}
 use Rattle.t85_core.proofs.Courses.{stripe_within}
 use Rattle.t85_core.proofs.Ends.{exit_same}
-use Rattle.t85_core.proofs.StripesCode.{no_stripes, stripe_more, stripes_short, stripes_coded}
+use Rattle.t85_core.proofs.StripesCode.{no_stripes, stripe_more, stripes_short, stripes_refused, stripes_coded}
 use Rattle.t85_core.proofs.encoding.code_stripes.Goals as goal
 use Rattle.t85_core.proofs.encoding.code_stripes.Goals.{then-left-gt0, else-left-gt0}
 
@@ -24,6 +24,7 @@ stripes-init g c = record {
   offset = omega (arith, c.requires.offset);
   reads = refl;
   writes = refl;
+  grows = omega arith;
   same_target = refl;
 }
 
@@ -44,6 +45,18 @@ returns-in_err-code_stripe-clause-short g c fault is =
     exit_same c.from_residual.result c.from_residual.ensures.1 (λ e.
     stripes_short s c.args.size.width c.args.size.height c.stripes.counter c.args.options.now.some_rows inside _ _ _ _ _ _ c.stripes.carried c.stripes.tally so c.min-rows.result fault count_is
     (subst (λ w. StripeShort s w c.min-rows.result so.at (g.R.Input.remaining c.stripes.source) (g.R.Input.remaining c.code_stripe.new.source) (g.P.Sheet.text c.stripes.sheet) (g.P.Sheet.text c.code_stripe.new.sheet) fault) c.requires.shape (c.in_err-code_stripe.ensures.short fault e s so.at is_shape refl course))) is
+
+pub returns-in_err-code_stripe-clause-unset : goal.returns-in_err-code_stripe-clause-unset
+returns-in_err-code_stripe-clause-unset g c is =
+    let s : Settings = settings_of c.args.options.now in
+    let so = c.stripes.invariant.coded in
+    let inside : c.stripes.counter < stripe_count c.args.size.height s.stripe_rows = subst (λ n. c.stripes.counter < n) c.div_ceil-end.ensures c.stripes-test.true in
+    let is_shape : IsShape s c.args.shape.width c.args.shape = record { width_is = refl; mode_is = c.requires.mode } in
+    let count_is : c.min-rows.result ≡ min s.stripe_rows (c.args.size.height - c.stripes.counter * s.stripe_rows) = omega (arith, c.min-rows.ensures, c.stripes.invariant.left_is) in
+    let course : IsOnCourse s c.args.shape.width so.at c.stripes.carried c.stripes.tally = subst (λ w. IsOnCourse s w so.at c.stripes.carried c.stripes.tally) (sym c.requires.shape) (so.on_course inside) in
+    exit_same c.from_residual.result c.from_residual.ensures.1 (λ e.
+    stripes_refused s c.args.size.width c.args.size.height c.stripes.counter c.args.options.now.some_rows inside _ _ _ _ _ _ c.stripes.carried c.stripes.tally so c.min-rows.result count_is
+    (subst (λ w. StripeRefused s w c.min-rows.result so.at (g.R.Input.remaining c.stripes.source) (g.R.Input.remaining c.code_stripe.new.source) (g.P.Sheet.text c.stripes.sheet) (g.P.Sheet.text c.code_stripe.new.sheet)) c.requires.shape (c.in_err-code_stripe.ensures.unset e s so.at is_shape refl course))) is
 
 is_some : (b : Bool) (n : ℕ) → b ≡ nat_lt 0 n → 0 < n → IsTrue b
 is_some b n is some = grind (arith, nat_tests, is, some)
@@ -72,6 +85,7 @@ stripes-preserved g c =
       offset = c.in_ok-code_stripe.ensures.offset;
       reads = c.in_ok-code_stripe.ensures.reads ∙ c.stripes.invariant.reads;
       writes = c.in_ok-code_stripe.ensures.writes ∙ c.stripes.invariant.writes;
+      grows = (let more = c.in_ok-code_stripe.ensures.grows in let before = c.stripes.invariant.grows in omega (arith, more, before));
       same_target = c.in_ok-code_stripe.ensures.same_target ∙ c.stripes.invariant.same_target;
     }
 

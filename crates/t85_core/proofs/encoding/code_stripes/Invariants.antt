@@ -12,5 +12,6 @@ invariant-stripes g l = record {
   offset : l.carried.kept.offset ≤ 127;
   reads : g.R.Input.failures l.source ≡ g.R.Input.failures l.fn.source;
   writes : g.P.Sheet.failures l.sheet ≡ g.P.Sheet.failures l.fn.sheet;
+  grows : g.P.Sheet.written l.fn.sheet ≤ g.P.Sheet.written l.sheet;
   same_target : g.P.Sheet.target l.sheet ≡ g.P.Sheet.target l.fn.sheet;
 }

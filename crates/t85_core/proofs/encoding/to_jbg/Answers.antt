@@ -3,7 +3,7 @@ use Rattle.t85_core.specs.Encodes.{EncodesImage}
 use Rattle.t85_core.specs.Options.{settings_of}
 use Rattle.t85_core.proofs.Told.{exit_all}
 use Rattle.t85_core.proofs.ImageEncoded.{variable_height, fixed_height, takes_header, refused_header, not_built, no_room}
-use Rattle.t85_core.proofs.ImageWritten.{image_broken, image_whole}
+use Rattle.t85_core.proofs.ImageWritten.{image_broken, image_unflushed, image_whole}
 use Rattle.t85_core.proofs.encoding.to_jbg.Goals as goal
 
 pub returns-in-Err : goal.returns-in-Err
@@ -31,3 +31,9 @@ returns-in-Ok-flush g c =
     let size = c.in-Ok.size in
     image_whole _ _ _ _ _ _ _ _ _ _ _ size.width size.height (takes_header _ _ size c.headers.ensures.written_is_read (search rules) c.in-Ok.ensures.accepted) (fixed_height (settings_of c.args.options.now) _ _ c.header-header.ensures c.is_variable.ensures c.if-is_variable.false) c.in-Ok.ensures.counts _ _ _
     c.in_ok-encode.ensures c.in-Ok-flush.ensures.bytes c.in-Ok-flush.ensures.flushed c.in-Ok-flush.ensures.counts
+
+pub returns : goal.returns
+returns g c =
+    let size = c.in-Ok.size in
+    image_unflushed _ _ _ _ _ _ _ _ _ _ _ size.width size.height (takes_header _ _ size c.headers.ensures.written_is_read (search rules) c.in-Ok.ensures.accepted) (fixed_height (settings_of c.args.options.now) _ _ c.header-header.ensures c.is_variable.ensures c.if-is_variable.false) c.in-Ok.ensures.counts _ _ _
+    c.in_ok-encode.ensures c.in-Err-flush.ensures.bytes c.in-Err-flush.ensures.counts

@@ -1,11 +1,11 @@
 use Rattle.std.proofs.Common.{◌≤◌, ◌-◌, ◌+◌, take, drop, sym, ◌∙◌, ap, refl, ◌≡◌, ◌++◌, length-take, take-append-drop, arith}
 use Rattle.t85_core.specs.Stream.{held_of}
 use Rattle.t85_core.proofs.Held.{held_after, Keeps-same, none_held}
-use Rattle.t85_core.proofs.Pages.{keeps_written, keeps_failed, all_written}
+use Rattle.t85_core.proofs.Pages.{grows_with, grows_kept, keeps_written, keeps_failed, all_written}
 use Rattle.t85_core.proofs.page.write_part.Goals as goal
 
 pub loop-place-init : goal.loop-place-init
-loop-place-init g c = record { within = c.requires.ordered; text = Keeps-same _; unfailed = refl }
+loop-place-init g c = record { within = c.requires.ordered; text = Keeps-same _; grows = omega arith; unfailed = refl }
 
 pub loop-place-preserved : goal.loop-place-preserved
 loop-place-preserved g c =
@@ -17,11 +17,15 @@ loop-place-preserved g c =
     record {
       within = fits;
       text = keeps_written _ _ _ _ held (take count held) _ c.loop-place.invariant.text c.in-Ok.ensures.bytes (sym (take-append-drop count held) ∙ ap (λ z. take count held ++ z) (sym (held_after bytes place count c.args.end fits)));
+      grows = (let more = grows_with _ _ _ c.in-Ok.ensures.bytes in let before = c.loop-place.invariant.grows in omega (arith, more, before));
       unfailed = c.in-Ok.ensures.counts ∙ c.loop-place.invariant.unfailed;
     }
 
 pub returns-in-Err-clause-err : goal.returns-in-Err-clause-err
 returns-in-Err-clause-err g c = keeps_failed _ _ _ _ _ c.loop-place.invariant.text c.in-Err.ensures.bytes
+
+pub returns-in-Err-clause-grows : goal.returns-in-Err-clause-grows
+returns-in-Err-clause-grows g c = let kept = grows_kept _ _ c.in-Err.ensures.bytes in let before = c.loop-place.invariant.grows in omega (arith, kept, before)
 
 pub returns-clause-ok : goal.returns-clause-ok
 returns-clause-ok g c =

@@ -20,8 +20,8 @@ returns-in-Ok-put-clause-ok g c from began h c' segments move r =
     c.pulls_join.ensures _ c.in-Ok.ensures.row (rw c.row.ensures at c.in-Ok-put.ensures.ok)
 
 pub returns-in-Err-put-clause-unset : goal.returns-in-Err-put-clause-unset
-returns-in-Err-put-clause-unset g c is from began h c' segments move r =
+returns-in-Err-put-clause-unset g c is from began h c' segments count move few r =
     row_unset (Pulls g.C.CodeBytes.gives g.C.CodeBytes.failed) from c.args.source.now c.decode_row.new.source h c.args.shape c' segments c.args.row
     c.args.carried.now (record { window = re_v c.decode_row.new.window (re_v c.turn.new.self c.args.carried.now.window); kept = c.decode_row.new.kept; learned = c.decode_row.new.learned }) c.args.decoder.now c.decode_row.new.decoder began (g.P.Sheet.text c.args.sheet.now) r
     _ c.turn.new.self (c.offset_in-carried.ensures.is ∙ ap (λ m. offset_at m c.args.row c.args.carried.now.kept.offset) move) refl c.turn.ensures
-    c.pulls_join.ensures c.in-Ok.ensures.row
+    c.pulls_join.ensures _ count few c.in-Ok.ensures.row (rw c.row.ensures at c.in-Err-put.ensures.cut)

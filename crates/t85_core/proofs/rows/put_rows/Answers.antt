@@ -11,6 +11,7 @@ rows-init g c = record {
   offset = c.requires.offset;
   counted = refl;
   unfailed = refl;
+  grows = omega arith;
   same_target = refl;
 }
 
@@ -21,4 +22,4 @@ returns-clause-ok g c h c' segments move shape_is is =
 
 pub returns-in_err-put_row-clause-unset : goal.returns-in_err-put_row-clause-unset
 returns-in_err-put_row-clause-unset g c = λ is h c' segments move shape_is i.
-    exit_same c.from_residual.result c.from_residual.ensures.1 (λ e. c.in_err-put_row.ensures.unset e c.args.source.now (g.P.Sheet.text c.args.sheet.now) h c' segments move (c.rows.invariant.read h c' segments move shape_is i)) is
+    exit_same c.from_residual.result c.from_residual.ensures.1 (λ e. c.in_err-put_row.ensures.unset e c.args.source.now (g.P.Sheet.text c.args.sheet.now) h c' segments c.args.rows move (omega (arith, c.rows-test.true)) (c.rows.invariant.read h c' segments move shape_is i)) is

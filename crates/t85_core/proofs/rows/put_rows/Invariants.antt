@@ -17,5 +17,6 @@ invariant-rows g l = record {
   offset : l.carried.kept.offset ≤ 127;
   counted : g.C.CodeBytes.failed l.source ≡ g.C.CodeBytes.failed l.fn.source;
   unfailed : g.P.Sheet.failures l.sheet ≡ g.P.Sheet.failures l.fn.sheet;
+  grows : g.P.Sheet.written l.fn.sheet ≤ g.P.Sheet.written l.sheet;
   same_target : g.P.Sheet.target l.sheet ≡ g.P.Sheet.target l.fn.sheet;
 }

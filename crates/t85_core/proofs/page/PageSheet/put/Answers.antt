@@ -1,9 +1,9 @@
-use Rattle.std.proofs.Common.{◌≡◌, ◌-◌, length, take, drop, sym, refl, ◌∙◌, take-append-drop, length-drop, length-take, arith}
+use Rattle.std.proofs.Common.{◌≡◌, ◌≤◌, ◌-◌, length, take, drop, sym, refl, ◌∙◌, take-append-drop, length-drop, length-take, arith}
 use Rattle.std.proofs.lemmas.List.{take_rest}
 use Rattle.std.proofs.Math.Seq.{take-add}
 use Rattle.std.specs.Prelude.{Result, Ok, Err, OnErr}
 use Rattle.std.specs.Io.KnownBytes.{Keeps, append_known}
-use Rattle.t85_core.specs.Stream.{held_of}
+use Rattle.t85_core.specs.Stream.{held_of, known_length}
 use Rattle.t85_core.proofs.Streams.{Appends-more, Appends-keeps}
 use Rattle.t85_core.proofs.Held.{Keeps-same}
 use Rattle.t85_core.proofs.page.PageSheet.put.Goals as goal
@@ -30,6 +30,11 @@ loop-taken-preserved g c =
       | then-self-eq-SIZE+in_ok-hand_on w ↦ rw w.self-is w.hand_on.ensures.text
       | else-self-eq-SIZE w ↦ rw w.self-is (Keeps-same _)
     ] in
+    let grows : known_length (g.W.Output.contents old.output.now) ≤ known_length (g.W.Output.contents new.output.now) =
+    elim c.if-self-eq-SIZE.branch [
+      | then-self-eq-SIZE+in_ok-hand_on w ↦ rw w.self-is w.hand_on.ensures.grows
+      | else-self-eq-SIZE w ↦ rw w.self-is (omega arith)
+    ] in
     let unfailed : g.W.Output.failures new.output.now ≡ g.W.Output.failures old.output.now =
     elim c.if-self-eq-SIZE.branch [
       | then-self-eq-SIZE+in_ok-hand_on w ↦ rw w.self-is w.in_ok-hand_on.ensures.counts
@@ -44,6 +49,7 @@ loop-taken-preserved g c =
     record {
       within = omega (arith, c.fill-taken.ensures.bound, length-drop c.loop-taken.taken c.args.bytes.now, length-take (length c.args.bytes.now - c.loop-taken.taken) (drop c.loop-taken.taken c.args.bytes.now), c.loop-taken.invariant.within);
       text = rw take-add (Appends-more _ _ _ _ _ (Appends-keeps _ _ _ _ c.loop-taken.invariant.text kept) more);
+      grows = rw c.fill-taken.ensures.lent (let before = c.loop-taken.invariant.grows in omega (arith, grows, before));
       unfailed = rw c.fill-taken.ensures.lent (unfailed ∙ c.loop-taken.invariant.unfailed);
       same_target = rw c.fill-taken.ensures.lent (same_target ∙ c.loop-taken.invariant.same_target);
     }
