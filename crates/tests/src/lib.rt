@@ -12,6 +12,10 @@ mod header;
 #[cfg(test)]
 mod info;
 #[cfg(test)]
+mod large;
+#[cfg(test)]
 mod streams;
 #[cfg(test)]
 mod trial;
+#[cfg(test)]
+mod watched;

@@ -1,9 +1,10 @@
 //! Runs of both programs over devices in memory, and what is tried on them.
 
-ghost use Rattle.std.specs.Prelude.{◌≡◌, ◌↔◌, IfOk, IsTrue, filter_map, option_map};
+ghost use Rattle.std.specs.Prelude.{◌≡◌, ◌↔◌, ◌<◌, ◌-◌, ◌^◌, IfOk, IsTrue, filter_map, option_map};
 ghost use Rattle.tests.specs.Trial.{HasTold, hex_digit, paired};
 
 use pbm_core::trial::{Drip, Pieces};
+use pbm_core::{Input, Output};
 use program_core::{LineFault, jbgtopbm85, pbmtojbg85};
 use std::alloc::{AllocError, Global};
 use std::process::Abort;
@@ -30,6 +31,24 @@ impl Program {
         match self {
             Program::Encoder(_) => pbmtojbg85::NAME,
             Program::Decoder(_) => jbgtopbm85::NAME,
+        }
+    }
+
+    /// Runs it over these devices, and gives the exit status.
+    pub fn run<R: Input, W: Output, M: Output>(
+        &self,
+        alloc: Global,
+        input: &mut R,
+        output: &mut W,
+        messages: &mut M,
+    ) -> u8
+        requires input { R.failures input.old < 2 ^ 64 - 1 }
+        requires output { W.failures output.old < 2 ^ 64 - 1 }
+        requires messages { M.failures messages.old < 2 ^ 64 - 1 }
+    {
+        match self {
+            Program::Encoder(job) => pbmtojbg85::run(alloc, job, input, output, messages),
+            Program::Decoder(job) => jbgtopbm85::run(alloc, job, input, output, messages),
         }
     }
 
@@ -112,27 +131,21 @@ fn has_told(
     }
 }
 
-/// Runs a program on these bytes, into room for 24,576 bytes.
+/// Runs a program on these bytes, into room for so many.
 fn run_on(
     alloc: Global,
     program: &Program,
     bytes: &[u8],
     devices: Devices,
+    room: usize,
 ) -> Result<Ran, AllocError> {
     let most = devices.most.max(1);
     let mut input = Pieces::new(bytes, most, devices.failing_read);
-    let mut held = [0; 24576];
+    let mut held = vec![in alloc; 0u8; room]?;
     let mut output = Drip::new(&mut held, most, devices.failing_write, devices.flush_fails);
     let mut told = [0; 128];
     let mut messages = Drip::new(&mut told, 128, None, false);
-    let status = match program {
-        Program::Encoder(job) => {
-            pbmtojbg85::run(alloc, job, &mut input, &mut output, &mut messages)
-        }
-        Program::Decoder(job) => {
-            jbgtopbm85::run(alloc, job, &mut input, &mut output, &mut messages)
-        }
-    };
+    let status = program.run(alloc, &mut input, &mut output, &mut messages);
     Ok(Ran {
         status,
         output: output.written().to_vec(alloc)?,
@@ -159,7 +172,7 @@ pub enum Bytes<'a> {
 }
 
 impl Bytes<'_> {
-    fn to_vec(self, alloc: Global) -> Result<Vec<u8>, AllocError> {
+    pub fn to_vec(self, alloc: Global) -> Result<Vec<u8>, AllocError> {
         match self {
             Bytes::Raw(bytes) => bytes.to_vec(alloc),
             Bytes::Hex(digits) => bytes_of(alloc, digits),
@@ -252,6 +265,12 @@ impl<'a> Case<'a> {
         })
     }
 
+    /// Runs the program on these bytes, into room for a byte more than the output has.
+    fn run_on(&self, alloc: Global, bytes: &[u8], devices: Devices) -> Result<Ran, AllocError> {
+        let room = self.output.len().saturating_add(1);
+        run_on(alloc, &self.program, bytes, devices, room)
+    }
+
     /// Whether a run on these bytes writes just so many of the output, and tells just the text of this fault, or nothing
     /// where there is none.
     fn leaves(
@@ -265,7 +284,7 @@ impl<'a> Case<'a> {
         if count > self.output.len() {
             return Ok(false);
         }
-        let ran = run_on(alloc, &self.program, bytes, devices)?;
+        let ran = self.run_on(alloc, bytes, devices)?;
         Ok(
             ran.output.as_slice() == &self.output[..count]
                 && has_told(alloc, &ran, self.program.name(), fault)?,
@@ -309,7 +328,7 @@ impl<'a> Case<'a> {
             failing_read: Some(came.saturating_add(1)),
             ..BYTEWISE
         };
-        let ran = run_on(alloc, &self.program, &self.input, devices)?;
+        let ran = self.run_on(alloc, &self.input, devices)?;
         let text = Some("input cannot be read");
         Ok(
             self.run.may_stand(came, ran.output.len())
@@ -348,7 +367,7 @@ impl<'a> Case<'a> {
             flush_fails: true,
             ..SMOOTH
         };
-        let ran = run_on(alloc, &self.program, &self.input[..came], devices)?;
+        let ran = self.run_on(alloc, &self.input[..came], devices)?;
         let text = Some(self.program.early_end());
         has_told(alloc, &ran, self.program.name(), text)
     }

@@ -1,0 +1,177 @@
+//! A slow input sees each finished stripe go out: an input that looks at what the output has taken.
+
+ghost use Rattle.std.specs.Prelude.{◌≡◌, ◌<◌, ◌-◌, ◌^◌, length, None};
+
+use crate::trial::Bytes::Image;
+use crate::trial::{Bytes, Program};
+use pbm_core::trial::Drip;
+use pbm_core::{DeviceFailed, Input, Output};
+use program_core::LineFault;
+use std::alloc::Global;
+use std::cell::Cell;
+use std::test::Fail;
+
+/// The most bytes of an image that is watched.
+const MOST: usize = 16;
+
+/// An input that gives single bytes, and notes at each how many the output has taken before it.
+#[derive(Drop)]
+struct Watcher<'a> {
+    rest: &'a [u8],
+    came: usize,
+    taken: &'a Cell<u64>,
+    seen: [u64; MOST],
+}
+
+impl Input for Watcher<'_> {
+    ghost remaining = { λ _. None };
+
+    ghost failures = { λ _. 0 };
+
+    ghost left = { λ s. length s.rest.now };
+
+    fn failures(&self) -> u64 {
+        0
+    }
+
+    fn left(&self) -> u64 {
+        self.rest.len() as u64
+    }
+
+    fn read(&mut self, buf: &mut [u8]) -> Result<usize, DeviceFailed> {
+        if let (Some(place), Some((byte, rest))) = (buf.first_mut(), self.rest.split_first()) {
+            if self.came < MOST {
+                self.seen[self.came] = self.taken.get();
+                self.came += 1;
+            }
+            *place = *byte;
+            self.rest = rest;
+            Ok(1)
+        } else {
+            Ok(0)
+        }
+    }
+}
+
+/// An output that keeps nothing, and counts the bytes that it takes where others see it.
+#[derive(Drop)]
+struct Counter<'a> {
+    taken: &'a Cell<u64>,
+    flushed: bool,
+}
+
+impl Output for Counter<'_> {
+    ghost contents = { λ _. None };
+
+    ghost failures = { λ _. 0 };
+
+    ghost flushed = { λ s. s.flushed };
+
+    fn failures(&self) -> u64 {
+        0
+    }
+
+    fn write(&mut self, buf: &[u8]) -> Result<usize, DeviceFailed> {
+        let taken = self.taken.get();
+        self.taken.set(taken.saturating_add(buf.len() as u64));
+        self.flushed = false;
+        Ok(buf.len())
+    }
+
+    fn flush(&mut self) -> Result<(), DeviceFailed> {
+        self.flushed = true;
+        Ok(())
+    }
+}
+
+/// A run of the encoder, and what must stand written while its rows are read.
+struct Watched {
+    words: &'static [&'static str],
+    image: Bytes<'static>,
+    /// Before which byte of the image how many of the stream must have gone out.
+    due: &'static [(usize, u64)],
+    /// How many bytes the stream has.
+    whole: u64,
+}
+
+static WATCHED: [Watched; 6] = [
+    // A header, and F0 FF 02 and F4 FF 02.
+    Watched {
+        words: &["pbmtojbg85", "-p", "0", "-s", "1"],
+        image: Image("8 2", "FF FF"),
+        due: &[(8, 23)],
+        whole: 26,
+    },
+    // A header, and F0 FF 03 for each row.
+    Watched {
+        words: &["pbmtojbg85", "-p", "0", "-s", "1", "-r"],
+        image: Image("8 3", "FF FF FF"),
+        due: &[(8, 23), (9, 26)],
+        whole: 29,
+    },
+    // A header, a comment of eight bytes, and F0 FF 02 and F4 FF 02.
+    Watched {
+        words: &["pbmtojbg85", "-p", "0", "-s", "1", "-C", "hi"],
+        image: Image("8 2", "FF FF"),
+        due: &[(8, 31)],
+        whole: 34,
+    },
+    // A header, F0 FF 02, and behind a move of eight bytes F8 FF 02.
+    Watched {
+        words: &["pbmtojbg85", "-p", "0", "-s", "1", "-m", "3"],
+        image: Image("8 2", "FF FF"),
+        due: &[(8, 23)],
+        whole: 34,
+    },
+    // A header, and FF 03 for three white rows and for three more.
+    Watched {
+        words: &["pbmtojbg85", "-s", "3", "-r"],
+        image: Image("8 6", "00 00 00 00 00 00"),
+        due: &[(10, 22)],
+        whole: 24,
+    },
+    // A header, and E0 FF 02 for each row.
+    Watched {
+        words: &["pbmtojbg85", "-s", "1"],
+        image: Image("1 2", "80 80"),
+        due: &[(8, 23)],
+        whole: 26,
+    },
+];
+
+impl Watched {
+    /// Whether at least so many had gone out before each of these bytes of the image was read.
+    fn were_out(&self, seen: &[u64; MOST]) -> bool {
+        self.due.iter().all(|&(at, count)| seen.get(at).is_some_and(|taken| *taken >= count))
+    }
+
+    /// Runs the encoder: whether it ends well, with all written, and each stripe out in time.
+    fn goes_out(&self, alloc: Global) -> Result<bool, LineFault> {
+        let image = self.image.to_vec(alloc)?;
+        let program = Program::of(alloc, self.words)?;
+        let taken = Cell::new(0);
+        let mut input = Watcher {
+            rest: &image,
+            came: 0,
+            taken: &taken,
+            seen: [0; MOST],
+        };
+        let mut output = Counter {
+            taken: &taken,
+            flushed: false,
+        };
+        let mut told = [0; 128];
+        let mut messages = Drip::new(&mut told, 128, None, false);
+        let status = program.run(alloc, &mut input, &mut output, &mut messages);
+        Ok(status == 0 && taken.get() == self.whole && self.were_out(&input.seen))
+    }
+}
+
+/// Before the first row of a stripe is read, the stripe before it is out, with its end marker.
+#[test]
+fn sends_each_stripe_on(rt: HostRuntime) -> Result<(), Fail> {
+    for watched in &WATCHED {
+        assert!(rt; watched.goes_out(rt.alloc())?, "{:?}", watched.words);
+    }
+    Ok(())
+}
