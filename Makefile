@@ -1,5 +1,5 @@
 # make            builds both programs into bin/, and shows them on a real page
-# make test       the gate: every proof, every edit that must fail, every test; ends in `rt ci`
+# make test       the gate: every proof, every edit that must fail, every test, runs of the built programs; ends in `rt ci`
 # make turns      makes each allocation of the programs fail in turn
 # make interop    exchanges streams with JBIG-KIT's programs, and compares the images
 # make bench      measures beside JBIG-KIT; no test is timed
@@ -23,8 +23,10 @@ build:
 		cp crates/$$program/out/$$program bin/$$program; \
 	done
 
-test:
+test: build
 	tools/must-not-compile
+	tests/turns bin
+	tests/stored bin
 	rt ci
 
 turns: build

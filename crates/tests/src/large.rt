@@ -4,6 +4,7 @@ use crate::trial::Bytes::{Hex, Image};
 use crate::trial::{Devices, Run, SMOOTH, leaves};
 use program_core::LineFault;
 use std::alloc::{AllocError, Global};
+use std::process::Abort;
 use std::test::Fail;
 
 /// Bytes of which a part comes again and again, as hexadecimal digits.
@@ -35,7 +36,7 @@ struct Large {
     stripes: usize,
 }
 
-static LARGE: [Large; 5] = [
+static WIDE: [Large; 3] = [
     Large {
         words: &["pbmtojbg85", "-s", "1", "-r"],
         size: "1728 30",
@@ -93,6 +94,9 @@ static LARGE: [Large; 5] = [
         },
         stripes: 2,
     },
+];
+
+static WIDEST: [Large; 2] = [
     Large {
         words: &["pbmtojbg85"],
         size: "1048576 2",
@@ -170,16 +174,22 @@ impl Large {
     }
 }
 
-/// Rows of 1,728, of 33,000 and of 1,048,576 pixels.
-#[test]
-fn codes_large_images(rt: HostRuntime) -> Result<(), Fail> {
-    for large in &LARGE {
-        assert!(rt;
-            large.is_coded(rt.alloc())?,
-            "{} {:?}",
-            large.size,
-            large.words
-        );
+/// Asserts of each image that it is coded, and comes back.
+fn all_are_coded(rt: &impl Abort, alloc: Global, images: &[Large]) -> Result<(), Fail> {
+    for large in images {
+        assert!(rt; large.is_coded(alloc)?, "{} {:?}", large.size, large.words);
     }
     Ok(())
+}
+
+/// Rows of 1,728 and of 33,000 pixels.
+#[test]
+fn codes_wide_images(rt: HostRuntime) -> Result<(), Fail> {
+    all_are_coded(&rt, rt.alloc(), &WIDE)
+}
+
+/// The widest rows, of 1,048,576 pixels.
+#[test]
+fn codes_the_widest_images(rt: HostRuntime) -> Result<(), Fail> {
+    all_are_coded(&rt, rt.alloc(), &WIDEST)
 }
