@@ -145,26 +145,32 @@ impl Watched {
         self.due.iter().all(|&(at, count)| seen.get(at).is_some_and(|taken| *taken >= count))
     }
 
-    /// Runs the encoder: whether it ends well, with all written, and each stripe out in time.
+    /// Whether the encoder ends well, with all written, and each stripe out in time.
     fn goes_out(&self, alloc: Global) -> Result<bool, LineFault> {
         let image = self.image.to_vec(alloc)?;
         let program = Program::of(alloc, self.words)?;
-        let taken = Cell::new(0);
-        let mut input = Watcher {
-            rest: &image,
-            came: 0,
-            taken: &taken,
-            seen: [0; MOST],
-        };
-        let mut output = Counter {
-            taken: &taken,
-            flushed: false,
-        };
-        let mut told = [0; 128];
-        let mut messages = Drip::new(&mut told, 128, None, false);
-        let status = program.run(alloc, &mut input, &mut output, &mut messages);
-        Ok(status == 0 && taken.get() == self.whole && self.were_out(&input.seen))
+        let (status, taken, seen) = watch(alloc, &program, &image);
+        Ok(status == 0 && taken == self.whole && self.were_out(&seen))
     }
+}
+
+/// Runs the program on these bytes: the exit status, how many bytes it wrote, and how many before each that it read.
+fn watch(alloc: Global, program: &Program, bytes: &[u8]) -> (u8, u64, [u64; MOST]) {
+    let taken = Cell::new(0);
+    let mut input = Watcher {
+        rest: bytes,
+        came: 0,
+        taken: &taken,
+        seen: [0; MOST],
+    };
+    let mut output = Counter {
+        taken: &taken,
+        flushed: false,
+    };
+    let mut told = [0; 128];
+    let mut messages = Drip::new(&mut told, 128, None, false);
+    let status = program.run(alloc, &mut input, &mut output, &mut messages);
+    (status, taken.get(), input.seen)
 }
 
 /// Before the first row of a stripe is read, the stripe before it is out, with its end marker.
