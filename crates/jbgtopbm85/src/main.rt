@@ -2,13 +2,13 @@
 #![tactic(auto)]
 
 use pbm_core::{FromRead, ToWrite};
-use program_core::jbgtopbm85::{Job, NAME, job, run};
-use program_core::{open_files, refuse, words_of};
+use program_core::jbgtopbm85::{Job, NAME, job, open, run};
+use program_core::{end, refuse, words_of};
 use std::process::ExitCode;
 
 /// Opens the files, and does the job.
 fn perform(rt: &HostRuntime, job: &Job) -> ExitCode {
-    let (input, output) = match open_files(rt, NAME, &job.input, &job.output) {
+    let (input, output) = match open(rt, job) {
         Ok(files) => files,
         Err(code) => return code,
     };
@@ -19,7 +19,7 @@ fn perform(rt: &HostRuntime, job: &Job) -> ExitCode {
         &mut ToWrite::new(output),
         &mut ToWrite::new(rt.stderr()),
     );
-    ExitCode::from(status)
+    end(status)
 }
 
 fn main(rt: HostRuntime) -> ExitCode {

@@ -2,8 +2,8 @@
 #![tactic(auto)]
 
 use pbm_core::{FromRead, ToWrite};
-use program_core::pbmtojbg85::{Job, NAME, job, run};
-use program_core::{LineFault, open_files, refuse, words_of};
+use program_core::pbmtojbg85::{Job, NAME, job, open, run};
+use program_core::{LineFault, end, refuse, words_of};
 use std::io::BufReader;
 use std::process::ExitCode;
 use t85_core::Fault;
@@ -13,7 +13,7 @@ const HELD: usize = 4096;
 
 /// Opens the files, and does the job.
 fn perform(rt: &HostRuntime, job: &Job) -> ExitCode {
-    let (input, output) = match open_files(rt, NAME, &job.input, &job.output) {
+    let (input, output) = match open(rt, job) {
         Ok(files) => files,
         Err(code) => return code,
     };
@@ -27,7 +27,7 @@ fn perform(rt: &HostRuntime, job: &Job) -> ExitCode {
         &mut ToWrite::new(output),
         &mut ToWrite::new(rt.stderr()),
     );
-    ExitCode::from(status)
+    end(status)
 }
 
 fn main(rt: HostRuntime) -> ExitCode {

@@ -1,20 +1,25 @@
 -- The command of `jbgtopbm85`, as clap's contracts see one, what the words say by it, and what `run` does for a job.
-use Rattle.std.specs.Prelude.{◌≡◌, ℕ, Bool, true, false, List, Option, Result, Some, codes, option_map, string_bytes}
+use Rattle.std.specs.Prelude.{◌≡◌, ◌-◌, ◌^◌, ℕ, Bool, true, false, List, Option, Result, Some, codes, option_map, string_bytes, unwrap_or}
 use Rattle.clap.specs.Words.{App, Kinds, Row, fault_of, Rule, Text, first_of, matches_of, new_app, new_rule, with_rule}
 use Rattle.clap.specs.declared.builder.ArgAction.TheVariants.{SetTrue}
 use Rattle.t85_core.specs.declared.fault.Fault.{Fault}
 use Rattle.t85_core.specs.Info.{Informs}
 use Rattle.t85_core.specs.Converts.{Converts}
 use Rattle.program_core.specs.Line.{flag_in}
+use Rattle.program_core.specs.Options.{long_number_rule, number_in}
 use Rattle.program_core.specs.declared.jbgtopbm85.work.Job.{Job}
 
 -- `--info`
 abbrev pub info_rule : Rule
 info_rule = record (new_rule (codes "info")) { long = Some (codes "info"); action = Some SetTrue }
 
+-- `--max-rows N`
+abbrev pub max_rows_rule : Rule
+max_rows_rule = long_number_rule (codes "max-rows") (codes "max-rows")
+
 -- `jbgtopbm85 [options] [input [output]]`
 abbrev pub command : App
-command = with_rule (with_rule (with_rule (new_app (codes "jbgtopbm85")) info_rule) (new_rule (codes "input"))) (new_rule (codes "output"))
+command = with_rule (with_rule (with_rule (with_rule (new_app (codes "jbgtopbm85")) info_rule) max_rows_rule) (new_rule (codes "input"))) (new_rule (codes "output"))
 
 -- the matches that clap's walk over the words gives the command
 unfoldable pub matched : List Text → List Row
@@ -23,6 +28,7 @@ matched words = matches_of command words
 -- the job that has the values of these matches
 pub record IsJobOf (rows : List Row) (job : Job) : Type 0 where
   pub info : job.info ≡ flag_in (codes "info") rows
+  pub max_rows : job.max_rows ≡ number_in (codes "max-rows") rows
   pub input : option_map string_bytes job.input ≡ first_of (codes "input") rows
   pub output : option_map string_bytes job.output ≡ first_of (codes "output") rows
 
@@ -30,9 +36,13 @@ pub record IsJobOf (rows : List Row) (job : Job) : Type 0 where
 unfoldable pub refusals : List Text → Kinds
 refusals words = fault_of command words
 
--- what a job asks of the engine, with or without `--info`
-abbrev pub Does : Bool → Option (List ℕ) → Option (List ℕ) → ℕ → ℕ → Option (List ℕ) → Option (List ℕ) → ℕ → ℕ → Bool → Result (Unit {0}) Fault → Type 0
-Does true in_old in_new reads_old reads_new out_old out_new writes_old writes_new flushed outcome =
+-- the most rows that a job takes; without a number of its own there is no limit, since no height is above this one
+abbrev pub limit_of : Job → ℕ
+limit_of job = unwrap_or job.max_rows (2 ^ 32 - 1)
+
+-- what a job asks of the engine, with or without `--info`, under this limit of the rows
+abbrev pub Does : Bool → ℕ → Option (List ℕ) → Option (List ℕ) → ℕ → ℕ → Option (List ℕ) → Option (List ℕ) → ℕ → ℕ → Bool → Result (Unit {0}) Fault → Type 0
+Does true limit in_old in_new reads_old reads_new out_old out_new writes_old writes_new flushed outcome =
     Informs in_old in_new reads_old reads_new out_old out_new writes_old writes_new flushed outcome
-Does false in_old in_new reads_old reads_new out_old out_new writes_old writes_new flushed outcome =
-    Converts in_old in_new reads_old reads_new out_old out_new writes_old writes_new flushed outcome
+Does false limit in_old in_new reads_old reads_new out_old out_new writes_old writes_new flushed outcome =
+    Converts limit in_old in_new reads_old reads_new out_old out_new writes_old writes_new flushed outcome

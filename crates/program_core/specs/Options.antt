@@ -16,6 +16,15 @@ number_rule id letter defaults = record (new_rule id) {
   defaults = defaults;
 }
 
+-- an option of a long name with a number
+abbrev pub long_number_rule : Text → Text → Rule
+long_number_rule id name = record (new_rule id) {
+  long = Some name;
+  action = Some Set;
+  parser = Some (parser.Signed (pos 0) (pos 4294967295));
+  value_names = 1;
+}
+
 -- an option of one letter with a text
 abbrev pub text_rule : Text → ℕ → Rule
 text_rule id letter = record (new_rule id) { short = Some letter; value_names = 1 }

@@ -1,23 +1,39 @@
 //! The work of `jbgtopbm85`: its command line, and its run over lent devices.
 
-ghost use Rattle.std.specs.Prelude.{◌≡◌, ◌≤◌, ◌<◌, ◌+◌, ◌-◌, ◌^◌, Result};
+ghost use Rattle.std.specs.Prelude.{◌≡◌, ◌≤◌, ◌<◌, ◌+◌, ◌-◌, ◌^◌, IfErr, IfOk, Result, option_map, string_bytes};
 ghost use Rattle.std.specs.Io.KnownBytes.{Keeps};
 ghost use Rattle.t85_core.specs.declared.fault.Fault.{Fault};
+ghost use Rattle.std.specs.Process.{exit_status as exit_code_status};
+ghost use Rattle.program_core.specs.Files.{names_file, reads_file, writes_file};
 ghost use Rattle.program_core.specs.Run.{exit_status};
-ghost use Rattle.program_core.specs.Jbgtopbm85.{Does};
+ghost use Rattle.program_core.specs.Jbgtopbm85.{Does, limit_of};
+ghost use Rattle.t85_core.specs.Walk.{FlushesOnce};
 
 mod words;
 mod work;
 
+use crate::files::{Readable, Writable};
 use crate::message::report;
+use crate::program::open_files;
 use pbm_core::{Input, Output};
 use std::alloc::Global;
+use std::process::ExitCode;
 use t85_core::{info, to_pbm};
 pub use words::job;
 pub use work::Job;
 
 /// The program's name.
 pub const NAME: &str = "jbgtopbm85";
+
+/// Opens the job's input, and then creates or empties its output; where one can't be, that was told, and the program
+/// ends.
+pub fn open(rt: &HostRuntime, job: &Job) -> Result<(Readable, Writable), ExitCode>
+    ensures chosen { IfOk result (λ files. (reads_file files.0 ≡ names_file (option_map string_bytes job.now.input))
+        × (writes_file files.1 ≡ names_file (option_map string_bytes job.now.output))) }
+    ensures status { IfErr result (λ e. exit_code_status e ≡ 1) }
+{
+    open_files(rt, NAME, &job.input, &job.output)
+}
 
 /// Does the job, tells a fault to `messages`, and gives the exit status: 0, or 1 after a fault.
 pub fn run<R: Input, W: Output, M: Output>(
@@ -32,9 +48,10 @@ pub fn run<R: Input, W: Output, M: Output>(
     requires messages { M.failures messages.old < 2 ^ 64 - 1 }
 
     // The engine's outcome is passed on.
-    ensures outcome { (outcome : Result (Unit {0}) Fault) × (result ≡ exit_status outcome) × Does job.now.info
+    ensures outcome { (outcome : Result (Unit {0}) Fault) × (result ≡ exit_status outcome) × Does job.now.info (limit_of job.now)
         (R.remaining input.old) (R.remaining input.new) (R.failures input.old) (R.failures input.new)
-        (W.contents output.old) (W.contents output.new) (W.failures output.old) (W.failures output.new) (W.flushed output.new) outcome }
+        (W.contents output.old) (W.contents output.new) (W.failures output.old) (W.failures output.new) (W.flushed output.new) outcome
+        × FlushesOnce (W.flushes output.old) (W.flushes output.new) outcome }
 
     // A message is tried once, and only after a fault.
     ensures quiet { result ≡ 0 → Keeps (M.contents messages.old) (M.contents messages.new) × (M.failures messages.new ≡ M.failures messages.old) }
@@ -43,7 +60,7 @@ pub fn run<R: Input, W: Output, M: Output>(
     let outcome = if job.info {
         info(input, output)
     } else {
-        to_pbm(alloc, input, output)
+        to_pbm(alloc, input, job.max_rows.unwrap_or(u32::MAX), output)
     };
     report(NAME, outcome, messages)
 }

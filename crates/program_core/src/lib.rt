@@ -12,4 +12,4 @@ mod program;
 
 pub use files::{Readable, Writable};
 pub use line_fault::LineFault;
-pub use program::{open_files, refuse, words_of};
+pub use program::{end, refuse, words_of};

@@ -3,6 +3,7 @@
 ghost use Rattle.std.specs.Prelude.{◌≡◌, IfErr, IfOk, map, option_map, string_bytes, true};
 ghost use Rattle.clap.specs.Words.{IsParsedFrom, app_of, fault_of as refusals_of, first_of, found_of, is_simple, is_simple_and_free, matches_of as rows_matched, rows_of};
 ghost use Rattle.program_core.specs.Line.{IsRefusal, flag_in};
+ghost use Rattle.program_core.specs.Options.{number_in};
 
 use crate::line_fault::{LineFault, fault_of};
 use clap::{ArgMatches, Command};
@@ -40,6 +41,13 @@ pub(crate) fn text(
         Some(text) => Ok(Some(String::from_str(alloc, text)?)),
         None => Ok(None),
     }
+}
+
+/// The number that the words give an option, if they give one.
+pub(crate) fn number(matches: &ArgMatches<'_>, id: &str) -> Option<u32>
+    ensures { result ≡ number_in id.now (rows_of (found_of matches.now)) }
+{
+    matches.get_one(id)
 }
 
 /// Whether the words set a flag.

@@ -60,8 +60,15 @@ pub fn words_of(rt: &HostRuntime, program: &str) -> Result<Vec<String>, ExitCode
     }
 }
 
+/// The code of an exit status.
+pub fn end(status: u8) -> ExitCode
+    ensures { exit_status result ≡ status }
+{
+    ExitCode::from(status)
+}
+
 /// Opens the input, and then creates or empties the output; where one can't be, that was told, and the program ends.
-pub fn open_files(
+pub(crate) fn open_files(
     rt: &HostRuntime,
     program: &str,
     input: &Option<String>,

@@ -17,13 +17,13 @@ use Rattle.t85_core.specs.Fixed.{Fixes}
 use Rattle.t85_core.specs.Image.{IsOutcome, pbm_rows}
 use Rattle.t85_core.specs.Stream.{known_length}
 use Rattle.t85_core.specs.Unset.{ImageBegun}
-use Rattle.t85_core.specs.Info.{IsWalkFault}
+use Rattle.t85_core.specs.Info.{IsBodyFault}
 use Rattle.t85_core.specs.Walk.{CountsBoth, CountsWrite, counted_as}
 use Rattle.t85_core.specs.StreamLaws.{IsInUse}
 use Rattle.t85_core.specs.Decoding.{ImageRead, ImageCut}
 use Rattle.t85_core.specs.Converts.{WritesRaster, WritesRows, WritesFront, Decodes}
 use Rattle.t85_core.specs.CoderLaws.{CoderLaws}
-use Rattle.t85_core.proofs.Faults.{body_faults, uncounted}
+use Rattle.t85_core.proofs.Faults.{body_faults, uncounted_body}
 use Rattle.t85_core.proofs.FixedRows.{one_fixed_at}
 use Rattle.t85_core.proofs.Known.{stable_rest, counted-other}
 use Rattle.t85_core.proofs.OneRaster.{one_raster_at}
@@ -106,8 +106,8 @@ module _ (q : CoderLaws) (h : Fields) (height : ℕ) (use_ : IsInUse h height) (
     rows_written i.ends.given Truncated i.rows (subst (λ f. Fixes h height i.ends.given (counted_as Truncated f) i.rows) read i.ends.has_fault) i.set_out,
   )
 
-  cut_among : (bytes known : Option (List ℕ)) (fault : Fault) → ImageCut h height bytes known out_mid out_new fault → IsWalkFault fault
-  cut_among bytes known fault i = uncounted Truncated fault (body_faults h (stripe_count height h.l0) i.ends.given (counted_as Truncated fault) i.ends.has_fault.broken)
+  cut_among : (bytes known : Option (List ℕ)) (fault : Fault) → ImageCut h height bytes known out_mid out_new fault → IsBodyFault fault
+  cut_among bytes known fault i = uncounted_body Truncated fault (body_faults h (stripe_count height h.l0) i.ends.given (counted_as Truncated fault) i.ends.has_fault.broken)
 
   -- what stands written is a beginning of what was set out
   front_written : (in_new : Option (List ℕ)) (in_held out_held : List ℕ) → known_length out_mid ≤ known_length out_new → ImageBegun h height in_old (prepend_known in_held in_new) out_mid (append_known out_new out_held) →

@@ -4,25 +4,31 @@ use Rattle.std.specs.Prelude.{IfSome, ◌==◌, if◌then◌else◌}
 use Rattle.std.specs.List.{AllByRecursion}
 use Rattle.byteorder.specs.Endian.{big_number}
 use Rattle.t85_core.specs.declared.fault.Fault.{Fault}
-use Rattle.t85_core.specs.declared.fault.Fault.TheVariants.{ShortHeader, ReservedBits, Layers, Planes, ZeroSize, TooWide, MoveRange, PrivateTable, Truncated, BadEscape, Aborted, MoveRefused, SecondMove, LengthRefused, Read, Write, OutOfMemory, OptionBits, StripeZero, MoveLarge, CommentLong, NotYet, Pbm}
+use Rattle.t85_core.specs.declared.fault.Fault.TheVariants.{ShortHeader, ReservedBits, Layers, Planes, ZeroSize, TooWide, MoveRange, PrivateTable, Truncated, BadEscape, Aborted, MoveRefused, SecondMove, LengthRefused, Read, Write, OutOfMemory, OptionBits, StripeZero, MoveLarge, TooManyRows, CommentLong, NotYet, Pbm}
 use Rattle.t85_core.specs.Header.{Fields, Refusal, refusals, first_refusal, header_fault}
 use Rattle.t85_core.specs.Refusal.{rest_fault, escape_fault, move_fault, comment_fault, is_legal_move, StripesFault}
 use Rattle.t85_core.specs.Walk.{counted_as, failed_writes}
-use Rattle.t85_core.specs.Info.{IsWalkFault}
+use Rattle.t85_core.specs.Info.{IsBodyFault, IsWalkFault}
+
+either_of : (P : Option Fault → Type 0) (t : Bool) (a b : Option Fault) → P a → P b → P (cond t a b)
+either_of P true a b p q = p
+either_of P false a b p q = q
+
+abbrev MayRefuse : Option Fault → Type 0
+MayRefuse o = IfSome o IsWalkFault
 
 abbrev MayBe : Option Fault → Type 0
-MayBe o = IfSome o IsWalkFault
+MayBe o = IfSome o IsBodyFault
 
 either : (t : Bool) (a b : Option Fault) → MayBe a → MayBe b → MayBe (cond t a b)
-either true a b p q = p
-either false a b p q = q
+either t a b = either_of (λ o. MayBe o) t a b
 
-first_may : (rs : List Refusal) (bytes : List ℕ) → AllByRecursion (λ r. IsWalkFault r.1) rs → MayBe (first_refusal rs bytes)
+first_may : (rs : List Refusal) (bytes : List ℕ) → AllByRecursion (λ r. IsWalkFault r.1) rs → MayRefuse (first_refusal rs bytes)
 first_may [] bytes p = tt
-first_may (r ∷ rs) bytes p = either (r.0 bytes) (Some r.1) (first_refusal rs bytes) p.0 (first_may rs bytes p.1)
+first_may (r ∷ rs) bytes p = either_of (λ o. MayRefuse o) (r.0 bytes) (Some r.1) (first_refusal rs bytes) p.0 (first_may rs bytes p.1)
 
-header_may : (bytes : List ℕ) → MayBe (header_fault bytes)
-header_may bytes = either (nat_lt (length bytes) 20) (Some ShortHeader) (first_refusal refusals bytes) tt (first_may refusals bytes (tt, (tt, (tt, (tt, (tt, (tt, (tt, tt))))))))
+header_may : (bytes : List ℕ) → MayRefuse (header_fault bytes)
+header_may bytes = either_of (λ o. MayRefuse o) (nat_lt (length bytes) 20) (Some ShortHeader) (first_refusal refusals bytes) tt (first_may refusals bytes (tt, (tt, (tt, (tt, (tt, (tt, (tt, tt))))))))
 
 move_may : (h : Fields) (moves : ℕ) (bytes : List ℕ) → MayBe (move_fault h moves bytes)
 move_may h moves bytes =
@@ -49,35 +55,53 @@ rest_may h moves in_code (b ∷ []) = either (b == 255) (Some Truncated) None tt
 rest_may h moves in_code (b ∷ escape ∷ bytes) = either (b == 255) (escape_fault h moves in_code escape bytes) None (escape_may h moves in_code escape bytes) tt
 
 pub header_faults : (bytes : List ℕ) (f : Fault) → header_fault bytes ≡ Some f → IsWalkFault f
-header_faults bytes f e = subst (λ o. MayBe o) e (header_may bytes)
+header_faults bytes f e = subst (λ o. MayRefuse o) e (header_may bytes)
 
-pub body_faults : (h : Fields) (count : ℕ) (bytes : List ℕ) (f : Fault) → StripesFault h count bytes f → IsWalkFault f
+pub body_faults : (h : Fields) (count : ℕ) (bytes : List ℕ) (f : Fault) → StripesFault h count bytes f → IsBodyFault f
 body_faults h count bytes f p = subst (λ o. MayBe o) p.tail_has.rest_has (rest_may h _ _ p.tail_has.rest)
 
+-- what may be told of a body may be told of a walk
+pub walk_fault : (f : Fault) → IsBodyFault f → IsWalkFault f
+walk_fault Truncated p = tt
+walk_fault BadEscape p = tt
+walk_fault Aborted p = tt
+walk_fault MoveRefused p = tt
+walk_fault SecondMove p = tt
+walk_fault LengthRefused p = tt
+walk_fault Read p = tt
+walk_fault _ p = absurd p
+
+uncounted_of : (P : Fault → Type 0) → P Read → (ending f : Fault) → P (counted_as ending f) → P f
+uncounted_of P read ending ShortHeader p = p
+uncounted_of P read ending ReservedBits p = p
+uncounted_of P read ending Layers p = p
+uncounted_of P read ending Planes p = p
+uncounted_of P read ending ZeroSize p = p
+uncounted_of P read ending TooWide p = p
+uncounted_of P read ending MoveRange p = p
+uncounted_of P read ending PrivateTable p = p
+uncounted_of P read ending Truncated p = p
+uncounted_of P read ending BadEscape p = p
+uncounted_of P read ending Aborted p = p
+uncounted_of P read ending MoveRefused p = p
+uncounted_of P read ending SecondMove p = p
+uncounted_of P read ending LengthRefused p = p
+uncounted_of P read ending Read p = read
+uncounted_of P read ending Write p = p
+uncounted_of P read ending OutOfMemory p = p
+uncounted_of P read ending OptionBits p = p
+uncounted_of P read ending StripeZero p = p
+uncounted_of P read ending MoveLarge p = p
+uncounted_of P read ending TooManyRows p = p
+uncounted_of P read ending CommentLong p = p
+uncounted_of P read ending NotYet p = p
+uncounted_of P read ending (Pbm f) p = p
+
 pub uncounted : (ending f : Fault) → IsWalkFault (counted_as ending f) → IsWalkFault f
-uncounted ending ShortHeader p = p
-uncounted ending ReservedBits p = p
-uncounted ending Layers p = p
-uncounted ending Planes p = p
-uncounted ending ZeroSize p = p
-uncounted ending TooWide p = p
-uncounted ending MoveRange p = p
-uncounted ending PrivateTable p = p
-uncounted ending Truncated p = p
-uncounted ending BadEscape p = p
-uncounted ending Aborted p = p
-uncounted ending MoveRefused p = p
-uncounted ending SecondMove p = p
-uncounted ending LengthRefused p = p
-uncounted ending Read p = tt
-uncounted ending Write p = p
-uncounted ending OutOfMemory p = p
-uncounted ending OptionBits p = p
-uncounted ending StripeZero p = p
-uncounted ending MoveLarge p = p
-uncounted ending CommentLong p = p
-uncounted ending NotYet p = p
-uncounted ending (Pbm f) p = p
+uncounted ending f p = uncounted_of (λ x. IsWalkFault x) tt ending f p
+
+pub uncounted_body : (ending f : Fault) → IsBodyFault (counted_as ending f) → IsBodyFault f
+uncounted_body ending f p = uncounted_of (λ x. IsBodyFault x) tt ending f p
 
 pub no_write : (f : Fault) → IsWalkFault f → f ≢ Write
 no_write f p e = subst IsWalkFault e p
@@ -103,9 +127,10 @@ unwritten OutOfMemory p = refl
 unwritten OptionBits p = absurd p
 unwritten StripeZero p = absurd p
 unwritten MoveLarge p = absurd p
+unwritten TooManyRows p = absurd p
 unwritten CommentLong p = absurd p
 unwritten NotYet p = refl
 unwritten (Pbm f) p = absurd p
 
 pub rest_faults : (h : Fields) (moves : ℕ) (in_code : Bool) (bytes : List ℕ) (f : Fault) → rest_fault h moves in_code bytes ≡ Some f → IsWalkFault f
-rest_faults h moves in_code bytes f e = subst (λ o. MayBe o) e (rest_may h moves in_code bytes)
+rest_faults h moves in_code bytes f e = walk_fault f (subst (λ o. MayBe o) e (rest_may h moves in_code bytes))

@@ -11,7 +11,7 @@ use Rattle.pbm_core.specs.declared.fault.PbmFault.{PbmFault}
 use Rattle.pbm_core.specs.declared.fault.PbmFault.TheVariants as pbm
 use Rattle.pbm_core.specs.declared.size.Size.{Size}
 use Rattle.t85_core.specs.declared.fault.Fault.{Fault}
-use Rattle.t85_core.specs.declared.fault.Fault.TheVariants.{ShortHeader, ReservedBits, Layers, Planes, ZeroSize, TooWide, MoveRange, PrivateTable, Truncated, BadEscape, Aborted, MoveRefused, SecondMove, LengthRefused, Read, Write, OutOfMemory, OptionBits, StripeZero, MoveLarge, CommentLong, NotYet, Pbm}
+use Rattle.t85_core.specs.declared.fault.Fault.TheVariants.{ShortHeader, ReservedBits, Layers, Planes, ZeroSize, TooWide, MoveRange, PrivateTable, Truncated, BadEscape, Aborted, MoveRefused, SecondMove, LengthRefused, Read, Write, OutOfMemory, OptionBits, StripeZero, MoveLarge, TooManyRows, CommentLong, NotYet, Pbm}
 use Rattle.t85_core.specs.Encodes.{is_variable, IsEncodeFault, HasSize, IsRefused, EncodesImage}
 use Rattle.t85_core.specs.Coding.{has_bit}
 use Rattle.t85_core.specs.Header.{Fields}
@@ -49,6 +49,7 @@ which_fault OutOfMemory p = absurd p
 which_fault OptionBits p = absurd p
 which_fault StripeZero p = absurd p
 which_fault MoveLarge p = absurd p
+which_fault TooManyRows p = absurd p
 which_fault CommentLong p = absurd p
 which_fault NotYet p = absurd p
 

@@ -7,7 +7,7 @@ use Rattle.pbm_core.specs.declared.fault.PbmFault.{PbmFault}
 use Rattle.raster_core.specs.declared.shape.Shape.{Shape}
 use Rattle.raster_core.specs.declared.tally.Tally.{Tally}
 use Rattle.t85_core.specs.declared.fault.Fault.{Fault}
-use Rattle.t85_core.specs.declared.fault.Fault.TheVariants.{ShortHeader, ReservedBits, Layers, Planes, ZeroSize, TooWide, MoveRange, PrivateTable, Truncated, BadEscape, Aborted, MoveRefused, SecondMove, LengthRefused, Read, OutOfMemory, OptionBits, StripeZero, MoveLarge, CommentLong, NotYet, Pbm, Write}
+use Rattle.t85_core.specs.declared.fault.Fault.TheVariants.{ShortHeader, ReservedBits, Layers, Planes, ZeroSize, TooWide, MoveRange, PrivateTable, Truncated, BadEscape, Aborted, MoveRefused, SecondMove, LengthRefused, Read, OutOfMemory, OptionBits, StripeZero, MoveLarge, TooManyRows, CommentLong, NotYet, Pbm, Write}
 use Rattle.t85_core.specs.declared.rows.Carried.{Carried}
 use Rattle.t85_core.specs.Ink.{Inked, SameInk, TakesByte, RefusesByte}
 use Rattle.t85_core.specs.Encodes.{IsEncodeFault}
@@ -41,6 +41,7 @@ which OutOfMemory p = absurd p
 which OptionBits p = absurd p
 which StripeZero p = absurd p
 which MoveLarge p = absurd p
+which TooManyRows p = absurd p
 which CommentLong p = absurd p
 which NotYet p = absurd p
 

@@ -5,7 +5,7 @@ use Rattle.std.specs.Io.KnownBytes.{Consumes, Keeps, append_known}
 use Rattle.raster_core.specs.Packed.{packed_row}
 use Rattle.pbm_core.specs.declared.fault.PbmFault.TheVariants as pbm
 use Rattle.t85_core.specs.declared.fault.Fault.{Fault}
-use Rattle.t85_core.specs.declared.fault.Fault.TheVariants.{ShortHeader, ReservedBits, Layers, Planes, ZeroSize, TooWide, MoveRange, PrivateTable, Truncated, BadEscape, Aborted, MoveRefused, SecondMove, LengthRefused, Read, Write, OutOfMemory, OptionBits, StripeZero, MoveLarge, CommentLong, NotYet, Pbm}
+use Rattle.t85_core.specs.declared.fault.Fault.TheVariants.{ShortHeader, ReservedBits, Layers, Planes, ZeroSize, TooWide, MoveRange, PrivateTable, Truncated, BadEscape, Aborted, MoveRefused, SecondMove, LengthRefused, Read, Write, OutOfMemory, OptionBits, StripeZero, MoveLarge, TooManyRows, CommentLong, NotYet, Pbm}
 use Rattle.t85_core.specs.Header.{Fields}
 use Rattle.t85_core.specs.Stream.{held_of}
 use Rattle.t85_core.specs.Walk.{failed_reads, failed_writes, CountsFault, CountsBoth}
@@ -83,6 +83,7 @@ counts_any old new OutOfMemory e = e
 counts_any old new OptionBits e = e
 counts_any old new StripeZero e = e
 counts_any old new MoveLarge e = e
+counts_any old new TooManyRows e = e
 counts_any old new CommentLong e = e
 counts_any old new NotYet e = e
 counts_any old new (Pbm f) e = e
@@ -108,6 +109,7 @@ reads_few OutOfMemory = inl refl
 reads_few OptionBits = inl refl
 reads_few StripeZero = inl refl
 reads_few MoveLarge = inl refl
+reads_few TooManyRows = inl refl
 reads_few CommentLong = inl refl
 reads_few NotYet = inl refl
 reads_few (Pbm pbm.Read) = inr refl
@@ -151,6 +153,7 @@ no_failed_write OutOfMemory n = refl
 no_failed_write OptionBits n = refl
 no_failed_write StripeZero n = refl
 no_failed_write MoveLarge n = refl
+no_failed_write TooManyRows n = refl
 no_failed_write CommentLong n = refl
 no_failed_write NotYet n = refl
 no_failed_write (Pbm f) n = refl

@@ -11,7 +11,7 @@ use Rattle.t85_core.specs.Grammar.{stripe_count}
 use Rattle.t85_core.specs.Refusal.{StripesFault}
 use Rattle.t85_core.specs.Walk.{Ends, CountsWrite, counted_as, failed_reads}
 use Rattle.t85_core.specs.Info.{Informs, HasLine, IsUnfinished}
-use Rattle.t85_core.proofs.Faults.{header_faults, body_faults, uncounted, no_write, unwritten}
+use Rattle.t85_core.proofs.Faults.{header_faults, body_faults, uncounted, uncounted_body, walk_fault, no_write, unwritten}
 use Rattle.t85_core.proofs.Held.{Keeps-same}
 use Rattle.t85_core.proofs.Known.{refused_header, refused_body, unread_body}
 
@@ -46,7 +46,7 @@ module _ (in_old in_new : Option (List ℕ)) (reads_old reads_new : ℕ) (out : 
   pub told_body : (mid : Option (List ℕ)) (given : List ℕ) (h : Fields) (count : ℕ) (f : Fault) → length given ≡ 20 → Consumes in_old mid given → HeaderOf given h → count ≡ stripe_count h.yd h.l0
       → (known : Option (List ℕ)) → Ends Truncated mid known (StripesFault h count) f → (f ≡ Read → known ≡ in_new) → reads_new ≡ reads_old + failed_reads f → Informs in_old in_new reads_old reads_new out out writes writes flushed (Err f)
   told_body mid given h count f long taken is counted known e drained reads =
-      let may = uncounted Truncated f (body_faults h count e.given (counted_as Truncated f) e.has_fault) in
+      let may = walk_fault f (uncounted_body Truncated f (body_faults h count e.given (counted_as Truncated f) e.has_fault)) in
       record {
         line = tt;
         flushed_last = tt;

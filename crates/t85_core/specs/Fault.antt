@@ -2,7 +2,7 @@
 use Rattle.std.specs.Prelude.{ℕ, ◌+◌}
 use Rattle.pbm_core.specs.Fault.{number_of as number_of_pbm}
 use Rattle.t85_core.specs.declared.fault.Fault.{Fault}
-use Rattle.t85_core.specs.declared.fault.Fault.TheVariants.{ShortHeader, ReservedBits, Layers, Planes, ZeroSize, TooWide, MoveRange, PrivateTable, Truncated, BadEscape, Aborted, MoveRefused, SecondMove, LengthRefused, Read, Write, OutOfMemory, OptionBits, StripeZero, MoveLarge, CommentLong, NotYet, Pbm}
+use Rattle.t85_core.specs.declared.fault.Fault.TheVariants.{ShortHeader, ReservedBits, Layers, Planes, ZeroSize, TooWide, MoveRange, PrivateTable, Truncated, BadEscape, Aborted, MoveRefused, SecondMove, LengthRefused, Read, Write, OutOfMemory, OptionBits, StripeZero, MoveLarge, TooManyRows, CommentLong, NotYet, Pbm}
 
 abbrev pub number_of : Fault → ℕ
 number_of ShortHeader = 1
@@ -25,6 +25,7 @@ number_of OutOfMemory = 19
 number_of OptionBits = 20
 number_of StripeZero = 21
 number_of MoveLarge = 22
+number_of TooManyRows = 24
 number_of CommentLong = 26
 number_of NotYet = 27
 number_of (Pbm fault) = 30 + number_of_pbm fault

@@ -3,7 +3,7 @@ use Rattle.std.specs.Prelude.{◌≡◌, ◌≢◌, ◌⊎◌, ◌-◌, ◌^◌,
 use Rattle.std.specs.Io.KnownBytes.{Consumes, Appends, Keeps}
 use Rattle.pbm_core.specs.Device.{AppendsBeginning}
 use Rattle.t85_core.specs.declared.fault.Fault.{Fault}
-use Rattle.t85_core.specs.declared.fault.Fault.TheVariants.{ShortHeader, Truncated, Read, Write, OutOfMemory, OptionBits, StripeZero, MoveLarge, CommentLong, NotYet, Pbm}
+use Rattle.t85_core.specs.declared.fault.Fault.TheVariants.{ShortHeader, Truncated, BadEscape, Aborted, MoveRefused, SecondMove, LengthRefused, Read, Write, OutOfMemory, OptionBits, StripeZero, MoveLarge, TooManyRows, CommentLong, NotYet, Pbm}
 use Rattle.t85_core.specs.Header.{Fields, HeaderOf}
 use Rattle.t85_core.specs.Grammar.{Stripe, Parts, moves_in, comments_in}
 use Rattle.t85_core.specs.Refusal.{StreamFault}
@@ -34,10 +34,22 @@ IsWalkFault OutOfMemory = ⊥
 IsWalkFault OptionBits = ⊥
 IsWalkFault StripeZero = ⊥
 IsWalkFault MoveLarge = ⊥
+IsWalkFault TooManyRows = ⊥
 IsWalkFault CommentLong = ⊥
 IsWalkFault NotYet = ⊥
 IsWalkFault (Pbm fault) = ⊥
 IsWalkFault _ = ⊤
+
+-- the faults that a body may have, or that reading it may answer
+abbrev pub IsBodyFault : Fault → Type 0
+IsBodyFault Truncated = ⊤
+IsBodyFault BadEscape = ⊤
+IsBodyFault Aborted = ⊤
+IsBodyFault MoveRefused = ⊤
+IsBodyFault SecondMove = ⊤
+IsBodyFault LengthRefused = ⊤
+IsBodyFault Read = ⊤
+IsBodyFault _ = ⊥
 
 -- What `info` leaves of its input and its output. Of each are given the known bytes and the count of failures, before
 -- the call and after it, and of the output whether it was flushed last.

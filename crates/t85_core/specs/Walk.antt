@@ -1,6 +1,7 @@
 -- What a walk has taken from an input, and what it says of it.
-use Rattle.std.specs.Prelude.{◌≡◌, ◌+◌, ◌⊎◌, ℕ, List, Result, Ok, Err, Option}
+use Rattle.std.specs.Prelude.{◌≡◌, ◌≢◌, ◌+◌, ◌⊎◌, ℕ, List, Result, Ok, Err, Option, OnOk, OnErr, IfErr}
 use Rattle.std.specs.Io.KnownBytes.{Consumes, IsAtEnd}
+use Rattle.pbm_core.specs.Device.{one_more_flush}
 use Rattle.pbm_core.specs.declared.fault.PbmFault.TheVariants as pbm
 use Rattle.t85_core.specs.declared.fault.Fault.{Fault}
 use Rattle.t85_core.specs.declared.fault.Fault.TheVariants.{Read, Write, Pbm}
@@ -35,6 +36,13 @@ CountsBoth old new (Err fault) = CountsFault old new fault
 abbrev pub CountsWrite : {T : Type 0} → ℕ → ℕ → Result T Fault → Type 0
 CountsWrite old new (Ok x) = new ≡ old
 CountsWrite old new (Err f) = new ≡ old + failed_writes f
+
+-- An output is asked to flush once where all else went well, and else not at all: so one that has failed was asked only
+-- where it was the flush that failed.
+pub record FlushesOnce (old new : ℕ) (answer : Result (Unit {0}) Fault) : Type 0 where
+  pub once : OnOk answer (new ≡ one_more_flush old)
+  pub once_at_most : OnErr answer ((new ≡ old) ⊎ (new ≡ one_more_flush old))
+  pub not_after_a_fault : IfErr answer (λ f. f ≢ Write → new ≡ old)
 
 -- the fault that is told of what came: a failed read counts as the end of the input
 abbrev pub counted_as : Fault → Fault → Fault

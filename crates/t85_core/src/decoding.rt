@@ -10,7 +10,7 @@ ghost use Rattle.t85_core.specs.Stream.{held_of, known_length};
 ghost use Rattle.t85_core.specs.Decoding.{pair_of, IsCarried, IsFirst, CodeBegun, CodeRead, CodeCut, StripeMore, NoStripeMore, ImageRead, ImageCut};
 ghost use Rattle.t85_core.specs.Unset.{CodeUnset, NoStripeSet, ImageBegun};
 ghost use Rattle.t85_core.specs.Entity.{entity_known};
-ghost use Rattle.t85_core.specs.Walk.{CountsBoth, CountsRead, CountsWrite};
+ghost use Rattle.t85_core.specs.Walk.{CountsBoth, CountsRead, CountsWrite, FlushesOnce};
 ghost use Rattle.t85_core.specs.declared.fault.Fault.TheVariants.{Read, Write};
 
 use crate::entity::Entity;
@@ -25,22 +25,28 @@ use pbm_core::{DeviceFailed, Input, Output, Size, WriteFault, write_header};
 use raster_core::{Shape, Window, window_bytes};
 use std::alloc::Global;
 
-/// Writes the image of a stream in the PBM format. The one memory that it takes is for three rows.
+/// Writes the image of a stream in the PBM format, where it has no more than `max_rows` rows. The one memory that it
+/// takes is for three rows.
 pub fn to_pbm<R: Input, W: Output>(
     alloc: Global,
     input: &mut R,
+    max_rows: u32,
     output: &mut W,
 ) -> Result<(), Fault>
     requires input { R.failures input.old < 2 ^ 64 - 1 }
     requires output { W.failures output.old < 2 ^ 64 - 1 }
-    ensures { Converts (R.remaining input.old) (R.remaining input.new) (R.failures input.old) (R.failures input.new)
+    ensures outcome { Converts max_rows (R.remaining input.old) (R.remaining input.new) (R.failures input.old) (R.failures input.new)
         (W.contents output.old) (W.contents output.new) (W.failures output.old) (W.failures output.new) (W.flushed output.new) result }
+    ensures flushes { FlushesOnce (W.flushes output.old) (W.flushes output.new) result }
 {
     // What the proof cites of the coder.
     coder_laws();
     let header = Header::read(input)?;
     if header.is_variable() {
         return Err(Fault::NotYet);
+    }
+    if header.yd > max_rows {
+        return Err(Fault::TooManyRows);
     }
     let Ok(mut rows) = vec![in alloc; 0u8; window_bytes(header.xd)] else {
         return Err(Fault::OutOfMemory);
@@ -68,8 +74,9 @@ pub fn decode<R: Input, W: Output>(
     requires width { width_of window.old ≡ header.now.xd }
     requires from { 1 ≤ height }
     requires to { height ≤ header.now.yd }
-    ensures { Decodes (fields_of header.now) height (R.remaining input.old) (R.remaining input.new) (R.failures input.old) (R.failures input.new)
+    ensures outcome { Decodes (fields_of header.now) height (R.remaining input.old) (R.remaining input.new) (R.failures input.old) (R.failures input.new)
         (W.contents output.old) (W.contents output.new) (W.failures output.old) (W.failures output.new) result }
+    ensures no_flush { W.flushes output.new ≡ W.flushes output.old }
 {
     // What the proof cites of the coder.
     coder_laws();
@@ -114,6 +121,7 @@ fn put_page<S: Stream, W: Output>(
     ensures writes { CountsWrite (W.failures page.old.output.now) (W.failures page.new.output.now) result }
     ensures same_source { S.source stream.new ≡ S.source stream.old }
     ensures same_target { page.new.output.ghost_name ≡ page.old.output.ghost_name }
+    ensures no_flush { W.flushes page.new.output.now ≡ W.flushes page.old.output.now }
 {
     // What the proof cites of the coder.
     coder_laws();

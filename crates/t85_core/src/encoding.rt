@@ -18,7 +18,7 @@ ghost use Rattle.t85_core.specs.Grammar.{Move, Comment, segment_bytes, marker_by
 ghost use Rattle.t85_core.specs.Jbg.{jbg, jbg_up_to, stripes_of, stripes_up_to};
 ghost use Rattle.t85_core.specs.Options.{settings_of};
 ghost use Rattle.t85_core.specs.Stream.{held_of, known_length};
-ghost use Rattle.t85_core.specs.Walk.{CountsBoth, CountsRead, CountsWrite};
+ghost use Rattle.t85_core.specs.Walk.{CountsBoth, CountsRead, CountsWrite, FlushesOnce};
 ghost use Rattle.t85_core.specs.declared.fault.Fault.TheVariants.{Write, Pbm};
 
 use crate::fault::Fault;
@@ -46,8 +46,9 @@ pub fn to_jbg<R: Input, W: Output>(
 ) -> Result<(), Fault>
     requires input { R.failures input.old < 2 ^ 64 - 1 }
     requires output { W.failures output.old < 2 ^ 64 - 1 }
-    ensures { EncodesImage (settings_of options.now) (R.remaining input.old) (R.remaining input.new) (R.failures input.old) (R.failures input.new)
+    ensures outcome { EncodesImage (settings_of options.now) (R.remaining input.old) (R.remaining input.new) (R.failures input.old) (R.failures input.new)
         (W.contents output.old) (W.contents output.new) (W.failures output.old) (W.failures output.new) (W.flushed output.new) result }
+    ensures flushes { FlushesOnce (W.flushes output.old) (W.flushes output.new) result }
 {
     // What the proof cites of headers.
     headers();
@@ -84,8 +85,9 @@ pub fn encode<R: Input, W: Output>(
     requires input { R.failures input.old < 2 ^ 64 - 1 }
     requires output { W.failures output.old < 2 ^ 64 - 1 }
     requires width { width_of window.old ≡ size.width }
-    ensures { Encodes (settings_of options.now) size.width size.height (R.remaining input.old) (R.remaining input.new) (R.failures input.old) (R.failures input.new)
+    ensures outcome { Encodes (settings_of options.now) size.width size.height (R.remaining input.old) (R.remaining input.new) (R.failures input.old) (R.failures input.new)
         (W.contents output.old) (W.contents output.new) (W.failures output.old) (W.failures output.new) result }
+    ensures no_flush { W.flushes output.new ≡ W.flushes output.old }
 {
     // What the proof cites.
     code_denotes();
@@ -119,6 +121,7 @@ fn fill_page<R: Input, W: Output>(
     ensures reads { CountsBoth (R.failures source.old) (R.failures source.new) result }
     ensures writes { CountsWrite (W.failures page.old.output.now) (W.failures page.new.output.now) result }
     ensures same_target { page.new.output.ghost_name ≡ page.old.output.ghost_name }
+    ensures no_flush { W.flushes page.new.output.now ≡ W.flushes page.old.output.now }
 {
     match code_image(size, options, carried, source, page) {
         Ok(()) => page.hand_on(),
@@ -296,6 +299,8 @@ fn put_entity<R: Input, P: Sheet>(
     ensures short { (fault : PbmFault) → IsErrOf result (Pbm fault) → CodeOfShort (λ bytes. Appends (P.text sheet.old) (P.text sheet.new) bytes) shape rows
         (R.remaining source.old) (R.remaining source.new) carried.old fault }
     ensures unset { IsErrOf result Write → EntityOfRefused shape reset rows (R.remaining source.old) (R.remaining source.new) carried.old (P.text sheet.old) (P.text sheet.new) }
+    // No byte of a stripe that is whole waits for the next one.
+    ensures sent { OnOk result (P.held sheet.new ≡ []) }
     ensures two_line { OnOk result (is_two_line tally.new ≡ is_two_line tally.old) }
     ensures most { OnOk result (most_of tally.new ≡ most_of tally.old) }
     ensures among { IfErr result IsEncodeFault }

@@ -48,6 +48,8 @@ pub enum Fault {
     StripeZero,
     #[error("-m is above 127")]
     MoveLarge,
+    #[error("image has more rows than --max-rows")]
+    TooManyRows,
     #[error("comment is too long")]
     CommentLong,
     #[error("not built yet")]
@@ -82,6 +84,7 @@ impl Fault {
             Fault::OptionBits => 20,
             Fault::StripeZero => 21,
             Fault::MoveLarge => 22,
+            Fault::TooManyRows => 24,
             Fault::CommentLong => 26,
             Fault::NotYet => 27,
             Fault::Pbm(fault) => 30 + fault.number(),

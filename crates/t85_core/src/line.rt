@@ -5,7 +5,7 @@ ghost use Rattle.std.specs.Fmt.{decimal};
 ghost use Rattle.std.specs.Io.KnownBytes.{Appends};
 ghost use Rattle.t85_core.specs.declared.fault.Fault.TheVariants.{Write};
 ghost use Rattle.pbm_core.specs.Device.{AppendsBeginning};
-ghost use Rattle.t85_core.specs.Walk.{CountsWrite};
+ghost use Rattle.t85_core.specs.Walk.{CountsWrite, FlushesOnce};
 ghost use Rattle.t85_core.specs.Line.{line_text};
 
 use crate::fault::Fault;
@@ -71,6 +71,7 @@ impl Line {
         ensures err { IfErr result (λ f. f ≡ Write) }
         ensures cut { IfErr result (λ _. AppendsBeginning (W.contents output.old) (W.contents output.new) self.now) }
         ensures flushed { OnOk result (W.flushed output.new ≡ true) }
+        ensures flushes { FlushesOnce (W.flushes output.old) (W.flushes output.new) result }
         ensures counts { CountsWrite (W.failures output.old) (W.failures output.new) result }
     {
         if write_bytes(output, &self.bytes[..self.len]).is_err() {

@@ -4,7 +4,7 @@ ghost use Rattle.std.specs.Prelude.{◌≡◌, ◌≤◌, ◌<◌, ◌-◌, ◌^
 ghost use Rattle.std.specs.Io.KnownBytes.{Appends, Keeps, append_known};
 ghost use Rattle.pbm_core.specs.Device.{AppendsBeginning, Counts};
 ghost use Rattle.t85_core.specs.declared.fault.Fault.TheVariants.{Write};
-ghost use Rattle.t85_core.specs.Stream.{held_of, known_length};
+ghost use Rattle.t85_core.specs.Stream.{Writer, held_of, known_length};
 ghost use Rattle.t85_core.specs.Walk.{CountsWrite};
 
 use crate::fault::Fault;
@@ -26,8 +26,8 @@ pub trait Sheet {
     /// How often the writer has failed.
     ghost failures: { Self → ℕ };
 
-    /// Which writer it is.
-    ghost target: { Self → ℕ };
+    /// Which writer it has, and how often that was asked to flush.
+    ghost target: { Self → Writer };
 
     /// Takes bytes.
     fn put(&mut self, bytes: &[u8]) -> Result<(), Fault>
@@ -100,6 +100,7 @@ impl<W: Output> Page<'_, W> {
         ensures err { IfErr result (λ f. f ≡ Write) }
         ensures counts { CountsWrite (W.failures self.old.output.now) (W.failures self.new.output.now) result }
         ensures same_target { self.new.output.ghost_name ≡ self.old.output.ghost_name }
+        ensures no_flush { W.flushes self.new.output.now ≡ W.flushes self.old.output.now }
     {
         match write_part(self.output, &self.bytes, self.at, self.end) {
             Ok(()) => {
@@ -126,6 +127,7 @@ fn write_part<W: Output>(output: &mut W, bytes: &[u8], at: usize, end: usize) ->
         (append_known (W.contents output.new) (held_of bytes.now place end))) }
     ensures bound { IfErr result (λ place. place ≤ end) }
     ensures grows { known_length (W.contents output.old) ≤ known_length (W.contents output.new) }
+    ensures no_flush { W.flushes output.new ≡ W.flushes output.old }
     ensures counts { Counts (W.failures output.old) (W.failures output.new) result }
 {
     let mut place = at;
@@ -164,7 +166,7 @@ impl<W: Output> Sheet for Page<'_, W> {
 
     ghost failures = { λ s. W.failures s.output.now };
 
-    ghost target = { λ s. s.output.ghost_name };
+    ghost target = { λ s. record { reference = s.output.ghost_name; flushes = W.flushes s.output.now } };
 
     fn put(&mut self, bytes: &[u8]) -> Result<(), Fault> {
         let mut taken = 0;

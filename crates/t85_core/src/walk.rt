@@ -5,7 +5,7 @@ ghost use Rattle.std.specs.Io.KnownBytes.{Consumes};
 ghost use Rattle.byteorder.specs.Endian.{big_bytes};
 ghost use Rattle.t85_core.specs.declared.fault.Fault.TheVariants.{Truncated, Read};
 ghost use Rattle.t85_core.specs.Chosen.{fields_of};
-ghost use Rattle.t85_core.specs.Walk.{CountsRead, Ends};
+ghost use Rattle.t85_core.specs.Walk.{CountsRead, Ends, FlushesOnce};
 ghost use Rattle.t85_core.specs.Refusal.{rest_fault, move_fault, comment_fault, StripeFault, StripesFault};
 ghost use Rattle.t85_core.specs.Info.{Informs};
 ghost use Rattle.t85_core.specs.Line.{line_text};
@@ -77,8 +77,9 @@ pub const COMMENT: u8 = 7;
 pub fn info<R: Input, W: Output>(input: &mut R, output: &mut W) -> Result<(), Fault>
     requires input { R.failures input.old < 2 ^ 64 - 1 }
     requires output { W.failures output.old < 2 ^ 64 - 1 }
-    ensures { Informs (R.remaining input.old) (R.remaining input.new) (R.failures input.old) (R.failures input.new)
+    ensures outcome { Informs (R.remaining input.old) (R.remaining input.new) (R.failures input.old) (R.failures input.new)
         (W.contents output.old) (W.contents output.new) (W.failures output.old) (W.failures output.new) (W.flushed output.new) result }
+    ensures flushes { FlushesOnce (W.flushes output.old) (W.flushes output.new) result }
 {
     let header = Header::read(input)?;
     let mut stream = Buffered::new(input);

@@ -268,7 +268,7 @@ fn refuses_images(rt: HostRuntime) -> Result<(), Fail> {
     all_stand(&rt, rt.alloc(), &REFUSED)
 }
 
-static CUTS: [Cut; 4] = [
+static CUTS: [Cut; 7] = [
     Cut {
         run: Run {
             words: &["pbmtojbg85", "-p", "0", "-s", "1"],
@@ -328,6 +328,40 @@ static CUTS: [Cut; 4] = [
             (7, 28, "PBM ends too early"),
             (8, 31, "PBM ends too early"),
         ],
+    },
+    Cut {
+        run: Run {
+            words: &["pbmtojbg85", "-s", "1", "-r"],
+            input: Image("1 2", "80 80"),
+            reads: 9,
+            output: Hex("00000100 00000001 00000002 00000001 00 0000 08 E0 FF03 E0 FF03"),
+            fault: None,
+        },
+        stands: &[
+            (0, 0, "PBM ends too early"),
+            (7, 20, "PBM ends too early"),
+            (8, 23, "PBM ends too early"),
+        ],
+    },
+    Cut {
+        run: Run {
+            words: &["pbmtojbg85"],
+            input: Image("8 1", "00"),
+            reads: 8,
+            output: Hex("00000100 00000008 00000001 00000080 00 0000 08 FF02"),
+            fault: None,
+        },
+        stands: &[(0, 0, "PBM ends too early"), (7, 20, "PBM ends too early")],
+    },
+    Cut {
+        run: Run {
+            words: &["pbmtojbg85", "-C", "hi"],
+            input: Image("8 1", "00"),
+            reads: 8,
+            output: Hex("00000100 00000008 00000001 00000080 00 0000 08 FF07 00000002 6869 FF02"),
+            fault: None,
+        },
+        stands: &[(0, 0, "PBM ends too early"), (7, 28, "PBM ends too early")],
     },
 ];
 

@@ -74,20 +74,37 @@ fn reads_words_of_the_encoder(rt: HostRuntime) {
 struct Decode {
     words: &'static [&'static str],
     info: bool,
+    max_rows: Option<u32>,
     input: Option<&'static str>,
     output: Option<&'static str>,
 }
 
-static DECODE: [Decode; 2] = [
+static DECODE: [Decode; 4] = [
     Decode {
         words: &["jbgtopbm85", "--info", "a.jbg", "-"],
         info: true,
+        max_rows: None,
         input: Some("a.jbg"),
         output: Some("-"),
     },
     Decode {
+        words: &["jbgtopbm85", "--max-rows", "0", "a.jbg"],
+        info: false,
+        max_rows: Some(0),
+        input: Some("a.jbg"),
+        output: None,
+    },
+    Decode {
+        words: &["jbgtopbm85", "--max-rows=4294967295", "--info"],
+        info: true,
+        max_rows: Some(4294967295),
+        input: None,
+        output: None,
+    },
+    Decode {
         words: &["jbgtopbm85"],
         info: false,
+        max_rows: None,
         input: None,
         output: None,
     },
@@ -96,6 +113,7 @@ static DECODE: [Decode; 2] = [
 impl Decode {
     fn is(&self, job: &jbgtopbm85::Job) -> bool {
         job.info == self.info
+            && job.max_rows == self.max_rows
             && job.input.as_deref() == self.input
             && job.output.as_deref() == self.output
     }
@@ -117,12 +135,15 @@ fn reads_words_of_the_decoder(rt: HostRuntime) {
 }
 
 /// Words, and the status with which they are refused.
-static REFUSED: [(&[&str], u8); 16] = [
+static REFUSED: [(&[&str], u8); 19] = [
     (&["jbgtopbm85", "-h"], 0),
     (&["jbgtopbm85", "--help"], 0),
     (&["jbgtopbm85", "-x"], 2),
     (&["jbgtopbm85", "--info=1"], 2),
     (&["jbgtopbm85", "--info", "--info"], 2),
+    (&["jbgtopbm85", "--max-rows"], 2),
+    (&["jbgtopbm85", "--max-rows", "x"], 2),
+    (&["jbgtopbm85", "--max-rows", "4294967296"], 2),
     (&["pbmtojbg85", "-h"], 0),
     (&["pbmtojbg85", "--help"], 0),
     (&["pbmtojbg85", "-x"], 2),

@@ -17,7 +17,7 @@ fn shows<F: Display>(alloc: Global, fault: &F, text: &str) -> Result<bool, Alloc
 }
 
 /// The faults, their numbers and their texts.
-static FAULTS: [(Fault, u8, &str); 25] = [
+static FAULTS: [(Fault, u8, &str); 26] = [
     (Fault::ShortHeader, 1, "header is shorter than 20 bytes"),
     (
         Fault::ReservedBits,
@@ -55,6 +55,11 @@ static FAULTS: [(Fault, u8, &str); 25] = [
     ),
     (Fault::StripeZero, 21, "stripe length is zero"),
     (Fault::MoveLarge, 22, "-m is above 127"),
+    (
+        Fault::TooManyRows,
+        24,
+        "image has more rows than --max-rows",
+    ),
     (Fault::CommentLong, 26, "comment is too long"),
     (
         Fault::Pbm(PbmFault::TooWide),

@@ -58,6 +58,7 @@ impl Input for Watcher<'_> {
 struct Counter<'a> {
     taken: &'a Cell<u64>,
     flushed: bool,
+    flushes: u64,
 }
 
 impl Output for Counter<'_> {
@@ -66,6 +67,8 @@ impl Output for Counter<'_> {
     ghost failures = { λ _. 0 };
 
     ghost flushed = { λ s. s.flushed };
+
+    ghost flushes = { λ s. s.flushes };
 
     fn failures(&self) -> u64 {
         0
@@ -79,6 +82,7 @@ impl Output for Counter<'_> {
     }
 
     fn flush(&mut self) -> Result<(), DeviceFailed> {
+        self.flushes = self.flushes.wrapping_add(1);
         self.flushed = true;
         Ok(())
     }
@@ -166,6 +170,7 @@ fn watch(alloc: Global, program: &Program, bytes: &[u8]) -> (u8, u64, [u64; MOST
     let mut output = Counter {
         taken: &taken,
         flushed: false,
+        flushes: 0,
     };
     let mut told = [0; 128];
     let mut messages = Drip::new(&mut told, 128, None, false);

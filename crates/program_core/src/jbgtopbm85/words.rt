@@ -3,14 +3,14 @@
 ghost use Rattle.std.specs.Prelude.{◌≡◌, IfErr, IfOk, map, false, true};
 ghost use Rattle.clap.specs.Words.{app_of, found_of, is_simple, rows_of, rule_of};
 ghost use Rattle.program_core.specs.Line.{IsRefusal};
-ghost use Rattle.program_core.specs.Jbgtopbm85.{IsJobOf, command as the_command, info_rule, matched, refusals};
+ghost use Rattle.program_core.specs.Jbgtopbm85.{IsJobOf, command as the_command, info_rule, matched, max_rows_rule, refusals};
 
 use super::NAME;
 use super::work::Job;
 use crate::args::file_arg;
 use crate::line_fault::LineFault;
-use crate::matches::{flag, matches_of, text};
-use clap::{Arg, ArgAction, ArgMatches, Command};
+use crate::matches::{flag, matches_of, number, text};
+use clap::{Arg, ArgAction, ArgMatches, Command, value_parser};
 use std::alloc::{AllocError, Global};
 use std::convert::AsStr;
 
@@ -24,11 +24,24 @@ fn info_arg<'a>(alloc: Global) -> Arg<'a>
         .help("Write a line of numbers about the stream in place of its image")
 }
 
+fn max_rows_arg<'a>(alloc: Global) -> Arg<'a>
+    ensures rule { rule_of result ≡ max_rows_rule }
+    ensures local { result.global ≡ false }
+{
+    Arg::new(alloc, "max-rows")
+        .long("max-rows")
+        .action(ArgAction::Set)
+        .value_name("N")
+        .value_parser(value_parser!(u32))
+        .help("Refuse an image of more rows")
+}
+
 fn command<'a>(alloc: Global) -> Result<Command<'a>, AllocError>
     ensures { IfOk result (λ c. app_of c ≡ the_command) }
 {
     let args = [
         info_arg(alloc),
+        max_rows_arg(alloc),
         file_arg(
             alloc,
             "input",
@@ -49,10 +62,12 @@ fn job_of(alloc: Global, matches: &ArgMatches<'_>) -> Result<Job, AllocError>
     ensures { IfOk result (IsJobOf (rows_of (found_of matches.now))) }
 {
     let info = flag(matches, "info");
+    let max_rows = number(matches, "max-rows");
     let input = text(alloc, matches, "input")?;
     let output = text(alloc, matches, "output")?;
     Ok(Job {
         info,
+        max_rows,
         input,
         output,
     })

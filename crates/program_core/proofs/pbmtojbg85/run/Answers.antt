@@ -10,4 +10,8 @@ returns-clause-outcome g c = (
     | in-Ok w ↦ search rules
     | in-Err w ↦ search rules
   ],
+  elim c.match-new.branch [
+    | in-Ok w ↦ search rules
+    | in-Err w ↦ search rules
+  ],
 )

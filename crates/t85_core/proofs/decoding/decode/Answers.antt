@@ -14,11 +14,11 @@ use Rattle.t85_core.proofs.ImagePut.{in_use}
 use Rattle.t85_core.proofs.Decoded.{decoded, decodes_at, decodes_unheaded}
 use Rattle.t85_core.proofs.decoding.decode.Goals as goal
 
-pub returns-in-Err : goal.returns-in-Err
-returns-in-Err g c = decodes_unheaded (fields_of c.args.header.now) c.args.height _ _ _ _ _ _ c.in-Err.ensures.err c.in-Err.ensures.counts
+pub returns-in-Err-clause-outcome : goal.returns-in-Err-clause-outcome
+returns-in-Err-clause-outcome g c = decodes_unheaded (fields_of c.args.header.now) c.args.height _ _ _ _ _ _ c.in-Err.ensures.err c.in-Err.ensures.counts
 
-pub returns : goal.returns
-returns g c =
+pub returns-clause-outcome : goal.returns-clause-outcome
+returns-clause-outcome g c =
     let h = fields_of c.args.header.now in
     let height = c.args.height in
     let stream = c.new-stream.result in

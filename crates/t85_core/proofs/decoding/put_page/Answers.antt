@@ -1,4 +1,4 @@
-use Rattle.std.proofs.Common.{◌≡◌, ◌∙◌, sym, arith}
+use Rattle.std.proofs.Common.{◌≡◌, ◌∙◌, sym, ap, arith}
 use Rattle.t85_core.specs.declared.fault.Fault.TheVariants.{Read, Write}
 use Rattle.t85_core.specs.Chosen.{fields_of}
 use Rattle.t85_core.proofs.ImagePut.{in_use}
@@ -29,7 +29,8 @@ returns-in-Ok-hand_on g c =
       reads = counts_any _ _ _ c.in-Err.ensures.reads;
       writes = c.in-Ok-hand_on.ensures.counts ∙ c.in-Err.ensures.writes;
       same_source = c.in-Err.ensures.same_source;
-      same_target = c.hand_on-in_default.ensures.same_target ∙ c.in-Err.ensures.same_target;
+      same_target = c.hand_on-in_default.ensures.same_target ∙ ap (λ w. w.reference) c.in-Err.ensures.same_target;
+      no_flush = c.hand_on-in_default.ensures.no_flush ∙ ap (λ w. w.flushes) c.in-Err.ensures.same_target;
     }
 
 pub returns-in-Err-hand_on : goal.returns-in-Err-hand_on
@@ -45,7 +46,8 @@ returns-in-Err-hand_on g c =
       reads = counts_written _ _ c.in-Err.fault _ c.in-Err.ensures.reads last;
       writes = (let a = c.in-Err.ensures.writes in let b = c.in-Err-hand_on.ensures.counts in omega (arith, a, b, none));
       same_source = c.in-Err.ensures.same_source;
-      same_target = c.hand_on-in_default.ensures.same_target ∙ c.in-Err.ensures.same_target;
+      same_target = c.hand_on-in_default.ensures.same_target ∙ ap (λ w. w.reference) c.in-Err.ensures.same_target;
+      no_flush = c.hand_on-in_default.ensures.no_flush ∙ ap (λ w. w.flushes) c.in-Err.ensures.same_target;
     }
 
 pub returns-in-Write-clause-err : goal.returns-in-Write-clause-err

@@ -5,8 +5,8 @@ use Rattle.t85_core.proofs.PagePut.{text_unheld}
 use Rattle.t85_core.proofs.Encoded.{are_settings, encoded, encodes_at}
 use Rattle.t85_core.proofs.encoding.encode.Goals as goal
 
-pub returns : goal.returns
-returns g c =
+pub returns-clause-outcome : goal.returns-clause-outcome
+returns-clause-outcome g c =
     let s = settings_of c.args.options.now in
     let page = c.new-page.result in
     let output = c.fill_page.new.page.output.now in

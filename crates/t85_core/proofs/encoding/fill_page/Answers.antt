@@ -1,4 +1,4 @@
-use Rattle.std.proofs.Common.{◌≡◌, ◌∙◌, sym, subst, arith}
+use Rattle.std.proofs.Common.{◌≡◌, ◌∙◌, sym, ap, subst, arith}
 use Rattle.t85_core.specs.Encodes.{IsEncodeFault}
 use Rattle.t85_core.specs.declared.fault.Fault.TheVariants.{Write, Pbm}
 use Rattle.t85_core.proofs.Ends.{on_ok, always}
@@ -27,7 +27,8 @@ returns-in-Ok-hand_on g c =
       among = c.in-Err.ensures.among;
       reads = counts_any _ _ _ c.in-Err.ensures.reads;
       writes = c.in-Ok-hand_on.ensures.counts ∙ c.in-Err.ensures.writes;
-      same_target = c.hand_on-in_default.ensures.same_target ∙ c.in-Err.ensures.same_target;
+      same_target = c.hand_on-in_default.ensures.same_target ∙ ap (λ w. w.reference) c.in-Err.ensures.same_target;
+      no_flush = c.hand_on-in_default.ensures.no_flush ∙ ap (λ w. w.flushes) c.in-Err.ensures.same_target;
     }
 
 pub hand_on-requires-in_default : goal.hand_on-requires-in_default
@@ -47,5 +48,6 @@ returns-in-Err-hand_on g c =
       among = subst IsEncodeFault (sym last) tt;
       reads = counts_written _ _ c.in-Err.fault _ c.in-Err.ensures.reads last;
       writes = (let a = c.in-Err.ensures.writes in let b = c.in-Err-hand_on.ensures.counts in omega (arith, a, b, none));
-      same_target = c.hand_on-in_default.ensures.same_target ∙ c.in-Err.ensures.same_target;
+      same_target = c.hand_on-in_default.ensures.same_target ∙ ap (λ w. w.reference) c.in-Err.ensures.same_target;
+      no_flush = c.hand_on-in_default.ensures.no_flush ∙ ap (λ w. w.flushes) c.in-Err.ensures.same_target;
     }

@@ -9,6 +9,7 @@ invariant-loop-place g l = record {
   within : l.place ≤ l.end;
   text : Keeps (append_known (g.W.Output.contents l.fn.output) (held_of l.bytes l.at l.end)) (append_known (g.W.Output.contents l.output) (held_of l.bytes l.place l.end));
   grows : known_length (g.W.Output.contents l.fn.output) ≤ known_length (g.W.Output.contents l.output);
+  no_flush : g.W.Output.flushes l.output ≡ g.W.Output.flushes l.fn.output;
   unfailed : g.W.Output.failures l.output ≡ g.W.Output.failures l.fn.output;
 }
 

@@ -6,13 +6,13 @@ use Rattle.t85_core.proofs.Known.{known_line}
 use Rattle.t85_core.proofs.Told.{exit_all, told_header, told_body, told_line}
 use Rattle.t85_core.proofs.walk.info.Goals as goal
 
-pub returns-in_err-header : goal.returns-in_err-header
-returns-in_err-header g c =
+pub returns-in_err-header-clause-outcome : goal.returns-in_err-header-clause-outcome
+returns-in_err-header-clause-outcome g c =
     exit_all (Informs _ _ _ _ _ _ _ _ _) c.from_residual.result c.from_residual.ensures.1
     (told_header _ _ _ _ _ _ _ _ c.in_err-header.ensures.refused c.in_err-header.ensures.counts)
 
-pub returns-in_err-passed : goal.returns-in_err-passed
-returns-in_err-passed g c =
+pub returns-in_err-passed-clause-outcome : goal.returns-in_err-passed-clause-outcome
+returns-in_err-passed-clause-outcome g c =
     let header = c.in_ok-header.ensures.accepted in
     let stream = c.new-stream.result in
     let start = known_unheld stream.bytes stream.at stream.end (g.R.Input.remaining stream.input.now) c.new-stream.ensures.empty ∙ ap (λ m. g.R.Input.remaining m.now) c.new-stream.ensures.lent in
@@ -22,8 +22,8 @@ returns-in_err-passed g c =
     (λ read. c.in_err-passed.ensures.drained (ap Err read) ∙ ap g.R.Input.remaining (search rules))
     (search rules))
 
-pub returns : goal.returns
-returns g c =
+pub returns-clause-outcome : goal.returns-clause-outcome
+returns-clause-outcome g c =
     let header = c.in_ok-header.ensures.accepted in
     let stream = c.new-stream.result in
     let start = known_unheld stream.bytes stream.at stream.end (g.R.Input.remaining stream.input.now) c.new-stream.ensures.empty ∙ ap (λ m. g.R.Input.remaining m.now) c.new-stream.ensures.lent in

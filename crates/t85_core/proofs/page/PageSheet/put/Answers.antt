@@ -45,6 +45,11 @@ loop-taken-preserved g c =
       | then-self-eq-SIZE+in_ok-hand_on w ↦ rw w.self-is w.hand_on.ensures.same_target
       | else-self-eq-SIZE w ↦ rw w.self-is refl
     ] in
+    let no_flush : g.W.Output.flushes new.output.now ≡ g.W.Output.flushes old.output.now =
+    elim c.if-self-eq-SIZE.branch [
+      | then-self-eq-SIZE+in_ok-hand_on w ↦ rw w.self-is w.hand_on.ensures.no_flush
+      | else-self-eq-SIZE w ↦ rw w.self-is refl
+    ] in
     let more = rw take_rest at c.fill-taken.ensures.text in
     record {
       within = omega (arith, c.fill-taken.ensures.bound, length-drop c.loop-taken.taken c.args.bytes.now, length-take (length c.args.bytes.now - c.loop-taken.taken) (drop c.loop-taken.taken c.args.bytes.now), c.loop-taken.invariant.within);
@@ -52,4 +57,5 @@ loop-taken-preserved g c =
       grows = rw c.fill-taken.ensures.lent (let before = c.loop-taken.invariant.grows in omega (arith, grows, before));
       unfailed = rw c.fill-taken.ensures.lent (unfailed ∙ c.loop-taken.invariant.unfailed);
       same_target = rw c.fill-taken.ensures.lent (same_target ∙ c.loop-taken.invariant.same_target);
+      no_flush = rw c.fill-taken.ensures.lent (no_flush ∙ c.loop-taken.invariant.no_flush);
     }

@@ -11,6 +11,7 @@ invariant-loop-taken g l = record {
   grows : known_length (g.W.Output.contents l.fn.self.output.now) ≤ known_length (g.W.Output.contents l.self.output.now);
   unfailed : g.W.Output.failures l.self.output.now ≡ g.W.Output.failures l.fn.self.output.now;
   same_target : l.self.output.ghost_name ≡ l.fn.self.output.ghost_name;
+  no_flush : g.W.Output.flushes l.self.output.now ≡ g.W.Output.flushes l.fn.self.output.now;
 }
 
 abbrev pub decreases-loop-taken : goal.decreases-loop-taken
