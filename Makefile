@@ -2,7 +2,7 @@
 # make test       the gate: every proof, every edit that must fail, every test, runs of the built programs; ends in `rt ci`
 # make turns      makes each allocation of the programs fail in turn
 # make interop    exchanges streams with JBIG-KIT's programs, and compares the images
-# make bench      measures beside JBIG-KIT; no test is timed
+# make bench      measures beside JBIG-KIT and netpbm; no test is timed
 # make install    copies the programs to $(DESTDIR)$(PREFIX)/bin
 
 PREFIX ?= /usr/local
@@ -39,6 +39,7 @@ bench: build
 	bench/info bin/jbgtopbm85
 	bench/decode bin/jbgtopbm85
 	bench/encode bin/pbmtojbg85
+	bench/plain bin/pbmtojbg85
 
 install: build
 	@for program in $(PROGRAMS); do \

@@ -8,15 +8,16 @@ use std::process::ExitCode;
 
 /// Opens the files, and does the job.
 fn perform(rt: &HostRuntime, job: &Job) -> ExitCode {
-    let (input, output) = match open(rt, job) {
+    let files = match open(rt, job) {
         Ok(files) => files,
         Err(code) => return code,
     };
     let status = run(
         rt.alloc(),
         job,
-        &mut FromRead::new(input),
-        &mut ToWrite::new(output),
+        &mut FromRead::new(files.input),
+        &mut files.again.map(FromRead::new),
+        &mut ToWrite::new(files.output),
         &mut ToWrite::new(rt.stderr()),
     );
     end(status)

@@ -2,7 +2,7 @@ ghost use Rattle.std.specs.Prelude.{◌≡◌, ◌<◌, ◌-◌, ◌^◌};
 
 use pbm_core::trial::{Drip, Pieces};
 use pbm_core::{
-    DeviceFailed, FromRead, Input, Output, PbmFault, Size, ToWrite, WriteFault, read_header,
+    DeviceFailed, Form, FromRead, Input, Output, PbmFault, Size, ToWrite, WriteFault, read_header,
     read_row, write_header, write_row,
 };
 use std::io;
@@ -141,7 +141,7 @@ const WIDE: Size = Size {
 fn row_of_nine<R: Input>(input: &mut R) -> (Result<(), PbmFault>, [u8; 2], u64) {
     let mut row = [0; 2];
     let answer = if input.failures() < u64::MAX {
-        read_row(input, WIDE, &mut row)
+        read_row(input, WIDE, Form::Raw, &mut row)
     } else {
         Err(PbmFault::Read)
     };
@@ -151,8 +151,8 @@ fn row_of_nine<R: Input>(input: &mut R) -> (Result<(), PbmFault>, [u8; 2], u64) 
 #[test]
 fn readers_of_std_are_read(rt: HostRuntime) {
     let mut input = FromRead::new(b"P4 9 1 \xff\xff\xff".as_slice());
-    let size = read_header(&mut input);
-    assert!(rt; (size, input.reader) == (Ok(WIDE), b"\xff\xff\xff".as_slice()));
+    let header = read_header(&mut input);
+    assert!(rt; (header, input.reader) == (Ok((WIDE, Form::Raw)), b"\xff\xff\xff".as_slice()));
     let row = row_of_nine(&mut input);
     assert!(rt; row == (Ok(()), *b"\xff\x80", u64::MAX - 9));
 }

@@ -1,17 +1,18 @@
 -- Rows that are packed are read as these rows, and an image that is written as its rows.
-use Rattle.std.proofs.Common.{◌≡◌, ◌<◌, ◌+◌, ◌*◌, ◌-◌, ◌/◌, ◌%◌, ◌^◌, ℕ, zero, suc, Bool, true, false, List, [], ◌∷◌, ◌++◌, length, map, drop, get_or, slice_index_or, refl, sym, ap, ◌∙◌, subst, arith, append_assoc, length-append}
+use Rattle.std.proofs.Common.{◌≡◌, ◌<◌, ◌+◌, ◌*◌, ◌-◌, ◌/◌, ◌%◌, ◌^◌, ℕ, zero, suc, Bool, true, false, List, [], ◌∷◌, ◌++◌, length, map, get_or, slice_index_or, refl, sym, ap, ◌∙◌, subst, arith, append_assoc, append-nil}
 use Rattle.std.specs.Bool.{◌==◌}
 use Rattle.std.specs.Int.{bit_at}
 use Rattle.std.specs.List.{AllByRecursion, flat_map}
-use Rattle.std.proofs.Math.Nat.{add-div_left, mul-add-div, mul-add-mod_self_left, mul_assoc, suc-mul, pow-suc}
-use Rattle.std.proofs.Math.Seq.{drop-append_seam, drop-append-add}
+use Rattle.std.proofs.Math.Nat.{add-div_left, mul-add-div, mul-add-mod_self_left, mul_assoc, pow-suc}
 use Rattle.std.proofs.lemmas.Nat.{pow_pos, pow-add}
 use Rattle.std.proofs.lemmas.Nat.Bits.{bit_at_above}
 use Rattle.std.proofs.lemmas.List.{get_or_append_left}
 use Rattle.pbm_core.specs.Pbm.{bytes_of_row, pixel, header_text}
 use Rattle.pbm_core.specs.Outcome.{HasHeader}
-use Rattle.pbm_core.specs.Image.{numbers_from, binary, packed_row, pixels_of, rows_in, HoldsRows, OneImage, WrittenImageIsRead}
+use Rattle.pbm_core.specs.declared.form.Form.TheVariants.{Raw}
+use Rattle.pbm_core.specs.Image.{numbers_from, binary, packed_row, pixels_of, AreRows, OneImage, WrittenImageIsRead}
 use Rattle.pbm_core.proofs.Judged.{one_header}
+use Rattle.pbm_core.proofs.Pixels.{same_rows}
 use Rattle.pbm_core.proofs.Writing.{written_is_read}
 
 odd : (q : ℕ) → q % 2 ≡ 0 → (q + 1) % 2 ≡ 1
@@ -27,7 +28,7 @@ low_bit k d r =
     let split : 2 ^ (k + 1 + d) ≡ 2 ^ k * (2 * 2 ^ d) = pow-add 2 (k + 1) d ∙ ap (λ p. p * 2 ^ d) (pow-add 2 k 1) ∙ mul_assoc (2 ^ k) 2 (2 ^ d) in
     ap (λ n. (n + r) / 2 ^ k % 2) split ∙ ap (λ q. q % 2) (mul-add-div (pow_pos k) (2 * 2 ^ d) r) ∙ mul-add-mod_self_left 2 (2 ^ d) (r / 2 ^ k)
 
-binary_small : (bits : List Bool) → binary bits < 2 ^ length bits
+pub binary_small : (bits : List Bool) → binary bits < 2 ^ length bits
 binary_small [] = omega arith
 binary_small (true ∷ bits) = let h = binary_small bits in let p = pow-suc 2 (length bits) in omega (arith, h, p)
 binary_small (false ∷ bits) = let h = binary_small bits in let p = pow-suc 2 (length bits) in omega (arith, h, p)
@@ -47,7 +48,7 @@ bit_of (true ∷ bits) (suc i) k e =
     ap (λ n. bit_at (2 ^ n + binary bits) k == 1) sum ∙ ap (λ b. b == 1) (low_bit k d (binary bits)) ∙ bit_of bits i k (omega (arith, e))
 bit_of (false ∷ bits) (suc i) k e = bit_of bits i k (omega (arith, e))
 
-get_numbers : {X : Type 0} (f : ℕ → X) (d : X) (k n x : ℕ) → x < n → get_or (map f (numbers_from k n)) x d ≡ f (k + x)
+pub get_numbers : {X : Type 0} (f : ℕ → X) (d : X) (k n x : ℕ) → x < n → get_or (map f (numbers_from k n)) x d ≡ f (k + x)
 get_numbers f d k zero x h = absurd (omega arith)
 get_numbers f d k (suc n) zero h = let e : k ≡ k + 0 = omega arith in ap f e
 get_numbers f d k (suc n) (suc x) h =
@@ -84,44 +85,32 @@ pixels_of-packed_row row rest =
     map_numbers (λ x. pixel (packed_row row ++ rest) x == 1) row 0
     (λ i less. let e : 0 + i ≡ i = omega arith in ap (λ x. pixel (packed_row row ++ rest) x == 1) e ∙ packed_pixel row rest i less)
 
-more_rows : (k n : ℕ) → suc k * n ≡ n + k * n
-more_rows k n = let e = suc-mul k n in omega (arith, e)
+pub length-packed_row : (row : List Bool) → length (packed_row row) ≡ bytes_of_row (length row)
+length-packed_row row = length_numbers (λ k. binary (map (λ x. slice_index_or row x false) (numbers_from (8 * k) 8))) 0 (bytes_of_row (length row))
+
+pub pixels_of-packed : (width : ℕ) (row : List Bool) → length row ≡ width → pixels_of width (packed_row row) ≡ row
+pixels_of-packed width row wide =
+    ap (λ w. pixels_of w (packed_row row)) (sym wide) ∙ ap (pixels_of (length row)) (sym (append-nil (packed_row row))) ∙ pixels_of-packed_row row []
 
 -- rows that are packed one after the other
-packed_rows : (width : ℕ) (rows : List (List Bool)) (rest : List ℕ) → AllByRecursion (λ row. length row ≡ width) rows → HoldsRows (flat_map packed_row rows ++ rest) width rows rest
-packed_rows width [] rest each =
-    let none : 0 * bytes_of_row width ≡ 0 = omega arith in
-    record { long = omega arith; rows_are = refl; rest_is = ap (λ m. drop m rest) (sym none) }
-packed_rows width (row ∷ rows) rest each =
-    let more : List ℕ = flat_map packed_row rows ++ rest in
-    let n : ℕ = bytes_of_row width in
-    let below = packed_rows width rows rest each.1 in
-    let size : length (packed_row row) ≡ n = length_numbers (λ k. binary (map (λ x. slice_index_or row x false) (numbers_from (8 * k) 8))) 0 (bytes_of_row (length row)) ∙ ap bytes_of_row each.0 in
-    let cut : drop n (packed_row row ++ more) ≡ more = ap (λ m. drop m (packed_row row ++ more)) (sym size) ∙ drop-append_seam (packed_row row) more in
-    let first : pixels_of width (packed_row row ++ more) ≡ row = ap (λ w. pixels_of w (packed_row row ++ more)) (sym each.0) ∙ pixels_of-packed_row row more in
-    let count : suc (length rows) * n ≡ length (packed_row row) + length rows * n = more_rows (length rows) n ∙ ap (λ m. m + length rows * n) (sym size) in
-    subst (λ z. HoldsRows z width (row ∷ rows) rest) (sym (append_assoc (packed_row row) (flat_map packed_row rows) rest)) (record {
-      long = omega (arith, count, below.long, length-append (packed_row row) more);
-      rows_are = ap (λ p. p ∷ rows) (sym first) ∙ ap (λ z. pixels_of width (packed_row row ++ more) ∷ z) (below.rows_are ∙ ap (λ z. rows_in width (length rows) z) (sym cut));
-      rest_is = below.rest_is ∙ sym (ap (λ m. drop m (packed_row row ++ more)) count ∙ drop-append-add (packed_row row) more (length rows * n));
-    })
+packed_rows : (width : ℕ) (rows : List (List Bool)) → AllByRecursion (λ row. length row ≡ width) rows → AreRows Raw width (flat_map packed_row rows) rows
+packed_rows width [] each = refl
+packed_rows width (row ∷ rows) each =
+    (packed_row row, flat_map packed_row rows, refl, (length-packed_row row ∙ ap bytes_of_row each.0, sym (pixels_of-packed width row each.0)), packed_rows width rows each.1)
 
 pub written_image_is_read : WrittenImageIsRead
 written_image_is_read width rows rest a b c d each =
     let body : List ℕ = flat_map packed_row rows ++ rest in
     record {
+      form = Raw;
       body = body;
-      header = subst (λ z. HasHeader z width (length rows) body) (sym (append_assoc (header_text width (length rows)) (flat_map packed_row rows) rest)) (written_is_read width (length rows) body a b c d);
-      holds = packed_rows width rows rest each;
+      header = subst (λ z. HasHeader z Raw width (length rows) body) (sym (append_assoc (header_text width (length rows)) (flat_map packed_row rows) rest)) (written_is_read width (length rows) body a b c d);
+      holds = record { front = flat_map packed_row rows; bytes_are = refl; are_rows = packed_rows width rows each };
     }
 
 pub one_image : OneImage
 one_image bytes width rows rest width' rows' rest' p q =
-    let same = one_header bytes width (length rows) p.body width' (length rows') q.body p.header q.header in
-    record {
-      widths = same.widths;
-      all_rows = p.holds.rows_are ∙ ap (λ w. rows_in w (length rows) p.body) same.widths ∙ ap (λ k. rows_in width' k p.body) same.heights
-          ∙ ap (λ z. rows_in width' (length rows') z) same.rests ∙ sym q.holds.rows_are;
-      rests = p.holds.rest_is ∙ ap (λ w. drop (length rows * bytes_of_row w) p.body) same.widths ∙ ap (λ k. drop (k * bytes_of_row width') p.body) same.heights
-          ∙ ap (λ z. drop (length rows' * bytes_of_row width') z) same.rests ∙ sym q.holds.rest_is;
-    }
+    let same = one_header bytes p.form width (length rows) p.body q.form width' (length rows') q.body p.header q.header in
+    let here : AreRows q.form width' p.holds.front rows = subst (λ f. AreRows f width' p.holds.front rows) same.forms (subst (λ w. AreRows p.form w p.holds.front rows) same.widths p.holds.are_rows) in
+    let equal = same_rows q.form width' rows rows' p.holds.front q.holds.front rest rest' here q.holds.are_rows same.heights (sym p.holds.bytes_are ∙ same.rests ∙ q.holds.bytes_are) in
+    record { widths = same.widths; all_rows = equal.0; rests = equal.1 }

@@ -1,4 +1,4 @@
-//! Turns a raw PBM image into a JBIG1 image.
+//! Turns a PBM image into a JBIG1 image.
 #![tactic(auto)]
 
 use pbm_core::{FromRead, ToWrite};

@@ -4,7 +4,7 @@ use Rattle.clap.specs.Words.{App, Kinds, Row, fault_of, Rule, Text, first_of, ma
 use Rattle.clap.specs.declared.builder.ArgAction.TheVariants.{SetTrue}
 use Rattle.t85_core.specs.declared.fault.Fault.{Fault}
 use Rattle.t85_core.specs.Info.{Informs}
-use Rattle.t85_core.specs.Converts.{Converts}
+use Rattle.t85_core.specs.Readings.{ConvertsReadings}
 use Rattle.program_core.specs.Line.{flag_in}
 use Rattle.program_core.specs.Options.{long_number_rule, number_in}
 use Rattle.program_core.specs.declared.jbgtopbm85.work.Job.{Job}
@@ -40,9 +40,11 @@ refusals words = fault_of command words
 abbrev pub limit_of : Job → ℕ
 limit_of job = unwrap_or job.max_rows (2 ^ 32 - 1)
 
--- what a job asks of the engine, with or without `--info`, under this limit of the rows
-abbrev pub Does : Bool → ℕ → Option (List ℕ) → Option (List ℕ) → ℕ → ℕ → Option (List ℕ) → Option (List ℕ) → ℕ → ℕ → Bool → Result (Unit {0}) Fault → Type 0
-Does true limit in_old in_new reads_old reads_new out_old out_new writes_old writes_new flushed outcome =
-    Informs in_old in_new reads_old reads_new out_old out_new writes_old writes_new flushed outcome
-Does false limit in_old in_new reads_old reads_new out_old out_new writes_old writes_new flushed outcome =
-    Converts limit in_old in_new reads_old reads_new out_old out_new writes_old writes_new flushed outcome
+-- What a job asks of the engine, with or without `--info`, under this limit of the rows. Of the second reading are given
+-- whether there is one, what it means that it is untouched, its known bytes and its count of failures.
+abbrev pub Does : Bool → ℕ → Option (List ℕ) → Option (List ℕ) → ℕ → ℕ → Bool → Type 0 → Option (List ℕ) → Option (List ℕ) → ℕ → ℕ
+    → Option (List ℕ) → Option (List ℕ) → ℕ → ℕ → Bool → Result (Unit {0}) Fault → Type 0
+Does true limit in_old in_new reads_old reads_new twice untouched again_old again_new again_reads_old again_reads_new out_old out_new writes_old writes_new flushed outcome =
+    Informs in_old in_new reads_old reads_new out_old out_new writes_old writes_new flushed outcome × untouched
+Does false limit in_old in_new reads_old reads_new twice untouched again_old again_new again_reads_old again_reads_new out_old out_new writes_old writes_new flushed outcome =
+    ConvertsReadings limit in_old in_new reads_old reads_new twice untouched again_old again_new again_reads_old again_reads_new out_old out_new writes_old writes_new flushed outcome

@@ -13,11 +13,12 @@ use Rattle.program_core.specs.declared.pbmtojbg85.work.Job.{Job}
 
 -- `pbmtojbg85 [options] [input [output]]`
 abbrev pub command : App
-command = with_rule (with_rule (with_rule (with_rule (with_rule (with_rule (with_rule
+command = with_rule (with_rule (with_rule (with_rule (with_rule (with_rule (with_rule (with_rule
     (new_app (codes "pbmtojbg85"))
     (number_rule (codes "options") 112 (codes "8" ∷ [])))
     (number_rule (codes "stripe") 115 (codes "128" ∷ [])))
     (number_rule (codes "move") 109 (codes "0" ∷ [])))
+    (number_rule (codes "announced") 89 []))
     (text_rule (codes "comment") 67))
     (flag_rule (codes "reset") 114))
     (new_rule (codes "input")))
@@ -36,6 +37,7 @@ pub record IsJobOf (rows : List Row) (job : Job) : Type 0 where
   pub p : number_in (codes "options") rows ≡ Some job.p
   pub s : number_in (codes "stripe") rows ≡ Some job.s
   pub m : number_in (codes "move") rows ≡ Some job.m
+  pub announced : job.announced ≡ number_in (codes "announced") rows
   pub reset : job.reset ≡ flag_in (codes "reset") rows
   pub comment : option_map string_bytes job.comment ≡ first_of (codes "comment") rows
   pub input : option_map string_bytes job.input ≡ first_of (codes "input") rows
@@ -73,6 +75,7 @@ settings_asked job = record {
   options = job.p;
   stripe_rows = job.s;
   most_offset = job.m;
+  announced = job.announced;
   reset = job.reset;
   comment = option_map string_bytes job.comment;
 }

@@ -31,6 +31,15 @@ impl Readable {
     }
 }
 
+impl Readable {
+    /// Whether it is a named file.
+    pub(crate) fn is_file(&self) -> bool
+        ensures { result ≡ reads_file self.now }
+    {
+        matches!(self, Readable::File(_))
+    }
+}
+
 impl Read for Readable {
     fn read(&mut self, buf: &mut [u8]) -> io::Result<usize> {
         match self {

@@ -1,6 +1,8 @@
 //! The work of `jbgtopbm85`: its command line, and its run over lent devices.
 
-ghost use Rattle.std.specs.Prelude.{◌≡◌, ◌≤◌, ◌<◌, ◌+◌, ◌-◌, ◌^◌, IfErr, IfOk, Result, option_map, string_bytes};
+ghost use Rattle.std.specs.Prelude.{◌≡◌, ◌≤◌, ◌<◌, ◌+◌, ◌-◌, ◌^◌, ◌&&◌, not, false, is_some, IfErr, IfOk, IfSome, Result, option_map, string_bytes};
+ghost use Rattle.std.specs.Option.{option_map_or};
+ghost use Rattle.t85_core.specs.Readings.{again_known, again_failures};
 ghost use Rattle.std.specs.Io.KnownBytes.{Keeps};
 ghost use Rattle.t85_core.specs.declared.fault.Fault.{Fault};
 ghost use Rattle.std.specs.Process.{exit_status as exit_code_status};
@@ -14,42 +16,69 @@ mod work;
 
 use crate::files::{Readable, Writable};
 use crate::message::report;
-use crate::program::open_files;
+use crate::program::{create_output, open_input};
 use pbm_core::{Input, Output};
 use std::alloc::Global;
 use std::process::ExitCode;
-use t85_core::{info, to_pbm};
+use t85_core::{Fault, info, to_pbm};
 pub use words::job;
 pub use work::Job;
 
 /// The program's name.
 pub const NAME: &str = "jbgtopbm85";
 
-/// Opens the job's input, and then creates or empties its output; where one can't be, that was told, and the program
-/// ends.
-pub fn open(rt: &HostRuntime, job: &Job) -> Result<(Readable, Writable), ExitCode>
-    ensures chosen { IfOk result (λ files. (reads_file files.0 ≡ names_file (option_map string_bytes job.now.input))
-        × (writes_file files.1 ≡ names_file (option_map string_bytes job.now.output))) }
-    ensures status { IfErr result (λ e. exit_code_status e ≡ 1) }
-{
-    open_files(rt, NAME, &job.input, &job.output)
+/// What a job is done on.
+#[derive(Drop)]
+pub struct Files {
+    pub input: Readable,
+    /// The input once more, where it is a file whose image is asked for.
+    pub again: Option<Readable>,
+    pub output: Writable,
 }
 
-/// Does the job, tells a fault to `messages`, and gives the exit status: 0, or 1 after a fault.
-pub fn run<R: Input, W: Output, M: Output>(
+/// Opens the job's input, and then creates or empties its output; where one can't be, that was told, and the program
+/// ends.
+pub fn open(rt: &HostRuntime, job: &Job) -> Result<Files, ExitCode>
+    ensures input { IfOk result (λ files. reads_file files.input ≡ names_file (option_map string_bytes job.now.input)) }
+    ensures again { IfOk result (λ files. option_map_or reads_file files.again false
+        ≡ (not job.now.info && names_file (option_map string_bytes job.now.input))) }
+    ensures output { IfOk result (λ files. writes_file files.output ≡ names_file (option_map string_bytes job.now.output)) }
+    ensures status { IfErr result (λ e. exit_code_status e ≡ 1) }
+{
+    let input = open_input(rt, NAME, &job.input)?;
+    let again = if input.is_file() && !job.info {
+        Some(open_input(rt, NAME, &job.input)?)
+    } else {
+        None
+    };
+    let output = create_output(rt, NAME, &job.output)?;
+    Ok(Files {
+        input,
+        again,
+        output,
+    })
+}
+
+/// Does the job, tells a fault to `messages`, and gives the exit status: 0, or 1 after a fault. `again` has the same
+/// bytes as the input, from their beginning: it is wanted where the height of the image may change in the stream.
+pub fn run<R: Input, R2: Input, W: Output, M: Output>(
     alloc: Global,
     job: &Job,
     input: &mut R,
+    again: &mut Option<R2>,
     output: &mut W,
     messages: &mut M,
 ) -> u8
     requires input { R.failures input.old < 2 ^ 64 - 1 }
+    requires again { IfSome again.old (λ reading. R2.failures reading < 2 ^ 64 - 1) }
     requires output { W.failures output.old < 2 ^ 64 - 1 }
     requires messages { M.failures messages.old < 2 ^ 64 - 1 }
 
     // The engine's outcome is passed on.
     ensures outcome { (outcome : Result (Unit {0}) Fault) × (result ≡ exit_status outcome) × Does job.now.info (limit_of job.now)
         (R.remaining input.old) (R.remaining input.new) (R.failures input.old) (R.failures input.new)
+        (is_some again.old) (again.new ≡ again.old) (again_known (λ reading. R2.remaining reading) again.old) (again_known (λ reading. R2.remaining reading) again.new)
+        (again_failures (λ reading. R2.failures reading) again.old) (again_failures (λ reading. R2.failures reading) again.new)
         (W.contents output.old) (W.contents output.new) (W.failures output.old) (W.failures output.new) (W.flushed output.new) outcome
         × FlushesOnce (W.flushes output.old) (W.flushes output.new) outcome }
 
@@ -57,10 +86,32 @@ pub fn run<R: Input, W: Output, M: Output>(
     ensures quiet { result ≡ 0 → Keeps (M.contents messages.old) (M.contents messages.new) × (M.failures messages.new ≡ M.failures messages.old) }
     ensures once { M.failures messages.new ≤ M.failures messages.old + 1 }
 {
-    let outcome = if job.info {
+    let outcome = work_on(alloc, job, input, again, output);
+    report(NAME, outcome, messages)
+}
+
+/// Has the engine do what the job asks for.
+fn work_on<R: Input, R2: Input, W: Output>(
+    alloc: Global,
+    job: &Job,
+    input: &mut R,
+    again: &mut Option<R2>,
+    output: &mut W,
+) -> Result<(), Fault>
+    requires input { R.failures input.old < 2 ^ 64 - 1 }
+    requires again { IfSome again.old (λ reading. R2.failures reading < 2 ^ 64 - 1) }
+    requires output { W.failures output.old < 2 ^ 64 - 1 }
+    ensures does { Does job.now.info (limit_of job.now)
+        (R.remaining input.old) (R.remaining input.new) (R.failures input.old) (R.failures input.new)
+        (is_some again.old) (again.new ≡ again.old) (again_known (λ reading. R2.remaining reading) again.old) (again_known (λ reading. R2.remaining reading) again.new)
+        (again_failures (λ reading. R2.failures reading) again.old) (again_failures (λ reading. R2.failures reading) again.new)
+        (W.contents output.old) (W.contents output.new) (W.failures output.old) (W.failures output.new) (W.flushed output.new) result }
+    ensures flushes { FlushesOnce (W.flushes output.old) (W.flushes output.new) result }
+{
+    if job.info {
         info(input, output)
     } else {
-        to_pbm(alloc, input, job.max_rows.unwrap_or(u32::MAX), output)
-    };
-    report(NAME, outcome, messages)
+        let limit = job.max_rows.unwrap_or(u32::MAX);
+        to_pbm(alloc, input, again, limit, output)
+    }
 }

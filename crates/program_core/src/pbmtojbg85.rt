@@ -16,7 +16,7 @@ mod work;
 
 use crate::files::{Readable, Writable};
 use crate::message::report;
-use crate::program::open_files;
+use crate::program::{create_output, open_input};
 use pbm_core::{Input, Output};
 use std::alloc::Global;
 use std::process::ExitCode;
@@ -35,7 +35,9 @@ pub fn open(rt: &HostRuntime, job: &Job) -> Result<(Readable, Writable), ExitCod
         × (writes_file files.1 ≡ names_file (option_map string_bytes job.now.output))) }
     ensures status { IfErr result (λ e. exit_code_status e ≡ 1) }
 {
-    open_files(rt, NAME, &job.input, &job.output)
+    let input = open_input(rt, NAME, &job.input)?;
+    let output = create_output(rt, NAME, &job.output)?;
+    Ok((input, output))
 }
 
 /// Does the job, tells a fault to `messages`, and gives the exit status: 0, or 1 after a fault.
@@ -60,7 +62,14 @@ pub fn run<R: Input, W: Output, M: Output>(
     ensures quiet { result ≡ 0 → Keeps (M.contents messages.old) (M.contents messages.new) × (M.failures messages.new ≡ M.failures messages.old) }
     ensures once { M.failures messages.new ≤ M.failures messages.old + 1 }
 {
-    let outcome = match Options::new(job.p, job.s, job.m, job.reset, comment_bytes(&job.comment)) {
+    let outcome = match Options::new(
+        job.p,
+        job.s,
+        job.m,
+        job.announced,
+        job.reset,
+        comment_bytes(&job.comment),
+    ) {
         Ok(options) => to_jbg(alloc, input, output, &options),
         Err(fault) => Err(fault),
     };

@@ -67,22 +67,32 @@ pub fn end(status: u8) -> ExitCode
     ExitCode::from(status)
 }
 
-/// Opens the input, and then creates or empties the output; where one can't be, that was told, and the program ends.
-pub(crate) fn open_files(
+/// Opens an input; where it can't be, that was told, and the program ends.
+pub(crate) fn open_input(
     rt: &HostRuntime,
     program: &str,
-    input: &Option<String>,
-    output: &Option<String>,
-) -> Result<(Readable, Writable), ExitCode>
-    ensures chosen { IfOk result (λ files. (reads_file files.0 ≡ names_file (option_map string_bytes input.now))
-        × (writes_file files.1 ≡ names_file (option_map string_bytes output.now))) }
+    name: &Option<String>,
+) -> Result<Readable, ExitCode>
+    ensures chosen { IfOk result (λ input. reads_file input ≡ names_file (option_map string_bytes name.now)) }
     ensures status { IfErr result (λ e. exit_status e ≡ 1) }
 {
-    let Ok(input) = Readable::open(rt, input) else {
-        return Err(complain(rt, program, "input file cannot be opened", 1));
-    };
-    let Ok(output) = Writable::create(rt, output) else {
-        return Err(complain(rt, program, "output file cannot be created", 1));
-    };
-    Ok((input, output))
+    match Readable::open(rt, name) {
+        Ok(input) => Ok(input),
+        Err(_) => Err(complain(rt, program, "input file cannot be opened", 1)),
+    }
+}
+
+/// Creates or empties an output; where it can't be, that was told, and the program ends.
+pub(crate) fn create_output(
+    rt: &HostRuntime,
+    program: &str,
+    name: &Option<String>,
+) -> Result<Writable, ExitCode>
+    ensures chosen { IfOk result (λ output. writes_file output ≡ names_file (option_map string_bytes name.now)) }
+    ensures status { IfErr result (λ e. exit_status e ≡ 1) }
+{
+    match Writable::create(rt, name) {
+        Ok(output) => Ok(output),
+        Err(_) => Err(complain(rt, program, "output file cannot be created", 1)),
+    }
 }

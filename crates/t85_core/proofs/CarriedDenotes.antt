@@ -9,7 +9,7 @@ use Rattle.qm_core.specs.Code.{Lies}
 use Rattle.raster_core.specs.Raster.{white_row}
 use Rattle.raster_core.specs.Lines.{numbers_from, IsLegalFlag}
 use Rattle.t85_core.specs.Header.{Fields, IsAccepted}
-use Rattle.t85_core.specs.Grammar.{Stripe, stripe_bytes, stripe_count, AreStripes}
+use Rattle.t85_core.specs.Grammar.{Stripe, stripe_bytes, stripe_count, AreStripes, all_segments, GiveOnly}
 use Rattle.t85_core.specs.Coding.{Coding, lines_of, flag_of, moved_at, last_or, place_of, mode_of, move_of}
 use Rattle.t85_core.specs.Denotes.{coding_in, DenotesAt}
 use Rattle.t85_core.specs.Carried.{Carry, begin, first_carry, StripesRun}
@@ -54,11 +54,11 @@ module _ (h : Fields) (stripes : List Stripe) (flags : List Bool) (rows : List (
 
 -- The stripes of a body, run through to the image's height, denote the raster of their rows.
 pub carried_denotes : (h : Fields) (height : ℕ) (body rest : List ℕ) (stripes : List Stripe) (rows : List (List Bool)) (flags : List Bool) (next : Carry) →
-    IsAccepted h → 1 ≤ height → height ≤ h.yd → body ≡ flat_map stripe_bytes stripes ++ rest → length stripes ≡ stripe_count height h.l0 →
+    IsAccepted h → 1 ≤ height → height ≤ h.yd → body ≡ flat_map stripe_bytes stripes ++ rest → length stripes ≡ stripe_count height h.l0 → GiveOnly height 0 (all_segments stripes) →
     StripesRun h height (first_carry h.xd) stripes rows flags next → DenotesAt h height body (record { width = h.xd; rows = rows })
-carried_denotes h height body rest stripes rows flags next ok from to body_is count run =
+carried_denotes h height body rest stripes rows flags next ok from to body_is count gives run =
     record {
-      parts = record { stripes = stripes; rest = rest; body_is = body_is; count = count; each = stripes_whole h height (first_carry h.xd) stripes rows flags next run };
+      parts = record { stripes = stripes; rest = rest; body_is = body_is; count = count; each = stripes_whole h height (first_carry h.xd) stripes rows flags next run; gives = gives };
       proper = record { width_from = ok.width_from; width_to = ok.width_to; height_from = omega (arith, from, many); height_to = omega (arith, to, many, ok.height_to); rows = stripes_wide h height (first_carry h.xd) stripes rows flags next run };
       width = refl;
       height = many;

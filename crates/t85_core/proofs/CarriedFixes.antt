@@ -14,8 +14,8 @@ use Rattle.raster_core.specs.Lines.{Mode, numbers_from, IsLegalFlag}
 use Rattle.raster_core.specs.Decoding.{beginnings, AreEnough}
 use Rattle.t85_core.specs.declared.fault.Fault.{Fault}
 use Rattle.t85_core.specs.Header.{Fields, IsAccepted}
-use Rattle.t85_core.specs.Grammar.{Segment, Stripe, stripe_bytes, stripe_count}
-use Rattle.t85_core.specs.Refusal.{StripeFault}
+use Rattle.t85_core.specs.Grammar.{Segment, Stripe, stripe_bytes, stripe_count, all_segments, GiveOnly}
+use Rattle.t85_core.specs.Refusal.{StripeFault, spot_after}
 use Rattle.t85_core.specs.Coding.{Coding, fresh_stripe, lines_of, flag_of, events_of_row, learned_at, place_of, begun, mode_of, move_of}
 use Rattle.t85_core.specs.Denotes.{coding_in}
 use Rattle.t85_core.specs.Fixed.{AreDecided, IsLongest, Fixes, begun_stripes}
@@ -361,14 +361,14 @@ abbrev pub front_of : {h : Fields} {count : ℕ} {c : Carry} {segments : List Se
 front_of b = record { last = b.last; run = b.run; few = b.few; lies = b.lies }
 
 -- A body that breaks behind whole stripes fixes their rows, and the rows that were run through of the stripe that breaks.
-pub carried_fixes : CoderLaws → (h : Fields) (height : ℕ) (body tail : List ℕ) (fault : Fault) (stripes : List Stripe) (broken : StripeFault h tail fault)
+pub carried_fixes : CoderLaws → (h : Fields) (height : ℕ) (body tail : List ℕ) (fault : Fault) (stripes : List Stripe) (broken : StripeFault h (spot_after height stripes) tail fault)
     (first more : List (List Bool)) (first_flags more_flags : List Bool) (mid : Carry) → IsAccepted h →
-    body ≡ flat_map stripe_bytes stripes ++ tail → length stripes < stripe_count height h.l0 →
+    body ≡ flat_map stripe_bytes stripes ++ tail → length stripes < stripe_count height h.l0 → GiveOnly height 0 (all_segments stripes) →
     StripesRun h height (first_carry h.xd) stripes first first_flags mid →
     BegunRun h (min (height - length stripes * h.l0) h.l0) mid broken.segments broken.code more more_flags →
     Fixes h height body fault (first ++ more)
-carried_fixes q h height body tail fault stripes broken first more first_flags more_flags mid ok body_is fewer run begins = record {
-  broken = record { stripes = stripes; tail = tail; bytes_are = body_is; fewer = fewer; each = stripes_whole h height (first_carry h.xd) stripes first first_flags mid run; tail_has = broken };
+carried_fixes q h height body tail fault stripes broken first more first_flags more_flags mid ok body_is fewer gives run begins = record {
+  broken = record { stripes = stripes; tail = tail; bytes_are = body_is; fewer = fewer; each = stripes_whole h height (first_carry h.xd) stripes first first_flags mid run; gives = gives; tail_has = broken };
   fixed = record {
     flags = first_flags ++ more_flags;
     decided = carried_decided h height ok stripes broken.segments broken.code first more first_flags more_flags mid fewer run (front_of begins) begins.enough;

@@ -12,6 +12,7 @@ use Rattle.t85_core.specs.declared.walk.Code.{Code}
 use Rattle.t85_core.specs.declared.rows.Carried.{Carried}
 use Rattle.t85_core.specs.Header.{Fields}
 use Rattle.t85_core.specs.Grammar.{Segment}
+use Rattle.t85_core.specs.Refusal.{Spot}
 use Rattle.t85_core.specs.Walk.{Ends, failed_reads, failed_writes, counted_as}
 use Rattle.t85_core.specs.Info.{IsWalkFault}
 use Rattle.t85_core.specs.Entity.{Standing, BreaksIn, Finishes}
@@ -81,44 +82,44 @@ module _ {T : Type 0} (standing : T → Standing) (failed : T → ℕ) (s t : T)
         source = last.1 ∙ p.went.source;
         input = last.2 ∙ p.went.input;
         behind = last.0.behind;
-        among = uncounted Truncated last.0.why (rest_faults b.h 0 true last.0.ends.given (counted_as Truncated last.0.why) (last.0.ends.has_fault b.h 0));
+        among = uncounted Truncated last.0.why (rest_faults b.h b.spot 0 true last.0.ends.given (counted_as Truncated last.0.why) (last.0.ends.has_fault b.h b.spot 0));
       }
 
-  module _ (h : Fields) (c : Carry) (segments : List Segment) (known : Option (List ℕ)) (begins : CodeBegins h c segments known shape move carried (standing s)) where
+  module _ (h : Fields) (spot : Spot) (heights : ℕ) (c : Carry) (segments : List Segment) (known : Option (List ℕ)) (begins : CodeBegins h spot heights c segments known shape move carried (standing s)) where
     begun : CodeBegun shape move carried (standing s)
-    begun = record { h = h; c = c; segments = segments; known = known; begins = begins }
+    begun = record { h = h; spot = spot; heights = heights; c = c; segments = segments; known = known; begins = begins }
 
     -- the stripe is whole
     pub code_whole : CoderLaws → (count : ℕ) (carried' next : Carried) (text text' u : Option (List ℕ)) (reset : Bool) → RowsOfStripe (Pull standing failed) s t shape move count carried carried' text text' →
         Finishes (standing t).known u (standing t).marker reset →
-        ((last : Between) → IsCarried last carried' → IsCarried (begin (end_of h.xd reset last)) next) → StripeRead h c known u count next text text'
+        ((last : Between) → IsCarried last carried' → IsCarried (begin (end_of h.xd reset last)) next) → StripeRead h spot heights c known u count next text text'
     code_whole q count carried' next text text' u reset rows finishes keeps =
         let r = rows h c segments begins.move_is begins.shape_is begins.is_carried in
-        stripe_whole standing failed h c known segments s t begins.begun begins.passed begins.first begins.first_is r.1.answers (parted r.1.answers r.1.stands.closed r.1.gives begun) q shape count carried' next r.0 text text' r.1 refl u reset finishes
+        stripe_whole standing failed h spot heights c known segments s t begins.begun begins.passed begins.first begins.first_is begins.gives_in r.1.answers (parted r.1.answers r.1.stands.closed r.1.gives begun) q shape count carried' next r.0 text text' r.1 refl u reset finishes
         (keeps r.1.last r.1.is_carried)
 
     pub code_rest : CoderLaws → (count : ℕ) (carried' : Carried) (text text' u : Option (List ℕ)) (fault : Fault) → RowsOfStripe (Pull standing failed) s t shape move count carried carried' text text' →
-        (standing t).marker ≡ None → Ends Truncated (standing t).known u (BreaksIn (standing t).first) fault → StripeCut h c known u count text text' fault
+        (standing t).marker ≡ None → Ends Truncated (standing t).known u (BreaksIn (standing t).first) fault → StripeCut h spot c known u count text text' fault
     code_rest q count carried' text text' u fault rows open_ ends =
         let r = rows h c segments begins.move_is begins.shape_is begins.is_carried in
-        stripe_rest standing failed h c known segments s t begins.begun begins.passed begins.first begins.first_is r.1.answers (parted r.1.answers r.1.stands.closed r.1.gives begun) q shape count carried' r.0 text text' r.1 refl u fault open_ ends
+        stripe_rest standing failed h spot heights c known segments s t begins.begun begins.passed begins.first begins.first_is begins.gives_in r.1.answers (parted r.1.answers r.1.stands.closed r.1.gives begun) q shape count carried' r.0 text text' r.1 refl u fault open_ ends
 
     pub code_stopped : (count : ℕ) (text text' : Option (List ℕ)) (fault : Fault) → RowsOfCut (Pull standing failed) s t shape move count carried text text' → IfSome (standing t).fault (λ f. fault ≡ f) →
-        StripeCut h c known (standing t).known count text text' fault
+        StripeCut h spot c known (standing t).known count text text' fault
     code_stopped count text text' fault rows is =
         let r = rows h c segments begins.move_is begins.shape_is begins.is_carried in
         let p = parted r.answers r.closed r.gives begun in
         let last = gave_fault r.answers r.stopped p in
         let same : fault ≡ last.0.why = subst (λ o. IfSome o (λ f. fault ≡ f)) last.0.fault is in
-        subst (λ f. StripeCut h c known (standing t).known count text text' f) (sym same)
-        (stripe_stopped standing failed h c known segments s t begins.begun begins.passed begins.first begins.first_is r.answers p count text text' r refl last.0)
+        subst (λ f. StripeCut h spot c known (standing t).known count text text' f) (sym same)
+        (stripe_stopped standing failed h spot heights c known segments s t begins.begun begins.passed begins.first begins.first_is begins.gives_in r.answers p count text text' r refl last.0)
 
     -- the sheet took no more
     pub code_unset : CoderLaws → (count : ℕ) (text text' u : Option (List ℕ)) (ahead : List ℕ) → Consumes (standing t).known u ahead → RowsOfUnset (Pull standing failed) s t shape move count carried text text' →
-        StripeUnset h c known u count text text'
+        StripeUnset h spot c known u count text text'
     code_unset q count text text' u ahead taken rows =
         let r = rows h c segments begins.move_is begins.shape_is begins.is_carried in
-        stripe_unset standing failed h c known segments s t begins.begun begins.passed begins.first begins.first_is r.answers (parted r.answers r.closed r.gives begun) q count text text' r refl u ahead taken
+        stripe_unset standing failed h spot heights c known segments s t begins.begun begins.passed begins.first begins.first_is begins.gives_in r.answers (parted r.answers r.closed r.gives begun) q count text text' r refl u ahead taken
 
 -- what is told of a fault that the code broke with
 pub broke_fault : (s t : Standing) (fault : Fault) → Broke s t → IfSome t.fault (λ f. fault ≡ f) →
@@ -134,6 +135,9 @@ kept_wide wide width reset carried next e kept last is = subst (λ w. IsCarried 
 
 -- a code that breaks behind the rows
 pub broken_among : (first : Option Code) (a b : Option (List ℕ)) (fault : Fault) → Ends Truncated a b (BreaksIn first) fault → IsWalkFault fault
-broken_among first a b fault e = uncounted Truncated fault (rest_faults some_fields 0 true e.has_fault.0.rest (counted_as Truncated fault) (e.has_fault.0.rest_has some_fields 0)) where
+broken_among first a b fault e = uncounted Truncated fault (rest_faults some_fields some_spot 0 true e.has_fault.0.rest (counted_as Truncated fault) (e.has_fault.0.rest_has some_fields some_spot 0)) where
   some_fields : Fields
   some_fields = record { xd = 0; yd = 0; l0 = 0; mx = 0; options = 0 }
+
+  some_spot : Spot
+  some_spot = record { height = 0; entities = 0; heights = 0 }

@@ -11,7 +11,7 @@ use Rattle.t85_core.specs.declared.fault.Fault.{Fault}
 use Rattle.t85_core.specs.declared.fault.Fault.TheVariants.{Truncated, Read, Write}
 use Rattle.t85_core.specs.Header.{Fields}
 use Rattle.t85_core.specs.Grammar.{segment_bytes, stripe_bytes, stripe_count, is_move, is_nil}
-use Rattle.t85_core.specs.Refusal.{rest_fault}
+use Rattle.t85_core.specs.Refusal.{spot_behind, spot_after, rest_fault}
 use Rattle.t85_core.specs.Denotes.{DenotesAt}
 use Rattle.t85_core.specs.Fixed.{Fixes}
 use Rattle.t85_core.specs.Image.{IsOutcome, pbm_rows}
@@ -35,8 +35,8 @@ use Rattle.t85_core.proofs.Streams.{Appends-more, Consumes-more, beginning_after
 
 -- what is fixed stays so, whatever bytes follow, but where the end is the fault
 fixes_more : (h : Fields) (height : ℕ) (given more : List ℕ) (fault : Fault) (rows : List (List Bool)) → Fixes h height given fault rows → (fault ≡ Truncated) ⊎ Fixes h height (given ++ more) fault rows
-fixes_more h height given more fault rows f = went (stable_rest h _ _ f.broken.tail_has.rest more fault f.broken.tail_has.rest_has) where
-  went : (fault ≡ Truncated) ⊎ (rest_fault h (count_by is_move f.broken.tail_has.segments) (not (is_nil f.broken.tail_has.code)) (f.broken.tail_has.rest ++ more) ≡ Some fault) → (fault ≡ Truncated) ⊎ Fixes h height (given ++ more) fault rows
+fixes_more h height given more fault rows f = went (stable_rest h _ _ _ f.broken.tail_has.rest more fault f.broken.tail_has.rest_has) where
+  went : (fault ≡ Truncated) ⊎ (rest_fault h (spot_behind (spot_after height f.broken.stripes) f.broken.tail_has.segments) (count_by is_move f.broken.tail_has.segments) (not (is_nil f.broken.tail_has.code)) (f.broken.tail_has.rest ++ more) ≡ Some fault) → (fault ≡ Truncated) ⊎ Fixes h height (given ++ more) fault rows
   went (inl e) = inl e
   went (inr e) = inr (record {
     broken = record {
@@ -45,12 +45,14 @@ fixes_more h height given more fault rows f = went (stable_rest h _ _ f.broken.t
       bytes_are = ap (λ z. z ++ more) f.broken.bytes_are ∙ append_assoc (flat_map stripe_bytes f.broken.stripes) f.broken.tail more;
       fewer = f.broken.fewer;
       each = f.broken.each;
+      gives = f.broken.gives;
       tail_has = record {
         segments = f.broken.tail_has.segments;
         code = f.broken.tail_has.code;
         rest = f.broken.tail_has.rest ++ more;
         bytes_are = ap (λ z. z ++ more) f.broken.tail_has.bytes_are ∙ append_assoc (flat_map segment_bytes f.broken.tail_has.segments) (stuffed f.broken.tail_has.code ++ f.broken.tail_has.rest) more ∙ ap (λ z. flat_map segment_bytes f.broken.tail_has.segments ++ z) (append_assoc (stuffed f.broken.tail_has.code) f.broken.tail_has.rest more);
         begun = f.broken.tail_has.begun;
+        gives = f.broken.tail_has.gives;
         rest_has = e;
       };
     };
@@ -68,7 +70,7 @@ module _ (q : CoderLaws) (h : Fields) (height : ℕ) (use_ : IsInUse h height) (
   rows_written body fault rows fixes out = record {
     rows = rows;
     fixes = fixes;
-    only = λ other others o. one_fixed_at q h height body other fault others rows use_.accepted o fixes;
+    only = λ other others o. one_fixed_at q h height body other fault others rows use_ o fixes;
     appends = written rows out;
   }
 
@@ -107,7 +109,7 @@ module _ (q : CoderLaws) (h : Fields) (height : ℕ) (use_ : IsInUse h height) (
   )
 
   cut_among : (bytes known : Option (List ℕ)) (fault : Fault) → ImageCut h height bytes known out_mid out_new fault → IsBodyFault fault
-  cut_among bytes known fault i = uncounted_body Truncated fault (body_faults h (stripe_count height h.l0) i.ends.given (counted_as Truncated fault) i.ends.has_fault.broken)
+  cut_among bytes known fault i = uncounted_body Truncated fault (body_faults h height (stripe_count height h.l0) i.ends.given (counted_as Truncated fault) i.ends.has_fault.broken)
 
   -- what stands written is a beginning of what was set out
   front_written : (in_new : Option (List ℕ)) (in_held out_held : List ℕ) → known_length out_mid ≤ known_length out_new → ImageBegun h height in_old (prepend_known in_held in_new) out_mid (append_known out_new out_held) →

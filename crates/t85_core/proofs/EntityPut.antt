@@ -2,6 +2,7 @@
 use Rattle.std.proofs.Common.{◌≡◌, ◌+◌, ℕ, ◌≤◌, zero, suc, Bool, List, [], ◌∷◌, ◌++◌, length, sym, ap, ◌∙◌, subst, arith, append_assoc, append-nil, Option, Result, Ok, Err}
 use Rattle.std.specs.Prelude.{OnOk}
 use Rattle.std.specs.Io.KnownBytes.{Appends, Keeps}
+use Rattle.pbm_core.specs.declared.form.Form.{Form}
 use Rattle.raster_core.specs.declared.shape.Shape.{Shape}
 use Rattle.raster_core.specs.declared.tally.Tally.{Tally}
 use Rattle.t85_core.specs.declared.fault.Fault.{Fault}
@@ -29,10 +30,10 @@ held_carried move (suc r) b carried some h = record {
   lines_are = h.lines_are;
 }
 
-pub entity_written : (shape : Shape) (reset : Bool) (count : ℕ) (counted : Option ℕ) (known known' : Option (List ℕ)) (carried mid carried' : Carried) (tally : Tally) (text coded marked text' : Option (List ℕ)) (r : Result (Unit {0}) Fault)
-    → CodeOfRows (λ bytes. Appends text coded bytes) shape count counted known known' carried mid tally → Appends coded marked (marker_bytes reset) → Keeps marked text'
+pub entity_written : {form : Form} (shape : Shape) (reset : Bool) (count : ℕ) (counted : Option ℕ) (known known' : Option (List ℕ)) (carried mid carried' : Carried) (tally : Tally) (text coded marked text' : Option (List ℕ)) (r : Result (Unit {0}) Fault)
+    → CodeOfRows form (λ bytes. Appends text coded bytes) shape count counted known known' carried mid tally → Appends coded marked (marker_bytes reset) → Keeps marked text'
     → ((last : Between) → IsCarried last mid → IsCarried (begin (end_of shape.width reset last)) carried')
-    → OnOk r (EntityOfRows shape reset count counted known known' carried carried' tally text text')
+    → OnOk r (EntityOfRows form shape reset count counted known known' carried carried' tally text text')
 entity_written shape reset count counted known known' carried mid carried' tally text coded marked text' (Err f) code marker keeps goes = tt
 entity_written shape reset count counted known known' carried mid carried' tally text coded marked text' (Ok u) code marker keeps goes = λ s move c is_shape reset_is held.
     let w = code s move c is_shape held in
@@ -47,8 +48,8 @@ entity_written shape reset count counted known known' carried mid carried' tally
     }
 
 -- the sheet took no more of the code
-pub code_refused : (shape : Shape) (reset : Bool) (count : ℕ) (known known' : Option (List ℕ)) (carried : Carried) (text text' : Option (List ℕ))
-    → CodeOfRefused (λ bytes. Appends text text' bytes) shape count known known' carried → EntityOfRefused shape reset count known known' carried text text'
+pub code_refused : {form : Form} (shape : Shape) (reset : Bool) (count : ℕ) (known known' : Option (List ℕ)) (carried : Carried) (text text' : Option (List ℕ))
+    → CodeOfRefused form (λ bytes. Appends text text' bytes) shape count known known' carried → EntityOfRefused form shape reset count known known' carried text text'
 code_refused shape reset count known known' carried text text' code = λ s move c is_shape reset_is held.
     let w = code s move c is_shape held in
     record {
@@ -61,8 +62,8 @@ code_refused shape reset count known known' carried text text' code = λ s move 
     }
 
 -- of the end marker, or of what was held
-pub marker_refused : (shape : Shape) (reset : Bool) (count : ℕ) (counted : Option ℕ) (known known' : Option (List ℕ)) (carried mid : Carried) (tally : Tally) (text coded text' : Option (List ℕ))
-    → CodeOfRows (λ bytes. Appends text coded bytes) shape count counted known known' carried mid tally → AppendsBeginning coded text' (marker_bytes reset) → EntityOfRefused shape reset count known known' carried text text'
+pub marker_refused : {form : Form} (shape : Shape) (reset : Bool) (count : ℕ) (counted : Option ℕ) (known known' : Option (List ℕ)) (carried mid : Carried) (tally : Tally) (text coded text' : Option (List ℕ))
+    → CodeOfRows form (λ bytes. Appends text coded bytes) shape count counted known known' carried mid tally → AppendsBeginning coded text' (marker_bytes reset) → EntityOfRefused form shape reset count known known' carried text text'
 marker_refused shape reset count counted known known' carried mid tally text coded text' code marker = λ s move c is_shape reset_is held.
     let w = code s move c is_shape held in
     let bytes : List ℕ = stuffed (code_of (after_rows (mode_of s.options) move 0 (begin c) w.rows).state.place) in

@@ -1,5 +1,5 @@
 -- What came decides the first rows of whatever the body comes to denote or to fix.
-use Rattle.std.proofs.Common.{◌≡◌, ◌<◌, ◌≤◌, ◌^◌, ◌-◌, ◌*◌, ◌⊎◌, inl, inr, ℕ, Bool, List, [], ◌∷◌, ◌++◌, length, min, take, drop, Option, None, Some, refl, sym, ap, ◌∙◌, subst, append_assoc, append-nil, take-append-drop, arith}
+use Rattle.std.proofs.Common.{◌≡◌, ◌<◌, ◌≤◌, ◌-◌, ◌*◌, ◌⊎◌, inl, inr, ℕ, Bool, List, [], ◌∷◌, ◌++◌, length, min, take, drop, Option, None, Some, refl, sym, ap, ◌∙◌, subst, append_assoc, append-nil, take-append-drop, arith}
 use Rattle.std.specs.Prelude.{flat_map}
 use Rattle.std.proofs.lemmas.Grind.{flat_map-append}
 use Rattle.pbm_core.specs.Pbm.{header_text}
@@ -8,7 +8,8 @@ use Rattle.raster_core.specs.Raster.{Raster}
 use Rattle.raster_core.specs.Packed.{packed_row}
 use Rattle.t85_core.specs.declared.fault.Fault.{Fault}
 use Rattle.t85_core.specs.Header.{Fields}
-use Rattle.t85_core.specs.Grammar.{Segment, Stripe, segment_bytes, stripe_bytes, stripe_count, IsBegun, AreStripes}
+use Rattle.t85_core.specs.Grammar.{Segment, Stripe, segment_bytes, lengths, all_segments, stripe_bytes, stripe_count, IsBegun, AreStripes, GiveOnly}
+use Rattle.t85_core.specs.Refusal.{spot_after}
 use Rattle.t85_core.specs.Coding.{mode_of, move_of}
 use Rattle.t85_core.specs.Denotes.{DenotesAt}
 use Rattle.t85_core.specs.Fixed.{Fixes, AreDecided, begun_stripes}
@@ -21,7 +22,8 @@ use Rattle.t85_core.specs.CoderLaws.{CoderLaws}
 use Rattle.t85_core.specs.Unset.{StripeDecides, AreFirst}
 use Rattle.t85_core.proofs.Built.{bytes_in_start}
 use Rattle.t85_core.proofs.Elements.{all_right}
-use Rattle.t85_core.proofs.Cut.{first_parts, begun_in_stripe, begun_in_fault, stripe_in_fault, one_stripe, parts_or_fault}
+use Rattle.t85_core.proofs.Cut.{first_parts, begun_in_stripe, begun_in_fault, stripe_in_fault, one_stripe}
+use Rattle.t85_core.proofs.Heights.{suits_in_use, whole_or_broken_at}
 use Rattle.t85_core.proofs.FixedRows.{AreLying, begun_length}
 use Rattle.t85_core.proofs.Longest.{decided_in_longest}
 use Rattle.t85_core.proofs.Stays.{long_lying, lying_in_raster, lying_in_rows, decided_longer}
@@ -54,7 +56,7 @@ pub pbm_of : (h : Fields) (height : ℕ) (raster : Raster) (body : List ℕ) →
 pbm_of h height raster body p = ap (λ w. pbm_rows w (length raster.rows) raster.rows) p.width ∙ ap (λ n. pbm_rows h.xd n raster.rows) p.height
 
 module _ (q : CoderLaws) (h : Fields) (height : ℕ) (u : IsInUse h height) (stripes : List Stripe) (first : List (List Bool)) (first_flags : List Bool) (mid : Carry)
-    (fewer : length stripes < stripe_count height h.l0) (run : StripesRun h height (first_carry h.xd) stripes first first_flags mid) where
+    (fewer : length stripes < stripe_count height h.l0) (gives : GiveOnly height 0 (all_segments stripes)) (run : StripesRun h height (first_carry h.xd) stripes first first_flags mid) where
   each : AreStripes h stripes
   each = stripes_whole h height (first_carry h.xd) stripes first first_flags mid run
 
@@ -99,9 +101,6 @@ module _ (q : CoderLaws) (h : Fields) (height : ℕ) (u : IsInUse h height) (str
       decided_in_longest q h height u.accepted (begun_stripes x.broken.stripes x.broken.tail_has.segments x.broken.tail_has.code) (length x.broken.stripes) x.broken.tail_has.code
       (begun_length x.broken.stripes x.broken.tail_has.segments x.broken.tail_has.code) (first ++ rows) all (first_flags ++ flags) x.fixed.flags l3 x.fixed.decided x.fixed.longest
 
-  small : h.l0 < 2 ^ 32
-  small = u.accepted.stripe_to
-
   -- the stripe of another reading that stands there
   record Matched (rows : List (List Bool)) (t : Stripe) : Type 0 where
     pub segments : List Segment
@@ -125,14 +124,14 @@ module _ (q : CoderLaws) (h : Fields) (height : ℕ) (u : IsInUse h height) (str
   nothing_enough : (segments : List Segment) (rows : List (List Bool)) → rows ≡ [] → RunEnough 0 (mode_of h.options) (move_of segments) 0 (begin mid) rows []
   nothing_enough segments rows none = subst (λ z. RunEnough 0 (mode_of h.options) (move_of segments) 0 (begin mid) z []) (sym none) tt
 
-  module _ (given rest : List ℕ) (rows : List (List Bool)) (flags : List Bool) (d : StripeDecides h mid (min (height - length stripes * h.l0) h.l0) given rows flags) where
+  module _ (given rest : List ℕ) (rows : List (List Bool)) (flags : List Bool) (d : StripeDecides h (spot_after height stripes) mid (min (height - length stripes * h.l0) h.l0) given rows flags) where
     matched : (t : Stripe) (y : List ℕ) → IsBegun h t.segments t.code → given ++ rest ≡ stripe_bytes t ++ y → Matched rows t
     matched t y legal e = went d.code refl d.decides where
       went : (code : List ℕ) → d.code ≡ code →
           ((given ≡ flat_map segment_bytes d.segments ++ stuffed d.code) × RunEnough (length d.code) (mode_of h.options) (move_of d.segments) 0 (begin mid) rows flags)
           ⊎ ((reset : Bool) × (given ≡ stripe_bytes (record { segments = d.segments; code = d.code; reset = reset }))) → Matched rows t
       went code is (inr whole) =
-          let same = one_stripe h small (record { segments = d.segments; code = d.code; reset = whole.0 }) t rest y d.begun legal (ap (λ z. z ++ rest) (sym whole.1) ∙ e) in
+          let same = one_stripe h u.accepted (record { segments = d.segments; code = d.code; reset = whole.0 }) t rest y d.begun legal (ap (λ z. z ++ rest) (sym whole.1) ∙ e) in
           record {
             segments = d.segments;
             code = d.code;
@@ -161,7 +160,7 @@ module _ (q : CoderLaws) (h : Fields) (height : ℕ) (u : IsInUse h height) (str
           let begun : IsBegun h d.segments (b ∷ code) = subst (IsBegun h d.segments) is d.begun in
           let at : flat_map segment_bytes d.segments ++ (stuffed (b ∷ code) ++ rest) ≡ stripe_bytes t ++ y =
           sym (append_assoc (flat_map segment_bytes d.segments) (stuffed (b ∷ code)) rest) ∙ ap (λ z. (flat_map segment_bytes d.segments ++ stuffed z) ++ rest) (sym is) ∙ ap (λ z. z ++ rest) (sym part.0) ∙ e in
-          let cut = begun_in_stripe h small d.segments b code rest t y begun legal at in
+          let cut = begun_in_stripe h u.accepted d.segments b code rest t y begun legal at in
           record {
             segments = d.segments;
             code = b ∷ code;
@@ -174,6 +173,9 @@ module _ (q : CoderLaws) (h : Fields) (height : ℕ) (u : IsInUse h height) (str
             is = ap (λ (z : List ℕ). made t.segments z t.reset) cut.2 ∙ ap (λ (z : List Segment). made z ((b ∷ code) ++ cut.1) t.reset) (sym cut.0);
           }
 
+    gives_there : (ss : List Stripe) → ss ≡ stripes → GiveOnly height (length (lengths (all_segments ss))) d.segments
+    gives_there ss same = subst (λ (z : List Stripe). GiveOnly height (length (lengths (all_segments z))) d.segments) (sym same) d.gives
+
     -- the stripe that isn't whole in another reading
     matched_fault : (body tail : List ℕ) (fault : Fault) (all : List (List Bool)) (x : Fixes h height body fault all) → x.broken.stripes ≡ stripes → given ++ rest ≡ x.broken.tail → take (length (first ++ rows)) all ≡ first ++ rows
     matched_fault body tail fault all x s_is e = went d.code refl d.decides where
@@ -181,7 +183,8 @@ module _ (q : CoderLaws) (h : Fields) (height : ℕ) (u : IsInUse h height) (str
           ((given ≡ flat_map segment_bytes d.segments ++ stuffed d.code) × RunEnough (length d.code) (mode_of h.options) (move_of d.segments) 0 (begin mid) rows flags)
           ⊎ ((reset : Bool) × (given ≡ stripe_bytes (record { segments = d.segments; code = d.code; reset = reset }))) → take (length (first ++ rows)) all ≡ first ++ rows
       went code is (inr whole) =
-          absurd (stripe_in_fault h small (record { segments = d.segments; code = d.code; reset = whole.0 }) rest x.broken.tail fault d.begun x.broken.tail_has (ap (λ z. z ++ rest) (sym whole.1) ∙ e))
+          absurd (stripe_in_fault h u.accepted height (length x.broken.stripes) (length (lengths (all_segments x.broken.stripes))) (suits_in_use h height u (length x.broken.stripes) (omega (arith, x.broken.fewer)))
+          (record { segments = d.segments; code = d.code; reset = whole.0 }) rest x.broken.tail fault d.begun (gives_there x.broken.stripes s_is) x.broken.tail_has (ap (λ z. z ++ rest) (sym whole.1) ∙ e))
       went [] is (inl part) =
           let none : rows ≡ [] = no_rows d.segments rows flags (subst (λ z. FrontRun h (min (height - length stripes * h.l0) h.l0) mid d.segments z rows flags) is d.front) (subst (λ z. RunEnough (length z) (mode_of h.options) (move_of d.segments) 0 (begin mid) rows flags) is part.1) in
           in_broken x.broken.tail_has.segments [] x.broken.tail_has.code rows [] tt x.broken.tail_has.begun.bytes (no_front x.broken.tail_has.segments rows none) (nothing_enough x.broken.tail_has.segments rows none) body fault all x s_is refl refl
@@ -189,7 +192,8 @@ module _ (q : CoderLaws) (h : Fields) (height : ℕ) (u : IsInUse h height) (str
           let begun : IsBegun h d.segments (b ∷ code) = subst (IsBegun h d.segments) is d.begun in
           let at : flat_map segment_bytes d.segments ++ (stuffed (b ∷ code) ++ rest) ≡ x.broken.tail =
           sym (append_assoc (flat_map segment_bytes d.segments) (stuffed (b ∷ code)) rest) ∙ ap (λ z. (flat_map segment_bytes d.segments ++ stuffed z) ++ rest) (sym is) ∙ ap (λ z. z ++ rest) (sym part.0) ∙ e in
-          let cut = begun_in_fault h small d.segments b code rest x.broken.tail fault begun x.broken.tail_has at in
+          let cut = begun_in_fault h u.accepted height (length x.broken.stripes) (length (lengths (all_segments x.broken.stripes))) (suits_in_use h height u (length x.broken.stripes) (omega (arith, x.broken.fewer)))
+          d.segments b code rest x.broken.tail fault begun (gives_there x.broken.stripes s_is) x.broken.tail_has at in
           in_broken d.segments (b ∷ code) cut.1 rows flags begun.bytes (all_right (λ z. z < 256) (b ∷ code) cut.1 (subst IsBytes cut.2 x.broken.tail_has.begun.bytes))
           (subst (λ z. FrontRun h (min (height - length stripes * h.l0) h.l0) mid d.segments z rows flags) is d.front)
           (subst (λ z. RunEnough (length z) (mode_of h.options) (move_of d.segments) 0 (begin mid) rows flags) is part.1) body fault all x s_is cut.0 cut.2
@@ -206,7 +210,7 @@ module _ (q : CoderLaws) (h : Fields) (height : ℕ) (u : IsInUse h height) (str
     raster_first : (raster : Raster) → DenotesAt h height ((flat_map stripe_bytes stripes ++ given) ++ rest) raster → take (length (first ++ rows)) raster.rows ≡ first ++ rows
     raster_first raster p = went k.0 k.1 k.2 (subst (AreStripes h) k.1 p.parts.each) where
       k : (later : List Stripe) × (p.parts.stripes ≡ stripes ++ later) × (given ++ rest ≡ flat_map stripe_bytes later ++ p.parts.rest)
-      k = first_parts h small stripes p.parts.stripes (given ++ rest) p.parts.rest each p.parts.each (inl (omega (arith, fewer, p.parts.count))) (sym body_is ∙ p.parts.body_is)
+      k = first_parts h u.accepted height (stripe_count height h.l0) (suits_in_use h height u) stripes p.parts.stripes (given ++ rest) p.parts.rest each p.parts.each gives (omega (arith, p.parts.count)) (inl (omega (arith, fewer, p.parts.count))) (sym body_is ∙ p.parts.body_is)
 
       went : (later : List Stripe) → p.parts.stripes ≡ stripes ++ later → given ++ rest ≡ flat_map stripe_bytes later ++ p.parts.rest → AreStripes h (stripes ++ later) → take (length (first ++ rows)) raster.rows ≡ first ++ rows
       went [] e at legal = absurd (let n = ap length (e ∙ append-nil stripes) in omega (arith, n, fewer, p.parts.count))
@@ -217,7 +221,7 @@ module _ (q : CoderLaws) (h : Fields) (height : ℕ) (u : IsInUse h height) (str
     rows_first : (fault : Fault) (all : List (List Bool)) → Fixes h height ((flat_map stripe_bytes stripes ++ given) ++ rest) fault all → take (length (first ++ rows)) all ≡ first ++ rows
     rows_first fault all x = went k.0 k.1 k.2 (subst (AreStripes h) k.1 x.broken.each) where
       k : (later : List Stripe) × (x.broken.stripes ≡ stripes ++ later) × (given ++ rest ≡ flat_map stripe_bytes later ++ x.broken.tail)
-      k = first_parts h small stripes x.broken.stripes (given ++ rest) x.broken.tail each x.broken.each (inr (fault, x.broken.tail_has)) (sym body_is ∙ x.broken.bytes_are)
+      k = first_parts h u.accepted height (stripe_count height h.l0) (suits_in_use h height u) stripes x.broken.stripes (given ++ rest) x.broken.tail each x.broken.each gives (omega (arith, x.broken.fewer)) (inr (fault, x.broken.tail_has)) (sym body_is ∙ x.broken.bytes_are)
 
       went : (later : List Stripe) → x.broken.stripes ≡ stripes ++ later → given ++ rest ≡ flat_map stripe_bytes later ++ x.broken.tail → AreStripes h (stripes ++ later) → take (length (first ++ rows)) all ≡ first ++ rows
       went [] e at legal = matched_fault body x.broken.tail fault all x (e ∙ append-nil stripes) at
@@ -226,7 +230,7 @@ module _ (q : CoderLaws) (h : Fields) (height : ℕ) (u : IsInUse h height) (str
           in_rows m.segments m.code m.more rows m.flags m.bytes m.others m.front m.decides t.reset later body fault all x (stripe_at t later m x.broken.stripes e)
 
   -- What came of the stripe behind them decides the first rows of what the body comes to.
-  pub are_first : (given : List ℕ) (rows : List (List Bool)) (flags : List Bool) → StripeDecides h mid (min (height - length stripes * h.l0) h.l0) given rows flags → AreFirst h height (flat_map stripe_bytes stripes ++ given) (first ++ rows)
+  pub are_first : (given : List ℕ) (rows : List (List Bool)) (flags : List Bool) → StripeDecides h (spot_after height stripes) mid (min (height - length stripes * h.l0) h.l0) given rows flags → AreFirst h height (flat_map stripe_bytes stripes ++ given) (first ++ rows)
   are_first given rows flags d rest None text o =
       let t = text_first h.xd height (first ++ rows) o.0.rows (raster_first given rest rows flags d o.0 o.1) in
       (t.0, o.2 ∙ pbm_of h height o.0 _ o.1 ∙ t.1)
@@ -241,7 +245,4 @@ whole_first q h height u given rows denotes rest None text o =
     let d = denotes rest in
     let same = one_raster_at q h height (given ++ rest) (record { width = h.xd; rows = rows }) o.0 u.accepted (let to = u.to in let top = u.accepted.height_to in omega (arith, to, top)) d o.1 in
     ([], o.2 ∙ ap pbm_text same ∙ ap (λ n. pbm_rows h.xd n rows) d.height ∙ sym (append-nil (pbm_rows h.xd height rows)))
-whole_first q h height u given rows denotes rest (Some fault) text o =
-    let p = (denotes rest).parts in
-    let b = o.1.broken in
-    absurd (parts_or_fault h u.accepted.stripe_to p.stripes b.stripes p.rest b.tail fault p.each b.each (omega (arith, p.count, b.fewer)) b.tail_has (sym p.body_is ∙ b.bytes_are))
+whole_first q h height u given rows denotes rest (Some fault) text o = absurd (whole_or_broken_at h height (given ++ rest) fault u (denotes rest).parts o.1.broken)

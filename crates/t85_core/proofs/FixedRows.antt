@@ -1,5 +1,5 @@
 -- A broken body fixes one fault and one list of rows.
-use Rattle.std.proofs.Common.{◌≡◌, ℕ, suc, ◌+◌, ◌*◌, ◌<◌, ◌≤◌, Bool, false, List, length, map, sym, ◌∙◌, subst, arith}
+use Rattle.std.proofs.Common.{◌≡◌, ℕ, suc, ◌+◌, ◌*◌, ◌<◌, ◌≤◌, Bool, false, List, length, map, sym, subst, arith}
 use Rattle.std.specs.List.{AllByRecursion}
 use Rattle.std.proofs.lemmas.Grind.{div_ceil_times}
 use Rattle.std.proofs.Math.Nat.{mul-le-mul_right}
@@ -11,11 +11,12 @@ use Rattle.t85_core.specs.Denotes.{coding_in, EachLies}
 use Rattle.t85_core.specs.Fixed.{FixesRows, begun_stripes, Fixes}
 use Rattle.t85_core.specs.declared.fault.Fault.{Fault}
 use Rattle.t85_core.specs.CoderLaws.{CoderLaws}
+use Rattle.t85_core.specs.StreamLaws.{IsInUse}
 use Rattle.t85_core.proofs.Lists.{All-push}
 use Rattle.t85_core.proofs.Elements.{length-push}
 use Rattle.t85_core.proofs.SomeRaster.{bytes_of_codes}
 use Rattle.t85_core.proofs.Longest.{some_longest, one_longest}
-use Rattle.t85_core.proofs.Cut.{one_broken}
+use Rattle.t85_core.proofs.Heights.{one_fault_of}
 
 pub begun_length : (stripes : List Stripe) (segments : List Segment) (code : List ℕ) → length (begun_stripes stripes segments code) ≡ length stripes + 1
 begun_length stripes segments code = let e = length-push stripes (record { segments = segments; code = code; reset = false }) in omega (arith, e)
@@ -50,11 +51,11 @@ one_list : (q : CoderLaws) (h : Fields) (height : ℕ) (stripes : List Stripe) (
 one_list q h height stripes segments code rows rows' ok a b =
     one_longest q h height ok (begun_stripes stripes segments code) (length stripes) code (begun_length stripes segments code) rows rows' a.flags b.flags a.decided b.decided a.longest b.longest
 
-pub one_fixed_at : (q : CoderLaws) (h : Fields) (height : ℕ) (body : List ℕ) (f g : Fault) (rows rows' : List (List Bool)) → IsAccepted h →
+pub one_fixed_at : (q : CoderLaws) (h : Fields) (height : ℕ) (body : List ℕ) (f g : Fault) (rows rows' : List (List Bool)) → IsInUse h height →
     Fixes h height body f rows → Fixes h height body g rows' → (f ≡ g) × (rows ≡ rows')
-one_fixed_at q h height body f g rows rows' ok a b =
-    let cut = one_broken h ok.stripe_to a.broken.stripes b.broken.stripes a.broken.tail b.broken.tail f g a.broken.each b.broken.each a.broken.tail_has b.broken.tail_has (sym a.broken.bytes_are ∙ b.broken.bytes_are) in
+one_fixed_at q h height body f g rows rows' u a b =
+    let cut = one_fault_of h height body f g u a.broken b.broken in
     let r1 = subst (λ u. FixesRows h height u b.broken.tail_has.segments b.broken.tail_has.code rows') (sym cut.stripes) b.fixed in
     let r2 = subst (λ u. FixesRows h height a.broken.stripes u b.broken.tail_has.code rows') (sym cut.broken.segments) r1 in
     let r3 = subst (λ u. FixesRows h height a.broken.stripes a.broken.tail_has.segments u rows') (sym cut.broken.code) r2 in
-    (cut.broken.fault, one_list q h height a.broken.stripes a.broken.tail_has.segments a.broken.tail_has.code rows rows' ok a.fixed r3)
+    (cut.broken.fault, one_list q h height a.broken.stripes a.broken.tail_has.segments a.broken.tail_has.code rows rows' u.accepted a.fixed r3)

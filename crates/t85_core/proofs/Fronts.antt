@@ -7,10 +7,11 @@ use Rattle.std.proofs.lemmas.Bool.Decides.{nat_tests}
 use Rattle.std.proofs.lemmas.List.{take-append-drop}
 use Rattle.byteorder.specs.Endian.{big_bytes, big_number}
 use Rattle.t85_core.specs.declared.fault.Fault.{Fault}
-use Rattle.t85_core.specs.declared.fault.Fault.TheVariants.{Truncated, BadEscape, Aborted, MoveRefused, SecondMove, LengthRefused}
-use Rattle.t85_core.specs.Header.{Fields}
-use Rattle.t85_core.specs.Grammar.{Segment, Move, Comment, segment_bytes, marker_bytes, IsLegal, is_move}
-use Rattle.t85_core.specs.Refusal.{rest_fault, escape_fault, move_fault, comment_fault, is_legal_move}
+use Rattle.t85_core.specs.declared.fault.Fault.TheVariants.{Truncated, BadEscape, Aborted, MoveRefused, SecondMove, LengthRefused, SecondLength, Changed}
+use Rattle.t85_core.specs.Header.{Fields, is_variable}
+use Rattle.t85_core.specs.Grammar.{Segment, NewLength, Move, Comment, segment_bytes, marker_bytes, is_valid_length, IsLegal, is_move, GiveOnly}
+use Rattle.t85_core.specs.Refusal.{Spot, rest_fault, escape_fault, length_fault, move_fault, comment_fault, is_legal_move}
+use Rattle.t85_core.proofs.Lengths.{gives_none, valid_parts}
 use Rattle.t85_core.proofs.Stuffing.{stuff}
 
 some_else : (t : Bool) (f : Fault) (r : Option Fault) → (if t then Some f else r) ≡ None → (t ≡ false) × (r ≡ None)
@@ -49,7 +50,7 @@ is_equal : (a b : ℕ) → nat_eq a b ≡ true → a ≡ b
 is_equal a b e = grind (arith, nat_tests)
 
 -- four bytes are those of their number
-four_back : (a b c d : ℕ) (z : List ℕ) → a < 256 → b < 256 → c < 256 → d < 256 → big_bytes 4 (big_number 4 (a ∷ b ∷ c ∷ d ∷ z)) ≡ a ∷ b ∷ c ∷ d ∷ []
+pub four_back : (a b c d : ℕ) (z : List ℕ) → a < 256 → b < 256 → c < 256 → d < 256 → big_bytes 4 (big_number 4 (a ∷ b ∷ c ∷ d ∷ z)) ≡ a ∷ b ∷ c ∷ d ∷ []
 four_back a b c d z ha hb hc hd =
     four (big_number 4 (a ∷ b ∷ c ∷ d ∷ z)) a b c d ha hb hc hd (let e : big_number 4 (a ∷ b ∷ c ∷ d ∷ z) ≡ a * 16777216 + b * 65536 + c * 256 + d = omega arith in e)
   where
@@ -68,7 +69,7 @@ four_small a b c d z ha hb hc hd = let e : big_number 4 (a ∷ b ∷ c ∷ d ∷
 abbrev pub AreBytes : List ℕ → Type 0
 AreBytes xs = AllByRecursion (λ b. b < 256) xs
 
-module _ (h : Fields) (moves : ℕ) where
+module _ (h : Fields) (spot : Spot) (moves : ℕ) where
   -- a legal segment that may follow so many moves is at the front
   pub record SegmentAt (tail : List ℕ) : Type 0 where
     pub segment : Segment
@@ -76,9 +77,44 @@ module _ (h : Fields) (moves : ℕ) where
     pub tail_is : tail ≡ segment_bytes segment ++ more
     pub legal : IsLegal h segment
     pub one_move : moves + cond (is_move segment) 1 0 ≤ 1
+    pub gives : GiveOnly spot.height spot.heights (segment ∷ [])
 
-  move_at : (bytes : List ℕ) → AreBytes bytes → move_fault h moves bytes ≡ None → SegmentAt (255 ∷ 6 ∷ bytes)
-  move_at bytes all e = went bytes all (not_below (length bytes) 6 s2.0) (none_else (is_legal_move h bytes) MoveRefused s2.1) where
+  length_at : (bytes : List ℕ) → AreBytes bytes → length_fault h spot bytes ≡ None → moves ≤ 1 → SegmentAt (255 ∷ 5 ∷ bytes)
+  length_at bytes all e few = went bytes all (not_below (length bytes) 4 s3.0) s5 s4.0 where
+    s1 : (not (is_variable h) ≡ false) × ((if not (nat_eq spot.heights 0) then Some SecondLength else if nat_lt (length bytes) 4 then Some Truncated else if not (is_valid_length h spot.entities (big_number 4 bytes)) then Some LengthRefused else if nat_eq (big_number 4 bytes) spot.height then None else Some Changed) ≡ None)
+    s1 = some_else (not (is_variable h)) LengthRefused _ e
+
+    s2 : (not (nat_eq spot.heights 0) ≡ false) × ((if nat_lt (length bytes) 4 then Some Truncated else if not (is_valid_length h spot.entities (big_number 4 bytes)) then Some LengthRefused else if nat_eq (big_number 4 bytes) spot.height then None else Some Changed) ≡ None)
+    s2 = some_else (not (nat_eq spot.heights 0)) SecondLength _ s1.1
+
+    s3 : (nat_lt (length bytes) 4 ≡ false) × ((if not (is_valid_length h spot.entities (big_number 4 bytes)) then Some LengthRefused else if nat_eq (big_number 4 bytes) spot.height then None else Some Changed) ≡ None)
+    s3 = some_else (nat_lt (length bytes) 4) Truncated _ s2.1
+
+    s4 : (not (is_valid_length h spot.entities (big_number 4 bytes)) ≡ false) × ((if nat_eq (big_number 4 bytes) spot.height then None else Some Changed) ≡ None)
+    s4 = some_else (not (is_valid_length h spot.entities (big_number 4 bytes))) LengthRefused _ s3.1
+
+    s5 : big_number 4 bytes ≡ spot.height
+    s5 = is_equal (big_number 4 bytes) spot.height (none_else (nat_eq (big_number 4 bytes) spot.height) Changed s4.1)
+
+    went : (xs : List ℕ) → AreBytes xs → 4 ≤ length xs → big_number 4 xs ≡ spot.height → not (is_valid_length h spot.entities (big_number 4 xs)) ≡ false → SegmentAt (255 ∷ 5 ∷ xs)
+    went [] a long g v = absurd (omega (arith, long))
+    went (x ∷ []) a long g v = absurd (omega (arith, long))
+    went (x ∷ y ∷ []) a long g v = absurd (omega (arith, long))
+    went (x ∷ y ∷ z ∷ []) a long g v = absurd (omega (arith, long))
+    went (x ∷ y ∷ z ∷ w ∷ xs) a long g v =
+        let none : spot.heights ≡ 0 = is_zero spot.heights s2.0 in
+        let valid = valid_parts h spot.entities (big_number 4 (x ∷ y ∷ z ∷ w ∷ xs)) (not_false _ v) in
+        record {
+          segment = NewLength (big_number 4 (x ∷ y ∷ z ∷ w ∷ xs));
+          more = xs;
+          tail_is = ap (λ u. 255 ∷ 5 ∷ (u ++ xs)) (sym (four_back x y z w xs a.0 a.1.0 a.1.1.0 a.1.1.1.0));
+          legal = (not_false (is_variable h) s1.0, valid.0, valid.1);
+          one_move = omega (arith, few);
+          gives = record { one = omega (arith, none); this = (g, tt) };
+        }
+
+  move_at : (bytes : List ℕ) → AreBytes bytes → move_fault h moves bytes ≡ None → spot.heights ≤ 1 → SegmentAt (255 ∷ 6 ∷ bytes)
+  move_at bytes all e once = went bytes all (not_below (length bytes) 6 s2.0) (none_else (is_legal_move h bytes) MoveRefused s2.1) where
     s1 : (not (nat_eq moves 0) ≡ false) × ((if nat_lt (length bytes) 6 then Some Truncated else if is_legal_move h bytes then None else Some MoveRefused) ≡ None)
     s1 = some_else (not (nat_eq moves 0)) SecondMove _ e
 
@@ -103,10 +139,11 @@ module _ (h : Fields) (moves : ℕ) where
           tail_is = ap (λ v. 255 ∷ 6 ∷ (v ++ o ∷ last ∷ xs)) (sym (four_back x y z w (o ∷ last ∷ xs) a.0 a.1.0 a.1.1.0 a.1.1.1.0)) ∙ ap (λ v. 255 ∷ 6 ∷ (big_bytes 4 (big_number 4 (x ∷ y ∷ z ∷ w ∷ o ∷ last ∷ xs)) ++ o ∷ v ∷ xs)) zero_last;
           legal = (is_below _ _ u.0, is_most _ _ u.1);
           one_move = omega (arith, none);
+          gives = gives_none spot.height spot.heights (Move (big_number 4 (x ∷ y ∷ z ∷ w ∷ o ∷ last ∷ xs)) o ∷ []) once refl;
         }
 
-  comment_at : (bytes : List ℕ) → AreBytes bytes → comment_fault bytes ≡ None → moves ≤ 1 → SegmentAt (255 ∷ 7 ∷ bytes)
-  comment_at bytes all e few = went bytes all (not_below (length bytes) 4 s1.0) (not_below (length bytes) (4 + big_number 4 bytes) s2) where
+  comment_at : (bytes : List ℕ) → AreBytes bytes → comment_fault bytes ≡ None → moves ≤ 1 → spot.heights ≤ 1 → SegmentAt (255 ∷ 7 ∷ bytes)
+  comment_at bytes all e few once = went bytes all (not_below (length bytes) 4 s1.0) (not_below (length bytes) (4 + big_number 4 bytes) s2) where
     s1 : (nat_lt (length bytes) 4 ≡ false) × ((if nat_lt (length bytes) (4 + big_number 4 bytes) then Some Truncated else None) ≡ None)
     s1 = some_else (nat_lt (length bytes) 4) Truncated _ e
 
@@ -131,6 +168,7 @@ module _ (h : Fields) (moves : ℕ) where
               ∙ ap (λ v. 255 ∷ 7 ∷ v) (sym (append_assoc (big_bytes 4 (length (take (big_number 4 (x ∷ y ∷ z ∷ w ∷ xs)) xs))) (take (big_number 4 (x ∷ y ∷ z ∷ w ∷ xs)) xs) (drop (big_number 4 (x ∷ y ∷ z ∷ w ∷ xs)) xs)));
           legal = omega (arith, small, many);
           one_move = omega (arith, few);
+          gives = gives_none spot.height spot.heights (Comment (take (big_number 4 (x ∷ y ∷ z ∷ w ∷ xs)) xs) ∷ []) once refl;
         }
 
   -- what is at the front of a rest: a code byte, an end marker, or before the code a segment
@@ -146,36 +184,34 @@ module _ (h : Fields) (moves : ℕ) where
 
   -- the fault of a segment by its escape byte
   abbrev deeper : ℕ → List ℕ → Option Fault
-  deeper e bytes = if nat_eq e 5 then Some LengthRefused else if nat_eq e 6 then move_fault h moves bytes else comment_fault bytes
+  deeper e bytes = if nat_eq e 5 then length_fault h spot bytes else if nat_eq e 6 then move_fault h moves bytes else comment_fault bytes
 
-  escape_front : (c : Bool) (e : ℕ) (bytes : List ℕ) → AreBytes bytes → moves ≤ 1 → escape_fault h moves c e bytes ≡ None → Front c (255 ∷ e ∷ bytes)
-  escape_front c e bytes all few none = zero_or (cases_eq e 0) where
+  escape_front : (c : Bool) (e : ℕ) (bytes : List ℕ) → AreBytes bytes → moves ≤ 1 → spot.heights ≤ 1 → escape_fault h spot moves c e bytes ≡ None → Front c (255 ∷ e ∷ bytes)
+  escape_front c e bytes all few once none = zero_or (cases_eq e 0) where
     not_in_code : (d : Bool) (f : Option Fault) → (if d then Some BadEscape else f) ≡ None → (d ≡ false) × (f ≡ None)
     not_in_code d f q = some_else d BadEscape f q
 
-    five : escape_fault h moves c 5 bytes ≡ None → ⊥
-    five q = let r = not_in_code c (Some LengthRefused) q in some_none r.1 where
-      some_none : Some LengthRefused ≡ None → ⊥
-      some_none k = cc
+    five : escape_fault h spot moves c 5 bytes ≡ None → Front c (255 ∷ 5 ∷ bytes)
+    five q = let r = not_in_code c (length_fault h spot bytes) q in segment_at r.0 (length_at bytes all r.1 few)
 
-    six : escape_fault h moves c 6 bytes ≡ None → Front c (255 ∷ 6 ∷ bytes)
-    six q = let r = not_in_code c (move_fault h moves bytes) q in segment_at r.0 (move_at bytes all r.1)
+    six : escape_fault h spot moves c 6 bytes ≡ None → Front c (255 ∷ 6 ∷ bytes)
+    six q = let r = not_in_code c (move_fault h moves bytes) q in segment_at r.0 (move_at bytes all r.1 once)
 
-    seven : escape_fault h moves c 7 bytes ≡ None → Front c (255 ∷ 7 ∷ bytes)
-    seven q = let r = not_in_code c (comment_fault bytes) q in segment_at r.0 (comment_at bytes all r.1 few)
+    seven : escape_fault h spot moves c 7 bytes ≡ None → Front c (255 ∷ 7 ∷ bytes)
+    seven q = let r = not_in_code c (comment_fault bytes) q in segment_at r.0 (comment_at bytes all r.1 few once)
 
-    four : escape_fault h moves c 4 bytes ≡ None → ⊥
+    four : escape_fault h spot moves c 4 bytes ≡ None → ⊥
     four q = cc
 
-    at : (n : ℕ) → e ≡ n → escape_fault h moves c n bytes ≡ None
-    at n same = subst (λ u. escape_fault h moves c u bytes ≡ None) same none
+    at : (n : ℕ) → e ≡ n → escape_fault h spot moves c n bytes ≡ None
+    at n same = subst (λ u. escape_fault h spot moves c u bytes ≡ None) same none
 
     bad : e ≢ 0 → e ≢ 2 → e ≢ 3 → e ≢ 4 → (e ≡ 1) ⊎ (8 ≤ e) → ⊥
     bad n0 n2 n3 n4 q =
         let t0 : ((nat_eq e 0) || (nat_eq e 2) || (nat_eq e 3)) ≡ false = grind (arith, nat_tests) in
         let t4 : nat_eq e 4 ≡ false = grind (arith, nat_tests) in
         let t1 : ((nat_eq e 1) || nat_le 8 e || c) ≡ true = beyond q c in
-        let g : escape_fault h moves c e bytes ≡ Some BadEscape =
+        let g : escape_fault h spot moves c e bytes ≡ Some BadEscape =
         ap (λ u. cond u None (cond (nat_eq e 4) (Some Aborted) (cond ((nat_eq e 1) || nat_le 8 e || c) (Some BadEscape) (deeper e bytes)))) t0
         ∙ ap (λ u. cond u (Some Aborted) (cond ((nat_eq e 1) || nat_le 8 e || c) (Some BadEscape) (deeper e bytes))) t4
         ∙ ap (λ u. cond u (Some BadEscape) (deeper e bytes)) t1 in
@@ -198,7 +234,7 @@ module _ (h : Fields) (moves : ℕ) where
         beyond (inr more) z = let t : nat_le 8 e ≡ true = grind (arith, nat_tests) in or_mid (nat_eq e 1) (nat_le 8 e) z t
 
     others : e ≢ 0 → e ≢ 2 → e ≢ 3 → e ≢ 4 → (e ≡ 5) ⊎ (e ≢ 5) → (e ≡ 6) ⊎ (e ≢ 6) → (e ≡ 7) ⊎ (e ≢ 7) → Front c (255 ∷ e ∷ bytes)
-    others n0 n2 n3 n4 (inl s) q r = absurd (five (at 5 s))
+    others n0 n2 n3 n4 (inl s) q r = subst (λ u. Front c (255 ∷ u ∷ bytes)) (sym s) (five (at 5 s))
     others n0 n2 n3 n4 (inr n5) (inl s) r = subst (λ u. Front c (255 ∷ u ∷ bytes)) (sym s) (six (at 6 s))
     others n0 n2 n3 n4 (inr n5) (inr n6) (inl s) = subst (λ u. Front c (255 ∷ u ∷ bytes)) (sym s) (seven (at 7 s))
     others n0 n2 n3 n4 (inr n5) (inr n6) (inr n7) = absurd (bad n0 n2 n3 n4 (rest n0 n2 n3 n4 n5 n6 n7 (cases_lt e 8))) where
@@ -223,18 +259,18 @@ module _ (h : Fields) (moves : ℕ) where
     zero_or (inr n0) = two_or n0 (cases_eq e 2)
 
   -- a rest without a fault has a piece at its front
-  pub front_of : (c : Bool) (tail : List ℕ) → AreBytes tail → moves ≤ 1 → rest_fault h moves c tail ≡ None → Front c tail
-  front_of c [] all few e = absurd (let bot : ⊥ = cc in bot)
-  front_of c (b ∷ []) all few e = went (cases_eq b 255) where
+  pub front_of : (c : Bool) (tail : List ℕ) → AreBytes tail → moves ≤ 1 → spot.heights ≤ 1 → rest_fault h spot moves c tail ≡ None → Front c tail
+  front_of c [] all few once e = absurd (let bot : ⊥ = cc in bot)
+  front_of c (b ∷ []) all few once e = went (cases_eq b 255) where
     some_none : Some Truncated ≡ None → ⊥
     some_none q = cc
 
     went : (b ≡ 255) ⊎ (b ≢ 255) → Front c (b ∷ [])
     went (inl s) = let t : nat_eq b 255 ≡ true = grind (arith, nat_tests) in absurd (some_none (ap (λ u. cond u (Some Truncated) None) (sym t) ∙ e))
     went (inr n) = plain_byte c b [] all.0 n
-  front_of c (b ∷ y ∷ bytes) all few e = went (cases_eq b 255) where
+  front_of c (b ∷ y ∷ bytes) all few once e = went (cases_eq b 255) where
     went : (b ≡ 255) ⊎ (b ≢ 255) → Front c (b ∷ y ∷ bytes)
     went (inr n) = plain_byte c b (y ∷ bytes) all.0 n
     went (inl s) =
-        let q = subst (λ u. rest_fault h moves c (u ∷ y ∷ bytes) ≡ None) s e in
-        subst (λ u. Front c (u ∷ y ∷ bytes)) (sym s) (escape_front c y bytes all.1.1 few q)
+        let q = subst (λ u. rest_fault h spot moves c (u ∷ y ∷ bytes) ≡ None) s e in
+        subst (λ u. Front c (u ∷ y ∷ bytes)) (sym s) (escape_front c y bytes all.1.1 few once q)

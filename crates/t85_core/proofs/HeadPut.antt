@@ -1,15 +1,17 @@
 -- A stream with its head, from its stripes.
-use Rattle.std.proofs.Common.{◌≡◌, ℕ, Bool, List, [], ◌++◌, arith, length, map, Option, None, Some, option_to_list, sym, ap, ◌∙◌, subst, append_assoc, append-nil}
+use Rattle.std.proofs.Common.{◌≡◌, ℕ, Bool, List, [], ◌++◌, arith, length, take, map, Option, None, Some, option_to_list, sym, ap, ◌∙◌, subst, append_assoc, append-nil}
 use Rattle.std.specs.Prelude.{◌/◌, flat_map}
+use Rattle.std.proofs.Math.Seq.{take-length}
 use Rattle.std.specs.Io.KnownBytes.{Appends}
 use Rattle.pbm_core.specs.declared.fault.PbmFault.{PbmFault}
+use Rattle.pbm_core.specs.declared.form.Form.{Form}
 use Rattle.raster_core.specs.Raster.{Raster, height}
 use Rattle.t85_core.specs.Encodes.{raster_of, BeginsWith}
 use Rattle.t85_core.specs.Encoding.{ImageCoded, ImageShort, ImageRefused}
 use Rattle.pbm_core.specs.Device.{AppendsBeginning}
 use Rattle.t85_core.specs.Grammar.{Comment, segment_bytes}
 use Rattle.t85_core.specs.Header.{header_bytes}
-use Rattle.t85_core.specs.Jbg.{Settings, header_of, head_of, stripes_of, stripes_up_to, jbg, jbg_up_to}
+use Rattle.t85_core.specs.Jbg.{Settings, header_of, head_of, stripes_of, stripes_up_to, jbg, jbg_up_to, ending}
 use Rattle.t85_core.specs.Written.{IsBeginning}
 use Rattle.t85_core.proofs.RowsJoined.{reads_none}
 use Rattle.t85_core.proofs.Streams.{Appends-more, beginning_longer, beginning_after}
@@ -39,15 +41,16 @@ same_head : (s : Settings) (width height' : ℕ) (rows : List (List Bool)) (rast
 same_head s width height' rows raster b = ap (λ n. head_of s n height') (sym b.width_is) ∙ ap (head_of s raster.width) (sym b.height_is)
 
 -- the sheet took no more of the head
-pub head_refused : (s : Settings) (width height' : ℕ) (known text text' : Option (List ℕ)) → AppendsBeginning text text' (head_of s width height') → ImageRefused width height' (λ raster. jbg s raster) known known text text'
+pub head_refused : {form : Form} (s : Settings) (width height' : ℕ) (known text text' : Option (List ℕ)) → AppendsBeginning text text' (head_of s width height') → ImageRefused form width height' (λ raster. jbg s raster) known known text text'
 head_refused s width height' known text text' p = record {
   rows = [];
   few = omega arith;
-  read = reads_none width known;
+  read = reads_none _ width known;
   bytes = p.front;
   begins = λ raster b. record {
-    rest = p.rest ++ stripes_of s raster;
-    bytes_are = ap (λ z. z ++ stripes_of s raster) (sym (same_head s width height' [] raster b) ∙ p.text_is) ∙ append_assoc p.front p.rest (stripes_of s raster);
+    rest = p.rest ++ (stripes_of s raster ++ ending s (height raster));
+    bytes_are = append_assoc (head_of s raster.width (height raster)) (stripes_of s raster) (ending s (height raster))
+        ∙ ap (λ z. z ++ (stripes_of s raster ++ ending s (height raster))) (sym (same_head s width height' [] raster b) ∙ p.text_is) ∙ append_assoc p.front p.rest (stripes_of s raster ++ ending s (height raster));
   };
   set_out = p.appends;
 }
@@ -65,19 +68,20 @@ comment_cut s width height' a b c bytes text is some put more =
     (beginning_after a b c bytes (comment_of s.comment) put
     (subst (λ z. AppendsBeginning b c z) (sym (append-nil (segment_bytes (Comment text))) ∙ ap comment_of (sym some)) more))
 
-module _ (s : Settings) (width height' : ℕ) (known known' text mid text' : Option (List ℕ)) (head : Appends text mid (head_of s width height')) where
+module _ {form : Form} (s : Settings) (width height' : ℕ) (known known' text mid text' : Option (List ℕ)) (head : Appends text mid (head_of s width height')) where
   -- all stripes were set out behind the head
-  pub image_headed : ImageCoded width height' (λ raster. stripes_of s raster) known known' mid text' → ImageCoded width height' (λ raster. jbg s raster) known known' text text'
+  pub image_headed : ImageCoded form width height' (λ raster. stripes_of s raster ++ ending s (height raster)) known known' mid text' → ImageCoded form width height' (λ raster. jbg s raster) known known' text text'
   image_headed i = record {
     rows = i.rows;
     many = i.many;
     read = i.read;
-    set_out = Appends-more text mid text' (head_of s width (length i.rows)) (stripes_of s (raster_of width i.rows)) (subst (λ n. Appends text mid (head_of s width n)) (sym i.many) head) i.set_out;
+    set_out = subst (Appends text text') (sym (append_assoc (head_of s width (length i.rows)) (stripes_of s (raster_of width i.rows)) (ending s (length i.rows))))
+        (Appends-more text mid text' (head_of s width (length i.rows)) (stripes_of s (raster_of width i.rows) ++ ending s (length i.rows)) (subst (λ n. Appends text mid (head_of s width n)) (sym i.many) head) i.set_out);
   }
 
   -- not all were
-  pub short_headed : (fault : PbmFault) → ImageShort s width height' (λ raster n. stripes_up_to s raster n) (λ raster. stripes_of s raster) known known' mid text' fault →
-      ImageShort s width height' (λ raster n. jbg_up_to s raster n) (λ raster. jbg s raster) known known' text text' fault
+  pub short_headed : (fault : PbmFault) → ImageShort s form width height' (λ raster n. stripes_up_to s raster n) (λ raster. stripes_of s raster ++ ending s (height raster)) known known' mid text' fault →
+      ImageShort s form width height' (λ raster n. jbg_up_to s raster n) (λ raster. jbg s raster) known known' text text' fault
   short_headed fault i = record {
     rows = i.rows;
     few = i.few;
@@ -87,8 +91,9 @@ module _ (s : Settings) (width height' : ℕ) (known known' text mid text' : Opt
     bytes = head_of s width height' ++ i.bytes;
     holds = λ raster b. subst (λ z. IsBeginning (z ++ stripes_up_to s raster (length i.rows / s.stripe_rows)) (head_of s width height' ++ i.bytes)) (same raster b)
         (behind_front (head_of s width height') (stripes_up_to s raster (length i.rows / s.stripe_rows)) i.bytes (i.holds raster b));
-    begins = λ raster b. subst (λ z. IsBeginning (head_of s width height' ++ i.bytes) (z ++ stripes_of s raster)) (same raster b)
-        (behind_front (head_of s width height') i.bytes (stripes_of s raster) (i.begins raster b));
+    begins = λ raster b. subst (λ z. IsBeginning (head_of s width height' ++ i.bytes) ((z ++ stripes_of s raster) ++ ending s (height raster))) (same raster b)
+        (subst (IsBeginning (head_of s width height' ++ i.bytes)) (sym (append_assoc (head_of s width height') (stripes_of s raster) (ending s (height raster))))
+        (behind_front (head_of s width height') i.bytes (stripes_of s raster ++ ending s (height raster)) (i.begins raster b)));
     set_out = Appends-more text mid text' (head_of s width height') i.bytes head i.set_out;
   } where
     -- the head of each image that is meant
@@ -96,13 +101,74 @@ module _ (s : Settings) (width height' : ℕ) (known known' text mid text' : Opt
     same raster b = ap (λ n. head_of s n height') (sym b.width_is) ∙ ap (head_of s raster.width) (sym b.height_is)
 
   -- the sheet took no more of the stripes
-  pub refused_headed : ImageRefused width height' (λ raster. stripes_of s raster) known known' mid text' → ImageRefused width height' (λ raster. jbg s raster) known known' text text'
+  pub refused_headed : ImageRefused form width height' (λ raster. stripes_of s raster ++ ending s (height raster)) known known' mid text' → ImageRefused form width height' (λ raster. jbg s raster) known known' text text'
   refused_headed i = record {
     rows = i.rows;
     few = i.few;
     read = i.read;
     bytes = head_of s width height' ++ i.bytes;
-    begins = λ raster b. subst (λ z. IsBeginning (head_of s width height' ++ i.bytes) (z ++ stripes_of s raster)) (same_head s width height' i.rows raster b)
-        (behind_front (head_of s width height') i.bytes (stripes_of s raster) (i.begins raster b));
+    begins = λ raster b. subst (λ z. IsBeginning (head_of s width height' ++ i.bytes) ((z ++ stripes_of s raster) ++ ending s (height raster))) (same_head s width height' i.rows raster b)
+        (subst (IsBeginning (head_of s width height' ++ i.bytes)) (sym (append_assoc (head_of s width height') (stripes_of s raster) (ending s (height raster))))
+        (behind_front (head_of s width height') i.bytes (stripes_of s raster ++ ending s (height raster)) (i.begins raster b)));
     set_out = Appends-more text mid text' (head_of s width height') i.bytes head i.set_out;
   }
+
+module _ {form : Form} (s : Settings) (width height' : ℕ) (known known' text mid text' : Option (List ℕ)) where
+  -- the ending was set out behind all stripes
+  pub image_ended : ImageCoded form width height' (λ raster. stripes_of s raster) known known' text mid → Appends mid text' (ending s height') → ImageCoded form width height' (λ raster. stripes_of s raster ++ ending s (height raster)) known known' text text'
+  image_ended i last = record {
+    rows = i.rows;
+    many = i.many;
+    read = i.read;
+    set_out = Appends-more text mid text' (stripes_of s (raster_of width i.rows)) (ending s (length i.rows)) i.set_out (subst (λ n. Appends mid text' (ending s n)) (sym i.many) last);
+  }
+
+longer : (front bytes more : List ℕ) → IsBeginning front bytes → IsBeginning front (bytes ++ more)
+longer front bytes more b = record { rest = b.rest ++ more; bytes_are = ap (λ z. z ++ more) b.bytes_are ∙ append_assoc front b.rest more }
+
+-- not all stripes were, so what was is a beginning of them and their ending
+pub short_ended : {form : Form} (s : Settings) (width height' : ℕ) (known known' text text' : Option (List ℕ)) (fault : PbmFault) → ImageShort s form width height' (λ raster n. stripes_up_to s raster n) (λ raster. stripes_of s raster) known known' text text' fault →
+    ImageShort s form width height' (λ raster n. stripes_up_to s raster n) (λ raster. stripes_of s raster ++ ending s (height raster)) known known' text text' fault
+short_ended s width height' known known' text text' fault i = record {
+  rows = i.rows;
+  few = i.few;
+  mid = i.mid;
+  read = i.read;
+  part = i.part;
+  bytes = i.bytes;
+  holds = i.holds;
+  begins = λ raster b. longer i.bytes (stripes_of s raster) (ending s (height raster)) (i.begins raster b);
+  set_out = i.set_out;
+}
+
+-- The sheet took no more of the stripes, or of the ending.
+pub refused_ended : {form : Form} (s : Settings) (width height' : ℕ) (known known' text text' : Option (List ℕ)) → ImageRefused form width height' (λ raster. stripes_of s raster) known known' text text' →
+    ImageRefused form width height' (λ raster. stripes_of s raster ++ ending s (height raster)) known known' text text'
+refused_ended s width height' known known' text text' i = record {
+  rows = i.rows;
+  few = i.few;
+  read = i.read;
+  bytes = i.bytes;
+  begins = λ raster b. longer i.bytes (stripes_of s raster) (ending s (height raster)) (i.begins raster b);
+  set_out = i.set_out;
+}
+
+pub ending_refused : {form : Form} (s : Settings) (width height' : ℕ) (known known' text mid text' : Option (List ℕ)) → ImageCoded form width height' (λ raster. stripes_of s raster) known known' text mid → AppendsBeginning mid text' (ending s height') →
+    ImageRefused form width height' (λ raster. stripes_of s raster ++ ending s (height raster)) known known' text text'
+ending_refused s width height' known known' text mid text' i p = record {
+  rows = i.rows;
+  few = omega (arith, i.many);
+  read = i.read;
+  bytes = stripes_of s (raster_of width i.rows) ++ p.front;
+  begins = λ raster b. subst (λ z. IsBeginning (stripes_of s (raster_of width i.rows) ++ p.front) (stripes_of s z ++ ending s (height z))) (sym (whole_raster raster b)) (record {
+    rest = p.rest;
+    bytes_are = ap (λ z. stripes_of s (raster_of width i.rows) ++ z) (ap (ending s) i.many ∙ p.text_is) ∙ sym (append_assoc (stripes_of s (raster_of width i.rows)) p.front p.rest);
+  });
+  set_out = Appends-more text mid text' (stripes_of s (raster_of width i.rows)) p.front i.set_out p.appends;
+} where
+  -- no other image has all these rows
+  whole_raster : (raster : Raster) → BeginsWith width height' i.rows raster → raster ≡ raster_of width i.rows
+  whole_raster raster b =
+      let long : length raster.rows ≡ length i.rows = omega (arith, b.height_is, i.many) in
+      let rows : raster.rows ≡ i.rows = sym (take-length raster.rows) ∙ ap (λ n. take n raster.rows) long ∙ b.first in
+      ap (λ w. raster_of w raster.rows) b.width_is ∙ ap (raster_of width) rows

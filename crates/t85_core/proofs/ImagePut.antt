@@ -1,5 +1,5 @@
 -- Stripes one after another are an image, or the rows that what came fixes.
-use Rattle.std.proofs.Common.{◌≡◌, ◌<◌, ◌≤◌, ◌+◌, ◌-◌, ◌*◌, ℕ, List, [], ◌∷◌, ◌++◌, length, min, Option, refl, sym, ap, ◌∙◌, subst, arith, append_assoc, length-append}
+use Rattle.std.proofs.Common.{◌≡◌, ◌<◌, ◌≤◌, ◌+◌, ◌-◌, ◌*◌, ℕ, List, [], ◌∷◌, ◌++◌, length, min, Option, refl, sym, ap, ◌∙◌, subst, arith, append_assoc, length-append, Bool}
 use Rattle.std.specs.Prelude.{flat_map}
 use Rattle.std.specs.Io.KnownBytes.{Appends, Consumes}
 use Rattle.std.proofs.lemmas.Grind.{flat_map-append}
@@ -10,10 +10,12 @@ use Rattle.t85_core.specs.declared.header.Header.{Header}
 use Rattle.t85_core.specs.Header.{Fields}
 use Rattle.t85_core.specs.Chosen.{fields_of}
 use Rattle.t85_core.specs.StreamLaws.{IsInUse}
-use Rattle.t85_core.specs.Grammar.{stripe_bytes, stripe_count}
-use Rattle.t85_core.specs.Carried.{first_carry, StripeRun}
+use Rattle.t85_core.specs.Grammar.{stripe_bytes, stripe_count, lengths, all_segments, GiveOnly}
+use Rattle.t85_core.specs.Refusal.{Spot, spot_after, StripeFault}
+use Rattle.t85_core.specs.Fixed.{Fixes}
+use Rattle.t85_core.specs.Carried.{begin, first_carry, StripeRun}
 use Rattle.t85_core.specs.Broken.{BegunRun}
-use Rattle.t85_core.specs.Decoding.{StripeRead, StripeCut, StripesRead, ImageRead, ImageCut}
+use Rattle.t85_core.specs.Decoding.{StripeRead, StripeCut, StripesRead, ImageRead, ImageCut, IsCarried, DecidesRows}
 use Rattle.t85_core.specs.Unset.{StripeDecides, StripeUnset, ImageBegun}
 use Rattle.pbm_core.specs.Device.{AppendsBeginning}
 use Rattle.t85_core.specs.CoderLaws.{CoderLaws}
@@ -21,20 +23,31 @@ use Rattle.t85_core.proofs.CarriedDenotes.{carried_denotes}
 use Rattle.t85_core.proofs.CarriedFixes.{carried_fixes}
 use Rattle.t85_core.proofs.Ends.{Ends-after}
 use Rattle.t85_core.proofs.Lists.{flat_map_push}
+use Rattle.t85_core.proofs.Lengths.{many_lengths, gives_both, gives_none}
+use Rattle.t85_core.proofs.RowPut.{appends_nothing}
+use Rattle.t85_core.proofs.Passed.{segments_push, Consumes-none}
 use Rattle.t85_core.proofs.Runs.{stripes_push}
 use Rattle.t85_core.proofs.Firsts.{are_first}
 use Rattle.t85_core.proofs.Streams.{Consumes-more, Appends-more, beginning_after}
 
-module _ (h : Fields) (height : ℕ) (known known' known'' : Option (List ℕ)) (count rows : ℕ) (carried carried' : Carried) (text text' text'' : Option (List ℕ))
-    (r : StripesRead h height known known' count carried text text') (rows_are : rows ≡ min (height - count * h.l0) h.l0) where
+module _ (h : Fields) (height : ℕ) (known known' known'' : Option (List ℕ)) (count heights rows : ℕ) (carried carried' : Carried) (text text' text'' : Option (List ℕ))
+    (r : StripesRead h height known known' count heights carried text text') (rows_are : rows ≡ min (height - count * h.l0) h.l0) where
   rows_is : rows ≡ min (height - length r.stripes * h.l0) h.l0
   rows_is = rows_are ∙ ap (λ n. min (height - n * h.l0) h.l0) (sym r.many)
 
+  heights_is : heights ≡ length (lengths (all_segments r.stripes))
+  heights_is = omega (arith, r.gives_in.heights_are)
+
   -- a stripe more
-  pub stripes_next : StripeRead h r.next known' known'' rows carried' text' text'' → StripesRead h height known known'' (count + 1) carried' text text''
-  stripes_next s = record {
+  pub stripes_next : (more : ℕ) → StripeRead h (record { height = height; entities = count; heights = heights }) more r.next known' known'' rows carried' text' text'' → StripesRead h height known known'' (count + 1) more carried' text text''
+  stripes_next more s = record {
     stripes = r.stripes ++ s.stripe ∷ [];
     many = (let long = length-append r.stripes (s.stripe ∷ []) in omega (arith, long, r.many));
+    gives_in = record {
+      gives = subst (GiveOnly height 0) (sym (segments_push r.stripes s.stripe)) (gives_both height 0 (all_segments r.stripes) s.stripe.segments r.gives_in.gives
+          (subst (λ n. GiveOnly height n s.stripe.segments) r.gives_in.heights_are s.gives_in.gives));
+      heights_are = (let n = many_lengths (all_segments r.stripes) s.stripe.segments in let e = ap (λ z. length (lengths z)) (segments_push r.stripes s.stripe) in omega (arith, s.gives_in.heights_are, r.gives_in.heights_are, n, e));
+    };
     taken = subst (Consumes known known'') (sym (flat_map_push stripe_bytes r.stripes s.stripe)) (Consumes-more known known' known'' (flat_map stripe_bytes r.stripes) (stripe_bytes s.stripe) r.taken s.taken);
     rows = r.rows ++ s.rows;
     flags = r.flags ++ s.flags;
@@ -44,35 +57,62 @@ module _ (h : Fields) (height : ℕ) (known known' known'' : Option (List ℕ)) 
     set_out = subst (Appends text text'') (sym (flat_map-append packed_row r.rows s.rows)) (Appends-more text text' text'' (flat_map packed_row r.rows) (flat_map packed_row s.rows) r.set_out s.set_out);
   }
 
+  abbrev spot_with : ℕ → ℕ → Spot
+  spot_with k n = record { height = height; entities = k; heights = n }
+
+  here : spot_with count heights ≡ spot_after height r.stripes
+  here = ap (λ k. spot_with k heights) (sym r.many) ∙ ap (spot_with (length r.stripes)) heights_is
+
+  -- what is said of the stripe that breaks, where it stands
+  fixed : CoderLaws → IsInUse h height → count < stripe_count height h.l0 → (given : List ℕ) (why : Fault) (rows' : List (List Bool)) (flags' : List Bool) (at : Spot) → spot_with count heights ≡ at → DecidesRows h (spot_with count heights) r.next rows rows' flags' given why →
+      ((e : StripeFault h at given why) → BegunRun h (min (height - length r.stripes * h.l0) h.l0) r.next e.segments e.code rows' flags' → Fixes h height (flat_map stripe_bytes r.stripes ++ given) why (r.rows ++ rows')) → Fixes h height (flat_map stripe_bytes r.stripes ++ given) why (r.rows ++ rows')
+  fixed q use_ fewer given why rows' flags' at same d k =
+      let both : DecidesRows h at r.next rows rows' flags' given why = subst (λ u. DecidesRows h u r.next rows rows' flags' given why) same d in
+      k both.0 (subst (λ n. BegunRun h n r.next both.0.segments both.0.code rows' flags') rows_is both.1)
+
   -- a stripe that breaks
-  pub image_cut : CoderLaws → IsInUse h height → count < stripe_count height h.l0 → (fault : Fault) → StripeCut h r.next known' known'' rows text' text'' fault → ImageCut h height known known'' text text'' fault
+  pub image_cut : CoderLaws → IsInUse h height → count < stripe_count height h.l0 → (fault : Fault) → StripeCut h (record { height = height; entities = count; heights = heights }) r.next known' known'' rows text' text'' fault → ImageCut h height known known'' text text'' fault
   image_cut q use_ fewer fault s = record {
     rows = r.rows ++ s.rows;
-    ends = Ends-after (flat_map stripe_bytes r.stripes) r.taken (λ given why d.
-        carried_fixes q h height (flat_map stripe_bytes r.stripes ++ given) given why r.stripes d.0 r.rows s.rows r.flags s.flags r.next use_.accepted refl (subst (λ n. n < stripe_count height h.l0) (sym r.many) fewer) r.run
-        (subst (λ n. BegunRun h n r.next d.0.segments d.0.code s.rows s.flags) rows_is d.1)) s.ends;
+    ends = Ends-after (flat_map stripe_bytes r.stripes) r.taken (λ given why d. fixed q use_ fewer given why s.rows s.flags (spot_after height r.stripes) here d (λ e b.
+        carried_fixes q h height (flat_map stripe_bytes r.stripes ++ given) given why r.stripes e r.rows s.rows r.flags s.flags r.next use_.accepted refl (subst (λ n. n < stripe_count height h.l0) (sym r.many) fewer) r.gives_in.gives r.run b)) s.ends;
     set_out = subst (Appends text text'') (sym (flat_map-append packed_row r.rows s.rows)) (Appends-more text text' text'' (flat_map packed_row r.rows) (flat_map packed_row s.rows) r.set_out s.set_out);
   }
 
   -- a stripe of which not all was set out
-  pub image_unset : CoderLaws → IsInUse h height → count < stripe_count height h.l0 → StripeUnset h r.next known' known'' rows text' text'' → ImageBegun h height known known'' text text''
+  pub image_unset : CoderLaws → IsInUse h height → count < stripe_count height h.l0 → StripeUnset h (record { height = height; entities = count; heights = heights }) r.next known' known'' rows text' text'' → ImageBegun h height known known'' text text''
   image_unset q use_ fewer s = record {
     given = flat_map stripe_bytes r.stripes ++ s.given;
     ahead = s.ahead;
     taken = subst (Consumes known known'') (sym (append_assoc (flat_map stripe_bytes r.stripes) s.given s.ahead)) (Consumes-more known known' known'' (flat_map stripe_bytes r.stripes) (s.given ++ s.ahead) r.taken s.taken);
     rows = r.rows ++ s.rows;
-    first = are_first q h height use_ r.stripes r.rows r.flags r.next (subst (λ n. n < stripe_count height h.l0) (sym r.many) fewer) r.run s.given s.rows s.flags
-        (subst (λ n. StripeDecides h r.next n s.given s.rows s.flags) rows_is s.decides);
+    first = are_first q h height use_ r.stripes r.rows r.flags r.next (subst (λ n. n < stripe_count height h.l0) (sym r.many) fewer) r.gives_in.gives r.run s.given s.rows s.flags
+        (subst (λ (z : Spot). StripeDecides h z r.next (min (height - length r.stripes * h.l0) h.l0) s.given s.rows s.flags) here (subst (λ n. StripeDecides h (record { height = height; entities = count; heights = heights }) r.next n s.given s.rows s.flags) rows_is s.decides));
     set_out = subst (AppendsBeginning text text'') (sym (flat_map-append packed_row r.rows s.rows)) (beginning_after text text' text'' (flat_map packed_row r.rows) (flat_map packed_row s.rows) r.set_out s.set_out);
   }
 
+-- no stripe
+pub stripes_start : (h : Fields) (height width : ℕ) (known text : Option (List ℕ)) (carried : Carried) → width ≡ h.xd → IsCarried (begin (first_carry width)) carried → StripesRead h height known known 0 0 carried text text
+stripes_start h height width known text carried wide first = record {
+  stripes = [];
+  many = refl;
+  gives_in = record { gives = gives_none height 0 [] (omega arith) refl; heights_are = refl };
+  taken = Consumes-none known;
+  rows = [];
+  flags = [];
+  next = first_carry h.xd;
+  run = (refl, refl, refl);
+  is_carried = subst (λ w. IsCarried (begin (first_carry w)) carried) wide first;
+  set_out = appends_nothing text;
+}
+
 -- all stripes
-pub image_read : (h : Fields) (height : ℕ) (known known' : Option (List ℕ)) (count : ℕ) (carried : Carried) (text text' : Option (List ℕ)) → StripesRead h height known known' count carried text text' → IsInUse h height → count ≡ stripe_count height h.l0 → ImageRead h height known known' text text'
-image_read h height known known' count carried text text' r use_ all = record {
+pub image_read : (h : Fields) (height : ℕ) (known known' : Option (List ℕ)) (count heights : ℕ) (carried : Carried) (text text' : Option (List ℕ)) → StripesRead h height known known' count heights carried text text' → IsInUse h height → count ≡ stripe_count height h.l0 → ImageRead h height known known' text text'
+image_read h height known known' count heights carried text text' r use_ all = record {
   given = flat_map stripe_bytes r.stripes;
   taken = r.taken;
   rows = r.rows;
-  denotes = λ rest. carried_denotes h height (flat_map stripe_bytes r.stripes ++ rest) rest r.stripes r.rows r.flags r.next use_.accepted use_.from use_.to refl (r.many ∙ all) r.run;
+  denotes = λ rest. carried_denotes h height (flat_map stripe_bytes r.stripes ++ rest) rest r.stripes r.rows r.flags r.next use_.accepted use_.from use_.to refl (r.many ∙ all) r.gives_in.gives r.run;
   set_out = r.set_out;
 }
 

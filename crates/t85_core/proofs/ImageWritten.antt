@@ -1,44 +1,45 @@
 -- From a header and the rows behind it to what is said of a whole image that was written, or begun.
-use Rattle.std.proofs.Common.{◌≡◌, ◌≢◌, ◌+◌, inl, inr, ℕ, Bool, true, List, ◌++◌, length, Option, None, Some, Ok, Err, refl, sym, ◌∙◌, subst, arith}
-use Rattle.std.specs.Prelude.{IfSome, IsErrOf}
+use Rattle.std.proofs.Common.{◌≡◌, ◌+◌, inl, inr, ℕ, Bool, true, false, ap, List, ◌++◌, length, Option, None, Some, Ok, Err, refl, sym, ◌∙◌, subst, arith}
+use Rattle.std.specs.Prelude.{IfSome}
 use Rattle.std.specs.Io.KnownBytes.{Consumes, Keeps}
 use Rattle.pbm_core.specs.Outcome.{HasHeader}
 use Rattle.pbm_core.specs.declared.fault.PbmFault.{PbmFault}
 use Rattle.pbm_core.specs.declared.fault.PbmFault.TheVariants as pbm
+use Rattle.pbm_core.specs.declared.form.Form.{Form}
 use Rattle.t85_core.specs.declared.fault.Fault.{Fault}
-use Rattle.t85_core.specs.declared.fault.Fault.TheVariants.{Write, OutOfMemory, NotYet, Pbm}
-use Rattle.t85_core.specs.Encodes.{raster_of, is_variable, IsEncodeFault, WritesCode, WritesBegun, WritesFront, WritesImageFront, WritesStream, WritesSome, IsRefused, Encodes, EncodesImage}
-use Rattle.t85_core.specs.Jbg.{Settings, jbg}
+use Rattle.t85_core.specs.declared.fault.Fault.TheVariants.{Write, OutOfMemory}
+use Rattle.t85_core.specs.Encodes.{raster_of, IsEncodeFault, WritesCode, WritesBegun, WritesFront, WritesImageFront, WritesStream, WritesSome, IsRefused, Encodes, EncodesImage}
+use Rattle.t85_core.specs.Jbg.{Settings, is_low, jbg}
 use Rattle.t85_core.specs.Walk.{CountsBoth}
-use Rattle.t85_core.proofs.ImageEncoded.{TakesHeader, told_truncated, among_faults, not_not_yet, not_no_memory}
+use Rattle.t85_core.proofs.ImageEncoded.{TakesHeader, among_faults, not_no_memory}
 use Rattle.t85_core.proofs.Held.{Keeps-same}
 use Rattle.t85_core.proofs.Streams.{Appends-keeps, Consumes-more}
 
 module _ (s : Settings) (in_old mid in_new : Option (List ℕ)) (reads_old reads_mid reads_new : ℕ) (out_old out_new : Option (List ℕ)) (writes_old writes_new : ℕ)
-    (width height' : ℕ) (t : TakesHeader in_old mid width height') (fixed : is_variable s ≢ true) (counted : reads_mid ≡ reads_old) where
+    (form : Form) (width height' : ℕ) (t : TakesHeader in_old mid form width height') (counted : reads_mid ≡ reads_old) where
   -- a write failed, or the flush behind all that was written
-  cut_at : (out_last : Option (List ℕ)) → Keeps out_new out_last → (given : List ℕ) → Consumes mid in_new given → WritesFront s width height' given out_old out_new →
+  cut_at : (out_last : Option (List ℕ)) → Keeps out_new out_last → (given : List ℕ) → Consumes mid in_new given → WritesFront s form width height' given out_old out_new →
       (all : List ℕ) × Consumes in_old in_new all × WritesImageFront s all out_old out_last
   cut_at out_last keeps given taken w = (
     t.front ++ given,
     Consumes-more in_old mid in_new t.front given t.taken taken,
     record {
+      form = form;
       width = width;
       height' = height';
       body = given;
       header = t.header given;
-      writes = record { rows = w.rows; rest = w.rest; holds = w.holds; few = w.few; part = w.part; text = w.text; begins = w.begins; appends = Appends-keeps out_old out_new out_last w.text w.appends keeps };
+      writes = record { rows = w.rows; rest = w.rest; holds = w.holds; few = w.few; fault = w.fault; part = w.part; text = w.text; begins = w.begins; appends = Appends-keeps out_old out_new out_last w.text w.appends keeps };
     },
   )
 
-  pub image_unflushed : (flushed : Bool) (out_last : Option (List ℕ)) (writes_last : ℕ) → Encodes s width height' mid in_new reads_mid reads_new out_old out_new writes_old writes_new (Ok tt) → Keeps out_new out_last → writes_last ≡ writes_new + 1 →
+  pub image_unflushed : (flushed : Bool) (out_last : Option (List ℕ)) (writes_last : ℕ) → Encodes s form width height' mid in_new reads_mid reads_new out_old out_new writes_old writes_new (Ok tt) → Keeps out_new out_last → writes_last ≡ writes_new + 1 →
       EncodesImage s in_old in_new reads_old reads_new out_old out_last writes_old writes_last flushed (Err Write)
   image_unflushed flushed out_last writes_last e keeps more = record {
     whole = tt;
     flushed_last = tt;
-    built = tt;
     refused = λ fault _ is. absurd (let bot : ⊥ = cc in bot);
-    not_yet = λ is. absurd (let bot : ⊥ = cc in bot);
+    low = λ is. absurd (let bot : ⊥ = cc in bot);
     no_memory = λ is. absurd (let bot : ⊥ = cc in bot);
     unread = λ is. absurd (let bot : ⊥ = cc in bot);
     cut = λ _. cut_at out_last keeps e.front.0 e.front.1 e.front.2;
@@ -48,41 +49,43 @@ module _ (s : Settings) (in_old mid in_new : Option (List ℕ)) (reads_old reads
   }
 
   -- rows are missing, or a device failed
-  pub image_broken : (flushed : Bool) (f : Fault) → Encodes s width height' mid in_new reads_mid reads_new out_old out_new writes_old writes_new (Err f) →
+  pub image_broken : is_low s height' ≡ false → (flushed : Bool) (f : Fault) → Encodes s form width height' mid in_new reads_mid reads_new out_old out_new writes_old writes_new (Err f) →
       EncodesImage s in_old in_new reads_old reads_new out_old out_new writes_old writes_new flushed (Err f)
-  image_broken flushed f e = record {
+  image_broken fits flushed f e = record {
     whole = tt;
     flushed_last = tt;
-    built = tt;
     refused = λ fault read is.
-        (let same : f ≡ Pbm fault = cc in
-        let ended : fault ≡ pbm.Truncated = told_truncated fault (subst IsEncodeFault same e.among) read in
-        refused in_old mid fault ended t.taken (e.short (subst (λ x. IsErrOf {T = Unit {0}} {E = Fault} (Err f) (Pbm x)) ended is)));
-    not_yet = λ is. absurd (not_not_yet (subst IsEncodeFault (let same : f ≡ NotYet = cc in same) e.among));
-    no_memory = λ is. absurd (not_no_memory (subst IsEncodeFault (let same : f ≡ OutOfMemory = cc in same) e.among));
-    unread = λ is. (let u = e.unread is in (t.front ++ u.0, Consumes-more in_old mid in_new t.front u.0 t.taken u.1, inr (some u.0 u.2)));
+        refused in_old mid fault t.taken (e.short fault read is);
+    low = λ is. absurd (not_low_told (e.low is).0);
+    no_memory = λ is. absurd (not_no_memory (subst IsEncodeFault (let same : f ≡ OutOfMemory = cc in same) may));
+    unread = λ is. (let u = e.unread is in (t.front ++ u.0, Consumes-more in_old mid in_new t.front u.0 t.taken u.1, inr (some pbm.Truncated u.0 u.2)));
     cut = λ _. cut_at out_new (Keeps-same out_new) e.front.0 e.front.1 e.front.2;
-    among = among_faults f e.among;
+    among = λ _. among_faults f may;
     reads = subst (λ n. CountsBoth n reads_new (Err f)) counted e.reads;
     writes = e.writes;
   } where
-    some : (body : List ℕ) → WritesBegun s width height' body out_old out_new → WritesSome s (t.front ++ body) out_old out_new
-    some body w = record { width = width; height' = height'; body = body; header = t.header body; writes = w }
+    not_low_told : is_low s height' ≡ true → ⊥
+    not_low_told is = let both : true ≡ false = sym is ∙ fits in let bot : ⊥ = cc in bot
 
-    refused : (old new : Option (List ℕ)) (fault : PbmFault) → fault ≡ pbm.Truncated → Consumes old new t.front → IfSome new (λ body. WritesBegun s width height' body out_old out_new) → IfSome old (λ bytes. IsRefused s bytes fault out_old out_new)
-    refused None new fault is taken w = tt
-    refused (Some bytes) None fault is taken w = absurd taken
-    refused (Some bytes) (Some body) fault is taken w = inr (is, subst (λ z. WritesSome s z out_old out_new) (sym taken) (some body w))
+    may : IsEncodeFault f
+    may = e.among (λ is. not_low_told (e.low (ap Err is)).0)
+
+    some : (fault : PbmFault) (body : List ℕ) → WritesBegun s form width height' body fault out_old out_new → WritesSome s (t.front ++ body) fault out_old out_new
+    some fault body w = record { form = form; width = width; height' = height'; body = body; header = t.header body; writes = w }
+
+    refused : (old new : Option (List ℕ)) (fault : PbmFault) → Consumes old new t.front → IfSome new (λ body. WritesBegun s form width height' body fault out_old out_new) → IfSome old (λ bytes. IsRefused s bytes fault out_old out_new)
+    refused None new fault taken w = tt
+    refused (Some bytes) None fault taken w = absurd taken
+    refused (Some bytes) (Some body) fault taken w = inr (subst (λ z. WritesSome s z fault out_old out_new) (sym taken) (some fault body w))
 
   -- the stream was written, and flushed
-  pub image_whole : (flushed : Bool) (out_last : Option (List ℕ)) (writes_last : ℕ) → Encodes s width height' mid in_new reads_mid reads_new out_old out_new writes_old writes_new (Ok tt) → Keeps out_new out_last → flushed ≡ true → writes_last ≡ writes_new →
+  pub image_whole : (flushed : Bool) (out_last : Option (List ℕ)) (writes_last : ℕ) → Encodes s form width height' mid in_new reads_mid reads_new out_old out_new writes_old writes_new (Ok tt) → Keeps out_new out_last → flushed ≡ true → writes_last ≡ writes_new →
       EncodesImage s in_old in_new reads_old reads_new out_old out_last writes_old writes_last flushed (Ok tt)
   image_whole flushed out_last writes_last e keeps last same = record {
     whole = whole in_old mid t.taken e.whole;
     flushed_last = last;
-    built = fixed;
     refused = λ fault _ is. absurd (let bot : ⊥ = cc in bot);
-    not_yet = λ is. absurd (let bot : ⊥ = cc in bot);
+    low = λ is. absurd (let bot : ⊥ = cc in bot);
     no_memory = λ is. absurd (let bot : ⊥ = cc in bot);
     unread = λ is. absurd (let bot : ⊥ = cc in bot);
     cut = λ is. absurd (let bot : ⊥ = cc in bot);
@@ -90,15 +93,16 @@ module _ (s : Settings) (in_old mid in_new : Option (List ℕ)) (reads_old reads
     reads = e.reads ∙ counted;
     writes = same ∙ e.writes;
   } where
-    whole : (old new : Option (List ℕ)) → Consumes old new t.front → IfSome new (λ body. WritesCode s width height' body out_old out_new) → IfSome old (λ bytes. WritesStream s bytes out_old out_last)
+    whole : (old new : Option (List ℕ)) → Consumes old new t.front → IfSome new (λ body. WritesCode s form width height' body out_old out_new) → IfSome old (λ bytes. WritesStream s bytes out_old out_last)
     whole None new taken w = tt
     whole (Some bytes) None taken w = absurd taken
     whole (Some bytes) (Some body) taken w = record {
       raster = raster_of width w.rows;
       rest = w.rest;
       is = record {
+        form = form;
         body = body;
-        header = subst (λ z. HasHeader z width (length w.rows) body) (sym taken) (subst (λ n. HasHeader (t.front ++ body) width n body) (sym w.many) (t.header body));
+        header = subst (λ z. HasHeader z form width (length w.rows) body) (sym taken) (subst (λ n. HasHeader (t.front ++ body) form width n body) (sym w.many) (t.header body));
         holds = w.holds;
       };
       proper = w.denotes.denotes.proper;

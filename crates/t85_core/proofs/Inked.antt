@@ -4,10 +4,11 @@ use Rattle.std.specs.Prelude.{OnOk, IfErr, IsErrOf}
 use Rattle.std.specs.Io.KnownBytes.{Appends}
 use Rattle.qm_core.specs.Writing.{Took}
 use Rattle.pbm_core.specs.declared.fault.PbmFault.{PbmFault}
+use Rattle.pbm_core.specs.declared.form.Form.{Form}
 use Rattle.raster_core.specs.declared.shape.Shape.{Shape}
 use Rattle.raster_core.specs.declared.tally.Tally.{Tally}
 use Rattle.t85_core.specs.declared.fault.Fault.{Fault}
-use Rattle.t85_core.specs.declared.fault.Fault.TheVariants.{ShortHeader, ReservedBits, Layers, Planes, ZeroSize, TooWide, MoveRange, PrivateTable, Truncated, BadEscape, Aborted, MoveRefused, SecondMove, LengthRefused, Read, OutOfMemory, OptionBits, StripeZero, MoveLarge, TooManyRows, CommentLong, NotYet, Pbm, Write}
+use Rattle.t85_core.specs.declared.fault.Fault.TheVariants.{ShortHeader, ReservedBits, Layers, Planes, ZeroSize, TooWide, MoveRange, PrivateTable, Truncated, BadEscape, Aborted, MoveRefused, SecondMove, LengthRefused, SecondLength, Changed, AnnouncedLow, TooManyRows, VariableHeight, Read, OutOfMemory, OptionBits, StripeZero, MoveLarge, CommentLong, Pbm, Write}
 use Rattle.t85_core.specs.declared.rows.Carried.{Carried}
 use Rattle.t85_core.specs.Ink.{Inked, SameInk, TakesByte, RefusesByte}
 use Rattle.t85_core.specs.Encodes.{IsEncodeFault}
@@ -36,14 +37,17 @@ which Aborted p = absurd p
 which MoveRefused p = absurd p
 which SecondMove p = absurd p
 which LengthRefused p = absurd p
+which SecondLength p = absurd p
+which Changed p = absurd p
+which AnnouncedLow p = absurd p
+which TooManyRows p = absurd p
+which VariableHeight p = absurd p
 which Read p = absurd p
 which OutOfMemory p = absurd p
 which OptionBits p = absurd p
 which StripeZero p = absurd p
 which MoveLarge p = absurd p
-which TooManyRows p = absurd p
 which CommentLong p = absurd p
-which NotYet p = absurd p
 
 pub is_of : (fault f : Fault) → fault ≡ f → IsErrOf {T = Unit {0}} {E = Fault} (Err fault) f
 is_of fault f is = ap Err is
@@ -69,9 +73,9 @@ module _ {S : Type 0} (view : S → Inked) where
       record { same_sheet = g.then.0.same_sheet ∙ front.same_sheet; same_target = g.then.0.same_target ∙ front.same_target; grows = (let a = front.grows in let b = g.then.0.grows in omega (arith, a, b)) }
 
   -- whatever came, the sheet is the same one
-  pub ink_stays : (from to : S) (shape : Shape) (count : ℕ) (counted : Option ℕ) (known known' : Option (List ℕ)) (carried carried' : Carried) (tally' : Tally) (result : Result (Unit {0}) Fault) → SomeHeld shape carried → IfErr result IsEncodeFault
-      → OnOk result (CodeOfRows (λ bytes. Took takes from bytes to) shape count counted known known' carried carried' tally')
-      → ((fault : PbmFault) → IsErrOf result (Pbm fault) → CodeOfShort (λ bytes. Took takes from bytes to) shape count known known' carried fault)
+  pub ink_stays : {form : Form} (from to : S) (shape : Shape) (count : ℕ) (counted : Option ℕ) (known known' : Option (List ℕ)) (carried carried' : Carried) (tally' : Tally) (result : Result (Unit {0}) Fault) → SomeHeld shape carried → IfErr result IsEncodeFault
+      → OnOk result (CodeOfRows form (λ bytes. Took takes from bytes to) shape count counted known known' carried carried' tally')
+      → ((fault : PbmFault) → IsErrOf result (Pbm fault) → CodeOfShort form (λ bytes. Took takes from bytes to) shape count known known' carried fault)
       → (IsErrOf result Write → SomeHeld shape carried → GivesUp takes refuses from to) → SameInk (view from) (view to)
   ink_stays from to shape count counted known known' carried carried' tally' (Ok u) some among ok short refused = (took_inked from to _ (ok some.0 some.1 some.2 some.3 some.4).taken).0
   ink_stays from to shape count counted known known' carried carried' tally' (Err fault) some among ok short refused = went (which fault among) where
@@ -83,24 +87,24 @@ module _ {S : Type 0} (view : S → Inked) where
     taken : (bytes : List ℕ) → Took takes from bytes to → Appends text text' bytes
     taken bytes took = subst (λ z. Appends z text' bytes) text_is (subst (λ z. Appends (view from).text z bytes) text_is' (took_inked from to bytes took).1)
 
-    pub code_inked : (counted : Option ℕ) (carried' : Carried) (tally' : Tally) (result : Result (Unit {0}) Fault)
-        → OnOk result (CodeOfRows (λ bytes. Took takes from bytes to) shape count counted known known' carried carried' tally')
-        → OnOk result (CodeOfRows (λ bytes. Appends text text' bytes) shape count counted known known' carried carried' tally')
-    code_inked counted carried' tally' (Ok u) ok = λ s move c is_shape held.
+    pub code_inked : (form : Form) (counted : Option ℕ) (carried' : Carried) (tally' : Tally) (result : Result (Unit {0}) Fault)
+        → OnOk result (CodeOfRows form (λ bytes. Took takes from bytes to) shape count counted known known' carried carried' tally')
+        → OnOk result (CodeOfRows form (λ bytes. Appends text text' bytes) shape count counted known known' carried carried' tally')
+    code_inked form counted carried' tally' (Ok u) ok = λ s move c is_shape held.
         let w = ok s move c is_shape held in
         record { rows = w.rows; many = w.many; read = w.read; taken = taken _ w.taken; is_held = w.is_held; tallied = w.tallied }
-    code_inked counted carried' tally' (Err f) ok = tt
+    code_inked form counted carried' tally' (Err f) ok = tt
 
-    pub short_inked : (result : Result (Unit {0}) Fault)
-        → ((fault : PbmFault) → IsErrOf result (Pbm fault) → CodeOfShort (λ bytes. Took takes from bytes to) shape count known known' carried fault)
-        → ((fault : PbmFault) → IsErrOf result (Pbm fault) → CodeOfShort (λ bytes. Appends text text' bytes) shape count known known' carried fault)
+    pub short_inked : {form : Form} (result : Result (Unit {0}) Fault)
+        → ((fault : PbmFault) → IsErrOf result (Pbm fault) → CodeOfShort form (λ bytes. Took takes from bytes to) shape count known known' carried fault)
+        → ((fault : PbmFault) → IsErrOf result (Pbm fault) → CodeOfShort form (λ bytes. Appends text text' bytes) shape count known known' carried fault)
     short_inked result short fault is = λ s move c is_shape held.
         let w = short fault is s move c is_shape held in
         record { rows = w.rows; few = w.few; mid = w.mid; read = w.read; part = w.part; pushed = w.pushed; taken = taken _ w.taken; begins = w.begins }
 
-    pub unset_inked : (result : Result (Unit {0}) Fault)
-        → (IsErrOf result Write → CodeOfRefused (λ bytes. GivesUpBehind takes refuses from bytes to) shape count known known' carried)
-        → (IsErrOf result Write → CodeOfRefused (λ bytes. Appends text text' bytes) shape count known known' carried)
+    pub unset_inked : {form : Form} (result : Result (Unit {0}) Fault)
+        → (IsErrOf result Write → CodeOfRefused form (λ bytes. GivesUpBehind takes refuses from bytes to) shape count known known' carried)
+        → (IsErrOf result Write → CodeOfRefused form (λ bytes. Appends text text' bytes) shape count known known' carried)
     unset_inked result refused is = λ s move c is_shape held.
         let w = refused is s move c is_shape held in
         let last : S = w.taken.0 in

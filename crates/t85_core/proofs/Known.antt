@@ -1,7 +1,6 @@
 -- From what a walk took to what is said of all the bytes.
-use Rattle.std.proofs.Common.{cond, count_by, ◌||◌, ◌≡◌, ◌≢◌, ◌⊎◌, inl, inr, ◌<◌, ◌≤◌, ◌+◌, ℕ, Bool, true, false, not, List, [], ◌∷◌, ◌++◌, Option, None, Some, IfSome, length, drop, slice_index, sum_by, nat_lt, nat_le, refl, sym, ap, ◌∙◌, subst, append-nil, append_assoc, length-drop, length-append, arith}
+use Rattle.std.proofs.Common.{cond, count_by, ◌||◌, ◌≡◌, ◌≢◌, ◌⊎◌, inl, inr, ◌<◌, ◌≤◌, ◌+◌, ℕ, Bool, true, false, not, List, [], ◌∷◌, ◌++◌, Option, None, Some, IfSome, length, drop, slice_index, nat_lt, nat_le, refl, sym, ap, ◌∙◌, subst, append-nil, append_assoc, length-drop, length-append, arith}
 use Rattle.std.specs.Bool.{◌==◌}
-use Rattle.std.specs.Io.KnownBytes.{Consumes}
 use Rattle.std.specs.Prelude.{flat_map}
 use Rattle.qm_core.specs.Code.{stuffed}
 use Rattle.std.proofs.lemmas.Bool.{cases_lt}
@@ -10,15 +9,12 @@ use Rattle.std.proofs.lemmas.List.{get_or_append_left, drop-append-le, drop_at}
 use Rattle.byteorder.specs.Endian.{big_number}
 use Rattle.byteorder.specs.Numbers.{big_from-append}
 use Rattle.t85_core.specs.declared.fault.Fault.{Fault}
-use Rattle.t85_core.specs.declared.fault.Fault.TheVariants.{ShortHeader, Truncated, Read, MoveRefused, Aborted, BadEscape, LengthRefused, SecondMove}
-use Rattle.t85_core.specs.Refusal.{rest_fault, escape_fault, move_fault, comment_fault, is_legal_move, StripeFault, StripesFault, StreamFault}
-use Rattle.t85_core.specs.Grammar.{stripe_bytes, segment_bytes, is_move, is_nil, moves_in, stripe_count}
+use Rattle.t85_core.specs.declared.fault.Fault.TheVariants.{ShortHeader, Truncated, Read, MoveRefused, Aborted, BadEscape, LengthRefused, SecondMove, SecondLength, Changed}
+use Rattle.t85_core.specs.Refusal.{Spot, spot_behind, spot_after, rest_fault, escape_fault, length_fault, move_fault, comment_fault, is_legal_move, StripeFault, StripesFault}
+use Rattle.t85_core.specs.Height.{StreamFault}
+use Rattle.t85_core.specs.Grammar.{stripe_bytes, segment_bytes, is_move, is_nil, is_valid_length}
 use Rattle.t85_core.specs.Walk.{Ends, counted_as}
-use Rattle.t85_core.specs.Piece.{PassesStripes}
-use Rattle.t85_core.specs.Line.{line_text}
-use Rattle.t85_core.specs.Info.{HasLine, IsUnfinished}
-use Rattle.t85_core.proofs.Streams.{Consumes-more}
-use Rattle.t85_core.specs.Header.{Fields, HeaderOf, long_at, header_fault, first_refusal, refusals}
+use Rattle.t85_core.specs.Header.{Fields, is_variable, HeaderOf, long_at, header_fault, first_refusal, refusals}
 
 byte-append : (given more : List ℕ) (i : ℕ) → i < length given → slice_index (given ++ more) i ≡ slice_index given i
 byte-append given more i h = get_or_append_left given more 0 i h
@@ -107,45 +103,46 @@ two_tests false false f e = cc
 stable_comment : IsStable comment_fault
 stable_comment bytes more f e = inl (two_tests (nat_lt (length bytes) 4) (nat_lt (length bytes) (4 + big_number 4 bytes)) f e)
 
-stable_escape : (h : Fields) (moves : ℕ) (in_code : Bool) (escape : ℕ) → IsStable (escape_fault h moves in_code escape)
-stable_escape h moves in_code escape =
+number_fault : Fields → Spot → List ℕ → Option Fault
+number_fault h spot bytes =
+    cond (nat_lt (length bytes) 4) (Some Truncated) (cond (not (is_valid_length h spot.entities (big_number 4 bytes))) (Some LengthRefused) (cond (big_number 4 bytes == spot.height) None (Some Changed)))
+
+stable_number : (h : Fields) (spot : Spot) → IsStable (number_fault h spot)
+unfolding number_fault
+stable_number h spot bytes more f e = went (cases_lt (length bytes) 4) where
+  went : (length bytes < 4) ⊎ (4 ≤ length bytes) → (f ≡ Truncated) ⊎ (number_fault h spot (bytes ++ more) ≡ Some f)
+  went (inl short) =
+      let t : nat_lt (length bytes) 4 ≡ true = grind (arith, nat_tests) in
+      let cut : Some Truncated ≡ Some f = ap (λ b. cond b (Some Truncated) (cond (not (is_valid_length h spot.entities (big_number 4 bytes))) (Some LengthRefused) (cond (big_number 4 bytes == spot.height) None (Some Changed)))) (sym t) ∙ e in
+      inl cc
+  went (inr long) =
+      let t : nat_lt (length bytes) 4 ≡ false = grind (arith, nat_tests) in
+      let longer : 4 ≤ length (bytes ++ more) = omega (arith, length-append bytes more) in
+      let t' : nat_lt (length (bytes ++ more)) 4 ≡ false = grind (arith, nat_tests) in
+      let same : big_number 4 (bytes ++ more) ≡ big_number 4 bytes = big_from-append 4 bytes more long in
+      inr (ap (λ b. cond b (Some Truncated) (cond (not (is_valid_length h spot.entities (big_number 4 (bytes ++ more)))) (Some LengthRefused) (cond (big_number 4 (bytes ++ more) == spot.height) None (Some Changed)))) t'
+      ∙ ap (λ n. cond (not (is_valid_length h spot.entities n)) (Some LengthRefused) (cond (n == spot.height) None (Some Changed))) same
+      ∙ ap (λ b. cond b (Some Truncated) (cond (not (is_valid_length h spot.entities (big_number 4 bytes))) (Some LengthRefused) (cond (big_number 4 bytes == spot.height) None (Some Changed)))) (sym t) ∙ e)
+
+stable_length : (h : Fields) (spot : Spot) → IsStable (length_fault h spot)
+unfolding number_fault
+stable_length h spot =
+    stable_cond (not (is_variable h)) (λ _. Some LengthRefused) _ (stable_constant (Some LengthRefused))
+    (stable_cond (not (spot.heights == 0)) (λ _. Some SecondLength) (number_fault h spot) (stable_constant (Some SecondLength)) (stable_number h spot))
+
+stable_escape : (h : Fields) (spot : Spot) (moves : ℕ) (in_code : Bool) (escape : ℕ) → IsStable (escape_fault h spot moves in_code escape)
+stable_escape h spot moves in_code escape =
     stable_cond ((escape == 0) || (escape == 2) || (escape == 3)) _ _ (stable_constant None)
     (stable_cond (escape == 4) _ _ (stable_constant (Some Aborted))
     (stable_cond ((escape == 1) || nat_le 8 escape || in_code) _ _ (stable_constant (Some BadEscape))
-    (stable_cond (escape == 5) _ _ (stable_constant (Some LengthRefused))
+    (stable_cond (escape == 5) (length_fault h spot) _ (stable_length h spot)
     (stable_cond (escape == 6) (move_fault h moves) comment_fault (stable_move h moves) stable_comment))))
 
-pub stable_rest : (h : Fields) (moves : ℕ) (in_code : Bool) → IsStable (rest_fault h moves in_code)
-stable_rest h moves in_code [] more f e = inl cc
-stable_rest h moves in_code (b ∷ []) more f e = inl (two_tests (b == 255) false f e)
-stable_rest h moves in_code (b ∷ escape ∷ bytes) more f e =
-    stable_cond (b == 255) (escape_fault h moves in_code escape) (λ _. None) (stable_escape h moves in_code escape) (stable_constant None) bytes more f e
-
-stable_stripe : (h : Fields) (bytes more : List ℕ) (f : Fault) → StripeFault h bytes f → (f ≡ Truncated) ⊎ StripeFault h (bytes ++ more) f
-stable_stripe h bytes more f p = went (stable_rest h _ _ p.rest more f p.rest_has) where
-  went : (f ≡ Truncated) ⊎ (rest_fault h (count_by is_move p.segments) (not (is_nil p.code)) (p.rest ++ more) ≡ Some f) → (f ≡ Truncated) ⊎ StripeFault h (bytes ++ more) f
-  went (inl e) = inl e
-  went (inr e) = inr (record {
-    segments = p.segments;
-    code = p.code;
-    rest = p.rest ++ more;
-    bytes_are = ap (λ z. z ++ more) p.bytes_are ∙ append_assoc (flat_map segment_bytes p.segments) (stuffed p.code ++ p.rest) more ∙ ap (λ z. flat_map segment_bytes p.segments ++ z) (append_assoc (stuffed p.code) p.rest more);
-    begun = p.begun;
-    rest_has = e;
-  })
-
-pub stable_stripes : (h : Fields) (count : ℕ) (bytes more : List ℕ) (f : Fault) → StripesFault h count bytes f → (f ≡ Truncated) ⊎ StripesFault h count (bytes ++ more) f
-stable_stripes h count bytes more f p = went (stable_stripe h p.tail more f p.tail_has) where
-  went : (f ≡ Truncated) ⊎ StripeFault h (p.tail ++ more) f → (f ≡ Truncated) ⊎ StripesFault h count (bytes ++ more) f
-  went (inl e) = inl e
-  went (inr e) = inr (record {
-    stripes = p.stripes;
-    tail = p.tail ++ more;
-    bytes_are = ap (λ z. z ++ more) p.bytes_are ∙ append_assoc (flat_map stripe_bytes p.stripes) p.tail more;
-    fewer = p.fewer;
-    each = p.each;
-    tail_has = e;
-  })
+pub stable_rest : (h : Fields) (spot : Spot) (moves : ℕ) (in_code : Bool) → IsStable (rest_fault h spot moves in_code)
+stable_rest h spot moves in_code [] more f e = inl cc
+stable_rest h spot moves in_code (b ∷ []) more f e = inl (two_tests (b == 255) false f e)
+stable_rest h spot moves in_code (b ∷ escape ∷ bytes) more f e =
+    stable_cond (b == 255) (escape_fault h spot moves in_code escape) (λ _. None) (stable_escape h spot moves in_code escape) (stable_constant None) bytes more f e
 
 pub counted-other : (ending f : Fault) → f ≢ Read → counted_as ending f ≡ f
 counted-other ending Read h = absurd (h refl)
@@ -175,50 +172,3 @@ refused_header old new f e other = went old (header_known old new f e other) whe
 -- what is behind the header's twenty bytes
 pub behind : (given more : List ℕ) → length given ≡ 20 → drop 20 (given ++ more) ≡ more
 behind given more e = drop_at given more 20 e
-
--- where the body hasn't its parts
-pub refused_body : (old mid new : Option (List ℕ)) (given : List ℕ) (h : Fields) (count : ℕ) (f : Fault) → length given ≡ 20 → Consumes old mid given → HeaderOf given h → count ≡ stripe_count h.yd h.l0 → Ends Truncated mid new (StripesFault h count) f → f ≢ Read → IfSome old (λ bytes. StreamFault bytes f)
-refused_body None mid new given h count f long taken is counted e other = tt
-refused_body (Some bytes) None new given h count f long taken is counted e other = absurd taken
-refused_body (Some bytes) (Some body) None given h count f long taken is counted e other = absurd e.taken
-refused_body (Some bytes) (Some body) (Some left) given h count f long taken is counted e other =
-    let has : StripesFault h count e.given f = subst (StripesFault h count e.given) (counted-other Truncated f other) e.has_fault in
-    let all : drop 20 bytes ≡ e.given ++ left = ap (drop 20) taken ∙ behind given body long ∙ e.taken in
-    inr (
-      h,
-      subst (λ z. HeaderOf z h) (sym taken) (HeaderOf-append given body h is),
-      subst (λ z. StripesFault h (stripe_count h.yd h.l0) z f) (sym all) (subst (λ n. StripesFault h n (e.given ++ left) f) counted (went has (stable_stripes h count e.given left f has))),
-    ) where
-      went : StripesFault h count e.given f → (f ≡ Truncated) ⊎ StripesFault h count (e.given ++ left) f → StripesFault h count (e.given ++ left) f
-      went has (inl ended) = subst (λ z. StripesFault h count z f) (sym (ap (λ z. e.given ++ z) (e.at_end ended) ∙ append-nil e.given)) has
-      went has (inr p) = p
-
--- where a read failed in the body
-pub unread_body : (old mid new : Option (List ℕ)) (given : List ℕ) (h : Fields) (count : ℕ) (f : Fault) → length given ≡ 20 → Consumes old mid given → HeaderOf given h → count ≡ stripe_count h.yd h.l0 → Ends Truncated mid new (StripesFault h count) f → f ≡ Read → (all : List ℕ) × Consumes old new all × IsUnfinished all
-unread_body old mid new given h count f long taken is counted e read =
-    let has : StripesFault h count e.given Truncated = subst (λ x. StripesFault h count e.given (counted_as Truncated x)) read e.has_fault in (
-      given ++ e.given,
-      Consumes-more old mid new given e.given taken e.taken,
-      inr (inr (h, HeaderOf-append given e.given h is, subst (λ z. StripesFault h (stripe_count h.yd h.l0) z Truncated) (sym (behind given e.given long)) (subst (λ n. StripesFault h n e.given Truncated) counted has))),
-    )
-
--- where the stream has its parts
-pub known_line : (old mid new : Option (List ℕ)) (given : List ℕ) (h : Fields) (count moves comments : ℕ) → length given ≡ 20 → Consumes old mid given → HeaderOf given h → count ≡ stripe_count h.yd h.l0 → PassesStripes h count mid new moves comments
-    → IfSome old (λ bytes. HasLine bytes (line_text (h.xd ∷ h.yd ∷ h.l0 ∷ h.mx ∷ h.options ∷ h.yd ∷ count ∷ moves ∷ comments ∷ [])))
-known_line None mid new given h count moves comments long taken is counted p = tt
-known_line (Some bytes) None new given h count moves comments long taken is counted p = absurd taken
-known_line (Some bytes) (Some body) None given h count moves comments long taken is counted p = absurd p.taken
-known_line (Some bytes) (Some body) (Some left) given h count moves comments long taken is counted p = record {
-  header = h;
-  header_of = subst (λ z. HeaderOf z h) (sym taken) (HeaderOf-append given body h is);
-  parts = record {
-    stripes = p.stripes;
-    rest = left;
-    body_is = ap (drop 20) taken ∙ behind given body long ∙ p.taken;
-    count = p.count_is ∙ counted;
-    each = p.each;
-  };
-  text_is = ap (λ n. line_text (h.xd ∷ h.yd ∷ h.l0 ∷ h.mx ∷ h.options ∷ h.yd ∷ n ∷ moves ∷ comments ∷ [])) (sym p.count_is)
-      ∙ ap (λ n. line_text (h.xd ∷ h.yd ∷ h.l0 ∷ h.mx ∷ h.options ∷ h.yd ∷ length p.stripes ∷ n ∷ comments ∷ [])) p.moves_are
-      ∙ ap (λ n. line_text (h.xd ∷ h.yd ∷ h.l0 ∷ h.mx ∷ h.options ∷ h.yd ∷ length p.stripes ∷ sum_by moves_in p.stripes ∷ n ∷ [])) p.comments_are;
-}

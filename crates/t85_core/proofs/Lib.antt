@@ -4,10 +4,14 @@ pub mod Segments
 pub mod Pieces
 pub mod Lists
 pub mod Passed
+pub mod Skipped
+pub mod Looked
 pub mod Numerals
 pub mod Known
 pub mod Stuffing
 pub mod Cut
+pub mod Lengths
+pub mod Heights
 pub mod Faults
 pub mod Told
 pub mod Unique
@@ -26,6 +30,12 @@ pub mod OneRaster
 pub mod SomeRaster
 pub mod Fronts
 pub mod Parsed
+pub mod SomeHeight
+pub mod Found
+pub mod HeightFound
+pub mod Summed
+pub mod FindingHeight
+pub mod Worked
 pub mod Longest
 pub mod FixedRows
 pub mod Stays

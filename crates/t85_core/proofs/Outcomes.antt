@@ -1,5 +1,5 @@
 -- A body has one outcome.
-use Rattle.std.proofs.Common.{◌≡◌, ◌<◌, ◌^◌, ◌⊎◌, inl, inr, ℕ, Bool, List, Option, Some, None, refl, sym, ap, ◌∙◌, arith}
+use Rattle.std.proofs.Common.{◌≡◌, ◌<◌, ◌^◌, ◌⊎◌, inl, inr, ℕ, Bool, List, Option, Some, None, refl, ap, ◌∙◌, arith}
 use Rattle.qm_core.specs.Code.{IsBytes}
 use Rattle.raster_core.specs.Raster.{Raster}
 use Rattle.t85_core.specs.declared.fault.Fault.{Fault}
@@ -11,7 +11,7 @@ use Rattle.t85_core.specs.Fixed.{Fixes}
 use Rattle.t85_core.specs.Image.{IsOutcome, pbm_rows, pbm_text}
 use Rattle.t85_core.specs.CoderLaws.{CoderLaws}
 use Rattle.t85_core.specs.StreamLaws.{IsInUse, HasOutcome}
-use Rattle.t85_core.proofs.Cut as cut
+use Rattle.t85_core.proofs.Heights.{whole_or_broken_at}
 use Rattle.t85_core.proofs.OneRaster.{one_raster_at}
 use Rattle.t85_core.proofs.SomeRaster.{some_raster_at}
 use Rattle.t85_core.proofs.FixedRows.{some_fixed_at, one_fixed_at}
@@ -23,7 +23,7 @@ one_outcome_at q h height body u bytes = went (parsed h height body bytes) where
   small = omega (arith, u.to, u.accepted.height_to)
 
   never : (f : Fault) → Parts h height body → BodyFault h height body f → ⊥
-  never f p b = cut.parts_or_fault h u.accepted.stripe_to p.stripes b.stripes p.rest b.tail f p.each b.each (omega (arith, p.count, b.fewer)) b.tail_has (sym p.body_is ∙ b.bytes_are)
+  never f p b = whole_or_broken_at h height body f u p b
 
   only_whole : (raster : Raster) → DenotesAt h height body raster → (other : Option Fault) (text : List ℕ) → IsOutcome h height body other text → (other ≡ None) × (text ≡ pbm_text raster)
   only_whole raster d None text o = (refl, o.2 ∙ ap pbm_text (one_raster_at q h height body raster o.0 u.accepted small d o.1))
@@ -32,7 +32,7 @@ one_outcome_at q h height body u bytes = went (parsed h height body bytes) where
   only_broken : (f : Fault) (rows : List (List Bool)) → Fixes h height body f rows → (other : Option Fault) (text : List ℕ) → IsOutcome h height body other text → (other ≡ Some f) × (text ≡ pbm_rows h.xd height rows)
   only_broken f rows x None text o = absurd (never f o.1.parts x.broken)
   only_broken f rows x (Some g) text o =
-      let same = one_fixed_at q h height body g f o.0 rows u.accepted o.1 x in
+      let same = one_fixed_at q h height body g f o.0 rows u o.1 x in
       (ap Some same.0, o.2 ∙ ap (pbm_rows h.xd height) same.1)
 
   went : (Parts h height body) ⊎ ((f : Fault) × BodyFault h height body f) → HasOutcome h height body

@@ -5,7 +5,7 @@ use Rattle.std.specs.Io.KnownBytes.{Consumes, Keeps, append_known}
 use Rattle.raster_core.specs.Packed.{packed_row}
 use Rattle.pbm_core.specs.declared.fault.PbmFault.TheVariants as pbm
 use Rattle.t85_core.specs.declared.fault.Fault.{Fault}
-use Rattle.t85_core.specs.declared.fault.Fault.TheVariants.{ShortHeader, ReservedBits, Layers, Planes, ZeroSize, TooWide, MoveRange, PrivateTable, Truncated, BadEscape, Aborted, MoveRefused, SecondMove, LengthRefused, Read, Write, OutOfMemory, OptionBits, StripeZero, MoveLarge, TooManyRows, CommentLong, NotYet, Pbm}
+use Rattle.t85_core.specs.declared.fault.Fault.TheVariants.{ShortHeader, ReservedBits, Layers, Planes, ZeroSize, TooWide, MoveRange, PrivateTable, Truncated, BadEscape, Aborted, MoveRefused, SecondMove, LengthRefused, SecondLength, Changed, AnnouncedLow, TooManyRows, VariableHeight, Read, Write, OutOfMemory, OptionBits, StripeZero, MoveLarge, CommentLong, Pbm}
 use Rattle.t85_core.specs.Header.{Fields}
 use Rattle.t85_core.specs.Stream.{held_of}
 use Rattle.t85_core.specs.Walk.{failed_reads, failed_writes, CountsFault, CountsBoth}
@@ -78,14 +78,17 @@ counts_any old new Aborted e = e
 counts_any old new MoveRefused e = e
 counts_any old new SecondMove e = e
 counts_any old new LengthRefused e = e
+counts_any old new SecondLength e = e
+counts_any old new Changed e = e
+counts_any old new AnnouncedLow e = e
+counts_any old new TooManyRows e = e
+counts_any old new VariableHeight e = e
 counts_any old new Read e = e
 counts_any old new OutOfMemory e = e
 counts_any old new OptionBits e = e
 counts_any old new StripeZero e = e
 counts_any old new MoveLarge e = e
-counts_any old new TooManyRows e = e
 counts_any old new CommentLong e = e
-counts_any old new NotYet e = e
 counts_any old new (Pbm f) e = e
 
 reads_few : (fault : Fault) → (failed_reads fault ≡ 0) ⊎ (failed_reads fault ≡ 1)
@@ -104,20 +107,24 @@ reads_few Aborted = inl refl
 reads_few MoveRefused = inl refl
 reads_few SecondMove = inl refl
 reads_few LengthRefused = inl refl
+reads_few SecondLength = inl refl
+reads_few Changed = inl refl
+reads_few AnnouncedLow = inl refl
+reads_few TooManyRows = inl refl
+reads_few VariableHeight = inl refl
 reads_few Write = inl refl
 reads_few OutOfMemory = inl refl
 reads_few OptionBits = inl refl
 reads_few StripeZero = inl refl
 reads_few MoveLarge = inl refl
-reads_few TooManyRows = inl refl
 reads_few CommentLong = inl refl
-reads_few NotYet = inl refl
 reads_few (Pbm pbm.Read) = inr refl
 reads_few (Pbm pbm.NotPbm) = inl refl
 reads_few (Pbm pbm.BadNumber) = inl refl
 reads_few (Pbm pbm.ZeroSize) = inl refl
 reads_few (Pbm pbm.TooWide) = inl refl
 reads_few (Pbm pbm.TooTall) = inl refl
+reads_few (Pbm pbm.BadDigit) = inl refl
 reads_few (Pbm pbm.Truncated) = inl refl
 
 -- whatever was told of the rows, a write failed after them
@@ -148,14 +155,17 @@ no_failed_write Aborted n = refl
 no_failed_write MoveRefused n = refl
 no_failed_write SecondMove n = refl
 no_failed_write LengthRefused n = refl
+no_failed_write SecondLength n = refl
+no_failed_write Changed n = refl
+no_failed_write AnnouncedLow n = refl
+no_failed_write TooManyRows n = refl
+no_failed_write VariableHeight n = refl
 no_failed_write Read n = refl
 no_failed_write OutOfMemory n = refl
 no_failed_write OptionBits n = refl
 no_failed_write StripeZero n = refl
 no_failed_write MoveLarge n = refl
-no_failed_write TooManyRows n = refl
 no_failed_write CommentLong n = refl
-no_failed_write NotYet n = refl
 no_failed_write (Pbm f) n = refl
 
 -- a page that is empty

@@ -7,6 +7,7 @@ use Rattle.qm_core.specs.Encoding.{Codes, IsStuffedFront, has_failed}
 use Rattle.qm_core.specs.Runs.{PushesJoin}
 use Rattle.qm_core.specs.declared.encoder.Encoder.{Encoder}
 use Rattle.qm_core.specs.declared.encoder.CoderFault.{CoderFault}
+use Rattle.pbm_core.specs.declared.form.Form.{Form}
 use Rattle.raster_core.specs.Counts.{Counts}
 use Rattle.raster_core.specs.Lines.{Lines, Mode, row_events, may_be_typical}
 use Rattle.raster_core.specs.Packed.{Held, HasLines}
@@ -54,10 +55,10 @@ counted_some width offset counted tally tally' lines more is h p = subst (λ o. 
 pub counted_none : (width : ℕ) (counted : Option ℕ) (tally : Tally) (lines more : List Lines) → counted ≡ None → IsCountedTo width counted tally lines → IsCountedTo width counted tally more
 counted_none width counted tally lines more is p = subst (λ o. IsCountedTo width o tally more) (sym is) (subst (λ o. IsCountedTo width o tally lines) is p)
 
-module _ {S : Type 0} (took : S → ℕ → S → Type 0) (refused : S → S → Type 0) (from old new : S) (s : Settings) (shape : Shape) (width : ℕ) (move : Option (ℕ × ℕ)) (c : Carry) (counted : Option ℕ)
+module _ {S : Type 0} {form : Form} (took : S → ℕ → S → Type 0) (refused : S → S → Type 0) (from old new : S) (s : Settings) (shape : Shape) (width : ℕ) (move : Option (ℕ × ℕ)) (c : Carry) (counted : Option ℕ)
     (began known known' : Option (List ℕ)) (rows : List (List Bool)) (carried carried' : Carried) (tally tally' : Tally) (e e' : Encoder) (wide : shape.width ≡ width) (is_shape : IsShape s shape.width shape)
-    (r : RowsCoded took from old s shape.width move c counted began known rows carried tally e)
-    (taken : RowTaken width known known' (held carried.window.now) (held carried'.window.now)) where
+    (r : RowsCoded took from old s form shape.width move c counted began known rows carried tally e)
+    (taken : RowTaken form width known known' (held carried.window.now) (held carried'.window.now)) where
   abbrev mode : Mode
   mode = mode_of s.options
 
@@ -91,14 +92,14 @@ module _ {S : Type 0} (took : S → ℕ → S → Type 0) (refused : S → S →
 
   pub row_coded : (u : Unit {0}) → PushesJoin took → Gave took refused old new shape carried.kept carried'.kept carried.learned carried'.learned (held carried'.window.now) e e' (Ok u) → has_failed e' ≡ false
       → ((lines : List Lines) (l : Lines) → HasLines (held carried'.window.now) l → IsCountedTo shape.width counted tally lines → IsCountedTo shape.width counted tally' (lines ++ l ∷ []))
-      → (x : List Bool) × RowsCoded took from new s shape.width move c counted began known' (rows ++ x ∷ []) carried' tally' e'
+      → (x : List Bool) × RowsCoded took from new s form shape.width move c counted began known' (rows ++ x ∷ []) carried' tally' e'
   row_coded u join gave going counts =
       let coded = (gave b.state.place r.pushed (lines_with b row) r.going r.codes lines_are).ok in
       let encodes = coded.encodes in
       let many : length (rows ++ row ∷ []) ≡ suc (length rows) = omega (arith, length-append rows (row ∷ [])) in (
         row,
         record {
-          read = reads_join shape.width began known known' rows (row ∷ []) r.read (subst (λ w. ReadsRows w known known' (row ∷ [])) (sym wide) taken.read);
+          read = reads_join form shape.width began known known' rows (row ∷ []) r.read (subst (λ w. ReadsRows form w known known' (row ∷ [])) (sym wide) taken.read);
           pushed = r.pushed ++ encodes.more;
           taken = join from old new r.pushed encodes.more r.taken encodes.taken;
           codes = subst (λ n. Codes e' n.state.place (r.pushed ++ encodes.more)) (sym next_is) (subst (λ n. Codes e' n.place (r.pushed ++ encodes.more)) state_is encodes.codes);
@@ -122,7 +123,7 @@ module _ {S : Type 0} (took : S → ℕ → S → Type 0) (refused : S → S →
       record { bytes = r.pushed ++ cut.done; last = cut.last; taken = join from old cut.last r.pushed cut.done r.taken cut.taken; then = cut.then }
 
   pub row_stuck : WritingLaws → (count : ℕ) → length rows < count → (why : CoderFault) → PushesJoin took → Gave took refused old new shape carried.kept carried'.kept carried.learned carried'.learned (held carried'.window.now) e e' (Err why) →
-      RowsRefused (λ bytes. GivesUpBehind took refused from bytes new) s shape.width move c count began known'
+      RowsRefused (λ bytes. GivesUpBehind took refused from bytes new) s form shape.width move c count began known'
   row_stuck laws count few why join gave =
       let stuck = (gave b.state.place r.pushed (lines_with b row) r.going r.codes lines_are).err in
       let cut = stuck.fails.cut in
@@ -130,7 +131,7 @@ module _ {S : Type 0} (took : S → ℕ → S → Type 0) (refused : S → S →
       record {
         rows = rows ++ row ∷ [];
         few = omega (arith, length-append rows (row ∷ []), few);
-        read = reads_join shape.width began known known' rows (row ∷ []) r.read (subst (λ w. ReadsRows w known known' (row ∷ [])) (sym wide) taken.read);
+        read = reads_join form shape.width began known known' rows (row ∷ []) r.read (subst (λ w. ReadsRows form w known known' (row ∷ [])) (sym wide) taken.read);
         pushed = r.pushed ++ cut.done;
         taken = (cut.last, join from old cut.last r.pushed cut.done r.taken cut.taken, cut.then);
         begins = fails_begins laws mode move c rows row count stuck.events stuck.rest (r.pushed ++ cut.done) cut.left

@@ -6,6 +6,7 @@ use Rattle.qm_core.specs.Encoding.{Codes, IsStuffedFront}
 use Rattle.qm_core.specs.Writing.{Took}
 use Rattle.qm_core.specs.declared.encoder.Encoder.{Encoder}
 use Rattle.pbm_core.specs.declared.fault.PbmFault.{PbmFault}
+use Rattle.pbm_core.specs.declared.form.Form.{Form}
 use Rattle.raster_core.specs.Lines.{Mode, row_events}
 use Rattle.raster_core.specs.declared.shape.Shape.{Shape}
 use Rattle.raster_core.specs.declared.tally.Tally.{Tally}
@@ -80,16 +81,16 @@ module _ (laws : WritingLaws) (mode : Mode) (move : Option (ℕ × ℕ)) where
 same_fault : (a b : PbmFault) (e : Fault) → e ≡ Pbm a → e ≡ Pbm b → a ≡ b
 same_fault a b e p q = cc
 
-pub row_short : {S : Type 0} (took : S → ℕ → S → Type 0) (from old : S) (s : Settings) (shape : Shape) (width : ℕ) (move : Option (ℕ × ℕ)) (c : Carry) (counted : Option ℕ)
+pub row_short : {S : Type 0} {form : Form} (took : S → ℕ → S → Type 0) (from old : S) (s : Settings) (shape : Shape) (width : ℕ) (move : Option (ℕ × ℕ)) (c : Carry) (counted : Option ℕ)
     (began known known' : Option (List ℕ)) (rows : List (List Bool)) (count : ℕ) (carried : Carried) (tally : Tally) (e : Encoder) (why fault : PbmFault) (told : Fault) → WritingLaws → shape.width ≡ width → length rows < count
-    → RowsCoded took from old s shape.width move c counted began known rows carried tally e → told ≡ Pbm why → told ≡ Pbm fault → EndsInRow width known known' why
-    → RowsShort (λ bytes. Took took from bytes old) s shape.width move c count began known' fault
-row_short took from old s shape width move c counted began known known' rows count carried tally e why fault told laws wide few r is was ends = record {
+    → RowsCoded took from old s form shape.width move c counted began known rows carried tally e → told ≡ Pbm why → told ≡ Pbm fault → EndsInRow form width known known' why
+    → RowsShort (λ bytes. Took took from bytes old) s form shape.width move c count began known' fault
+row_short {S} {form} took from old s shape width move c counted began known known' rows count carried tally e why fault told laws wide few r is was ends = record {
   rows = rows;
   few = few;
   mid = known;
   read = r.read;
-  part = subst (λ f. EndsInRow shape.width known known' f) (same_fault why fault told is was) (subst (λ w. EndsInRow w known known' why) (sym wide) ends);
+  part = subst (λ f. EndsInRow form shape.width known known' f) (same_fault why fault told is was) (subst (λ w. EndsInRow form w known known' why) (sym wide) ends);
   pushed = r.pushed;
   taken = r.taken;
   begins = pushed_begins laws (mode_of s.options) move c rows count e r.pushed r.codes;

@@ -8,6 +8,7 @@ use Rattle.qm_core.specs.Place.{Place}
 use Rattle.qm_core.specs.Writing.{Took, Refused}
 use Rattle.qm_core.specs.declared.encoder.Encoder.{Encoder}
 use Rattle.qm_core.specs.declared.encoder.CoderFault.{CoderFault}
+use Rattle.pbm_core.specs.declared.form.Form.{Form}
 use Rattle.raster_core.specs.declared.tally.Tally.{Tally}
 use Rattle.t85_core.specs.declared.rows.Carried.{Carried}
 use Rattle.t85_core.specs.Coding.{mode_of}
@@ -20,24 +21,24 @@ use Rattle.t85_core.proofs.RowsJoined.{reads_none}
 use Rattle.t85_core.proofs.RowShort.{rows_place}
 
 -- so many rows were coded
-abbrev pub SoMany : {S : Type 0} → (S → ℕ → S → Type 0) → S → S → Settings → ℕ → Option (ℕ × ℕ) → Carry → Option ℕ → Option (List ℕ) → Option (List ℕ) → ℕ → Carried → Tally → Encoder → Type 0
-SoMany {S} took from to s width move c counted known known' count carried tally e =
-    (rows : List (List Bool)) × (length rows ≡ count) × RowsCoded took from to s width move c counted known known' rows carried tally e
+abbrev pub SoMany : {S : Type 0} → (S → ℕ → S → Type 0) → S → S → Settings → Form → ℕ → Option (ℕ × ℕ) → Carry → Option ℕ → Option (List ℕ) → Option (List ℕ) → ℕ → Carried → Tally → Encoder → Type 0
+SoMany {S} took from to s form width move c counted known known' count carried tally e =
+    (rows : List (List Bool)) × (length rows ≡ count) × RowsCoded took from to s form width move c counted known known' rows carried tally e
 
-pub none_coded : {S : Type 0} (took : S → ℕ → S → Type 0) (from : S) (s : Settings) (width : ℕ) (move : Option (ℕ × ℕ)) (c : Carry) (counted : Option ℕ) (known : Option (List ℕ)) (carried : Carried) (tally : Tally) (e : Encoder)
-    → Codes e start [] → has_failed e ≡ false → IsCountedTo width counted tally [] → IsHeld move 0 (begin c) carried → SoMany took from from s width move c counted known known 0 carried tally e
+pub none_coded : {S : Type 0} {form : Form} (took : S → ℕ → S → Type 0) (from : S) (s : Settings) (width : ℕ) (move : Option (ℕ × ℕ)) (c : Carry) (counted : Option ℕ) (known : Option (List ℕ)) (carried : Carried) (tally : Tally) (e : Encoder)
+    → Codes e start [] → has_failed e ≡ false → IsCountedTo width counted tally [] → IsHeld move 0 (begin c) carried → SoMany took from from s form width move c counted known known 0 carried tally e
 none_coded took from s width move c counted known carried tally e codes going none held =
-    ([], refl, record { read = reads_none width known; pushed = []; taken = refl; codes = codes; going = going; is_held = held; tallied = none })
+    ([], refl, record { read = reads_none _ width known; pushed = []; taken = refl; codes = codes; going = going; is_held = held; tallied = none })
 
-pub one_coded : {S : Type 0} (took : S → ℕ → S → Type 0) (from to : S) (s : Settings) (width : ℕ) (move : Option (ℕ × ℕ)) (c : Carry) (counted : Option ℕ) (known known' : Option (List ℕ)) (count : ℕ) (rows : List (List Bool)) (carried : Carried) (tally : Tally) (e : Encoder)
-    → length rows ≡ count → ((row : List Bool) × RowsCoded took from to s width move c counted known known' (rows ++ row ∷ []) carried tally e) → SoMany took from to s width move c counted known known' (count + 1) carried tally e
+pub one_coded : {S : Type 0} {form : Form} (took : S → ℕ → S → Type 0) (from to : S) (s : Settings) (width : ℕ) (move : Option (ℕ × ℕ)) (c : Carry) (counted : Option ℕ) (known known' : Option (List ℕ)) (count : ℕ) (rows : List (List Bool)) (carried : Carried) (tally : Tally) (e : Encoder)
+    → length rows ≡ count → ((row : List Bool) × RowsCoded took from to s form width move c counted known known' (rows ++ row ∷ []) carried tally e) → SoMany took from to s form width move c counted known known' (count + 1) carried tally e
 one_coded took from to s width move c counted known known' count rows carried tally e many r = (rows ++ r.0 ∷ [], omega (arith, length-append rows (r.0 ∷ []), many), r.1)
 
 -- the code is ended
-pub code_written : {S : Type 0} (took : S → ℕ → S → Type 0) (refused : S → S → Type 0) (failed : S → ℕ) (from old new : S) (s : Settings) (width : ℕ) (move : Option (ℕ × ℕ)) (c : Carry) (counted : Option ℕ) (known known' : Option (List ℕ)) (count all : ℕ) (carried : Carried) (tally : Tally) (e : Encoder) (u : Unit {0}) → count ≡ all
-    → WritingLaws → PushesJoin took → SoMany took from old s width move c counted known known' count carried tally e
+pub code_written : {S : Type 0} {form : Form} (took : S → ℕ → S → Type 0) (refused : S → S → Type 0) (failed : S → ℕ) (from old new : S) (s : Settings) (width : ℕ) (move : Option (ℕ × ℕ)) (c : Carry) (counted : Option ℕ) (known known' : Option (List ℕ)) (count all : ℕ) (carried : Carried) (tally : Tally) (e : Encoder) (u : Unit {0}) → count ≡ all
+    → WritingLaws → PushesJoin took → SoMany took from old s form width move c counted known known' count carried tally e
     → ((p : Place) (pushed : List ℕ) → has_failed e ≡ false → Codes e p pushed → Finish took refused failed old new p pushed (Ok u))
-    → CodeWritten (λ bytes. Took took from bytes new) s width move c all counted known known' carried tally
+    → CodeWritten (λ bytes. Took took from bytes new) s form width move c all counted known known' carried tally
 code_written took refused failed from old new s width move c counted known known' count all carried tally e u ended laws join so finish =
     let rows = so.0 in
     let r = so.2 in
@@ -54,8 +55,8 @@ code_written took refused failed from old new s width move c counted known known
     }
 
 -- the sink gave up at the end of the code
-pub end_refused : {S : Type 0} (took : S → ℕ → S → Type 0) (refused : S → S → Type 0) (failed : S → ℕ) (from old new : S) (s : Settings) (width : ℕ) (move : Option (ℕ × ℕ)) (c : Carry) (counted : Option ℕ) (known known' : Option (List ℕ)) (count : ℕ) (carried : Carried) (tally : Tally) (e : Encoder) (why : CoderFault)
-    → PushesJoin took → SoMany took from old s width move c counted known known' count carried tally e
+pub end_refused : {S : Type 0} {form : Form} (took : S → ℕ → S → Type 0) (refused : S → S → Type 0) (failed : S → ℕ) (from old new : S) (s : Settings) (width : ℕ) (move : Option (ℕ × ℕ)) (c : Carry) (counted : Option ℕ) (known known' : Option (List ℕ)) (count : ℕ) (carried : Carried) (tally : Tally) (e : Encoder) (why : CoderFault)
+    → PushesJoin took → SoMany took from old s form width move c counted known known' count carried tally e
     → ((p : Place) (pushed : List ℕ) → has_failed e ≡ false → Codes e p pushed → Finish took refused failed old new p pushed (Err why))
     → GivesUp took refused from new
 end_refused took refused failed from old new s width move c counted known known' count carried tally e why join so finish =
@@ -63,11 +64,11 @@ end_refused took refused failed from old new s width move c counted known known'
     let cut = (finish (after_rows (mode_of s.options) move 0 (begin c) so.0).state.place r.pushed r.going r.codes).writes.err in
     record { bytes = r.pushed ++ cut.done; last = cut.last; taken = join from old cut.last r.pushed cut.done r.taken cut.taken; then = cut.then }
 
-pub end_stuck : {S : Type 0} (took : S → ℕ → S → Type 0) (refused : S → S → Type 0) (failed : S → ℕ) (from old new : S) (s : Settings) (width : ℕ) (move : Option (ℕ × ℕ)) (c : Carry) (counted : Option ℕ) (known known' : Option (List ℕ)) (count all : ℕ) (carried : Carried) (tally : Tally) (e : Encoder) (why : CoderFault) → count ≡ all
-    → WritingLaws → PushesJoin took → SoMany took from old s width move c counted known known' count carried tally e
+pub end_stuck : {S : Type 0} {form : Form} (took : S → ℕ → S → Type 0) (refused : S → S → Type 0) (failed : S → ℕ) (from old new : S) (s : Settings) (width : ℕ) (move : Option (ℕ × ℕ)) (c : Carry) (counted : Option ℕ) (known known' : Option (List ℕ)) (count all : ℕ) (carried : Carried) (tally : Tally) (e : Encoder) (why : CoderFault) → count ≡ all
+    → WritingLaws → PushesJoin took → SoMany took from old s form width move c counted known known' count carried tally e
     → ((p : Place) (pushed : List ℕ) → has_failed e ≡ false → Codes e p pushed → Finish took refused failed old new p pushed (Err why))
-    → RowsRefused (λ bytes. GivesUpBehind took refused from bytes new) s width move c all known known'
-end_stuck took refused failed from old new s width move c counted known known' count all carried tally e why ended laws join so finish = record {
+    → RowsRefused (λ bytes. GivesUpBehind took refused from bytes new) s form width move c all known known'
+end_stuck {S} {form} took refused failed from old new s width move c counted known known' count all carried tally e why ended laws join so finish = record {
   rows = so.0;
   few = omega (arith, so.1, ended);
   read = r.read;
@@ -75,7 +76,7 @@ end_stuck took refused failed from old new s width move c counted known known' c
   taken = (cut.last, join from old cut.last r.pushed cut.done r.taken cut.taken, cut.then);
   begins = λ later many. begins later many;
 } where
-  r : RowsCoded took from old s width move c counted known known' so.0 carried tally e
+  r : RowsCoded took from old s form width move c counted known known' so.0 carried tally e
   r = so.2
 
   p : Place

@@ -1,11 +1,12 @@
 -- What stands behind FF 06 and behind FF 07.
-use Rattle.std.proofs.Common.{cond, ◌&&◌, ◌≡◌, ◌≢◌, ◌<◌, ◌≤◌, ◌+◌, ◌^◌, ◌⊎◌, ℕ, true, false, List, [], ◌∷◌, ◌++◌, length, Some, None, nat_lt, nat_le, nat_eq, ap, ◌∙◌, length-append, arith, inl, inr}
+use Rattle.std.proofs.Common.{cond, not, ◌&&◌, ◌≡◌, ◌≢◌, ◌<◌, ◌≤◌, ◌+◌, ◌^◌, ◌⊎◌, ℕ, true, false, List, [], ◌∷◌, ◌++◌, length, Some, None, nat_lt, nat_le, nat_eq, ap, ◌∙◌, length-append, arith, inl, inr}
 use Rattle.std.proofs.lemmas.Bool.Decides.{nat_tests}
 use Rattle.byteorder.specs.Endian.{big_bytes, big_number}
 use Rattle.byteorder.specs.Numbers.{big_number-reads_back}
-use Rattle.t85_core.specs.Header.{Fields}
-use Rattle.t85_core.specs.declared.fault.Fault.TheVariants.{Truncated, MoveRefused}
-use Rattle.t85_core.specs.Refusal.{move_fault, comment_fault, is_legal_move}
+use Rattle.t85_core.specs.Header.{Fields, is_variable}
+use Rattle.t85_core.specs.Grammar.{is_valid_length}
+use Rattle.t85_core.specs.declared.fault.Fault.TheVariants.{Truncated, MoveRefused, LengthRefused, Changed}
+use Rattle.t85_core.specs.Refusal.{Spot, length_fault, move_fault, comment_fault, is_legal_move}
 
 pub row_of : (row : ℕ) (more : List ℕ) → row < 2 ^ 32 → big_number 4 (big_bytes 4 row ++ more) ≡ row
 row_of row more h = big_number-reads_back 4 row more h
@@ -53,3 +54,27 @@ comment_whole text more small =
     ap (λ b. cond b (Some Truncated) (cond (nat_lt (length bytes) (4 + big_number 4 bytes)) (Some Truncated) None)) numbered
     ∙ ap (λ m. cond (nat_lt (length bytes) (4 + m)) (Some Truncated) None) (row_of (length text) (text ++ more) small)
     ∙ ap (λ b. cond b (Some Truncated) None) whole
+
+-- behind so many entities, and no height
+abbrev pub unnamed_spot : ℕ → ℕ → Spot
+unnamed_spot height k = record { height = height; entities = k; heights = 0 }
+
+module _ (h : Fields) (height k : ℕ) (variable : is_variable h ≡ true) where
+  -- what a whole valid height has, by whether it is the one in use
+  pub length_by : (n : ℕ) (more : List ℕ) → n < 2 ^ 32 → is_valid_length h k n ≡ true → length_fault h (unnamed_spot height k) (big_bytes 4 n ++ more) ≡ cond (nat_eq n height) None (Some Changed)
+  length_by n more small ok =
+      let bytes : List ℕ = big_bytes 4 n ++ more in
+      let long : nat_lt (length bytes) 4 ≡ false = grind (arith, nat_tests) in
+      let back : big_number 4 bytes ≡ n = row_of n more small in
+      ap (λ b. cond (not b) (Some LengthRefused) (cond (nat_lt (length bytes) 4) (Some Truncated) (cond (not (is_valid_length h k (big_number 4 bytes))) (Some LengthRefused) (cond (nat_eq (big_number 4 bytes) height) None (Some Changed))))) variable
+      ∙ ap (λ b. cond b (Some Truncated) (cond (not (is_valid_length h k (big_number 4 bytes))) (Some LengthRefused) (cond (nat_eq (big_number 4 bytes) height) None (Some Changed)))) long
+      ∙ ap (λ v. cond (not (is_valid_length h k v)) (Some LengthRefused) (cond (nat_eq v height) None (Some Changed))) back
+      ∙ ap (λ b. cond (not b) (Some LengthRefused) (cond (nat_eq n height) None (Some Changed))) ok
+
+  -- the one in use has no fault
+  pub length_whole : (more : List ℕ) → height < 2 ^ 32 → is_valid_length h k height ≡ true → length_fault h (unnamed_spot height k) (big_bytes 4 height ++ more) ≡ None
+  length_whole more small ok = let same : nat_eq height height ≡ true = grind (arith, nat_tests) in length_by height more small ok ∙ ap (λ b. cond b None (Some Changed)) same
+
+  -- another has one
+  pub length_changed : (n : ℕ) (more : List ℕ) → n < 2 ^ 32 → is_valid_length h k n ≡ true → n ≢ height → length_fault h (unnamed_spot height k) (big_bytes 4 n ++ more) ≡ Some Changed
+  length_changed n more small ok other = let t : nat_eq n height ≡ false = grind (arith, nat_tests) in length_by n more small ok ∙ ap (λ b. cond b None (Some Changed)) t

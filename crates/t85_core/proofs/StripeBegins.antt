@@ -10,7 +10,8 @@ use Rattle.t85_core.specs.declared.walk.Head.{Head}
 use Rattle.t85_core.specs.Header.{Fields}
 use Rattle.t85_core.specs.Piece.{PassesHead}
 use Rattle.t85_core.specs.Decoding.{pair_of}
-use Rattle.t85_core.specs.Grammar.{Segment, Move, Comment, IsLegal}
+use Rattle.t85_core.specs.Refusal.{Spot}
+use Rattle.t85_core.specs.Grammar.{Segment, NewLength, Move, Comment, IsLegal}
 use Rattle.t85_core.specs.Coding.{has_bit, mode_of, move_of}
 use Rattle.t85_core.specs.Carried.{Carry, begin}
 use Rattle.t85_core.specs.Broken.{BegunRun}
@@ -41,10 +42,11 @@ typical_bit n = let e : bit_and n 8 ≡ n / 8 % 2 * 8 = and_pow n 3 in grind (ar
 move_offset : (h : Fields) (segments : List Segment) (m : ℕ × ℕ) → AllByRecursion (IsLegal h) segments → move_of segments ≡ Some m → m.1 ≤ h.mx
 move_offset h [] m legal e = absurd (let bot : ⊥ = cc in bot)
 move_offset h (Move row o ∷ segments) m legal e = let same : (row, o) ≡ m = cc in subst (λ z. z.1 ≤ h.mx) same legal.0.1
+move_offset h (NewLength n ∷ segments) m legal e = move_offset h segments m legal.1 e
 move_offset h (Comment text ∷ segments) m legal e = move_offset h segments m legal.1 e
 
-pub move_within : {h : Fields} {a b : Option (List ℕ)} {head : Head} → h.mx ≤ 127 → PassesHead h a b head → IfSome head.at (λ to. to.offset ≤ 127)
-move_within {h} {a} {b} {head} le p = went head.at p.move_is where
+pub move_within : {h : Fields} {spot : Spot} {a b : Option (List ℕ)} {head : Head} → h.mx ≤ 127 → PassesHead h spot a b head → IfSome head.at (λ to. to.offset ≤ 127)
+move_within {h} {spot} {a} {b} {head} le p = went head.at p.move_is where
   went : (at : Option move.Move) → option_map pair_of at ≡ move_of p.segments → IfSome at (λ to. to.offset ≤ 127)
   went None e = tt
   went (Some to) e = let within : to.offset ≤ h.mx = move_offset h p.segments (pair_of to) p.begun.legal (sym e) in omega (arith, within, le)

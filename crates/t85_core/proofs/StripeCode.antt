@@ -3,6 +3,7 @@ use Rattle.std.proofs.Common.{◌≡◌, ℕ, ◌-◌, ◌*◌, ◌/◌, ◌<◌
 use Rattle.std.specs.Prelude.{IsTrue, if◌then◌else◌, flat_map, option_map, option_and_then, nat_lt}
 use Rattle.std.specs.Io.KnownBytes.{Appends}
 use Rattle.pbm_core.specs.declared.fault.PbmFault.{PbmFault}
+use Rattle.pbm_core.specs.declared.form.Form.{Form}
 use Rattle.raster_core.specs.Counts.{Counts, is_two_line, most_of}
 use Rattle.raster_core.specs.Lines.{Lines}
 use Rattle.raster_core.specs.Offset.{agreement, candidates, best_offset, chosen_offset}
@@ -79,11 +80,11 @@ module _ (s : Settings) (width : ℕ) (at : Course) (text text' : Option (List �
   }
 
   -- the sheet took no more of the move
-  pub move_refused : (offset count : ℕ) (known : Option (List ℕ)) → chosen ≡ Some offset → AppendsBeginning text text' (segment_bytes (Move 0 offset)) → StripeRefused s width count at known known text text'
+  pub move_refused : {form : Form} (offset count : ℕ) (known : Option (List ℕ)) → chosen ≡ Some offset → AppendsBeginning text text' (segment_bytes (Move 0 offset)) → StripeRefused s form width count at known known text text'
   move_refused offset count known some p = record {
     rows = [];
     few = omega arith;
-    read = reads_none width known;
+    read = reads_none _ width known;
     bytes = p.front;
     begins = λ later many.
         let behind : List ℕ = stuffed (code_of (between_on s width at later).state.place) ++ marker_bytes s.reset in
@@ -97,8 +98,8 @@ module _ (s : Settings) (width : ℕ) (at : Course) (text text' : Option (List �
   }
 
 -- the sheet took no more of the stripe behind its move
-pub stripe_refused : (s : Settings) (width count : ℕ) (at : Course) (known known' text mid text' : Option (List ℕ)) (carried : Carried)
-    → MoveMade s width at text mid carried → EntityRefused s width (move_on s width at) at.carry count known known' mid text' → StripeRefused s width count at known known' text text'
+pub stripe_refused : {form : Form} (s : Settings) (width count : ℕ) (at : Course) (known known' text mid text' : Option (List ℕ)) (carried : Carried)
+    → MoveMade s width at text mid carried → EntityRefused s form width (move_on s width at) at.carry count known known' mid text' → StripeRefused s form width count at known known' text text'
 stripe_refused s width count at known known' text mid text' carried made e = record {
   rows = e.rows;
   few = e.few;
@@ -111,10 +112,10 @@ stripe_refused s width count at known known' text mid text' carried made e = rec
   front = flat_map segment_bytes (move_segments (move_on s width at))
 
 -- the offset against which rows are counted is that with which the next stripe begins
-pub stripe_coded : (s : Settings) (width count : ℕ) (is_counted : Bool) (at : Course) (known known' text mid text' : Option (List ℕ)) (carried carried' : Carried) (current : ℕ) (counted : Option ℕ) (tally tally' : Tally)
-    → 1 ≤ count → MoveMade s width at text mid carried → EntityWritten s width (move_on s width at) at.carry count counted known known' carried' tally' mid text'
+pub stripe_coded : {form : Form} (s : Settings) (width count : ℕ) (is_counted : Bool) (at : Course) (known known' text mid text' : Option (List ℕ)) (carried carried' : Carried) (current : ℕ) (counted : Option ℕ) (tally tally' : Tally)
+    → 1 ≤ count → MoveMade s width at text mid carried → EntityWritten s form width (move_on s width at) at.carry count counted known known' carried' tally' mid text'
     → carried'.kept.offset ≡ current → counted ≡ (if is_counted then Some current else None) → is_two_line tally' ≡ is_two_line tally → most_of tally' ≡ most_of tally → IsTallied s width at tally
-    → StripeCoded s width count is_counted at known known' text text' carried' tally'
+    → StripeCoded s form width count is_counted at known known' text text' carried' tally'
 stripe_coded s width count is_counted at known known' text mid text' carried carried' current counted tally tally' some made e current_is counted_is two_line most t = record {
   rows = e.rows;
   many = e.many;
@@ -149,9 +150,9 @@ stripe_coded s width count is_counted at known known' text mid text' carried car
     no : IsTrue false → ⊥
     no e = cc
 
-pub stripe_short : (s : Settings) (width count : ℕ) (at : Course) (known known' text mid text' : Option (List ℕ)) (carried : Carried) (fault : PbmFault)
-    → MoveMade s width at text mid carried → RowsShort (λ bytes. Appends mid text' bytes) s width (move_on s width at) at.carry count known known' fault
-    → StripeShort s width count at known known' text text' fault
+pub stripe_short : {form : Form} (s : Settings) (width count : ℕ) (at : Course) (known known' text mid text' : Option (List ℕ)) (carried : Carried) (fault : PbmFault)
+    → MoveMade s width at text mid carried → RowsShort (λ bytes. Appends mid text' bytes) s form width (move_on s width at) at.carry count known known' fault
+    → StripeShort s form width count at known known' text text' fault
 stripe_short s width count at known known' text mid text' carried fault made short = record {
   rows = short.rows;
   few = short.few;

@@ -1,5 +1,5 @@
 -- A stripe is decoded and set out, or it breaks.
-use Rattle.std.proofs.Common.{◌≡◌, ◌<◌, ◌≤◌, ◌⊎◌, inl, inr, ℕ, Bool, true, not, List, [], ◌∷◌, ◌++◌, length, count_by, Option, None, Some, refl, sym, ap, ◌∙◌, subst, append_assoc, append-nil, arith, length-append}
+use Rattle.std.proofs.Common.{cond, ◌≡◌, ◌<◌, ◌≤◌, ◌⊎◌, inl, inr, ℕ, Bool, true, not, List, [], ◌∷◌, ◌++◌, length, count_by, Option, None, Some, refl, sym, ap, ◌∙◌, subst, append_assoc, append-nil, arith, length-append}
 use Rattle.std.specs.Prelude.{flat_map, option_map}
 use Rattle.std.specs.Io.KnownBytes.{Consumes, prepend_known}
 use Rattle.qm_core.specs.Code.{IsBytes, stuffed}
@@ -19,7 +19,7 @@ use Rattle.t85_core.specs.Header.{Fields}
 use Rattle.raster_core.specs.Packed.{packed_row}
 use Rattle.t85_core.specs.Grammar.{Segment, segment_bytes, stripe_bytes, marker_bytes, is_move, is_nil, IsBegun}
 use Rattle.t85_core.specs.Coding.{mode_of, move_of}
-use Rattle.t85_core.specs.Refusal.{rest_fault}
+use Rattle.t85_core.specs.Refusal.{rest_fault, Spot, spot_behind}
 use Rattle.t85_core.specs.Walk.{Ends}
 use Rattle.t85_core.specs.Piece.{code_bytes, PassesHead, PassesCode, HeadFault}
 use Rattle.t85_core.specs.Entity.{Standing, GivesFault, BreaksIn, Finishes, entity_known}
@@ -27,7 +27,7 @@ use Rattle.t85_core.specs.Carried.{Carry, begin, end_of}
 use Rattle.t85_core.specs.Broken.{BegunRun, RunEnough}
 use Rattle.t85_core.specs.RowsSoFar.{RowsSoFar}
 use Rattle.t85_core.specs.Unset.{StripeUnset}
-use Rattle.t85_core.specs.Decoding.{pair_of, IsShapeOf, IsCarried, CodeBegins, RowsRead, RowsCut, RowsUnset, StripeRead, StripeCut}
+use Rattle.t85_core.specs.Decoding.{pair_of, IsShapeOf, IsCarried, CodeBegins, RowsRead, RowsCut, RowsUnset, StripeRead, StripeCut, GivesIn}
 use Rattle.t85_core.specs.CoderLaws.{CoderLaws}
 use Rattle.t85_core.proofs.Ends.{Ends-after}
 use Rattle.t85_core.proofs.Lists.{All-append}
@@ -50,9 +50,9 @@ not_nil : (bytes : List ℕ) → 1 ≤ length bytes → not (is_nil bytes) ≡ t
 not_nil [] some = absurd (omega (arith, some))
 not_nil (b ∷ bytes) some = refl
 
-module _ {T : Type 0} (standing : T → Standing) (failed : T → ℕ) (h : Fields) (c : Carry) (old : Option (List ℕ)) (segments : List Segment) (s t : T)
+module _ {T : Type 0} (standing : T → Standing) (failed : T → ℕ) (h : Fields) (spot : Spot) (heights : ℕ) (c : Carry) (old : Option (List ℕ)) (segments : List Segment) (s t : T)
     (legal : IsBegun h segments []) (passed : Consumes old (standing s).known (flat_map segment_bytes segments))
-    (first : Code) (first_is : (standing s).first ≡ Some first) where
+    (first : Code) (first_is : (standing s).first ≡ Some first) (gives_in : GivesIn spot heights segments) where
   abbrev front : List ℕ
   front = flat_map segment_bytes segments
 
@@ -78,15 +78,16 @@ module _ {T : Type 0} (standing : T → Standing) (failed : T → ℕ) (h : Fiel
 
     -- the rest of the code was passed, too
     pub stripe_whole : CoderLaws → {pull : T → Pulled → T → Type 0} (shape : Shape) (count : ℕ) (carried carried' : Carried) (d : Decoder) (text text' : Option (List ℕ)) (r : RowsRead pull s t h shape c segments count carried d text text') → r.answers ≡ answers →
-        (u : Option (List ℕ)) (reset : Bool) → Finishes (standing t).known u (standing t).marker reset → IsCarried (begin (end_of h.xd reset r.last)) carried' → StripeRead h c old u count carried' text text'
+        (u : Option (List ℕ)) (reset : Bool) → Finishes (standing t).known u (standing t).marker reset → IsCarried (begin (end_of h.xd reset r.last)) carried' → StripeRead h spot heights c old u count carried' text text'
     stripe_whole q shape count carried carried' d text text' r same u reset finishes is = went (heard_of answers) refl part.last where
       stands : Stands d r.last.state.place answers
       stands = subst (Stands d r.last.state.place) same r.stands
 
-      made : (code : List ℕ) → IsBytes code → Agrees answers code → Consumes old u (front ++ (stuffed code ++ marker_bytes reset)) → StripeRead h c old u count carried' text text'
+      made : (code : List ℕ) → IsBytes code → Agrees answers code → Consumes old u (front ++ (stuffed code ++ marker_bytes reset)) → StripeRead h spot heights c old u count carried' text text'
       made code small agrees taken = record {
         stripe = record { segments = segments; code = code; reset = reset };
         taken = taken;
+        gives_in = gives_in;
         rows = r.rows;
         flags = r.flags;
         next = end_of h.xd reset r.last;
@@ -95,7 +96,7 @@ module _ {T : Type 0} (standing : T → Standing) (failed : T → ℕ) (h : Fiel
         set_out = r.set_out;
       }
 
-      went : (k : Heard) → heard_of answers ≡ k → LastIs standing part.mid k t → StripeRead h c old u count carried' text text'
+      went : (k : Heard) → heard_of answers ≡ k → LastIs standing part.mid k t → StripeRead h spot heights c old u count carried' text text'
       went More e last =
           let open_ : (standing t).marker ≡ None = subst (λ z. (standing z).marker ≡ None) last part.went.marker in
           let p : PassesCode (standing t).known u reset = subst (λ m. Finishes (standing t).known u m reset) open_ finishes in
@@ -114,7 +115,7 @@ module _ {T : Type 0} (standing : T → Standing) (failed : T → ℕ) (h : Fiel
 
     -- the code breaks in the next row
     pub stripe_stopped : {pull : T → Pulled → T → Type 0} (count : ℕ) (text text' : Option (List ℕ)) (r : RowsCut pull s t h c segments count text text') → r.answers ≡ answers →
-        (g : GivesFault (standing part.mid) (standing t)) → StripeCut h c old (standing t).known count text text' g.why
+        (g : GivesFault (standing part.mid) (standing t)) → StripeCut h spot c old (standing t).known count text text' g.why
     stripe_stopped count text text' r same g = record {
       rows = r.rows;
       flags = r.flags;
@@ -125,7 +126,8 @@ module _ {T : Type 0} (standing : T → Standing) (failed : T → ℕ) (h : Fiel
           rest = given;
           bytes_are = append_assoc front (stuffed (bytes_of answers)) given;
           begun = begun_with (bytes_of answers) (subst (λ z. IsBytes (bytes_of z)) same r.bytes);
-          rest_has = ap (λ b. rest_fault h (count_by is_move segments) b given) (not_nil (bytes_of answers) (some_bytes g.begun)) ∙ has h (count_by is_move segments);
+          gives = gives_in.gives;
+          rest_has = ap (λ b. rest_fault h (spot_behind spot segments) (count_by is_move segments) b given) (not_nil (bytes_of answers) (some_bytes g.begun)) ∙ has h (spot_behind spot segments) (count_by is_move segments);
         },
         begun,
       )) g.ends;
@@ -136,7 +138,7 @@ module _ {T : Type 0} (standing : T → Standing) (failed : T → ℕ) (h : Fiel
 
     -- the sheet took no more
     pub stripe_unset : CoderLaws → {pull : T → Pulled → T → Type 0} (count : ℕ) (text text' : Option (List ℕ)) (r : RowsUnset pull s t h c segments count text text') → r.answers ≡ answers →
-        (u : Option (List ℕ)) (ahead : List ℕ) → Consumes (standing t).known u ahead → StripeUnset h c old u count text text'
+        (u : Option (List ℕ)) (ahead : List ℕ) → Consumes (standing t).known u ahead → StripeUnset h spot c old u count text text'
     stripe_unset q count text text' r same u ahead further = went (heard_of answers) refl part.last where
       stands : Stands r.decoder r.last.state.place answers
       stands = subst (Stands r.decoder r.last.state.place) same r.stands
@@ -146,7 +148,7 @@ module _ {T : Type 0} (standing : T → Standing) (failed : T → ℕ) (h : Fiel
 
       made : (given : List ℕ) → Consumes old (standing t).known given →
           ((given ≡ flat_map segment_bytes segments ++ stuffed (bytes_of answers)) × RunEnough (length (bytes_of answers)) (mode_of h.options) (move_of segments) 0 (begin c) r.rows r.flags)
-          ⊎ ((reset : Bool) × (given ≡ stripe_bytes (record { segments = segments; code = bytes_of answers; reset = reset }))) → StripeUnset h c old u count text text'
+          ⊎ ((reset : Bool) × (given ≡ stripe_bytes (record { segments = segments; code = bytes_of answers; reset = reset }))) → StripeUnset h spot c old u count text text'
       made given taken decides = record {
         given = given;
         ahead = ahead;
@@ -157,6 +159,7 @@ module _ {T : Type 0} (standing : T → Standing) (failed : T → ℕ) (h : Fiel
           segments = segments;
           code = bytes_of answers;
           begun = begun_with (bytes_of answers) stands.bytes;
+          gives = gives_in.gives;
           front = record {
             last = r.last;
             run = so_far.run;
@@ -168,7 +171,7 @@ module _ {T : Type 0} (standing : T → Standing) (failed : T → ℕ) (h : Fiel
         set_out = r.set_out;
       }
 
-      went : (k : Heard) → heard_of answers ≡ k → LastIs standing part.mid k t → StripeUnset h c old u count text text'
+      went : (k : Heard) → heard_of answers ≡ k → LastIs standing part.mid k t → StripeUnset h spot c old u count text text'
       went More e last = made (front ++ stuffed (bytes_of answers)) (subst (λ z. Consumes old (standing z).known (front ++ stuffed (bytes_of answers))) last taken_so_far) (inl (refl, so_far.enough e))
       went Ended e last =
           let g = last.0 in
@@ -178,9 +181,9 @@ module _ {T : Type 0} (standing : T → Standing) (failed : T → ℕ) (h : Fiel
 
     -- the code breaks behind the stripe's rows
     pub stripe_rest : CoderLaws → {pull : T → Pulled → T → Type 0} (shape : Shape) (count : ℕ) (carried : Carried) (d : Decoder) (text text' : Option (List ℕ)) (r : RowsRead pull s t h shape c segments count carried d text text') → r.answers ≡ answers →
-        (u : Option (List ℕ)) (fault : Fault) → (standing t).marker ≡ None → Ends Truncated (standing t).known u (BreaksIn (standing t).first) fault → StripeCut h c old u count text text' fault
+        (u : Option (List ℕ)) (fault : Fault) → (standing t).marker ≡ None → Ends Truncated (standing t).known u (BreaksIn (standing t).first) fault → StripeCut h spot c old u count text text' fault
     stripe_rest q shape count carried d text text' r same u fault open_ ends = went (heard_of answers) refl part.last where
-      went : (k : Heard) → heard_of answers ≡ k → LastIs standing part.mid k t → StripeCut h c old u count text text' fault
+      went : (k : Heard) → heard_of answers ≡ k → LastIs standing part.mid k t → StripeCut h spot c old u count text text' fault
       went More e last = record {
         rows = r.rows;
         flags = r.flags;
@@ -193,7 +196,8 @@ module _ {T : Type 0} (standing : T → Standing) (failed : T → ℕ) (h : Fiel
                 ap (λ z. (front ++ stuffed (bytes_of answers)) ++ z) has.0.bytes_are ∙ append_assoc front (stuffed (bytes_of answers)) (stuffed has.0.code ++ has.0.rest)
                 ∙ ap (λ z. front ++ z) (sym (append_assoc (stuffed (bytes_of answers)) (stuffed has.0.code) has.0.rest) ∙ ap (λ z. z ++ has.0.rest) (sym (stuffed_append (bytes_of answers) has.0.code)));
             begun = begun_with (bytes_of answers ++ has.0.code) (All-append (λ b. b < 256) (bytes_of answers) has.0.code small has.0.small);
-            rest_has = ap (λ b. rest_fault h (count_by is_move segments) b has.0.rest) (not_nil (bytes_of answers ++ has.0.code) (some_code has.0.code has.1)) ∙ has.0.rest_has h (count_by is_move segments);
+            gives = gives_in.gives;
+            rest_has = ap (λ b. rest_fault h (spot_behind spot segments) (count_by is_move segments) b has.0.rest) (not_nil (bytes_of answers ++ has.0.code) (some_code has.0.code has.1)) ∙ has.0.rest_has h (spot_behind spot segments) (count_by is_move segments);
           },
           subst (λ z. BegunRun h count c segments (bytes_of z ++ has.0.code) r.rows r.flags) same (rows_full h c segments r.answers r.rows r.flags r.last r.so_far q count has.0.code d r.many r.stands (ap heard_of same ∙ e) has.0.small),
         )) ends;
@@ -212,9 +216,9 @@ module _ {T : Type 0} (standing : T → Standing) (failed : T → ℕ) (h : Fiel
       went Stopped e last = absurd (r.unstopped (ap heard_of same ∙ e))
 
 -- A stripe that breaks: all its rows that what came decides were set out.
-pub cut_unset : (h : Fields) (c : Carry) (old mid new : Option (List ℕ)) (ahead : List ℕ) (count : ℕ) (text text' : Option (List ℕ)) (fault : Fault) → StripeCut h c old mid count text text' fault → Consumes mid new ahead →
-    StripeUnset h c old new count text text'
-cut_unset h c old mid new ahead count text text' fault s further =
+pub cut_unset : (h : Fields) (spot : Spot) (c : Carry) (old mid new : Option (List ℕ)) (ahead : List ℕ) (count : ℕ) (text text' : Option (List ℕ)) (fault : Fault) → StripeCut h spot c old mid count text text' fault → Consumes mid new ahead →
+    StripeUnset h spot c old new count text text'
+cut_unset h spot c old mid new ahead count text text' fault s further =
     let d = s.ends.has_fault in
     let part : List ℕ = flat_map segment_bytes d.0.segments ++ stuffed d.0.code in
     record {
@@ -228,6 +232,7 @@ cut_unset h c old mid new ahead count text text' fault s further =
         segments = d.0.segments;
         code = d.0.code;
         begun = d.0.begun;
+        gives = d.0.gives;
         front = record { last = d.1.last; run = d.1.run; few = d.1.few; lies = d.1.lies };
         decides = inl (refl, d.1.enough);
       };
@@ -240,8 +245,8 @@ ahead_of None known = ([], Consumes-none known)
 ahead_of (Some c) known = (code_bytes c, consumes_front known (code_bytes c))
 
 -- a stripe that breaks before its code begins
-pub stripe_head : (h : Fields) (c : Carry) (old new : Option (List ℕ)) (count : ℕ) (text : Option (List ℕ)) (fault : Fault) → 1 ≤ h.xd → Ends Truncated old new (HeadFault h) fault → StripeCut h c old new count text text fault
-stripe_head h c old new count text fault some ends = record {
+pub stripe_head : (h : Fields) (spot : Spot) (c : Carry) (old new : Option (List ℕ)) (count : ℕ) (text : Option (List ℕ)) (fault : Fault) → 1 ≤ h.xd → Ends Truncated old new (HeadFault h spot) fault → StripeCut h spot c old new count text text fault
+stripe_head h spot c old new count text fault some ends = record {
   rows = [];
   flags = [];
   ends = record {
@@ -254,12 +259,13 @@ stripe_head h c old new count text fault some ends = record {
 }
 
 -- a stripe's head was read
-pub head_begins : {h : Fields} {old mid : Option (List ℕ)} {head : Head} (p : PassesHead h old mid head) (c : Carry) (shape : Shape) (carried : Carried) (s : Standing) → IsShapeOf h shape → IsCarried (begin c) carried →
+pub head_begins : {h : Fields} {spot : Spot} {old mid : Option (List ℕ)} {head : Head} (p : PassesHead h spot old mid head) (c : Carry) (shape : Shape) (carried : Carried) (s : Standing) → IsShapeOf h shape → IsCarried (begin c) carried →
     s.known ≡ prepend_known (code_bytes head.code) mid → s.first ≡ Some head.code → s.marker ≡ None → s.fault ≡ None →
-    CodeBegins h c p.segments old shape (option_map pair_of head.at) carried s
-head_begins {h} {old} {mid} {head} p c shape carried s shape_is is known first marker fault = record {
+    CodeBegins h spot (cond head.given 1 0) c p.segments old shape (option_map pair_of head.at) carried s
+head_begins {h} {spot} {old} {mid} {head} p c shape carried s shape_is is known first marker fault = record {
   begun = p.begun;
   passed = subst (λ k. Consumes old k (flat_map segment_bytes p.segments)) (sym known) (segments_taken old mid (flat_map segment_bytes p.segments) (code_bytes head.code) p.taken);
+  gives_in = record { gives = p.gives; heights_are = p.given_is };
   move_is = p.move_is;
   shape_is = shape_is;
   is_carried = is;

@@ -1,12 +1,12 @@
 -- The stripes of an image, read and set out one after another.
 use Rattle.std.proofs.Common.{◌≡◌, ℕ, zero, suc, ◌+◌, ◌-◌, ◌*◌, ◌/◌, ◌<◌, ◌≤◌, ◌^◌, Bool, List, [], ◌++◌, length, take, refl, sym, ◌∙◌, ap, subst, arith, Option, append_assoc, append-nil, length-append}
 use Rattle.std.specs.Prelude.{IsTrue, min}
-use Rattle.std.specs.List.{AllByRecursion}
 use Rattle.std.specs.Io.KnownBytes.{Appends}
 use Rattle.std.proofs.lemmas.Grind.{div_ceil_times}
 use Rattle.std.proofs.lemmas.List.{take-take}
 use Rattle.std.proofs.Math.Seq.{take-append_seam, take-length}
 use Rattle.pbm_core.specs.declared.fault.PbmFault.{PbmFault}
+use Rattle.pbm_core.specs.declared.form.Form.{Form}
 use Rattle.raster_core.specs.Counts.{Counts, is_two_line, most_of}
 use Rattle.raster_core.specs.Offset.{candidates}
 use Rattle.raster_core.specs.Raster.{Raster, height, white_row}
@@ -29,10 +29,10 @@ use Rattle.t85_core.proofs.RowsOn.{RowsGoOn, rows_continue, rows_go_on}
 use Rattle.t85_core.proofs.Courses.{CourseAt, course_begins, course_step, stripe_within, stripes_more}
 
 -- so many stripes were read and set out
-pub record StripesCoded (s : Settings) (width height' i : ℕ) (known known' text text' : Option (List ℕ)) (carried : Carried) (tally : Tally) : Type 0 where
+pub record StripesCoded (s : Settings) (form : Form) (width height' i : ℕ) (known known' text text' : Option (List ℕ)) (carried : Carried) (tally : Tally) : Type 0 where
   pub rows : List (List Bool)
   pub many : length rows ≡ min (i * s.stripe_rows) height'
-  pub read : ReadsRows width known known' rows
+  pub read : ReadsRows form width known known' rows
   pub at : Course
   pub bytes : List ℕ
   pub set_out : Appends text text' bytes
@@ -41,13 +41,13 @@ pub record StripesCoded (s : Settings) (width height' i : ℕ) (known known' tex
   pub on_course : i < stripe_count height' s.stripe_rows → IsOnCourse s width at carried tally
 
 -- nothing was read
-pub no_stripes : (s : Settings) (width height' : ℕ) (known text : Option (List ℕ)) (carried : Carried) (tally : Tally) → IsCarried (begin (first_carry width)) carried
+pub no_stripes : {form : Form} (s : Settings) (width height' : ℕ) (known text : Option (List ℕ)) (carried : Carried) (tally : Tally) → IsCarried (begin (first_carry width)) carried
     → ((width' current : ℕ) → Counts tally width' current []) → is_two_line tally ≡ (mode_of s.options).two_line → most_of tally ≡ s.most_offset
-    → StripesCoded s width height' 0 known known text text carried tally
+    → StripesCoded s form width height' 0 known known text text carried tally
 no_stripes s width height' known text carried tally first counts two_line most = record {
   rows = [];
   many = omega arith;
-  read = reads_none width known;
+  read = reads_none _ width known;
   at = first_course width;
   bytes = [];
   set_out = appends_none text;
@@ -74,8 +74,8 @@ first_begins width height' first rows raster b = record {
 begins_on : (a b c : List ℕ) → IsBeginning a b → IsBeginning b c → IsBeginning a c
 begins_on a b c p q = record { rest = p.rest ++ q.rest; bytes_are = q.bytes_are ∙ ap (λ z. z ++ q.rest) p.bytes_are ∙ append_assoc a p.rest q.rest }
 
-module _ (s : Settings) (width height' i : ℕ) (some : 1 ≤ s.stripe_rows) (inside : i < stripe_count height' s.stripe_rows) (known mid known' text put text' : Option (List ℕ)) (carried : Carried) (tally : Tally)
-    (so : StripesCoded s width height' i known mid text put carried tally) where
+module _ {form : Form} (s : Settings) (width height' i : ℕ) (some : 1 ≤ s.stripe_rows) (inside : i < stripe_count height' s.stripe_rows) (known mid known' text put text' : Option (List ℕ)) (carried : Carried) (tally : Tally)
+    (so : StripesCoded s form width height' i known mid text put carried tally) where
   abbrev l : ℕ
   l = s.stripe_rows
 
@@ -97,12 +97,12 @@ module _ (s : Settings) (width height' i : ℕ) (some : 1 ≤ s.stripe_rows) (in
       )
 
   -- a stripe more
-  pub stripe_more : (count : ℕ) (is_counted : Bool) (carried' : Carried) (tally' : Tally) → count ≡ min l (height' - i * l) → StripeCoded s width count is_counted so.at mid known' put text' carried' tally'
-      → (i + 1 < stripe_count height' l → 0 < length (candidates (mode_of s.options).two_line s.most_offset) → IsTrue is_counted) → StripesCoded s width height' (i + 1) known known' text text' carried' tally'
+  pub stripe_more : (count : ℕ) (is_counted : Bool) (carried' : Carried) (tally' : Tally) → count ≡ min l (height' - i * l) → StripeCoded s form width count is_counted so.at mid known' put text' carried' tally'
+      → (i + 1 < stripe_count height' l → 0 < length (candidates (mode_of s.options).two_line s.most_offset) → IsTrue is_counted) → StripesCoded s form width height' (i + 1) known known' text text' carried' tally'
   stripe_more count is_counted carried' tally' count_is r counts = record {
     rows = so.rows ++ r.rows;
     many = let sum : (i + 1) * l ≡ i * l + 1 * l = Rattle.std.proofs.Math.Nat.add-mul i 1 l in omega (arith, length-append so.rows r.rows, many, r.many, count_is, within, sum);
-    read = reads_join width known mid known' so.rows r.rows so.read r.read;
+    read = reads_join form width known mid known' so.rows r.rows so.read r.read;
     at = course_on s width so.at r.rows;
     bytes = so.bytes ++ stripe_bytes (stripe_on s width so.at r.rows);
     set_out = Appends-more text put text' _ _ so.set_out r.set_out;
@@ -151,13 +151,13 @@ module _ (s : Settings) (width height' i : ℕ) (some : 1 ≤ s.stripe_rows) (in
       (stripes_begin raster (i + 1) (stripe_count height' l - (i + 1)))
 
   -- a stripe isn't whole
-  pub stripes_short : (count : ℕ) (fault : PbmFault) → count ≡ min l (height' - i * l) → StripeShort s width count so.at mid known' put text' fault
-      → ImageShort s width height' (λ raster n. stripes_up_to s raster n) (λ raster. stripes_of s raster) known known' text text' fault
+  pub stripes_short : (count : ℕ) (fault : PbmFault) → count ≡ min l (height' - i * l) → StripeShort s form width count so.at mid known' put text' fault
+      → ImageShort s form width height' (λ raster n. stripes_up_to s raster n) (λ raster. stripes_of s raster) known known' text text' fault
   stripes_short count fault count_is r = record {
     rows = so.rows ++ r.rows;
     few = omega (arith, length-append so.rows r.rows, many, r.few, count_is, within);
     mid = r.mid;
-    read = reads_join width known mid r.mid so.rows r.rows so.read r.read;
+    read = reads_join form width known mid r.mid so.rows r.rows so.read r.read;
     part = r.part;
     bytes = so.bytes ++ r.bytes;
     holds = λ raster b. record {
@@ -181,11 +181,11 @@ module _ (s : Settings) (width height' i : ℕ) (some : 1 ≤ s.stripe_rows) (in
         (all_begin raster b.height_is)
 
   -- the sheet took no more of a stripe
-  pub stripes_refused : (count : ℕ) → count ≡ min l (height' - i * l) → StripeRefused s width count so.at mid known' put text' → ImageRefused width height' (λ raster. stripes_of s raster) known known' text text'
+  pub stripes_refused : (count : ℕ) → count ≡ min l (height' - i * l) → StripeRefused s form width count so.at mid known' put text' → ImageRefused form width height' (λ raster. stripes_of s raster) known known' text text'
   stripes_refused count count_is r = record {
     rows = so.rows ++ r.rows;
     few = omega (arith, length-append so.rows r.rows, many, r.few, count_is, within);
-    read = reads_join width known mid known' so.rows r.rows so.read r.read;
+    read = reads_join form width known mid known' so.rows r.rows so.read r.read;
     bytes = so.bytes ++ r.bytes;
     begins = λ raster b.
         begins_on _ _ _
@@ -197,10 +197,10 @@ module _ (s : Settings) (width height' i : ℕ) (some : 1 ≤ s.stripe_rows) (in
   }
 
 -- all rows were read
-pub stripes_coded : (s : Settings) (width height' i : ℕ) (known known' text text' : Option (List ℕ)) (carried : Carried) (tally : Tally) → i ≡ stripe_count height' s.stripe_rows → 1 ≤ s.stripe_rows
+pub stripes_coded : {form : Form} (s : Settings) (width height' i : ℕ) (known known' text text' : Option (List ℕ)) (carried : Carried) (tally : Tally) → i ≡ stripe_count height' s.stripe_rows → 1 ≤ s.stripe_rows
     → 1 ≤ width → width ≤ 1048576 → 1 ≤ height' → height' < 2 ^ 32
-    → StripesCoded s width height' i known known' text text' carried tally → ImageCoded width height' (λ raster. stripes_of s raster) known known' text text'
-stripes_coded s width height' i known known' text text' carried tally ended some wide narrow high low so = record {
+    → StripesCoded s form width height' i known known' text text' carried tally → ImageCoded form width height' (λ raster. stripes_of s raster) known known' text text'
+stripes_coded {form} s width height' i known known' text text' carried tally ended some wide narrow high low so = record {
   rows = so.rows;
   many = all;
   read = so.read;
@@ -214,7 +214,7 @@ stripes_coded s width height' i known known' text text' carried tally ended some
 
   itself : BeginsWith width height' so.rows (raster_of width so.rows)
   itself = record {
-    proper = record { width_from = wide; width_to = narrow; height_from = omega (arith, all, high); height_to = omega (arith, all, low); rows = subst (AllByRecursion (λ row. length row ≡ width)) (sym so.read.rows_are) (rows_wide width (length so.rows) so.read.given) };
+    proper = record { width_from = wide; width_to = narrow; height_from = omega (arith, all, high); height_to = omega (arith, all, low); rows = rows_wide form width so.read.given so.rows so.read.are_rows };
     width_is = refl;
     height_is = all;
     first = take-length so.rows;

@@ -1,5 +1,5 @@
 -- What `info` leaves, whichever way it ends.
-use Rattle.std.proofs.Common.{◌≡◌, inl, ◌≤◌, ◌+◌, ℕ, Bool, true, List, Option, None, Some, Result, Ok, Err, length, sym, subst, arith}
+use Rattle.std.proofs.Common.{◌≡◌, ◌≢◌, inl, inr, ◌≤◌, ◌+◌, ◌++◌, ℕ, Bool, true, List, Option, None, Some, Result, Ok, Err, length, drop, sym, ap, ◌∙◌, subst, arith}
 use Rattle.std.specs.Prelude.{IfSome, OnOk, IfErr}
 use Rattle.std.specs.Io.KnownBytes.{Consumes, Appends}
 use Rattle.std.specs.Result.{IsErrAnd}
@@ -7,13 +7,15 @@ use Rattle.pbm_core.specs.Device.{AppendsBeginning}
 use Rattle.t85_core.specs.declared.fault.Fault.{Fault}
 use Rattle.t85_core.specs.declared.fault.Fault.TheVariants.{ShortHeader, Truncated, Read, Write}
 use Rattle.t85_core.specs.Header.{Fields, HeaderOf, header_fault}
-use Rattle.t85_core.specs.Grammar.{stripe_count}
-use Rattle.t85_core.specs.Refusal.{StripesFault}
+use Rattle.t85_core.specs.Refusal.{BodyFault}
+use Rattle.t85_core.specs.Height.{IsHeight, IsOpen, StreamFault}
+use Rattle.t85_core.specs.Seek.{BodyLine, BodyRefused, BodyUnfinished}
 use Rattle.t85_core.specs.Walk.{Ends, CountsWrite, counted_as, failed_reads}
-use Rattle.t85_core.specs.Info.{Informs, HasLine, IsUnfinished}
-use Rattle.t85_core.proofs.Faults.{header_faults, body_faults, uncounted, uncounted_body, walk_fault, no_write, unwritten}
+use Rattle.t85_core.specs.Info.{Informs, HasLine, IsUnfinished, IsWalkFault}
+use Rattle.t85_core.proofs.Faults.{header_faults, uncounted, no_write, unwritten}
 use Rattle.t85_core.proofs.Held.{Keeps-same}
-use Rattle.t85_core.proofs.Known.{refused_header, refused_body, unread_body}
+use Rattle.t85_core.proofs.Known.{HeaderOf-append, behind, refused_header}
+use Rattle.t85_core.proofs.Streams.{Consumes-more}
 
 -- the exit of a `?`, for what is said of the whole answer
 pub exit_all : {T : Type 0} (Q : Result T Fault → Type 0) (r : Result T Fault) {e : Fault} → IsErrAnd r (λ y. y ≡ e) → Q (Err e) → Q r
@@ -24,6 +26,44 @@ unread_header : (old new : Option (List ℕ)) (f : Fault) → Ends ShortHeader o
 unread_header old new f e read =
     let has : header_fault e.given ≡ Some ShortHeader = subst (λ x. header_fault e.given ≡ Some (counted_as ShortHeader x)) read e.has_fault.1 in
     (e.given, e.taken, inl (inl has))
+
+refused_stream : (old mid : Option (List ℕ)) (given : List ℕ) (h : Fields) (f : Fault) → length given ≡ 20 → Consumes old mid given → HeaderOf given h → IfSome mid (BodyRefused h f) → IfSome old (λ bytes. StreamFault bytes f)
+refused_stream None mid given h f long taken is r = tt
+refused_stream (Some bytes) None given h f long taken is r = absurd taken
+refused_stream (Some bytes) (Some body) given h f long taken is r =
+    let whole : drop 20 bytes ≡ body = ap (drop 20) taken ∙ behind given body long in
+    inr (record {
+      header = h;
+      header_of = subst (λ z. HeaderOf z h) (sym taken) (HeaderOf-append given body h is);
+      height = r.height;
+      height_is = subst (λ z. IsHeight h z r.height) (sym whole) r.height_is;
+      broken = subst (λ z. BodyFault h r.height z f) (sym whole) r.broken;
+    })
+
+unread_stream : (given body : List ℕ) (h : Fields) → length given ≡ 20 → HeaderOf given h → BodyUnfinished h body → IsUnfinished (given ++ body)
+unread_stream given body h long is (inl r) = inr (inl (inr (record {
+  header = h;
+  header_of = HeaderOf-append given body h is;
+  height = r.height;
+  height_is = subst (λ z. IsHeight h z r.height) (sym (behind given body long)) r.height_is;
+  broken = subst (λ z. BodyFault h r.height z Truncated) (sym (behind given body long)) r.broken;
+})))
+unread_stream given body h long is (inr o) = inr (inr (record { header = h; header_of = HeaderOf-append given body h is; open_still = subst (IsOpen h) (sym (behind given body long)) o }))
+
+-- the line of the body is that of the stream
+pub known_line : (old mid : Option (List ℕ)) (given : List ℕ) (h : Fields) (line : List ℕ) → length given ≡ 20 → Consumes old mid given → HeaderOf given h → IfSome mid (BodyLine h line) → IfSome old (λ bytes. HasLine bytes line)
+known_line None mid given h line long taken is l = tt
+known_line (Some bytes) None given h line long taken is l = absurd taken
+known_line (Some bytes) (Some body) given h line long taken is l =
+    let whole : drop 20 bytes ≡ body = ap (drop 20) taken ∙ behind given body long in
+    record {
+      header = h;
+      header_of = subst (λ z. HeaderOf z h) (sym taken) (HeaderOf-append given body h is);
+      height = l.height;
+      height_is = subst (λ z. IsHeight h z l.height) (sym whole) l.height_is;
+      parts = record { stripes = l.parts.stripes; rest = l.parts.rest; body_is = whole ∙ l.parts.body_is; count = l.parts.count; each = l.parts.each; gives = l.parts.gives };
+      text_is = l.line_is;
+    }
 
 module _ (in_old in_new : Option (List ℕ)) (reads_old reads_new : ℕ) (out : Option (List ℕ)) (writes : ℕ) (flushed : Bool) where
   -- the header was refused
@@ -43,26 +83,19 @@ module _ (in_old in_new : Option (List ℕ)) (reads_old reads_new : ℕ) (out : 
       }
 
   -- the body was refused, behind a header that was accepted
-  pub told_body : (mid : Option (List ℕ)) (given : List ℕ) (h : Fields) (count : ℕ) (f : Fault) → length given ≡ 20 → Consumes in_old mid given → HeaderOf given h → count ≡ stripe_count h.yd h.l0
-      → (known : Option (List ℕ)) → Ends Truncated mid known (StripesFault h count) f → (f ≡ Read → known ≡ in_new) → reads_new ≡ reads_old + failed_reads f → Informs in_old in_new reads_old reads_new out out writes writes flushed (Err f)
-  told_body mid given h count f long taken is counted known e drained reads =
-      let may = walk_fault f (uncounted_body Truncated f (body_faults h count e.given (counted_as Truncated f) e.has_fault)) in
-      record {
-        line = tt;
-        flushed_last = tt;
-        refused = λ read _. refused_body in_old mid known given h count f long taken is counted e read;
-        unwritten = λ _. Keeps-same out;
-        among = λ _. may;
-        unread = λ same. read_failed (let s : f ≡ Read = cc in s);
-        cut = λ same. absurd (no_write f may (let s : f ≡ Write = cc in s));
-        reads = reads;
-        writes = omega (arith, unwritten f may);
-      }
-    where
-      read_failed : f ≡ Read → (all : List ℕ) × Consumes in_old in_new all × IsUnfinished all
-      read_failed read =
-          let u = unread_body in_old mid known given h count f long taken is counted e read in
-          (u.0, subst (λ k. Consumes in_old k u.0) (drained read) u.1, u.2)
+  pub told_body : (mid : Option (List ℕ)) (given : List ℕ) (h : Fields) (f : Fault) → length given ≡ 20 → Consumes in_old mid given → HeaderOf given h → IsWalkFault f → (f ≢ Read → IfSome mid (BodyRefused h f))
+      → (known : Option (List ℕ)) → (f ≡ Read → (body : List ℕ) × Consumes mid known body × BodyUnfinished h body) → (f ≡ Read → known ≡ in_new) → reads_new ≡ reads_old + failed_reads f → Informs in_old in_new reads_old reads_new out out writes writes flushed (Err f)
+  told_body mid given h f long taken is may refused known unread drained reads = record {
+    line = tt;
+    flushed_last = tt;
+    refused = λ read _. refused_stream in_old mid given h f long taken is (refused read);
+    unwritten = λ _. Keeps-same out;
+    among = λ _. may;
+    unread = λ same. (let read : f ≡ Read = cc in let u = unread read in (given ++ u.0, Consumes-more in_old mid in_new given u.0 taken (subst (λ k. Consumes mid k u.0) (drained read) u.1), unread_stream given u.0 h long is u.2));
+    cut = λ same. absurd (no_write f may (let s : f ≡ Write = cc in s));
+    reads = reads;
+    writes = omega (arith, unwritten f may);
+  }
 
 -- the line was to be written
 pub told_line : (in_old in_new : Option (List ℕ)) (reads_old reads_new : ℕ) (out_old out_new : Option (List ℕ)) (writes_old writes_new : ℕ) (flushed : Bool) (r : Result (Unit {0}) Fault) (text : List ℕ) → IfSome in_old (λ bytes. HasLine bytes text)

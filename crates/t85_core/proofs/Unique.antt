@@ -2,12 +2,14 @@
 use Rattle.std.proofs.Common.{cond, ◌%◌, ◌||◌, slice_index, ◌≡◌, ◌≢◌, inl, inr, ◌<◌, ◌≤◌, ℕ, Bool, false, not, List, Option, None, Some, length, drop, nat_lt, nat_le, nat_eq, refl, sym, ap, ◌∙◌, subst, arith}
 use Rattle.std.proofs.lemmas.Bool.Decides.{nat_tests}
 use Rattle.t85_core.specs.declared.fault.Fault.{Fault}
-use Rattle.t85_core.specs.Grammar.{Parts, stripe_count}
-use Rattle.t85_core.specs.Header.{Fields, HeaderOf, header_fault, long_at}
+use Rattle.t85_core.specs.Grammar.{Parts}
+use Rattle.t85_core.specs.Header.{Fields, IsAccepted, HeaderOf, header_fault, long_at}
 use Rattle.t85_core.specs.Line.{line_text}
 use Rattle.t85_core.specs.Info.{numbers_of, HasLine}
-use Rattle.t85_core.specs.Refusal.{StripesFault, StreamFault}
-use Rattle.t85_core.proofs.Cut.{one_parts, parts_or_fault, one_broken}
+use Rattle.t85_core.specs.Refusal.{BodyFault}
+use Rattle.t85_core.specs.Height.{IsHeight, StreamFaultBehind, StreamFault}
+use Rattle.t85_core.proofs.Cut.{one_parts}
+use Rattle.t85_core.proofs.Heights.{one_height_of, height_within, whole_or_broken_at, one_fault_of}
 
 abbrev made : ℕ → ℕ → ℕ → ℕ → ℕ → Fields
 made a b c d e = record { xd = a; yd = b; l0 = c; mx = d; options = e }
@@ -56,26 +58,56 @@ accepted bytes h p =
       not_above_20 : (n : ℕ) → 20 ≤ n → nat_lt n 20 ≡ false
       not_above_20 n q = grind (arith, nat_tests)
 
-line_at : (bytes x y : List ℕ) (h k : Fields) → HeaderOf bytes h → h ≡ k → (a : Parts h h.yd (drop 20 bytes)) → x ≡ line_text (numbers_of h h.yd a.stripes) → (b : Parts k k.yd (drop 20 bytes)) → y ≡ line_text (numbers_of k k.yd b.stripes) → x ≡ y
-line_at bytes x y h k is same = subst (λ z. (a : Parts h h.yd (drop 20 bytes)) → x ≡ line_text (numbers_of h h.yd a.stripes) → (b : Parts z z.yd (drop 20 bytes)) → y ≡ line_text (numbers_of z z.yd b.stripes) → x ≡ y) same
-    (λ a u b v. u ∙ ap (λ z. line_text (numbers_of h h.yd z)) (one_parts h is.accepted.stripe_to a.stripes b.stripes a.rest b.rest a.each b.each (a.count ∙ sym b.count) (sym a.body_is ∙ b.body_is)) ∙ sym v)
+-- what a stream with this header has as its line
+record LineOf (bytes text : List ℕ) (h : Fields) : Type 0 where
+  pub height : ℕ
+  pub height_is : IsHeight h (drop 20 bytes) height
+  pub parts : Parts h height (drop 20 bytes)
+  pub text_is : text ≡ line_text (numbers_of h height parts.stripes)
+
+one_line_of : (bytes x y : List ℕ) (h : Fields) → IsAccepted h → LineOf bytes x h → LineOf bytes y h → x ≡ y
+one_line_of bytes x y h ok p q =
+    went q.height (one_height_of h (drop 20 bytes) p.height q.height ok p.height_is q.height_is) q.parts q.text_is
+  where
+    at : (b : Parts h p.height (drop 20 bytes)) → y ≡ line_text (numbers_of h p.height b.stripes) → x ≡ y
+    at b v =
+        let same = one_parts h ok p.parts.stripes b.stripes p.parts.rest b.rest p.parts.each b.each (p.parts.count ∙ sym b.count) (sym p.parts.body_is ∙ b.body_is) in
+        p.text_is ∙ ap (λ z. line_text (numbers_of h p.height z)) same ∙ sym v
+
+    went : (n : ℕ) → p.height ≡ n → (b : Parts h n (drop 20 bytes)) → y ≡ line_text (numbers_of h n b.stripes) → x ≡ y
+    went n same = subst (λ n. (b : Parts h n (drop 20 bytes)) → y ≡ line_text (numbers_of h n b.stripes) → x ≡ y) same at
 
 pub one_line : (bytes x y : List ℕ) → HasLine bytes x → HasLine bytes y → x ≡ y
-one_line bytes x y p q = line_at bytes x y p.header q.header p.header_of (header_is bytes p.header q.header p.header_of q.header_of) p.parts p.text_is q.parts q.text_is
+one_line bytes x y p q =
+    let same : p.header ≡ q.header = header_is bytes p.header q.header p.header_of q.header_of in
+    let other : LineOf bytes y q.header = record { height = q.height; height_is = q.height_is; parts = q.parts; text_is = q.text_is } in
+    one_line_of bytes x y p.header p.header_of.accepted (record { height = p.height; height_is = p.height_is; parts = p.parts; text_is = p.text_is })
+    (subst (LineOf bytes y) (sym same) other)
+
+-- what a stream with this header has as its fault
+record FaultOf (bytes : List ℕ) (fault : Fault) (h : Fields) : Type 0 where
+  pub height : ℕ
+  pub height_is : IsHeight h (drop 20 bytes) height
+  pub broken : BodyFault h height (drop 20 bytes) fault
+
+-- of the same header, at the same height
+fault_at : (bytes : List ℕ) (f : Fault) (h : Fields) (n : ℕ) → HeaderOf bytes h → IsHeight h (drop 20 bytes) n → StreamFaultBehind bytes f → BodyFault h n (drop 20 bytes) f
+fault_at bytes f h n is height_is q =
+    let same : h ≡ q.header = header_is bytes h q.header is q.header_of in
+    let other : FaultOf bytes f q.header = record { height = q.height; height_is = q.height_is; broken = q.broken } in
+    let here : FaultOf bytes f h = subst (FaultOf bytes f) (sym same) other in
+    subst (λ z. BodyFault h z (drop 20 bytes) f) (one_height_of h (drop 20 bytes) here.height n is.accepted here.height_is height_is) here.broken
 
 pub line_or_fault : (bytes text : List ℕ) (f : Fault) → HasLine bytes text → StreamFault bytes f → ⊥
 line_or_fault bytes text f p (inl e) = let k : None ≡ Some f = sym (accepted bytes p.header p.header_of) ∙ e in cc
 line_or_fault bytes text f p (inr q) =
-    let same : p.header ≡ q.0 = header_is bytes p.header q.0 p.header_of q.1 in
-    let w : StripesFault p.header (stripe_count p.header.yd p.header.l0) (drop 20 bytes) f = subst (λ z. StripesFault z (stripe_count z.yd z.l0) (drop 20 bytes) f) (sym same) q.2 in
-    parts_or_fault p.header p.header_of.accepted.stripe_to p.parts.stripes w.stripes p.parts.rest w.tail f p.parts.each w.each (omega (arith, p.parts.count, w.fewer)) w.tail_has (sym p.parts.body_is ∙ w.bytes_are)
+    whole_or_broken_at p.header p.height (drop 20 bytes) f (height_within p.header (drop 20 bytes) p.height p.header_of.accepted p.height_is) p.parts
+    (fault_at bytes f p.header p.height p.header_of p.height_is q)
 
 pub one_fault : (bytes : List ℕ) (f g : Fault) → StreamFault bytes f → StreamFault bytes g → f ≡ g
 one_fault bytes f g (inl p) (inl q) = let k : Some f ≡ Some g = sym p ∙ q in cc
-one_fault bytes f g (inl p) (inr q) = let k : None ≡ Some f = sym (accepted bytes q.0 q.1) ∙ p in absurd (cc)
-one_fault bytes f g (inr p) (inl q) = let k : None ≡ Some g = sym (accepted bytes p.0 p.1) ∙ q in absurd (cc)
+one_fault bytes f g (inl p) (inr q) = let k : None ≡ Some f = sym (accepted bytes q.header q.header_of) ∙ p in absurd (cc)
+one_fault bytes f g (inr p) (inl q) = let k : None ≡ Some g = sym (accepted bytes p.header p.header_of) ∙ q in absurd (cc)
 one_fault bytes f g (inr p) (inr q) =
-    let same : p.0 ≡ q.0 = header_is bytes p.0 q.0 p.1 q.1 in
-    let w : StripesFault p.0 (stripe_count p.0.yd p.0.l0) (drop 20 bytes) g = subst (λ z. StripesFault z (stripe_count z.yd z.l0) (drop 20 bytes) g) (sym same) q.2 in
-    let cut = one_broken p.0 p.1.accepted.stripe_to p.2.stripes w.stripes p.2.tail w.tail f g p.2.each w.each p.2.tail_has w.tail_has (sym p.2.bytes_are ∙ w.bytes_are) in
-    cut.broken.fault
+    (one_fault_of p.header p.height (drop 20 bytes) f g (height_within p.header (drop 20 bytes) p.height p.header_of.accepted p.height_is) p.broken
+    (fault_at bytes g p.header p.height p.header_of p.height_is q)).broken.fault

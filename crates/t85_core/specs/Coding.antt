@@ -3,7 +3,7 @@ use Rattle.std.specs.Prelude.{ℕ, zero, suc, ◌+◌, ◌-◌, ◌*◌, ◌/◌
 use Rattle.qm_core.specs.Place.{Event, Estimate, Place, State, start, fresh, after}
 use Rattle.raster_core.specs.Raster.{Raster, height}
 use Rattle.raster_core.specs.Lines.{Mode, Lines, lines_at, row_events, numbers_from, IsLegalFlag}
-use Rattle.t85_core.specs.Grammar.{Segment, Move, Comment}
+use Rattle.t85_core.specs.Grammar.{Segment, NewLength, Move, Comment}
 
 -- whether bit k of an options byte is set
 abbrev pub has_bit : ℕ → ℕ → Bool
@@ -16,6 +16,7 @@ mode_of options = record { two_line = has_bit options 6; typical = has_bit optio
 -- The move of a stripe, a row and an offset: the first of its segments that is one. No stripe has two.
 abbrev pub move_of : List Segment → Option (ℕ × ℕ)
 move_of [] = None
+move_of (NewLength height ∷ segments) = move_of segments
 move_of (Move row offset ∷ segments) = Some (row, offset)
 move_of (Comment text ∷ segments) = move_of segments
 

@@ -17,8 +17,8 @@ use Rattle.t85_core.specs.declared.rows.RowFault.{RowFault}
 use Rattle.t85_core.specs.declared.rows.RowFault.TheVariants as row_fault
 use Rattle.t85_core.specs.declared.walk.Move.{Move}
 use Rattle.t85_core.specs.Header.{Fields}
-use Rattle.t85_core.specs.Grammar.{Segment, Stripe, segment_bytes, stripe_bytes, IsBegun}
-use Rattle.t85_core.specs.Refusal.{StripeFault}
+use Rattle.t85_core.specs.Grammar.{Segment, Stripe, segment_bytes, stripe_bytes, IsBegun, lengths, all_segments, GiveOnly}
+use Rattle.t85_core.specs.Refusal.{Spot, StripeFault}
 use Rattle.t85_core.specs.Walk.{Ends}
 use Rattle.t85_core.specs.Entity.{Standing}
 use Rattle.t85_core.specs.declared.walk.Code.{Code}
@@ -146,10 +146,16 @@ RowsOfUnset {S} pull old new shape move count carried text text' =
 abbrev pub IsFirst : Carried → Type 0
 IsFirst carried = IsCarried (begin (first_carry (width_of carried.window.now))) carried
 
+-- segments give the height in use at most once in all, and with them there are so many
+pub record GivesIn (spot : Spot) (heights : ℕ) (segments : List Segment) : Type 0 where
+  pub gives : GiveOnly spot.height spot.heights segments
+  pub heights_are : heights ≡ spot.heights + length (lengths segments)
+
 -- A whole stripe was decoded and set out.
-pub record StripeRead (h : Fields) (c : Carry) (known known' : Option (List ℕ)) (count : ℕ) (carried : Carried) (text text' : Option (List ℕ)) : Type 0 where
+pub record StripeRead (h : Fields) (spot : Spot) (heights : ℕ) (c : Carry) (known known' : Option (List ℕ)) (count : ℕ) (carried : Carried) (text text' : Option (List ℕ)) : Type 0 where
   pub stripe : Stripe
   pub taken : Consumes known known' (stripe_bytes stripe)
+  pub gives_in : GivesIn spot heights stripe.segments
   pub rows : List (List Bool)
   pub flags : List Bool
   pub next : Carry
@@ -158,20 +164,21 @@ pub record StripeRead (h : Fields) (c : Carry) (known known' : Option (List ℕ)
   pub set_out : Appends text text' (flat_map packed_row rows)
 
 -- a fault of a stripe, of which what came decides these rows
-abbrev pub DecidesRows : Fields → Carry → ℕ → List (List Bool) → List Bool → List ℕ → Fault → Type 0
-DecidesRows h c count rows flags given fault = (broken : StripeFault h given fault) × BegunRun h count c broken.segments broken.code rows flags
+abbrev pub DecidesRows : Fields → Spot → Carry → ℕ → List (List Bool) → List Bool → List ℕ → Fault → Type 0
+DecidesRows h spot c count rows flags given fault = (broken : StripeFault h spot given fault) × BegunRun h count c broken.segments broken.code rows flags
 
 -- A stripe that breaks: the rows that what came decides were set out.
-pub record StripeCut (h : Fields) (c : Carry) (known known' : Option (List ℕ)) (count : ℕ) (text text' : Option (List ℕ)) (fault : Fault) : Type 0 where
+pub record StripeCut (h : Fields) (spot : Spot) (c : Carry) (known known' : Option (List ℕ)) (count : ℕ) (text text' : Option (List ℕ)) (fault : Fault) : Type 0 where
   pub rows : List (List Bool)
   pub flags : List Bool
-  pub ends : Ends Truncated known known' (DecidesRows h c count rows flags) fault
+  pub ends : Ends Truncated known known' (DecidesRows h spot c count rows flags) fault
   pub set_out : Appends text text' (flat_map packed_row rows)
 
 -- A stripe's segments were passed, its code begins, and this is carried to it.
-pub record CodeBegins (h : Fields) (c : Carry) (segments : List Segment) (known : Option (List ℕ)) (shape : Shape) (move : Option (ℕ × ℕ)) (carried : Carried) (s : Standing) : Type 0 where
+pub record CodeBegins (h : Fields) (spot : Spot) (heights : ℕ) (c : Carry) (segments : List Segment) (known : Option (List ℕ)) (shape : Shape) (move : Option (ℕ × ℕ)) (carried : Carried) (s : Standing) : Type 0 where
   pub begun : IsBegun h segments []
   pub passed : Consumes known s.known (flat_map segment_bytes segments)
+  pub gives_in : GivesIn spot heights segments
   pub move_is : move ≡ move_of segments
   pub shape_is : IsShapeOf h shape
   pub is_carried : IsCarried (begin c) carried
@@ -183,33 +190,36 @@ pub record CodeBegins (h : Fields) (c : Carry) (segments : List Segment) (known 
 -- it begins so in some stripe
 pub record CodeBegun (shape : Shape) (move : Option (ℕ × ℕ)) (carried : Carried) (s : Standing) : Type 0 where
   pub h : Fields
+  pub spot : Spot
+  pub heights : ℕ
   pub c : Carry
   pub segments : List Segment
   pub known : Option (List ℕ)
-  pub begins : CodeBegins h c segments known shape move carried s
+  pub begins : CodeBegins h spot heights c segments known shape move carried s
 
 -- the code of a stripe, in whatever stripe
 abbrev pub CodeRead : Standing → Standing → Shape → Option (ℕ × ℕ) → ℕ → Carried → Carried → Option (List ℕ) → Option (List ℕ) → Type 0
 CodeRead s t shape move count carried carried' text text' =
-    (h : Fields) (c : Carry) (segments : List Segment) (known : Option (List ℕ)) → CodeBegins h c segments known shape move carried s →
-    StripeRead h c known t.known count carried' text text'
+    (h : Fields) (spot : Spot) (heights : ℕ) (c : Carry) (segments : List Segment) (known : Option (List ℕ)) → CodeBegins h spot heights c segments known shape move carried s →
+    StripeRead h spot heights c known t.known count carried' text text'
 
 abbrev pub CodeCut : Standing → Standing → Shape → Option (ℕ × ℕ) → ℕ → Carried → Option (List ℕ) → Option (List ℕ) → Fault → Type 0
 CodeCut s t shape move count carried text text' fault =
-    (h : Fields) (c : Carry) (segments : List Segment) (known : Option (List ℕ)) → CodeBegins h c segments known shape move carried s →
-    StripeCut h c known t.known count text text' fault
+    (h : Fields) (spot : Spot) (heights : ℕ) (c : Carry) (segments : List Segment) (known : Option (List ℕ)) → CodeBegins h spot heights c segments known shape move carried s →
+    StripeCut h spot c known t.known count text text' fault
 
 -- whatever is carried to the stripe
-abbrev pub StripeMore : Fields → Option (List ℕ) → Option (List ℕ) → ℕ → Carried → Carried → Option (List ℕ) → Option (List ℕ) → Type 0
-StripeMore h known known' count carried carried' text text' = (c : Carry) → IsCarried (begin c) carried → StripeRead h c known known' count carried' text text'
+abbrev pub StripeMore : Fields → Spot → ℕ → Option (List ℕ) → Option (List ℕ) → ℕ → Carried → Carried → Option (List ℕ) → Option (List ℕ) → Type 0
+StripeMore h spot heights known known' count carried carried' text text' = (c : Carry) → IsCarried (begin c) carried → StripeRead h spot heights c known known' count carried' text text'
 
-abbrev pub NoStripeMore : Fields → Option (List ℕ) → Option (List ℕ) → ℕ → Carried → Option (List ℕ) → Option (List ℕ) → Fault → Type 0
-NoStripeMore h known known' count carried text text' fault = (c : Carry) → IsCarried (begin c) carried → StripeCut h c known known' count text text' fault
+abbrev pub NoStripeMore : Fields → Spot → Option (List ℕ) → Option (List ℕ) → ℕ → Carried → Option (List ℕ) → Option (List ℕ) → Fault → Type 0
+NoStripeMore h spot known known' count carried text text' fault = (c : Carry) → IsCarried (begin c) carried → StripeCut h spot c known known' count text text' fault
 
 -- So many stripes were decoded and set out.
-pub record StripesRead (h : Fields) (height : ℕ) (known known' : Option (List ℕ)) (count : ℕ) (carried : Carried) (text text' : Option (List ℕ)) : Type 0 where
+pub record StripesRead (h : Fields) (height : ℕ) (known known' : Option (List ℕ)) (count heights : ℕ) (carried : Carried) (text text' : Option (List ℕ)) : Type 0 where
   pub stripes : List Stripe
   pub many : length stripes ≡ count
+  pub gives_in : GivesIn (record { height = height; entities = 0; heights = 0 }) heights (all_segments stripes)
   pub taken : Consumes known known' (flat_map stripe_bytes stripes)
   pub rows : List (List Bool)
   pub flags : List Bool

@@ -4,6 +4,7 @@ use Rattle.qm_core.specs.Code.{Lies}
 use Rattle.raster_core.specs.Raster.{Raster, IsRaster, height}
 use Rattle.t85_core.specs.Header.{Fields, HeaderOf}
 use Rattle.t85_core.specs.Grammar.{Stripe, Parts}
+use Rattle.t85_core.specs.Height.{IsHeight}
 use Rattle.t85_core.specs.Coding.{Coding, HasLegalFlags, place_of, mode_of, move_of}
 
 -- the rows as these stripes and flags say that they are coded
@@ -35,4 +36,6 @@ pub record DenotesAt (h : Fields) (height' : ℕ) (body : List ℕ) (raster : Ra
 pub record Denotes (bytes : List ℕ) (raster : Raster) : Type 0 where
   pub header : Fields
   pub header_of : HeaderOf bytes header
-  pub denotes : DenotesAt header header.yd (drop 20 bytes) raster
+  pub height : ℕ
+  pub height_is : IsHeight header (drop 20 bytes) height
+  pub denotes : DenotesAt header height (drop 20 bytes) raster

@@ -1,11 +1,10 @@
 -- What an encoder of rows and stripes leaves.
-use Rattle.std.specs.Prelude.{ℕ, ◌*◌, ◌/◌, ◌≡◌, ◌≤◌, ◌<◌, Bool, false, List, [], ◌∷◌, ◌++◌, length, Option, Some, None, IfSome, IsTrue, ◌+◌}
+use Rattle.std.specs.Prelude.{ℕ, ◌/◌, ◌≡◌, ◌≤◌, ◌<◌, Bool, false, List, [], ◌∷◌, ◌++◌, length, Option, Some, None, IfSome, IsTrue, ◌+◌}
 use Rattle.std.specs.Io.KnownBytes.{Appends, Consumes}
-use Rattle.pbm_core.specs.Pbm.{bytes_of_row}
-use Rattle.pbm_core.specs.Image.{rows_in}
+use Rattle.pbm_core.specs.Image.{RowFault, AreRows}
+use Rattle.pbm_core.specs.declared.form.Form.{Form}
 use Rattle.pbm_core.specs.Walk.{Ends}
 use Rattle.pbm_core.specs.declared.fault.PbmFault.{PbmFault}
-use Rattle.pbm_core.specs.declared.fault.PbmFault.TheVariants as pbm
 use Rattle.qm_core.specs.Code.{code_of, stuffed}
 use Rattle.qm_core.specs.Encoding.{Codes, has_failed}
 use Rattle.qm_core.specs.Writing.{Took}
@@ -29,20 +28,19 @@ use Rattle.t85_core.specs.Written.{after_rows, lines_down, Course, stripe_on, co
 use Rattle.t85_core.specs.Encodes.{raster_of, BeginsWith}
 
 -- rows of an image were read
-pub record ReadsRows (width : ℕ) (old new : Option (List ℕ)) (rows : List (List Bool)) : Type 0 where
+pub record ReadsRows (form : Form) (width : ℕ) (old new : Option (List ℕ)) (rows : List (List Bool)) : Type 0 where
   pub given : List ℕ
   pub taken : Consumes old new given
-  pub whole : length given ≡ length rows * bytes_of_row width
-  pub rows_are : rows ≡ rows_in width (length rows) given
+  pub are_rows : AreRows form width given rows
 
--- less than a row came, and then the end or a failed read
-abbrev pub EndsInRow : ℕ → Option (List ℕ) → Option (List ℕ) → PbmFault → Type 0
-EndsInRow width old new fault = Ends old new (λ given f. (length given < bytes_of_row width) × (f ≡ pbm.Truncated)) fault
+-- less than a row came, and then the end, a failed read or a byte that is no digit
+abbrev pub EndsInRow : Form → ℕ → Option (List ℕ) → Option (List ℕ) → PbmFault → Type 0
+EndsInRow form width old new fault = Ends old new (λ given f. RowFault form width given f) fault
 
 -- a row was read, below those that the window had
-pub record RowTaken (width : ℕ) (known known' : Option (List ℕ)) (old new : Held) : Type 0 where
+pub record RowTaken (form : Form) (width : ℕ) (known known' : Option (List ℕ)) (old new : Held) : Type 0 where
   pub row : List Bool
-  pub read : ReadsRows width known known' (row ∷ [])
+  pub read : ReadsRows form width known known' (row ∷ [])
   pub below : (lines : Lines) → HasLines old lines → HasLines new (record { row = row; above = lines.row; second = lines.above })
 
 -- the shape of the rows
@@ -65,9 +63,9 @@ IsCountedTo width None tally lines = (current : ℕ) → Counts tally width curr
 IsCountedTo width (Some current) tally lines = Counts tally width current lines
 
 -- The first rows of a stripe were read and coded: from what the sink was, it took what they push.
-pub record RowsCoded {S : Type 0} (took : S → ℕ → S → Type 0) (from to : S) (s : Settings) (width : ℕ) (move : Option (ℕ × ℕ)) (c : Carry)
+pub record RowsCoded {S : Type 0} (took : S → ℕ → S → Type 0) (from to : S) (s : Settings) (form : Form) (width : ℕ) (move : Option (ℕ × ℕ)) (c : Carry)
     (counted : Option ℕ) (known known' : Option (List ℕ)) (rows : List (List Bool)) (carried : Carried) (tally : Tally) (e : Encoder) : Type 0 where
-  pub read : ReadsRows width known known' rows
+  pub read : ReadsRows form width known known' rows
   pub pushed : List ℕ
   pub taken : Took took from pushed to
   pub codes : Codes e (after_rows (mode_of s.options) move 0 (begin c) rows).state.place pushed
@@ -76,13 +74,13 @@ pub record RowsCoded {S : Type 0} (took : S → ℕ → S → Type 0) (from to :
   pub tallied : IsCountedTo width counted tally (lines_down c.above c.second rows)
 
 -- No whole row more came: what was taken is a beginning of the code of each stripe that begins with the rows that did.
-pub record RowsShort (IsTaken : List ℕ → Type 0) (s : Settings) (width : ℕ) (move : Option (ℕ × ℕ)) (c : Carry)
+pub record RowsShort (IsTaken : List ℕ → Type 0) (s : Settings) (form : Form) (width : ℕ) (move : Option (ℕ × ℕ)) (c : Carry)
     (count : ℕ) (known known' : Option (List ℕ)) (fault : PbmFault) : Type 0 where
   pub rows : List (List Bool)
   pub few : length rows < count
   pub mid : Option (List ℕ)
-  pub read : ReadsRows width known mid rows
-  pub part : EndsInRow width mid known' fault
+  pub read : ReadsRows form width known mid rows
+  pub part : EndsInRow form width mid known' fault
   pub pushed : List ℕ
   pub taken : IsTaken pushed
   pub begins : BeginsCode (mode_of s.options) move c count rows pushed
@@ -100,99 +98,99 @@ GivesUpBehind {S} took refused from bytes to = (last : S) × Took took from byte
 
 -- No more was taken of a row that was read, or of the end of the code: what was taken is a beginning of the code of each
 -- stripe that begins with the rows that were read, and nothing more was read.
-pub record RowsRefused (IsTaken : List ℕ → Type 0) (s : Settings) (width : ℕ) (move : Option (ℕ × ℕ)) (c : Carry)
+pub record RowsRefused (IsTaken : List ℕ → Type 0) (s : Settings) (form : Form) (width : ℕ) (move : Option (ℕ × ℕ)) (c : Carry)
     (count : ℕ) (known known' : Option (List ℕ)) : Type 0 where
   pub rows : List (List Bool)
   pub few : length rows ≤ count
-  pub read : ReadsRows width known known' rows
+  pub read : ReadsRows form width known known' rows
   pub pushed : List ℕ
   pub taken : IsTaken pushed
   pub begins : BeginsCode (mode_of s.options) move c count rows pushed
 
 -- a row more, in whatever stripe it stands
-abbrev pub RowMore : {S : Type 0} → (S → ℕ → S → Type 0) → S → S → Shape → Option ℕ → Option (List ℕ) → Option (List ℕ) → Carried → Carried → Tally → Tally → Encoder → Encoder → Type 0
-RowMore {S} took old new shape counted known known' carried carried' tally tally' e e' =
+abbrev pub RowMore : {S : Type 0} → Form → (S → ℕ → S → Type 0) → S → S → Shape → Option ℕ → Option (List ℕ) → Option (List ℕ) → Carried → Carried → Tally → Tally → Encoder → Encoder → Type 0
+RowMore {S} form took old new shape counted known known' carried carried' tally tally' e e' =
     (from : S) (began : Option (List ℕ)) (s : Settings) (move : Option (ℕ × ℕ)) (c : Carry) (rows : List (List Bool)) → IsShape s shape.width shape →
-    RowsCoded took from old s shape.width move c counted began known rows carried tally e →
-    (row : List Bool) × RowsCoded took from new s shape.width move c counted began known' (rows ++ row ∷ []) carried' tally' e'
+    RowsCoded took from old s form shape.width move c counted began known rows carried tally e →
+    (row : List Bool) × RowsCoded took from new s form shape.width move c counted began known' (rows ++ row ∷ []) carried' tally' e'
 
-abbrev pub NoRowMore : {S : Type 0} → (S → ℕ → S → Type 0) → S → S → Shape → Option ℕ → Option (List ℕ) → Option (List ℕ) → Carried → Tally → Encoder → PbmFault → Type 0
-NoRowMore {S} took old new shape counted known known' carried tally e fault =
+abbrev pub NoRowMore : {S : Type 0} → Form → (S → ℕ → S → Type 0) → S → S → Shape → Option ℕ → Option (List ℕ) → Option (List ℕ) → Carried → Tally → Encoder → PbmFault → Type 0
+NoRowMore {S} form took old new shape counted known known' carried tally e fault =
     (from : S) (began : Option (List ℕ)) (s : Settings) (move : Option (ℕ × ℕ)) (c : Carry) (rows : List (List Bool)) (count : ℕ) → IsShape s shape.width shape → length rows < count →
-    RowsCoded took from old s shape.width move c counted began known rows carried tally e →
-    RowsShort (λ bytes. Took took from bytes new) s shape.width move c count began known' fault
+    RowsCoded took from old s form shape.width move c counted began known rows carried tally e →
+    RowsShort (λ bytes. Took took from bytes new) s form shape.width move c count began known' fault
 
-abbrev pub RowRefused : {S : Type 0} → (S → ℕ → S → Type 0) → (S → S → Type 0) → S → S → Shape → Option ℕ → Option (List ℕ) → Carried → Tally → Encoder → Type 0
-RowRefused {S} took refused old new shape counted known carried tally e =
+abbrev pub RowRefused : {S : Type 0} → Form → (S → ℕ → S → Type 0) → (S → S → Type 0) → S → S → Shape → Option ℕ → Option (List ℕ) → Carried → Tally → Encoder → Type 0
+RowRefused {S} form took refused old new shape counted known carried tally e =
     (from : S) (began : Option (List ℕ)) (s : Settings) (move : Option (ℕ × ℕ)) (c : Carry) (rows : List (List Bool)) → IsShape s shape.width shape →
-    RowsCoded took from old s shape.width move c counted began known rows carried tally e →
+    RowsCoded took from old s form shape.width move c counted began known rows carried tally e →
     GivesUp took refused from new
 
-abbrev pub NoRowTaken : {S : Type 0} → (S → ℕ → S → Type 0) → (S → S → Type 0) → S → S → Shape → Option ℕ → Option (List ℕ) → Option (List ℕ) → Carried → Tally → Encoder → Type 0
-NoRowTaken {S} took refused old new shape counted known known' carried tally e =
+abbrev pub NoRowTaken : {S : Type 0} → Form → (S → ℕ → S → Type 0) → (S → S → Type 0) → S → S → Shape → Option ℕ → Option (List ℕ) → Option (List ℕ) → Carried → Tally → Encoder → Type 0
+NoRowTaken {S} form took refused old new shape counted known known' carried tally e =
     (from : S) (began : Option (List ℕ)) (s : Settings) (move : Option (ℕ × ℕ)) (c : Carry) (rows : List (List Bool)) (count : ℕ) → IsShape s shape.width shape → length rows < count →
-    RowsCoded took from old s shape.width move c counted began known rows carried tally e →
-    RowsRefused (λ bytes. GivesUpBehind took refused from bytes new) s shape.width move c count began known'
+    RowsCoded took from old s form shape.width move c counted began known rows carried tally e →
+    RowsRefused (λ bytes. GivesUpBehind took refused from bytes new) s form shape.width move c count began known'
 
 -- All rows of a stripe were read, and their code was taken.
-pub record CodeWritten (IsTaken : List ℕ → Type 0) (s : Settings) (width : ℕ) (move : Option (ℕ × ℕ)) (c : Carry)
+pub record CodeWritten (IsTaken : List ℕ → Type 0) (s : Settings) (form : Form) (width : ℕ) (move : Option (ℕ × ℕ)) (c : Carry)
     (count : ℕ) (counted : Option ℕ) (known known' : Option (List ℕ)) (carried : Carried) (tally : Tally) : Type 0 where
   pub rows : List (List Bool)
   pub many : length rows ≡ count
-  pub read : ReadsRows width known known' rows
+  pub read : ReadsRows form width known known' rows
   pub taken : IsTaken (stuffed (code_of (after_rows (mode_of s.options) move 0 (begin c) rows).state.place))
   pub is_held : IsHeld move (length rows) (after_rows (mode_of s.options) move 0 (begin c) rows) carried
   pub tallied : IsCountedTo width counted tally (lines_down c.above c.second rows)
 
 -- the rows of a stripe, in whatever stripe
-abbrev pub CodeOfRows : (List ℕ → Type 0) → Shape → ℕ → Option ℕ → Option (List ℕ) → Option (List ℕ) → Carried → Carried → Tally → Type 0
-CodeOfRows IsTaken shape count counted known known' carried carried' tally' =
+abbrev pub CodeOfRows : Form → (List ℕ → Type 0) → Shape → ℕ → Option ℕ → Option (List ℕ) → Option (List ℕ) → Carried → Carried → Tally → Type 0
+CodeOfRows form IsTaken shape count counted known known' carried carried' tally' =
     (s : Settings) (move : Option (ℕ × ℕ)) (c : Carry) → IsShape s shape.width shape → IsHeld move 0 (begin c) carried →
-    CodeWritten IsTaken s shape.width move c count counted known known' carried' tally'
+    CodeWritten IsTaken s form shape.width move c count counted known known' carried' tally'
 
-abbrev pub CodeOfShort : (List ℕ → Type 0) → Shape → ℕ → Option (List ℕ) → Option (List ℕ) → Carried → PbmFault → Type 0
-CodeOfShort IsTaken shape count known known' carried fault =
+abbrev pub CodeOfShort : Form → (List ℕ → Type 0) → Shape → ℕ → Option (List ℕ) → Option (List ℕ) → Carried → PbmFault → Type 0
+CodeOfShort form IsTaken shape count known known' carried fault =
     (s : Settings) (move : Option (ℕ × ℕ)) (c : Carry) → IsShape s shape.width shape → IsHeld move 0 (begin c) carried →
-    RowsShort IsTaken s shape.width move c count known known' fault
+    RowsShort IsTaken s form shape.width move c count known known' fault
 
-abbrev pub CodeOfRefused : (List ℕ → Type 0) → Shape → ℕ → Option (List ℕ) → Option (List ℕ) → Carried → Type 0
-CodeOfRefused IsTaken shape count known known' carried =
+abbrev pub CodeOfRefused : Form → (List ℕ → Type 0) → Shape → ℕ → Option (List ℕ) → Option (List ℕ) → Carried → Type 0
+CodeOfRefused form IsTaken shape count known known' carried =
     (s : Settings) (move : Option (ℕ × ℕ)) (c : Carry) → IsShape s shape.width shape → IsHeld move 0 (begin c) carried →
-    RowsRefused IsTaken s shape.width move c count known known'
+    RowsRefused IsTaken s form shape.width move c count known known'
 
 -- what is carried is that of some stripe
 abbrev pub SomeHeld : Shape → Carried → Type 0
 SomeHeld shape carried = (s : Settings) × (move : Option (ℕ × ℕ)) × (c : Carry) × IsShape s shape.width shape × IsHeld move 0 (begin c) carried
 
 -- The same with the end marker behind it. What is carried goes on to the next stripe.
-pub record EntityWritten (s : Settings) (width : ℕ) (move : Option (ℕ × ℕ)) (c : Carry) (count : ℕ) (counted : Option ℕ)
+pub record EntityWritten (s : Settings) (form : Form) (width : ℕ) (move : Option (ℕ × ℕ)) (c : Carry) (count : ℕ) (counted : Option ℕ)
     (known known' : Option (List ℕ)) (carried : Carried) (tally : Tally) (text text' : Option (List ℕ)) : Type 0 where
   pub rows : List (List Bool)
   pub many : length rows ≡ count
-  pub read : ReadsRows width known known' rows
+  pub read : ReadsRows form width known known' rows
   pub set_out : Appends text text' (stuffed (code_of (after_rows (mode_of s.options) move 0 (begin c) rows).state.place) ++ marker_bytes s.reset)
   pub is_carried : 1 ≤ count → IsCarried (begin (end_of width s.reset (after_rows (mode_of s.options) move 0 (begin c) rows))) carried
   pub tallied : IsCountedTo width counted tally (lines_down c.above c.second rows)
 
-abbrev pub EntityOfRows : Shape → Bool → ℕ → Option ℕ → Option (List ℕ) → Option (List ℕ) → Carried → Carried → Tally → Option (List ℕ) → Option (List ℕ) → Type 0
-EntityOfRows shape reset count counted known known' carried carried' tally' text text' =
+abbrev pub EntityOfRows : Form → Shape → Bool → ℕ → Option ℕ → Option (List ℕ) → Option (List ℕ) → Carried → Carried → Tally → Option (List ℕ) → Option (List ℕ) → Type 0
+EntityOfRows form shape reset count counted known known' carried carried' tally' text text' =
     (s : Settings) (move : Option (ℕ × ℕ)) (c : Carry) → IsShape s shape.width shape → s.reset ≡ reset → IsHeld move 0 (begin c) carried →
-    EntityWritten s shape.width move c count counted known known' carried' tally' text text'
+    EntityWritten s form shape.width move c count counted known known' carried' tally' text text'
 
 -- The rows of a stripe that were read: what was set out is a beginning of each code, with its end marker, that begins with them.
-pub record EntityRefused (s : Settings) (width : ℕ) (move : Option (ℕ × ℕ)) (c : Carry) (count : ℕ) (known known' text text' : Option (List ℕ)) : Type 0 where
+pub record EntityRefused (s : Settings) (form : Form) (width : ℕ) (move : Option (ℕ × ℕ)) (c : Carry) (count : ℕ) (known known' text text' : Option (List ℕ)) : Type 0 where
   pub rows : List (List Bool)
   pub few : length rows ≤ count
-  pub read : ReadsRows width known known' rows
+  pub read : ReadsRows form width known known' rows
   pub bytes : List ℕ
   pub begins : (later : List (List Bool)) → length rows + length later ≡ count →
       IsBeginning bytes (stuffed (code_of (after_rows (mode_of s.options) move 0 (begin c) (rows ++ later)).state.place) ++ marker_bytes s.reset)
   pub set_out : Appends text text' bytes
 
-abbrev pub EntityOfRefused : Shape → Bool → ℕ → Option (List ℕ) → Option (List ℕ) → Carried → Option (List ℕ) → Option (List ℕ) → Type 0
-EntityOfRefused shape reset count known known' carried text text' =
+abbrev pub EntityOfRefused : Form → Shape → Bool → ℕ → Option (List ℕ) → Option (List ℕ) → Carried → Option (List ℕ) → Option (List ℕ) → Type 0
+EntityOfRefused form shape reset count known known' carried text text' =
     (s : Settings) (move : Option (ℕ × ℕ)) (c : Carry) → IsShape s shape.width shape → s.reset ≡ reset → IsHeld move 0 (begin c) carried →
-    EntityRefused s shape.width move c count known known' text text'
+    EntityRefused s form shape.width move c count known known' text text'
 
 -- What a tally counts where a stripe begins: the rows of the stripe before, where there are offsets to choose from.
 pub record IsTallied (s : Settings) (width : ℕ) (at : Course) (tally : Tally) : Type 0 where
@@ -209,29 +207,29 @@ pub record IsOnCourse (s : Settings) (width : ℕ) (at : Course) (carried : Carr
 
 -- A stripe of these rows was read and set out. Where its rows were counted, or there is no offset to choose from, what
 -- the next one needs is held.
-pub record StripeCoded (s : Settings) (width count : ℕ) (is_counted : Bool) (at : Course) (known known' text text' : Option (List ℕ)) (carried : Carried) (tally : Tally) : Type 0 where
+pub record StripeCoded (s : Settings) (form : Form) (width count : ℕ) (is_counted : Bool) (at : Course) (known known' text text' : Option (List ℕ)) (carried : Carried) (tally : Tally) : Type 0 where
   pub rows : List (List Bool)
   pub many : length rows ≡ count
-  pub read : ReadsRows width known known' rows
+  pub read : ReadsRows form width known known' rows
   pub set_out : Appends text text' (stripe_bytes (stripe_on s width at rows))
   pub on_course : (0 < length (candidates (mode_of s.options).two_line s.most_offset) → IsTrue is_counted) → IsOnCourse s width (course_on s width at rows) carried tally
 
 -- Not all rows of a stripe came: what was set out is a beginning of each stripe that begins with those that did.
-pub record StripeShort (s : Settings) (width count : ℕ) (at : Course) (known known' text text' : Option (List ℕ)) (fault : PbmFault) : Type 0 where
+pub record StripeShort (s : Settings) (form : Form) (width count : ℕ) (at : Course) (known known' text text' : Option (List ℕ)) (fault : PbmFault) : Type 0 where
   pub rows : List (List Bool)
   pub few : length rows < count
   pub mid : Option (List ℕ)
-  pub read : ReadsRows width known mid rows
-  pub part : EndsInRow width mid known' fault
+  pub read : ReadsRows form width known mid rows
+  pub part : EndsInRow form width mid known' fault
   pub bytes : List ℕ
   pub begins : BeginsStripe s width at count rows bytes
   pub set_out : Appends text text' bytes
 
 -- The rows of a stripe that were read, and no more: what was set out is a beginning of each stripe that begins with them.
-pub record StripeRefused (s : Settings) (width count : ℕ) (at : Course) (known known' text text' : Option (List ℕ)) : Type 0 where
+pub record StripeRefused (s : Settings) (form : Form) (width count : ℕ) (at : Course) (known known' text text' : Option (List ℕ)) : Type 0 where
   pub rows : List (List Bool)
   pub few : length rows ≤ count
-  pub read : ReadsRows width known known' rows
+  pub read : ReadsRows form width known known' rows
   pub bytes : List ℕ
   pub begins : BeginsStripe s width at count rows bytes
   pub set_out : Appends text text' bytes
@@ -241,36 +239,36 @@ abbrev pub SomeCourse : Shape → Bool → Carried → Tally → Type 0
 SomeCourse shape reset carried tally = (s : Settings) × (at : Course) × IsShape s shape.width shape × (s.reset ≡ reset) × IsOnCourse s shape.width at carried tally
 
 -- a stripe, with whatever settings and on whatever course
-abbrev pub StripeMore : Shape → Bool → ℕ → Bool → Option (List ℕ) → Option (List ℕ) → Carried → Carried → Tally → Tally → Option (List ℕ) → Option (List ℕ) → Type 0
-StripeMore shape reset count is_counted known known' carried carried' tally tally' text text' =
+abbrev pub StripeMore : Form → Shape → Bool → ℕ → Bool → Option (List ℕ) → Option (List ℕ) → Carried → Carried → Tally → Tally → Option (List ℕ) → Option (List ℕ) → Type 0
+StripeMore form shape reset count is_counted known known' carried carried' tally tally' text text' =
     (s : Settings) (at : Course) → IsShape s shape.width shape → s.reset ≡ reset → IsOnCourse s shape.width at carried tally →
-    StripeCoded s shape.width count is_counted at known known' text text' carried' tally'
+    StripeCoded s form shape.width count is_counted at known known' text text' carried' tally'
 
-abbrev pub NoStripeMore : Shape → Bool → ℕ → Option (List ℕ) → Option (List ℕ) → Carried → Tally → Option (List ℕ) → Option (List ℕ) → PbmFault → Type 0
-NoStripeMore shape reset count known known' carried tally text text' fault =
+abbrev pub NoStripeMore : Form → Shape → Bool → ℕ → Option (List ℕ) → Option (List ℕ) → Carried → Tally → Option (List ℕ) → Option (List ℕ) → PbmFault → Type 0
+NoStripeMore form shape reset count known known' carried tally text text' fault =
     (s : Settings) (at : Course) → IsShape s shape.width shape → s.reset ≡ reset → IsOnCourse s shape.width at carried tally →
-    StripeShort s shape.width count at known known' text text' fault
+    StripeShort s form shape.width count at known known' text text' fault
 
-abbrev pub NoStripeTaken : Shape → Bool → ℕ → Option (List ℕ) → Option (List ℕ) → Carried → Tally → Option (List ℕ) → Option (List ℕ) → Type 0
-NoStripeTaken shape reset count known known' carried tally text text' =
+abbrev pub NoStripeTaken : Form → Shape → Bool → ℕ → Option (List ℕ) → Option (List ℕ) → Carried → Tally → Option (List ℕ) → Option (List ℕ) → Type 0
+NoStripeTaken form shape reset count known known' carried tally text text' =
     (s : Settings) (at : Course) → IsShape s shape.width shape → s.reset ≡ reset → IsOnCourse s shape.width at carried tally →
-    StripeRefused s shape.width count at known known' text text'
+    StripeRefused s form shape.width count at known known' text text'
 
 -- All rows of an image were read, and this text of the raster that they are was set out.
-pub record ImageCoded (width height' : ℕ) (whole : Raster → List ℕ) (known known' text text' : Option (List ℕ)) : Type 0 where
+pub record ImageCoded (form : Form) (width height' : ℕ) (whole : Raster → List ℕ) (known known' text text' : Option (List ℕ)) : Type 0 where
   pub rows : List (List Bool)
   pub many : length rows ≡ height'
-  pub read : ReadsRows width known known' rows
+  pub read : ReadsRows form width known known' rows
   pub set_out : Appends text text' (whole (raster_of width rows))
 
 -- Not all rows came: of each image that begins with those that did, what was set out is a beginning of this text, and
 -- holds the text of the stripes whose rows all came.
-pub record ImageShort (s : Settings) (width height' : ℕ) (up_to : Raster → ℕ → List ℕ) (whole : Raster → List ℕ) (known known' text text' : Option (List ℕ)) (fault : PbmFault) : Type 0 where
+pub record ImageShort (s : Settings) (form : Form) (width height' : ℕ) (up_to : Raster → ℕ → List ℕ) (whole : Raster → List ℕ) (known known' text text' : Option (List ℕ)) (fault : PbmFault) : Type 0 where
   pub rows : List (List Bool)
   pub few : length rows < height'
   pub mid : Option (List ℕ)
-  pub read : ReadsRows width known mid rows
-  pub part : EndsInRow width mid known' fault
+  pub read : ReadsRows form width known mid rows
+  pub part : EndsInRow form width mid known' fault
   pub bytes : List ℕ
   pub holds : (raster : Raster) → BeginsWith width height' rows raster → IsBeginning (up_to raster (length rows / s.stripe_rows)) bytes
   pub begins : (raster : Raster) → BeginsWith width height' rows raster → IsBeginning bytes (whole raster)
@@ -278,23 +276,24 @@ pub record ImageShort (s : Settings) (width height' : ℕ) (up_to : Raster → �
 
 -- The rows of an image that were read, and no more: of each image that begins with them, what was set out is a beginning
 -- of this text.
-pub record ImageRefused (width height' : ℕ) (whole : Raster → List ℕ) (known known' text text' : Option (List ℕ)) : Type 0 where
+pub record ImageRefused (form : Form) (width height' : ℕ) (whole : Raster → List ℕ) (known known' text text' : Option (List ℕ)) : Type 0 where
   pub rows : List (List Bool)
   pub few : length rows ≤ height'
-  pub read : ReadsRows width known known' rows
+  pub read : ReadsRows form width known known' rows
   pub bytes : List ℕ
   pub begins : (raster : Raster) → BeginsWith width height' rows raster → IsBeginning bytes (whole raster)
   pub set_out : Appends text text' bytes
 
--- The same where less than a row more may have been read behind them.
-pub record ImageFront (width height' : ℕ) (whole : Raster → List ℕ) (known known' text text' : Option (List ℕ)) : Type 0 where
+-- The same where bytes that end within a row may have been read behind them.
+pub record ImageFront (form : Form) (width height' : ℕ) (whole : Raster → List ℕ) (known known' text text' : Option (List ℕ)) : Type 0 where
   pub rows : List (List Bool)
   pub few : length rows ≤ height'
   pub mid : Option (List ℕ)
-  pub read : ReadsRows width known mid rows
+  pub read : ReadsRows form width known mid rows
   pub part : List ℕ
   pub part_taken : Consumes mid known' part
-  pub short : length part < bytes_of_row width
+  pub fault : PbmFault
+  pub short : RowFault form width part fault
   pub bytes : List ℕ
   pub begins : (raster : Raster) → BeginsWith width height' rows raster → IsBeginning bytes (whole raster)
   pub set_out : Appends text text' bytes

@@ -1,30 +1,43 @@
 -- What follows the header: for each stripe segments, and a data entity of a code and an end marker (T.82, 6.2).
-use Rattle.std.specs.Prelude.{ℕ, ◌≡◌, ◌≤◌, ◌<◌, ◌^◌, Bool, true, false, List, [], ◌∷◌, ◌++◌, length, flat_map, count_by, if◌then◌else◌}
+use Rattle.std.specs.Prelude.{ℕ, ◌+◌, ◌-◌, ◌*◌, ◌≡◌, ◌≤◌, ◌<◌, ◌^◌, Bool, true, false, ◌&&◌, nat_lt, nat_le, List, [], ◌∷◌, ◌++◌, length, flat_map, count_by, if◌then◌else◌, IsTrue}
 use Rattle.std.specs.List.{AllByRecursion}
 use Rattle.std.specs.Int.{div_ceil}
 use Rattle.byteorder.specs.Endian.{big_bytes}
 use Rattle.qm_core.specs.Code.{stuffed}
-use Rattle.t85_core.specs.Header.{Fields}
+use Rattle.t85_core.specs.Header.{Fields, is_variable}
 
--- a segment: a move of the adaptive pixel at a row of the stripe, or a comment
+-- a segment: a new height, a move of the adaptive pixel at a row of the stripe, or a comment
 pub data Segment : Type 0 where
+  NewLength : (height : ℕ) → Segment
   Move : (row offset : ℕ) → Segment
   Comment : (text : List ℕ) → Segment
 
 abbrev pub segment_bytes : Segment → List ℕ
+segment_bytes (NewLength height) = 255 ∷ 5 ∷ big_bytes 4 height
 segment_bytes (Move row offset) = 255 ∷ 6 ∷ big_bytes 4 row ++ offset ∷ 0 ∷ []
 segment_bytes (Comment text) = 255 ∷ 7 ∷ big_bytes 4 (length text) ++ text
 
 abbrev pub is_move : Segment → Bool
+is_move (NewLength height) = false
 is_move (Move row offset) = true
 is_move (Comment text) = false
 
 abbrev pub is_comment : Segment → Bool
+is_comment (NewLength height) = false
 is_comment (Move row offset) = false
 is_comment (Comment text) = true
 
--- a move names a row that a stripe may have, and an offset up to the header's greatest; a length has four bytes
+-- the heights that segments give
+abbrev pub lengths : List Segment → List ℕ
+lengths [] = []
+lengths (NewLength height ∷ segments) = height ∷ lengths segments
+lengths (Move row offset ∷ segments) = lengths segments
+lengths (Comment text ∷ segments) = lengths segments
+
+-- A new height stands only where the header allows one, and is from 1 to the header's. A move names a row that a stripe
+-- may have, and an offset up to the header's greatest. A comment's length has four bytes.
 abbrev pub IsLegal : Fields → Segment → Type 0
+IsLegal h (NewLength height) = IsTrue (is_variable h) × (1 ≤ height) × (height ≤ h.yd)
 IsLegal h (Move row offset) = (row < h.l0) × (offset ≤ h.mx)
 IsLegal h (Comment text) = length text < 2 ^ 32
 
@@ -64,10 +77,26 @@ pub record IsBegun (h : Fields) (segments : List Segment) (code : List ℕ) : Ty
 abbrev pub AreStripes : Fields → List Stripe → Type 0
 AreStripes h stripes = AllByRecursion (λ s. IsBegun h s.segments s.code) stripes
 
--- the body is as many stripes as the height makes, and then any bytes
+-- the segments of all stripes
+abbrev pub all_segments : List Stripe → List Segment
+all_segments stripes = flat_map (λ s. s.segments) stripes
+
+-- A height that may be given behind so many data entities: not above the header's, and the last of these entities has a
+-- row of the image.
+abbrev pub is_valid_length : Fields → ℕ → ℕ → Bool
+is_valid_length h entities height = nat_le 1 height && nat_le height h.yd && nat_lt ((entities - 1) * h.l0) height
+
+-- Behind so many heights the segments give no height but this one, and there is one at most in all.
+pub record GiveOnly (height heights : ℕ) (segments : List Segment) : Type 0 where
+  pub one : heights + length (lengths segments) ≤ 1
+  pub this : AllByRecursion (λ n. n ≡ height) (lengths segments)
+
+-- The body is as many stripes as the height makes, and then any bytes. A height that is given in it is this one, so it
+-- is valid where it stands.
 pub record Parts (h : Fields) (height : ℕ) (body : List ℕ) : Type 0 where
   pub stripes : List Stripe
   pub rest : List ℕ
   pub body_is : body ≡ flat_map stripe_bytes stripes ++ rest
   pub count : length stripes ≡ stripe_count height h.l0
   pub each : AreStripes h stripes
+  pub gives : GiveOnly height 0 (all_segments stripes)

@@ -1,5 +1,5 @@
 -- The header: the twenty bytes before the first segment (T.82, 6.2).
-use Rattle.std.specs.Prelude.{◌≡◌, ◌≢◌, ◌≤◌, ◌<◌, ◌^◌, ◌%◌, ℕ, Bool, ◌||◌, not, ◌==◌, nat_lt, nat_le, List, [], ◌∷◌, ◌++◌, length, drop, slice_index, Option, Some, None, if◌then◌else◌}
+use Rattle.std.specs.Prelude.{◌≡◌, ◌≢◌, ◌≤◌, ◌<◌, ◌^◌, ◌/◌, ◌%◌, ℕ, Bool, ◌||◌, not, ◌==◌, nat_lt, nat_le, List, [], ◌∷◌, ◌++◌, length, drop, slice_index, Option, Some, None, if◌then◌else◌}
 use Rattle.byteorder.specs.Endian.{big_number, big_bytes}
 use Rattle.t85_core.specs.declared.fault.Fault.{Fault}
 use Rattle.t85_core.specs.declared.fault.Fault.TheVariants.{ShortHeader, ReservedBits, Layers, Planes, ZeroSize, TooWide, MoveRange, PrivateTable}
@@ -24,6 +24,10 @@ pub record IsAccepted (h : Fields) : Type 0 where
   pub options_to : h.options < 128
   -- no private table follows: not DPON and DPPRIV without DPLAST
   pub no_table : h.options % 8 ≢ 6
+
+-- whether the height may change in the stream: VLENGTH is bit 5 of the options
+abbrev pub is_variable : Fields → Bool
+is_variable h = h.options / 2 ^ 5 % 2 == 1
 
 -- the number in the four bytes from place i, the highest first
 abbrev pub long_at : ℕ → List ℕ → ℕ

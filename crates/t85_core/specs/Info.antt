@@ -3,10 +3,10 @@ use Rattle.std.specs.Prelude.{◌≡◌, ◌≢◌, ◌⊎◌, ◌-◌, ◌^◌,
 use Rattle.std.specs.Io.KnownBytes.{Consumes, Appends, Keeps}
 use Rattle.pbm_core.specs.Device.{AppendsBeginning}
 use Rattle.t85_core.specs.declared.fault.Fault.{Fault}
-use Rattle.t85_core.specs.declared.fault.Fault.TheVariants.{ShortHeader, Truncated, BadEscape, Aborted, MoveRefused, SecondMove, LengthRefused, Read, Write, OutOfMemory, OptionBits, StripeZero, MoveLarge, TooManyRows, CommentLong, NotYet, Pbm}
+use Rattle.t85_core.specs.declared.fault.Fault.TheVariants.{ShortHeader, Truncated, Changed, SecondLength, LengthRefused, SecondMove, MoveRefused, Aborted, BadEscape, Read, Write, OutOfMemory, OptionBits, StripeZero, MoveLarge, AnnouncedLow, TooManyRows, VariableHeight, CommentLong, Pbm}
 use Rattle.t85_core.specs.Header.{Fields, HeaderOf}
 use Rattle.t85_core.specs.Grammar.{Stripe, Parts, moves_in, comments_in}
-use Rattle.t85_core.specs.Refusal.{StreamFault}
+use Rattle.t85_core.specs.Height.{IsHeight, IsOpen, StreamFault}
 use Rattle.t85_core.specs.Line.{line_text}
 use Rattle.t85_core.specs.Walk.{CountsRead, CountsWrite}
 
@@ -20,12 +20,20 @@ numbers_of h height stripes =
 pub record HasLine (bytes text : List ℕ) : Type 0 where
   pub header : Fields
   pub header_of : HeaderOf bytes header
-  pub parts : Parts header header.yd (drop 20 bytes)
-  pub text_is : text ≡ line_text (numbers_of header header.yd parts.stripes)
+  pub height : ℕ
+  pub height_is : IsHeight header (drop 20 bytes) height
+  pub parts : Parts header height (drop 20 bytes)
+  pub text_is : text ≡ line_text (numbers_of header height parts.stripes)
 
--- the bytes end before the header or the last data entity does
+-- an accepted header, and a body that ends before it is known whether it gives a height
+pub record IsUndecided (bytes : List ℕ) : Type 0 where
+  pub header : Fields
+  pub header_of : HeaderOf bytes header
+  pub open_still : IsOpen header (drop 20 bytes)
+
+-- the bytes end before the header or the last data entity does, or before the height is known
 abbrev pub IsUnfinished : List ℕ → Type 0
-IsUnfinished bytes = StreamFault bytes ShortHeader ⊎ StreamFault bytes Truncated
+IsUnfinished bytes = StreamFault bytes ShortHeader ⊎ StreamFault bytes Truncated ⊎ IsUndecided bytes
 
 -- the faults that a stream may have, or that reading it may answer
 abbrev pub IsWalkFault : Fault → Type 0
@@ -34,9 +42,10 @@ IsWalkFault OutOfMemory = ⊥
 IsWalkFault OptionBits = ⊥
 IsWalkFault StripeZero = ⊥
 IsWalkFault MoveLarge = ⊥
+IsWalkFault AnnouncedLow = ⊥
 IsWalkFault TooManyRows = ⊥
+IsWalkFault VariableHeight = ⊥
 IsWalkFault CommentLong = ⊥
-IsWalkFault NotYet = ⊥
 IsWalkFault (Pbm fault) = ⊥
 IsWalkFault _ = ⊤
 
@@ -48,6 +57,8 @@ IsBodyFault Aborted = ⊤
 IsBodyFault MoveRefused = ⊤
 IsBodyFault SecondMove = ⊤
 IsBodyFault LengthRefused = ⊤
+IsBodyFault SecondLength = ⊤
+IsBodyFault Changed = ⊤
 IsBodyFault Read = ⊤
 IsBodyFault _ = ⊥
 

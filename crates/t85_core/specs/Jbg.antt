@@ -1,19 +1,20 @@
 -- The stream that is written for a raster.
-use Rattle.std.specs.Prelude.{ℕ, zero, suc, ◌≡◌, ◌%◌, ◌≤◌, ◌<◌, ◌^◌, Bool, false, List, [], ◌++◌, length, map, replicate, if◌then◌else◌, Option, None, option_map, option_to_list, unwrap_or, flat_map, slice_index_or}
+use Rattle.std.specs.Prelude.{ℕ, zero, suc, ◌+◌, ◌≡◌, ◌%◌, ◌≤◌, ◌<◌, ◌^◌, Bool, false, not, ◌&&◌, nat_lt, List, [], ◌++◌, length, map, replicate, if◌then◌else◌, Option, None, is_some, option_map, option_to_list, unwrap_or, flat_map, slice_index_or}
 use Rattle.qm_core.specs.Code.{code_of}
 use Rattle.raster_core.specs.Raster.{Raster, height}
 use Rattle.raster_core.specs.Lines.{numbers_from, may_be_typical}
 use Rattle.raster_core.specs.Offset.{chosen_offset}
 use Rattle.t85_core.specs.Header.{Fields, header_bytes}
-use Rattle.t85_core.specs.Grammar.{Segment, Move, Comment, Stripe, segment_bytes, stripe_bytes, stripe_count}
+use Rattle.t85_core.specs.Grammar.{Segment, NewLength, Move, Comment, Stripe, segment_bytes, marker_bytes, stripe_bytes, stripe_count}
 use Rattle.t85_core.specs.Coding.{Coding, has_bit, mode_of, rows_of, lines_of, place_of}
 
 -- what a caller chooses for a stream: the options byte, the rows of a stripe, the greatest offset of the adaptive
--- pixel, whether each stripe ends in a reset, and a comment
+-- pixel, a height to announce, whether each stripe ends in a reset, and a comment
 pub record Settings : Type 0 where
   pub options : ℕ
   pub stripe_rows : ℕ
   pub most_offset : ℕ
+  pub announced : Option ℕ
   pub reset : Bool
   pub comment : Option (List ℕ)
 
@@ -25,11 +26,30 @@ pub record AreSettings (s : Settings) : Type 0 where
   pub stripe_from : 1 ≤ s.stripe_rows
   pub stripe_to : s.stripe_rows < 2 ^ 32
   pub offset_to : s.most_offset ≤ 127
+  pub announced_to : unwrap_or s.announced 0 < 2 ^ 32
   pub comment_to : length (unwrap_or s.comment []) < 2 ^ 32
+
+-- the options byte as it is written: where a height is announced, the height may change
+abbrev pub written_options : Settings → ℕ
+written_options s = if is_some s.announced && not (has_bit s.options 5) then s.options + 32 else s.options
 
 -- the header of an image of this width and height
 abbrev pub header_of : Settings → ℕ → ℕ → Fields
-header_of s width height' = record { xd = width; yd = height'; l0 = s.stripe_rows; mx = s.most_offset; options = s.options }
+header_of s width height' = record {
+  xd = width;
+  yd = unwrap_or s.announced height';
+  l0 = s.stripe_rows;
+  mx = s.most_offset;
+  options = written_options s;
+}
+
+-- a height that is announced is not below the image's
+abbrev pub IsAnnounced : Settings → ℕ → Type 0
+IsAnnounced s height' = height' ≤ unwrap_or s.announced height'
+
+-- whether it is
+abbrev pub is_low : Settings → ℕ → Bool
+is_low s height' = nat_lt (unwrap_or s.announced height') height'
 
 -- the raster in its stripes, each ended alike, before moves and flags are chosen
 abbrev pub cut : Settings → Raster → Coding
@@ -95,6 +115,10 @@ stripes_of s raster = stripes_up_to s raster (stripe_count (height raster) s.str
 abbrev pub jbg_up_to : Settings → Raster → ℕ → List ℕ
 jbg_up_to s raster n = head_of s raster.width (height raster) ++ stripes_up_to s raster n
 
+-- what stands behind the last stripe: the height and an empty data entity, where a greater height was announced
+abbrev pub ending : Settings → ℕ → List ℕ
+ending s height' = if nat_lt height' (unwrap_or s.announced height') then segment_bytes (NewLength height') ++ marker_bytes s.reset else []
+
 -- the whole stream
 abbrev pub jbg : Settings → Raster → List ℕ
-jbg s raster = jbg_up_to s raster (stripe_count (height raster) s.stripe_rows)
+jbg s raster = jbg_up_to s raster (stripe_count (height raster) s.stripe_rows) ++ ending s (height raster)

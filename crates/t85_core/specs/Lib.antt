@@ -2,10 +2,12 @@ pub mod Fault
 pub mod Header
 pub mod Grammar
 pub mod Refusal
+pub mod Height
 pub mod Walk
 pub mod Piece
 pub mod Line
 pub mod Info
+pub mod Seek
 pub mod Stream
 pub mod Chosen
 pub mod Coding
@@ -22,6 +24,7 @@ pub mod Entity
 pub mod Decoding
 pub mod Unset
 pub mod Converts
+pub mod Readings
 pub mod Jbg
 pub mod Options
 pub mod Ink

@@ -26,11 +26,12 @@ settings_of o = record {
   options = o.options;
   stripe_rows = o.stripe_rows;
   most_offset = o.most_offset;
+  announced = o.announced;
   reset = o.reset;
   comment = option_map (λ c. c.now) o.comment;
 }
 
 -- they are what was given
-abbrev pub Holds : ℕ → ℕ → ℕ → Bool → Option (List ℕ) → Options → Type 0
-Holds p s m reset comment o =
-    settings_of o ≡ record { options = p; stripe_rows = s; most_offset = m; reset = reset; comment = comment }
+abbrev pub Holds : ℕ → ℕ → ℕ → Option ℕ → Bool → Option (List ℕ) → Options → Type 0
+Holds p s m announced reset comment o =
+    settings_of o ≡ record { options = p; stripe_rows = s; most_offset = m; announced = announced; reset = reset; comment = comment }

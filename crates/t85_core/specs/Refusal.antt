@@ -1,11 +1,35 @@
 -- Why a stream is refused that hasn't its parts.
-use Rattle.std.specs.Prelude.{◌≡◌, ◌⊎◌, ◌<◌, ◌+◌, ℕ, Bool, ◌&&◌, ◌||◌, not, ◌==◌, nat_lt, nat_le, List, [], ◌∷◌, ◌++◌, length, drop, slice_index, count_by, flat_map, Option, Some, None, if◌then◌else◌}
+use Rattle.std.specs.Prelude.{◌≡◌, ◌<◌, ◌+◌, ℕ, Bool, ◌&&◌, ◌||◌, not, ◌==◌, nat_lt, nat_le, List, [], ◌∷◌, ◌++◌, length, slice_index, count_by, flat_map, Option, Some, None, if◌then◌else◌}
 use Rattle.byteorder.specs.Endian.{big_number}
 use Rattle.qm_core.specs.Code.{stuffed}
 use Rattle.t85_core.specs.declared.fault.Fault.{Fault}
-use Rattle.t85_core.specs.declared.fault.Fault.TheVariants.{Truncated, BadEscape, Aborted, MoveRefused, SecondMove, LengthRefused}
-use Rattle.t85_core.specs.Header.{Fields, HeaderOf, header_fault}
-use Rattle.t85_core.specs.Grammar.{Stripe, Segment, segment_bytes, is_move, stripe_bytes, stripe_count, is_nil, IsBegun, AreStripes}
+use Rattle.t85_core.specs.declared.fault.Fault.TheVariants.{Truncated, BadEscape, Aborted, MoveRefused, SecondMove, LengthRefused, SecondLength, Changed}
+use Rattle.t85_core.specs.Header.{Fields, is_variable}
+use Rattle.t85_core.specs.Grammar.{Stripe, Segment, segment_bytes, is_move, lengths, stripe_bytes, stripe_count, all_segments, is_nil, is_valid_length, IsBegun, AreStripes, GiveOnly}
+
+-- Where bytes stand: the height in use, and how many data entities and heights came before them.
+pub record Spot : Type 0 where
+  pub height : ℕ
+  pub entities : ℕ
+  pub heights : ℕ
+
+-- behind these segments
+abbrev pub spot_behind : Spot → List Segment → Spot
+spot_behind spot segments = record { height = spot.height; entities = spot.entities; heights = spot.heights + length (lengths segments) }
+
+-- behind these stripes
+abbrev pub spot_after : ℕ → List Stripe → Spot
+spot_after height stripes = record { height = height; entities = length stripes; heights = length (lengths (all_segments stripes)) }
+
+-- the fault of what stands behind FF 05; none behind a whole valid height, which is that in use
+abbrev pub length_fault : Fields → Spot → List ℕ → Option Fault
+length_fault h spot bytes =
+    if not (is_variable h) then Some LengthRefused
+    else if not (spot.heights == 0) then Some SecondLength
+    else if nat_lt (length bytes) 4 then Some Truncated
+    else if not (is_valid_length h spot.entities (big_number 4 bytes)) then Some LengthRefused
+    else if big_number 4 bytes == spot.height then None
+    else Some Changed
 
 -- the row, the offset and the last byte, 0, of a move that the header allows
 abbrev pub is_legal_move : Fields → List ℕ → Bool
@@ -26,44 +50,43 @@ comment_fault bytes =
 
 -- The fault of what stands behind FF and this byte, in a stripe that has had so many moves, before its code or in it;
 -- none behind a code byte FF, an end marker or a whole legal segment.
-abbrev pub escape_fault : Fields → ℕ → Bool → ℕ → List ℕ → Option Fault
-escape_fault h moves in_code escape bytes =
+abbrev pub escape_fault : Fields → Spot → ℕ → Bool → ℕ → List ℕ → Option Fault
+escape_fault h spot moves in_code escape bytes =
     if (escape == 0) || (escape == 2) || (escape == 3) then None
     else if escape == 4 then Some Aborted
     else if (escape == 1) || nat_le 8 escape || in_code then Some BadEscape
-    else if escape == 5 then Some LengthRefused
+    else if escape == 5 then length_fault h spot bytes
     else if escape == 6 then move_fault h moves bytes
     else comment_fault bytes
 
 -- The fault of a rest. There is none where a code byte, an end marker or a whole legal segment is at its front, so a
 -- rest with a fault has nothing more to be taken off it.
-abbrev pub rest_fault : Fields → ℕ → Bool → List ℕ → Option Fault
-rest_fault h moves in_code [] = Some Truncated
-rest_fault h moves in_code (b ∷ []) = if b == 255 then Some Truncated else None
-rest_fault h moves in_code (b ∷ escape ∷ bytes) = if b == 255 then escape_fault h moves in_code escape bytes else None
+abbrev pub rest_fault : Fields → Spot → ℕ → Bool → List ℕ → Option Fault
+rest_fault h spot moves in_code [] = Some Truncated
+rest_fault h spot moves in_code (b ∷ []) = if b == 255 then Some Truncated else None
+rest_fault h spot moves in_code (b ∷ escape ∷ bytes) = if b == 255 then escape_fault h spot moves in_code escape bytes else None
 
--- A stripe that isn't whole is cut into whole legal segments, code bytes and a rest, and the rest has this fault.
-pub record StripeFault (h : Fields) (bytes : List ℕ) (fault : Fault) : Type 0 where
+-- A stripe that stands there and isn't whole is cut into whole legal segments, code bytes and a rest, and the rest has
+-- this fault.
+pub record StripeFault (h : Fields) (spot : Spot) (bytes : List ℕ) (fault : Fault) : Type 0 where
   pub segments : List Segment
   pub code : List ℕ
   pub rest : List ℕ
   pub bytes_are : bytes ≡ flat_map segment_bytes segments ++ (stuffed code ++ rest)
   pub begun : IsBegun h segments code
-  pub rest_has : rest_fault h (count_by is_move segments) (not (is_nil code)) rest ≡ Some fault
+  pub gives : GiveOnly spot.height spot.heights segments
+  pub rest_has : rest_fault h (spot_behind spot segments) (count_by is_move segments) (not (is_nil code)) rest ≡ Some fault
 
 -- The bytes are fewer stripes than this, and then one that isn't whole and has this fault.
-pub record StripesFault (h : Fields) (count : ℕ) (bytes : List ℕ) (fault : Fault) : Type 0 where
+pub record StripesFault (h : Fields) (height count : ℕ) (bytes : List ℕ) (fault : Fault) : Type 0 where
   pub stripes : List Stripe
   pub tail : List ℕ
   pub bytes_are : bytes ≡ flat_map stripe_bytes stripes ++ tail
   pub fewer : length stripes < count
   pub each : AreStripes h stripes
-  pub tail_has : StripeFault h tail fault
+  pub gives : GiveOnly height 0 (all_segments stripes)
+  pub tail_has : StripeFault h (spot_after height stripes) tail fault
 
 -- the fault of a body that hasn't its parts
 abbrev pub BodyFault : Fields → ℕ → List ℕ → Fault → Type 0
-BodyFault h height body fault = StripesFault h (stripe_count height h.l0) body fault
-
--- a header that is refused, or a body without its parts
-abbrev pub StreamFault : List ℕ → Fault → Type 0
-StreamFault bytes fault = (header_fault bytes ≡ Some fault) ⊎ ((h : Fields) × HeaderOf bytes h × BodyFault h h.yd (drop 20 bytes) fault)
+BodyFault h height body fault = StripesFault h height (stripe_count height h.l0) body fault

@@ -1,15 +1,16 @@
 -- The laws of streams, in which height' is the height in use: from 1 to the header's.
 use Rattle.std.specs.Prelude.{ℕ, ◌≡◌, ◌≤◌, ◌⊎◌, Bool, List, ◌∷◌, ◌++◌, length, take, Option}
 use Rattle.qm_core.specs.Code.{IsBytes}
-use Rattle.raster_core.specs.Raster.{Raster, IsRaster}
+use Rattle.raster_core.specs.Raster.{Raster, IsRaster, height}
 use Rattle.t85_core.specs.declared.fault.Fault.{Fault}
 use Rattle.t85_core.specs.Header.{Fields, IsAccepted}
 use Rattle.t85_core.specs.Grammar.{Segment, Stripe, Parts}
 use Rattle.t85_core.specs.Refusal.{BodyFault}
+use Rattle.t85_core.specs.Height.{IsHeight}
 use Rattle.t85_core.specs.Denotes.{DenotesAt, Denotes}
 use Rattle.t85_core.specs.Fixed.{Fixes, AreDecided, begun_stripes}
 use Rattle.t85_core.specs.Image.{IsOutcome}
-use Rattle.t85_core.specs.Jbg.{Settings, AreSettings, jbg}
+use Rattle.t85_core.specs.Jbg.{Settings, AreSettings, IsAnnounced, jbg}
 
 -- an accepted header, and a height in use
 pub record IsInUse (h : Fields) (height' : ℕ) : Type 0 where
@@ -80,4 +81,19 @@ OneOutcome = (h : Fields) (height' : ℕ) (body : List ℕ) → IsInUse h height
 
 -- the stream that is written for a raster denotes it
 abbrev pub CodeDenotes : Type 0
-CodeDenotes = (s : Settings) (raster : Raster) → AreSettings s → IsRaster raster → Denotes (jbg s raster) raster
+CodeDenotes =
+    (s : Settings) (raster : Raster) → AreSettings s → IsRaster raster → IsAnnounced s (height raster) →
+    Denotes (jbg s raster) raster
+
+-- a body has one height at most
+abbrev pub OneHeight : Type 0
+OneHeight =
+    (h : Fields) (body : List ℕ) (one other : ℕ) → IsAccepted h → IsHeight h body one → IsHeight h body other → other ≡ one
+
+-- a body of bytes has a height
+abbrev pub SomeHeight : Type 0
+SomeHeight = (h : Fields) (body : List ℕ) → IsAccepted h → IsBytes body → (height' : ℕ) × IsHeight h body height'
+
+-- it is in use, from 1 to the header's
+abbrev pub HeightWithin : Type 0
+HeightWithin = (h : Fields) (body : List ℕ) (height' : ℕ) → IsAccepted h → IsHeight h body height' → IsInUse h height'

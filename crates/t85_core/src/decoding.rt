@@ -1,16 +1,17 @@
 //! Decoding an image.
 
-ghost use Rattle.std.specs.Prelude.{◌≡◌, ◌≢◌, ◌≤◌, ◌<◌, ◌-◌, ◌^◌, OnOk, IfErr, IsErrOf, IfSome, None, option_map};
+ghost use Rattle.std.specs.Prelude.{◌≡◌, ◌≢◌, ◌≤◌, ◌<◌, ◌-◌, ◌^◌, OnOk, IfErr, IsErrOf, IfSome, None, option_map, if◌then◌else◌};
 ghost use Rattle.raster_core.specs.Rows.{width_of};
 ghost use Rattle.t85_core.specs.Carried.{Carry, begin};
 ghost use Rattle.t85_core.specs.Chosen.{fields_of};
 ghost use Rattle.std.specs.Io.KnownBytes.{append_known};
-ghost use Rattle.t85_core.specs.Converts.{Converts, Decodes};
+ghost use Rattle.t85_core.specs.Converts.{Decodes};
 ghost use Rattle.t85_core.specs.Stream.{held_of, known_length};
 ghost use Rattle.t85_core.specs.Decoding.{pair_of, IsCarried, IsFirst, CodeBegun, CodeRead, CodeCut, StripeMore, NoStripeMore, ImageRead, ImageCut};
 ghost use Rattle.t85_core.specs.Unset.{CodeUnset, NoStripeSet, ImageBegun};
 ghost use Rattle.t85_core.specs.Entity.{entity_known};
-ghost use Rattle.t85_core.specs.Walk.{CountsBoth, CountsRead, CountsWrite, FlushesOnce};
+ghost use Rattle.t85_core.specs.Piece.{spot_at};
+ghost use Rattle.t85_core.specs.Walk.{CountsBoth, CountsRead, CountsWrite};
 ghost use Rattle.t85_core.specs.declared.fault.Fault.TheVariants.{Read, Write};
 
 use crate::entity::Entity;
@@ -20,44 +21,9 @@ use crate::laws::coder_laws;
 use crate::page::{Page, Sheet};
 use crate::rows::{Carried, RowFault, put_rows};
 use crate::stream::{Buffered, Stream};
-use crate::walk::{Move, read_head};
-use pbm_core::{DeviceFailed, Input, Output, Size, WriteFault, write_header};
-use raster_core::{Shape, Window, window_bytes};
-use std::alloc::Global;
-
-/// Writes the image of a stream in the PBM format, where it has no more than `max_rows` rows. The one memory that it
-/// takes is for three rows.
-pub fn to_pbm<R: Input, W: Output>(
-    alloc: Global,
-    input: &mut R,
-    max_rows: u32,
-    output: &mut W,
-) -> Result<(), Fault>
-    requires input { R.failures input.old < 2 ^ 64 - 1 }
-    requires output { W.failures output.old < 2 ^ 64 - 1 }
-    ensures outcome { Converts max_rows (R.remaining input.old) (R.remaining input.new) (R.failures input.old) (R.failures input.new)
-        (W.contents output.old) (W.contents output.new) (W.failures output.old) (W.failures output.new) (W.flushed output.new) result }
-    ensures flushes { FlushesOnce (W.flushes output.old) (W.flushes output.new) result }
-{
-    // What the proof cites of the coder.
-    coder_laws();
-    let header = Header::read(input)?;
-    if header.is_variable() {
-        return Err(Fault::NotYet);
-    }
-    if header.yd > max_rows {
-        return Err(Fault::TooManyRows);
-    }
-    let Ok(mut rows) = vec![in alloc; 0u8; window_bytes(header.xd)] else {
-        return Err(Fault::OutOfMemory);
-    };
-    let mut window = Window::over(rows.as_mut_slice(), header.xd);
-    decode(&header, header.yd, &mut window, input, output)?;
-    match output.flush() {
-        Ok(()) => Ok(()),
-        Err(DeviceFailed) => Err(Fault::Write),
-    }
-}
+use crate::walk::{Move, Place, read_head};
+use pbm_core::{Input, Output, Size, WriteFault, write_header};
+use raster_core::{Shape, Window};
 
 /// Writes the image that a stream denotes. The input stands behind the header.
 ///
@@ -165,18 +131,26 @@ fn put_image<S: Stream, P: Sheet>(
     // What the proof cites of the coder.
     coder_laws();
     let mut left = height;
-    'stripes: for _ in 0..height.div_ceil(header.l0) {
+    let mut given = false;
+    'stripes: for entities in 0..height.div_ceil(header.l0) {
         let rows = left.min(header.l0);
-        put_stripe(header, rows, carried, stream, sheet)?;
+        let place = Place {
+            height,
+            entities,
+            given,
+        };
+        put_stripe(header, place, rows, &mut given, carried, stream, sheet)?;
         left -= rows;
     }
     Ok(())
 }
 
-/// Sets the rows of a stripe out.
+/// Sets the rows of a stripe out, and notes whether a height was given in it or before.
 fn put_stripe<S: Stream, P: Sheet>(
     header: &Header,
+    place: Place,
     rows: u32,
+    given: &mut bool,
     carried: &mut Carried<'_, '_>,
     stream: &mut S,
     sheet: &mut P,
@@ -186,9 +160,9 @@ fn put_stripe<S: Stream, P: Sheet>(
     requires width { width_of carried.old.window.now ≡ header.now.xd }
     requires offset { carried.old.kept.offset ≤ 127 }
     requires carried { (c : Carry) × IsCarried (begin c) carried.old }
-    ensures ok { OnOk result (StripeMore (fields_of header.now) (S.known stream.old) (S.known stream.new) rows carried.old carried.new (P.text sheet.old) (P.text sheet.new)) }
-    ensures err { IfErr result (λ f. f ≢ Write → NoStripeMore (fields_of header.now) (S.known stream.old) (S.known stream.new) rows carried.old (P.text sheet.old) (P.text sheet.new) f) }
-    ensures unset { IfErr result (λ _. NoStripeSet (fields_of header.now) (S.known stream.old) (S.known stream.new) rows carried.old (P.text sheet.old) (P.text sheet.new)) }
+    ensures ok { OnOk result (StripeMore (fields_of header.now) (spot_at place) (if given.new then 1 else 0) (S.known stream.old) (S.known stream.new) rows carried.old carried.new (P.text sheet.old) (P.text sheet.new)) }
+    ensures err { IfErr result (λ f. f ≢ Write → NoStripeMore (fields_of header.now) (spot_at place) (S.known stream.old) (S.known stream.new) rows carried.old (P.text sheet.old) (P.text sheet.new) f) }
+    ensures unset { IfErr result (λ _. NoStripeSet (fields_of header.now) (spot_at place) (S.known stream.old) (S.known stream.new) rows carried.old (P.text sheet.old) (P.text sheet.new)) }
     ensures drained { IsErrOf result Read → S.known stream.new ≡ S.beyond stream.new }
     ensures width { OnOk result (width_of carried.new.window.now ≡ width_of carried.old.window.now) }
     ensures offset { OnOk result (carried.new.kept.offset ≤ 127) }
@@ -198,7 +172,8 @@ fn put_stripe<S: Stream, P: Sheet>(
     ensures grows { P.written sheet.old ≤ P.written sheet.new }
     ensures same_target { P.target sheet.new ≡ P.target sheet.old }
 {
-    let head = read_head(header, stream)?;
+    let head = read_head(header, place, stream)?;
+    *given = head.given;
     let mut entity = Entity::new(stream, head.code);
     put_code(header.shape(), head.at, rows, carried, &mut entity, sheet)
 }

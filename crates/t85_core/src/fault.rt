@@ -36,6 +36,10 @@ pub enum Fault {
     SecondMove,
     #[error("new height is not allowed")]
     LengthRefused,
+    #[error("second new height")]
+    SecondLength,
+    #[error("input changed between the two readings")]
+    Changed,
     #[error("input cannot be read")]
     Read,
     #[error("output cannot be written")]
@@ -48,12 +52,14 @@ pub enum Fault {
     StripeZero,
     #[error("-m is above 127")]
     MoveLarge,
+    #[error("announced height is below the image's height")]
+    AnnouncedLow,
     #[error("image has more rows than --max-rows")]
     TooManyRows,
+    #[error("variable height needs an input file")]
+    VariableHeight,
     #[error("comment is too long")]
     CommentLong,
-    #[error("not built yet")]
-    NotYet,
     #[error("{0}")]
     Pbm(PbmFault),
 }
@@ -78,15 +84,18 @@ impl Fault {
             Fault::MoveRefused => 12,
             Fault::SecondMove => 13,
             Fault::LengthRefused => 14,
+            Fault::SecondLength => 15,
+            Fault::Changed => 16,
             Fault::Read => 17,
             Fault::Write => 18,
             Fault::OutOfMemory => 19,
             Fault::OptionBits => 20,
             Fault::StripeZero => 21,
             Fault::MoveLarge => 22,
+            Fault::AnnouncedLow => 23,
             Fault::TooManyRows => 24,
+            Fault::VariableHeight => 25,
             Fault::CommentLong => 26,
-            Fault::NotYet => 27,
             Fault::Pbm(fault) => 30 + fault.number(),
         }
     }

@@ -1,6 +1,6 @@
 //! What a caller chooses for a stream.
 
-ghost use Rattle.std.specs.Prelude.{◌≡◌, ◌≤◌, ◌<◌, ◌%◌, ◌^◌, ◌/◌, Option, option_map, length};
+ghost use Rattle.std.specs.Prelude.{false, ◌≡◌, ◌≤◌, ◌<◌, ◌%◌, ◌^◌, ◌/◌, Option, option_map, length};
 ghost use Rattle.std.specs.Option.{option_map_or};
 
 use crate::fault::Fault;
@@ -16,6 +16,8 @@ pub struct Options<'a> {
     pub stripe_rows: u32,
     /// The greatest offset of the adaptive pixel.
     pub most_offset: u8,
+    /// A height to announce, which the image may stay below.
+    pub announced: Option<u32>,
     /// Whether each stripe ends in a reset.
     pub reset: bool,
     /// The comment that stands before the first stripe.
@@ -26,6 +28,7 @@ pub struct Options<'a> {
     ghost some_rows: { 1 ≤ stripe_rows },
     ghost not_too_many: { stripe_rows < 2 ^ 32 },
     ghost in_range: { most_offset ≤ 127 },
+    ghost announced_fits: { option_map_or (λ n. n) announced 0 < 2 ^ 32 },
     ghost comment_fits: { option_map_or (λ c. length c.now) comment 0 < 2 ^ 32 },
 }
 
@@ -33,7 +36,9 @@ impl<'a> Options<'a> {
     ghost use Rattle.std.specs.Prelude.{MatchResult, None, Some, IfOk};
     ghost use Rattle.t85_core.specs.Options.{refusal_of, settings_of, Holds};
     ghost use Rattle.t85_core.specs.Chosen.{fields_of};
-    ghost use Rattle.t85_core.specs.Jbg.{header_of};
+    ghost use Rattle.t85_core.specs.Jbg.{header_of, is_low, written_options};
+    ghost use Rattle.t85_core.specs.Coding.{has_bit};
+    ghost use Rattle.std.specs.Prelude.{◌&&◌, not, is_some};
 
     /// Judges the options byte `p`, the rows of a stripe `s` and the greatest offset `m`, in this order, and then the
     /// length of the comment.
@@ -41,12 +46,13 @@ impl<'a> Options<'a> {
         p: u32,
         s: u32,
         m: u32,
+        announced: Option<u32>,
         reset: bool,
         comment: Option<&'a [u8]>,
     ) -> Result<Options<'a>, Fault>
         ensures judged { MatchResult result (λ _. refusal_of p s m (option_map (λ c. c.now) comment.entry) ≡ None)
             (λ fault. refusal_of p s m (option_map (λ c. c.now) comment.entry) ≡ Some fault) }
-        ensures held { IfOk result (λ o. Holds p s m reset (option_map (λ c. c.now) comment.entry) o) }
+        ensures held { IfOk result (λ o. Holds p s m announced reset (option_map (λ c. c.now) comment.entry) o) }
     {
         if p >= 0x80 || p % 8 != 0 || p / 16 % 2 != 0 {
             return Err(Fault::OptionBits);
@@ -66,21 +72,46 @@ impl<'a> Options<'a> {
             options: p as u8,
             stripe_rows: s,
             most_offset: m as u8,
+            announced,
             reset,
             comment,
         })
     }
 
-    /// The header of the stream of an image.
+    /// Whether a height is announced that the image exceeds.
+    pub(crate) fn is_low(&self, size: Size) -> bool
+        ensures { result ≡ is_low (settings_of self.now) size.height }
+    {
+        self.announced.unwrap_or(size.height) < size.height
+    }
+
+    /// The header of the stream of an image that isn't higher than what is announced.
     pub(crate) fn header(&self, size: Size) -> Header
+        requires { is_low (settings_of self.now) size.height ≡ false }
         ensures { fields_of result ≡ header_of (settings_of self.now) size.width size.height }
     {
         Header {
             xd: size.width,
-            yd: size.height,
+            yd: self.announced.unwrap_or(size.height),
             l0: self.stripe_rows,
             mx: self.most_offset,
-            options: self.options,
+            options: self.written(),
         }
+    }
+
+    /// The options byte as it is written: where a height is announced, the height may change.
+    fn written(&self) -> u8
+        ensures is { result ≡ written_options (settings_of self.now) }
+        ensures small { result < 128 }
+        ensures low { result % 8 ≡ 0 }
+    {
+        self.options + 0x20 * u8::from(self.adds_bit())
+    }
+
+    /// Whether VLENGTH is set for the height that is announced.
+    fn adds_bit(&self) -> bool
+        ensures { result ≡ (is_some self.now.announced && not (has_bit self.now.options 5)) }
+    {
+        self.announced.is_some() && self.options & 0x20 == 0
     }
 }

@@ -1,28 +1,27 @@
-//! The walk over a stream's segments and data entities, without decoding.
+//! The walk over the segments of a stripe, and over the bytes of its code.
 
-ghost use Rattle.std.specs.Prelude.{◌≡◌, ◌≤◌, ◌+◌, ◌-◌, ◌^◌, ◌<◌, ◌++◌, ◌∷◌, [], List, ℕ, length, OnOk, IfOk, IfErr, IsErrOf, Some, false, if◌then◌else◌};
+ghost use Rattle.std.specs.Prelude.{◌≡◌, ◌≤◌, ◌-◌, ◌^◌, ◌<◌, ◌++◌, ◌∷◌, [], List, ℕ, length, OnOk, IfOk, IfErr, IsErrOf, Some, false, true};
 ghost use Rattle.std.specs.Io.KnownBytes.{Consumes};
 ghost use Rattle.byteorder.specs.Endian.{big_bytes};
 ghost use Rattle.t85_core.specs.declared.fault.Fault.TheVariants.{Truncated, Read};
 ghost use Rattle.t85_core.specs.Chosen.{fields_of};
-ghost use Rattle.t85_core.specs.Walk.{CountsRead, Ends, FlushesOnce};
-ghost use Rattle.t85_core.specs.Refusal.{rest_fault, move_fault, comment_fault, StripeFault, StripesFault};
-ghost use Rattle.t85_core.specs.Info.{Informs};
-ghost use Rattle.t85_core.specs.Line.{line_text};
-ghost use Rattle.t85_core.specs.Piece.{code_bytes, IsCode, Passes, PassesHead, HeadFault, PassesCode, RestFault, CodeFault, PassesStripe, PassesStripes};
+ghost use Rattle.t85_core.specs.Walk.{CountsRead, Ends};
+ghost use Rattle.t85_core.specs.Refusal.{move_fault, comment_fault};
+ghost use Rattle.t85_core.specs.Grammar.{NewLength, is_valid_length, IsLegal};
+ghost use Rattle.t85_core.specs.Piece.{spot_at, code_bytes, IsCode, LengthFault, PieceFault, Passes, PassesSegments, SegmentsFault, PassesHead, HeadFault, PassesCode, RestFault, CodeFault};
 
 use crate::fault::Fault;
 use crate::header::Header;
-use crate::line::Line;
-use crate::stream::{Buffered, ESCAPE, Stream};
+use crate::stream::{ESCAPE, Stream};
 use byteorder::{BigEndian, ByteOrder};
-use pbm_core::{Input, Output};
 
-/// How many moves and comments were passed. Comments are counted up to 2^64 - 1.
+/// Where a stripe stands, or what is next in it: the height in use, how many data entities came before it, and whether
+/// a height did.
 #[derive(Clone, Copy)]
-struct Passed {
-    moves: u32,
-    comments: u64,
+pub struct Place {
+    pub height: u32,
+    pub entities: u32,
+    pub given: bool,
 }
 
 /// A move of the adaptive template pixel: at a row of the stripe, to an offset.
@@ -43,6 +42,8 @@ pub enum Code {
 /// What stands at one place before a code.
 #[derive(Clone, Copy)]
 pub enum Piece {
+    /// A height is given, which is valid.
+    NewLength(u32),
     Move(Move),
     Comment,
     /// The code begins.
@@ -53,9 +54,31 @@ pub enum Piece {
 #[derive(Clone, Copy)]
 pub struct Head {
     pub at: Option<Move>,
+    /// Whether a height came in it, or before.
+    pub given: bool,
     /// Counted up to 2^64 - 1.
     pub comments: u64,
     pub code: Code,
+}
+
+/// What stands behind the segments that were read.
+#[derive(Clone, Copy)]
+pub enum Next {
+    /// A valid height, which isn't the one in use.
+    Height(u32),
+    /// The code begins.
+    Code(Code),
+}
+
+/// Segments that were read, and what stands behind them.
+#[derive(Clone, Copy)]
+pub struct Segments {
+    pub at: Option<Move>,
+    /// Whether the height in use was given in them, or before.
+    pub given: bool,
+    /// Counted up to 2^64 - 1.
+    pub comments: u64,
+    pub next: Next,
 }
 
 const STUFF: u8 = 0;
@@ -66,111 +89,88 @@ pub const SDRST: u8 = 3;
 
 const ABORT: u8 = 4;
 
-const NEWLEN: u8 = 5;
+pub const NEWLEN: u8 = 5;
 
 pub const ATMOVE: u8 = 6;
 
 pub const COMMENT: u8 = 7;
 
-/// Walks the stream and writes one line of nine numbers: width, height, rows of a stripe, greatest
-/// offset, options, height in use, data entities, moves and comments. Then it flushes once.
-pub fn info<R: Input, W: Output>(input: &mut R, output: &mut W) -> Result<(), Fault>
-    requires input { R.failures input.old < 2 ^ 64 - 1 }
-    requires output { W.failures output.old < 2 ^ 64 - 1 }
-    ensures outcome { Informs (R.remaining input.old) (R.remaining input.new) (R.failures input.old) (R.failures input.new)
-        (W.contents output.old) (W.contents output.new) (W.failures output.old) (W.failures output.new) (W.flushed output.new) result }
-    ensures flushes { FlushesOnce (W.flushes output.old) (W.flushes output.new) result }
-{
-    let header = Header::read(input)?;
-    let mut stream = Buffered::new(input);
-    let entities = header.yd.div_ceil(header.l0);
-    let passed = skip_stripes(&header, entities, &mut stream)?;
-    let line = line_of(&header, entities, passed);
-    line.put(output)
-}
-
-/// The line of a header, of so many data entities, and of what was passed in them.
-fn line_of(header: &Header, entities: u32, passed: Passed) -> Line
-    ensures { let h = header.now in result ≡ line_text (h.xd ∷ h.yd ∷ h.l0 ∷ h.mx ∷ h.options ∷ h.yd ∷ entities ∷ passed.moves ∷ passed.comments ∷ []) }
-{
-    Line::of(&[
-        u64::from(header.xd),
-        u64::from(header.yd),
-        u64::from(header.l0),
-        u64::from(header.mx),
-        u64::from(header.options),
-        u64::from(header.yd),
-        u64::from(entities),
-        u64::from(passed.moves),
-        passed.comments,
-    ])
-}
-
-/// Skips stripes.
-fn skip_stripes<S: Stream>(header: &Header, count: u32, stream: &mut S) -> Result<Passed, Fault>
-    requires { S.failures stream.old < 2 ^ 64 - 1 }
-    ensures ok { IfOk result (λ passed. PassesStripes (fields_of header.now) count (S.known stream.old) (S.known stream.new) passed.moves passed.comments) }
-    ensures err { IfErr result (Ends Truncated (S.known stream.old) (S.known stream.new) (StripesFault (fields_of header.now) count)) }
-    ensures drained { IsErrOf result Read → S.known stream.new ≡ S.beyond stream.new }
-    ensures same_source { S.source stream.new ≡ S.source stream.old }
-    ensures counts { CountsRead (S.failures stream.old) (S.failures stream.new) result }
-{
-    let mut moves = 0;
-    let mut comments = 0u64;
-    'stripes: for _ in 0..count {
-        let passed = skip_stripe(header, stream)?;
-        moves += passed.moves;
-        comments = comments.saturating_add(passed.comments);
-    }
-    Ok(Passed { moves, comments })
-}
-
-/// Skips a stripe's segments and its data entity.
-fn skip_stripe<S: Stream>(header: &Header, stream: &mut S) -> Result<Passed, Fault>
-    requires { S.failures stream.old < 2 ^ 64 - 1 }
-    ensures ok { IfOk result (λ passed. PassesStripe (fields_of header.now) (S.known stream.old) (S.known stream.new) passed.moves passed.comments) }
-    ensures few { IfOk result (λ passed. passed.moves ≤ 1) }
-    ensures err { IfErr result (Ends Truncated (S.known stream.old) (S.known stream.new) (StripeFault (fields_of header.now))) }
-    ensures drained { IsErrOf result Read → S.known stream.new ≡ S.beyond stream.new }
-    ensures same_source { S.source stream.new ≡ S.source stream.old }
-    ensures counts { CountsRead (S.failures stream.old) (S.failures stream.new) result }
-{
-    let head = read_head(header, stream)?;
-    match head.code {
-        Code::Byte(_) => {
-            skip_code(stream)?;
-        }
-        Code::Marker(_) => {}
-    }
-    Ok(Passed {
-        moves: u32::from(head.at.is_some()),
-        comments: head.comments,
-    })
-}
-
 /// Reads the segments of a stripe, and what its code begins with.
-pub fn read_head<S: Stream>(header: &Header, stream: &mut S) -> Result<Head, Fault>
-    requires { S.failures stream.old < 2 ^ 64 - 1 }
-    ensures ok { IfOk result (PassesHead (fields_of header.now) (S.known stream.old) (S.known stream.new)) }
-    ensures err { IfErr result (Ends Truncated (S.known stream.old) (S.known stream.new) (HeadFault (fields_of header.now))) }
+pub fn read_head<S: Stream>(header: &Header, place: Place, stream: &mut S) -> Result<Head, Fault>
+    requires stream { S.failures stream.old < 2 ^ 64 - 1 }
+    ensures ok { IfOk result (PassesHead (fields_of header.now) (spot_at place) (S.known stream.old) (S.known stream.new)) }
+    ensures err { IfErr result (Ends Truncated (S.known stream.old) (S.known stream.new) (HeadFault (fields_of header.now) (spot_at place))) }
+    ensures drained { IsErrOf result Read → S.known stream.new ≡ S.beyond stream.new }
+    ensures same_source { S.source stream.new ≡ S.source stream.old }
+    ensures counts { CountsRead (S.failures stream.old) (S.failures stream.new) result }
+{
+    let segments = read_segments(header, place, false, stream)?;
+    match segments.next {
+        Next::Height(_) => Err(Fault::Changed),
+        Next::Code(code) => Ok(Head {
+            at: segments.at,
+            given: segments.given,
+            comments: segments.comments,
+            code,
+        }),
+    }
+}
+
+/// Reads segments that stand in one stripe, up to a height that isn't in use or to the code. Whether a move of the
+/// stripe stands before them is `moved_before`.
+pub fn read_segments<S: Stream>(
+    header: &Header,
+    place: Place,
+    moved_before: bool,
+    stream: &mut S,
+) -> Result<Segments, Fault>
+    requires stream { S.failures stream.old < 2 ^ 64 - 1 }
+    ensures ok { IfOk result (PassesSegments (fields_of header.now) place moved_before (S.known stream.old) (S.known stream.new)) }
+    ensures err { IfErr result (Ends Truncated (S.known stream.old) (S.known stream.new) (SegmentsFault (fields_of header.now) place moved_before)) }
     ensures drained { IsErrOf result Read → S.known stream.new ≡ S.beyond stream.new }
     ensures same_source { S.source stream.new ≡ S.source stream.old }
     ensures counts { CountsRead (S.failures stream.old) (S.failures stream.new) result }
 {
     let mut at = None;
+    let mut moved = moved_before;
+    let mut given = place.given;
     let mut comments = 0u64;
     'pieces: loop {
-        match next_piece(header, at.is_some(), stream)? {
-            Piece::Move(to) => at = Some(to),
+        let here = Place { given, ..place };
+        match next_piece(header, here, moved, stream)? {
+            Piece::NewLength(height) => {
+                if height != place.height {
+                    let next = Next::Height(height);
+                    return Ok(Segments {
+                        at,
+                        given,
+                        comments,
+                        next,
+                    });
+                }
+                given = true;
+            }
+            Piece::Move(to) => {
+                at = Some(to);
+                moved = true;
+            }
             Piece::Comment => comments = comments.saturating_add(1),
-            Piece::Code(code) => return Ok(Head { at, comments, code }),
+            Piece::Code(code) => {
+                let next = Next::Code(code);
+                return Ok(Segments {
+                    at,
+                    given,
+                    comments,
+                    next,
+                });
+            }
         }
     }
 }
 
 /// Skips what is left of a code that has begun, and its end marker. Answers whether that resets.
 pub fn skip_code<S: Stream>(stream: &mut S) -> Result<bool, Fault>
-    requires { S.failures stream.old < 2 ^ 64 - 1 }
+    requires stream { S.failures stream.old < 2 ^ 64 - 1 }
     ensures ok { IfOk result (PassesCode (S.known stream.old) (S.known stream.new)) }
     ensures err { IfErr result (Ends Truncated (S.known stream.old) (S.known stream.new) CodeFault) }
     ensures drained { IsErrOf result Read → S.known stream.new ≡ S.beyond stream.new }
@@ -188,7 +188,7 @@ pub fn skip_code<S: Stream>(stream: &mut S) -> Result<bool, Fault>
 
 /// Reads a byte of a code that has begun, or its end marker.
 pub fn next_code<S: Stream>(stream: &mut S) -> Result<Code, Fault>
-    requires { S.failures stream.old < 2 ^ 64 - 1 }
+    requires stream { S.failures stream.old < 2 ^ 64 - 1 }
     ensures ok { IfOk result (λ code. IsCode code × Consumes (S.known stream.old) (S.known stream.new) (code_bytes code)) }
     ensures err { IfErr result (Ends Truncated (S.known stream.old) (S.known stream.new) RestFault) }
     ensures drained { IsErrOf result Read → S.known stream.new ≡ S.beyond stream.new }
@@ -212,11 +212,16 @@ pub fn next_code<S: Stream>(stream: &mut S) -> Result<Code, Fault>
 }
 
 /// Reads a segment, or what the code begins with.
-fn next_piece<S: Stream>(header: &Header, moved: bool, stream: &mut S) -> Result<Piece, Fault>
-    requires { S.failures stream.old < 2 ^ 64 - 1 }
-    ensures ok { IfOk result (Passes (fields_of header.now) moved (S.known stream.old) (S.known stream.new)) }
+pub fn next_piece<S: Stream>(
+    header: &Header,
+    place: Place,
+    moved: bool,
+    stream: &mut S,
+) -> Result<Piece, Fault>
+    requires stream { S.failures stream.old < 2 ^ 64 - 1 }
+    ensures ok { IfOk result (Passes (fields_of header.now) place moved (S.known stream.old) (S.known stream.new)) }
     ensures err { IfErr result (Ends Truncated (S.known stream.old) (S.known stream.new)
-        (λ given fault. rest_fault (fields_of header.now) (if moved then 1 else 0) false given ≡ Some fault)) }
+        (PieceFault (fields_of header.now) place moved)) }
     ensures drained { IsErrOf result Read → S.known stream.new ≡ S.beyond stream.new }
     ensures same_source { S.source stream.new ≡ S.source stream.old }
     ensures counts { CountsRead (S.failures stream.old) (S.failures stream.new) result }
@@ -232,7 +237,10 @@ fn next_piece<S: Stream>(header: &Header, moved: bool, stream: &mut S) -> Result
         SDNORM => Ok(Piece::Code(Code::Marker(false))),
         SDRST => Ok(Piece::Code(Code::Marker(true))),
         ABORT => Err(Fault::Aborted),
-        NEWLEN => Err(Fault::LengthRefused),
+        NEWLEN => {
+            let height = read_length(header, place, stream)?;
+            Ok(Piece::NewLength(height))
+        }
         ATMOVE => {
             if moved {
                 return Err(Fault::SecondMove);
@@ -248,9 +256,42 @@ fn next_piece<S: Stream>(header: &Header, moved: bool, stream: &mut S) -> Result
     }
 }
 
+/// Reads what follows the two bytes of a NEWLEN, and judges it: it is valid where it stands, and no other came before.
+fn read_length<S: Stream>(header: &Header, place: Place, stream: &mut S) -> Result<u32, Fault>
+    requires stream { S.failures stream.old < 2 ^ 64 - 1 }
+    ensures ok { IfOk result (λ height. (place.given ≡ false) × (is_valid_length (fields_of header.now) place.entities height ≡ true)
+        × IsLegal (fields_of header.now) (NewLength height) × Consumes (S.known stream.old) (S.known stream.new) (big_bytes 4 height)) }
+    ensures err { IfErr result (Ends Truncated (S.known stream.old) (S.known stream.new) (LengthFault (fields_of header.now) place)) }
+    ensures drained { IsErrOf result Read → S.known stream.new ≡ S.beyond stream.new }
+    ensures same_source { S.source stream.new ≡ S.source stream.old }
+    ensures counts { CountsRead (S.failures stream.old) (S.failures stream.new) result }
+    ensures no_more { S.left stream.new ≤ S.left stream.old }
+{
+    if !header.is_variable() {
+        return Err(Fault::LengthRefused);
+    }
+    if place.given {
+        return Err(Fault::SecondLength);
+    }
+    let height = number(stream)?;
+    if !is_valid(header, place.entities, height) {
+        return Err(Fault::LengthRefused);
+    }
+    Ok(height)
+}
+
+/// Whether a height may be given behind so many data entities.
+fn is_valid(header: &Header, entities: u32, height: u32) -> bool
+    ensures { result ≡ is_valid_length (fields_of header.now) entities height }
+{
+    1 <= height
+        && height <= header.yd
+        && u64::from(entities.saturating_sub(1)) * u64::from(header.l0) < u64::from(height)
+}
+
 /// Reads what follows the two bytes of an ATMOVE, and judges it.
 fn read_move<S: Stream>(header: &Header, stream: &mut S) -> Result<Move, Fault>
-    requires { S.failures stream.old < 2 ^ 64 - 1 }
+    requires stream { S.failures stream.old < 2 ^ 64 - 1 }
     ensures ok { IfOk result (λ to. (to.row < header.now.l0) × (to.offset ≤ header.now.mx)
         × Consumes (S.known stream.old) (S.known stream.new) (big_bytes 4 to.row ++ to.offset ∷ 0 ∷ [])) }
     ensures err { IfErr result (Ends Truncated (S.known stream.old) (S.known stream.new)
@@ -271,7 +312,7 @@ fn read_move<S: Stream>(header: &Header, stream: &mut S) -> Result<Move, Fault>
 
 /// Skips what follows the two bytes of a COMMENT.
 fn skip_comment<S: Stream>(stream: &mut S) -> Result<(), Fault>
-    requires { S.failures stream.old < 2 ^ 64 - 1 }
+    requires stream { S.failures stream.old < 2 ^ 64 - 1 }
     ensures ok { OnOk result ((text : List ℕ) × (length text < 2 ^ 32)
         × Consumes (S.known stream.old) (S.known stream.new) (big_bytes 4 (length text) ++ text)) }
     ensures err { IfErr result (Ends Truncated (S.known stream.old) (S.known stream.new)
@@ -290,7 +331,7 @@ fn skip_comment<S: Stream>(stream: &mut S) -> Result<(), Fault>
 
 /// The next number of four bytes.
 fn number<S: Stream>(stream: &mut S) -> Result<u32, Fault>
-    requires { S.failures stream.old < 2 ^ 64 - 1 }
+    requires stream { S.failures stream.old < 2 ^ 64 - 1 }
     ensures ok { IfOk result (λ n. Consumes (S.known stream.old) (S.known stream.new) (big_bytes 4 n)) }
     ensures err { IfErr result (Ends Truncated (S.known stream.old) (S.known stream.new)
         (λ given fault. (length given < 4) × (fault ≡ Truncated))) }

@@ -10,6 +10,7 @@ struct Encode {
     words: &'static [&'static str],
     /// The options byte, the rows of a stripe, and the greatest offset.
     numbers: (u32, u32, u32),
+    announced: Option<u32>,
     reset: bool,
     comment: Option<&'static str>,
     input: Option<&'static str>,
@@ -21,6 +22,7 @@ static ENCODE: [Encode; 2] = [
         words: &[
             "pbmtojbg85",
             "-p64",
+            "-Y9",
             "-s",
             "1",
             "-C",
@@ -30,6 +32,7 @@ static ENCODE: [Encode; 2] = [
             "a.pbm",
         ],
         numbers: (64, 1, 127),
+        announced: Some(9),
         reset: true,
         comment: Some(""),
         input: Some("a.pbm"),
@@ -38,6 +41,7 @@ static ENCODE: [Encode; 2] = [
     Encode {
         words: &["pbmtojbg85"],
         numbers: (8, 128, 0),
+        announced: None,
         reset: false,
         comment: None,
         input: None,
@@ -48,6 +52,7 @@ static ENCODE: [Encode; 2] = [
 impl Encode {
     fn is(&self, job: &pbmtojbg85::Job) -> bool {
         (job.p, job.s, job.m) == self.numbers
+            && job.announced == self.announced
             && job.reset == self.reset
             && job.comment.as_deref() == self.comment
             && job.input.as_deref() == self.input
@@ -135,7 +140,7 @@ fn reads_words_of_the_decoder(rt: HostRuntime) {
 }
 
 /// Words, and the status with which they are refused.
-static REFUSED: [(&[&str], u8); 19] = [
+static REFUSED: [(&[&str], u8); 20] = [
     (&["jbgtopbm85", "-h"], 0),
     (&["jbgtopbm85", "--help"], 0),
     (&["jbgtopbm85", "-x"], 2),
@@ -147,7 +152,8 @@ static REFUSED: [(&[&str], u8); 19] = [
     (&["pbmtojbg85", "-h"], 0),
     (&["pbmtojbg85", "--help"], 0),
     (&["pbmtojbg85", "-x"], 2),
-    (&["pbmtojbg85", "-Y9"], 2),
+    (&["pbmtojbg85", "-Y"], 2),
+    (&["pbmtojbg85", "-Y4294967296"], 2),
     (&["pbmtojbg85", "-p"], 2),
     (&["pbmtojbg85", "-p1"], 2),
     (&["pbmtojbg85", "-s0"], 2),

@@ -17,7 +17,7 @@ fn shows<F: Display>(alloc: Global, fault: &F, text: &str) -> Result<bool, Alloc
 }
 
 /// The faults, their numbers and their texts.
-static FAULTS: [(Fault, u8, &str); 26] = [
+static FAULTS: [(Fault, u8, &str); 30] = [
     (Fault::ShortHeader, 1, "header is shorter than 20 bytes"),
     (
         Fault::ReservedBits,
@@ -47,7 +47,18 @@ static FAULTS: [(Fault, u8, &str); 26] = [
     (Fault::Read, 17, "input cannot be read"),
     (Fault::Write, 18, "output cannot be written"),
     (Fault::OutOfMemory, 19, "out of memory"),
-    (Fault::NotYet, 27, "not built yet"),
+    (Fault::SecondLength, 15, "second new height"),
+    (Fault::Changed, 16, "input changed between the two readings"),
+    (
+        Fault::AnnouncedLow,
+        23,
+        "announced height is below the image's height",
+    ),
+    (
+        Fault::VariableHeight,
+        25,
+        "variable height needs an input file",
+    ),
     (
         Fault::OptionBits,
         20,
@@ -68,6 +79,11 @@ static FAULTS: [(Fault, u8, &str); 26] = [
     ),
     (Fault::Pbm(PbmFault::Truncated), 36, "PBM ends too early"),
     (Fault::Pbm(PbmFault::Read), 37, "input cannot be read"),
+    (
+        Fault::Pbm(PbmFault::BadDigit),
+        38,
+        "PBM raster has a byte that is no digit",
+    ),
 ];
 
 #[test]
@@ -80,14 +96,19 @@ fn faults_have_numbers_and_texts(rt: HostRuntime) -> Result<(), Fail> {
 }
 
 /// The faults of a PBM, their numbers and their texts.
-static PBM_FAULTS: [(PbmFault, u8, &str); 7] = [
-    (PbmFault::NotPbm, 1, "input is not a raw PBM"),
+static PBM_FAULTS: [(PbmFault, u8, &str); 8] = [
+    (PbmFault::NotPbm, 1, "input is not a PBM bitmap"),
     (PbmFault::BadNumber, 2, "bad number in the PBM header"),
     (PbmFault::ZeroSize, 3, "PBM width or height is zero"),
     (PbmFault::TooWide, 4, "PBM is wider than 1048576"),
     (PbmFault::TooTall, 5, "PBM is taller than 4294967295"),
     (PbmFault::Truncated, 6, "PBM ends too early"),
     (PbmFault::Read, 7, "input cannot be read"),
+    (
+        PbmFault::BadDigit,
+        8,
+        "PBM raster has a byte that is no digit",
+    ),
 ];
 
 #[test]

@@ -11,7 +11,31 @@ use std::test::Fail;
 /// Two stripes of one row, one black pixel wide.
 const TWO_STRIPES: &str = "00000100 00000001 00000002 00000001 00 0000 08 E0 FF02 E0 FF02";
 
-static STREAMS: [Run<'static>; 17] = [
+static STREAMS: [Run<'static>; 20] = [
+    Run {
+        words: &["jbgtopbm85", "--info"],
+        input: Hex("00000100 00000001 00000009 00000001 00 0000 20 C0 FF02 FF05 00000002 C0 FF02"),
+        reads: 32,
+        output: Raw(b"1 9 1 0 32 2 2 0 0\n"),
+        fault: None,
+    },
+    // A comment behind the last data entity that the height leaves.
+    Run {
+        words: &["jbgtopbm85", "--info"],
+        input: Hex(
+            "00000100 00000001 00000009 00000001 00 0000 20 C0 FF02 C0 FF02 FF07 00000000 FF05 00000002 FF02",
+        ),
+        reads: 38,
+        output: Raw(b"1 9 1 0 32 2 2 0 0\n"),
+        fault: None,
+    },
+    Run {
+        words: &["jbgtopbm85", "--info"],
+        input: Hex("00000100 00000001 00000009 00000001 00 0000 20 FF05 00000002 C0 FF02 FF05"),
+        reads: 31,
+        output: Raw(b""),
+        fault: Some("second new height"),
+    },
     Run {
         words: &["jbgtopbm85", "--info"],
         input: Hex(TWO_STRIPES),
@@ -45,8 +69,8 @@ static STREAMS: [Run<'static>; 17] = [
     Run {
         words: &["jbgtopbm85", "--info"],
         input: Hex("00000100 00000001 00000005 00000080 00 0000 20 C0 FF02 FF05 00000001 FF02"),
-        reads: 23,
-        output: Raw(b"1 5 128 0 32 5 1 0 0\n"),
+        reads: 29,
+        output: Raw(b"1 5 128 0 32 1 1 0 0\n"),
         fault: None,
     },
     Run {
@@ -208,7 +232,15 @@ fn loses(alloc: Global) -> Result<bool, LineFault> {
     let mut output = Drip::new(&mut held, 8, None, false);
     let mut told = [0; 64];
     let mut messages = Drip::new(&mut told, 8, Some(2), false);
-    let status = run(alloc, &job, &mut input, &mut output, &mut messages);
+    let mut again: Option<Pieces<'_>> = None;
+    let status = run(
+        alloc,
+        &job,
+        &mut input,
+        &mut again,
+        &mut output,
+        &mut messages,
+    );
     Ok(status == 1 && messages.written() == b"jbgtopbm".as_slice())
 }
 

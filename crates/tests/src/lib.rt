@@ -10,9 +10,13 @@ mod decoding;
 #[cfg(test)]
 mod header;
 #[cfg(test)]
+mod heights;
+#[cfg(test)]
 mod info;
 #[cfg(test)]
 mod large;
+#[cfg(test)]
+mod plain;
 #[cfg(test)]
 mod streams;
 #[cfg(test)]

@@ -3,7 +3,7 @@
 use crate::trial::Bytes::{Hex, Image, Raw};
 use crate::trial::Run;
 
-pub static STREAMS: [Run<'static>; 48] = [
+pub static STREAMS: [Run<'static>; 47] = [
     Run {
         words: &["jbgtopbm85"],
         input: Hex("00000100 00000008 00000001 00000080 00 0000 08 FF02"),
@@ -336,12 +336,5 @@ pub static STREAMS: [Run<'static>; 48] = [
         reads: 20,
         output: Raw(b""),
         fault: Some("reserved bits of the header are set"),
-    },
-    Run {
-        words: &["jbgtopbm85"],
-        input: Hex("00000100 00000001 00000005 00000080 00 0000 20 C0 FF02 FF05 00000001 FF02"),
-        reads: 20,
-        output: Raw(b""),
-        fault: Some("not built yet"),
     },
 ];

@@ -1,6 +1,6 @@
 //! Runs of both programs over devices in memory, and what is tried on them.
 
-ghost use Rattle.std.specs.Prelude.{◌≡◌, ◌↔◌, ◌<◌, ◌-◌, ◌^◌, IfOk, IsTrue, filter_map, option_map};
+ghost use Rattle.std.specs.Prelude.{◌≡◌, ◌↔◌, ◌<◌, ◌-◌, ◌^◌, IfOk, IfSome, IsTrue, filter_map, option_map};
 ghost use Rattle.tests.specs.Trial.{HasTold, hex_digit, paired};
 
 use pbm_core::trial::{Drip, Pieces};
@@ -34,21 +34,25 @@ impl Program {
         }
     }
 
-    /// Runs it over these devices, and gives the exit status.
-    pub fn run<R: Input, W: Output, M: Output>(
+    /// Runs it over these devices, and gives the exit status. A second reading is the decoder's.
+    pub fn run<R: Input, R2: Input, W: Output, M: Output>(
         &self,
         alloc: Global,
         input: &mut R,
+        again: &mut Option<R2>,
         output: &mut W,
         messages: &mut M,
     ) -> u8
         requires input { R.failures input.old < 2 ^ 64 - 1 }
+        requires again { IfSome again.old (λ reading. R2.failures reading < 2 ^ 64 - 1) }
         requires output { W.failures output.old < 2 ^ 64 - 1 }
         requires messages { M.failures messages.old < 2 ^ 64 - 1 }
     {
         match self {
             Program::Encoder(job) => pbmtojbg85::run(alloc, job, input, output, messages),
-            Program::Decoder(job) => jbgtopbm85::run(alloc, job, input, output, messages),
+            Program::Decoder(job) => {
+                jbgtopbm85::run(alloc, job, input, again, output, messages)
+            },
         }
     }
 
@@ -68,6 +72,10 @@ pub struct Devices {
     pub most: usize,
     /// The number of the read that fails, from 1.
     pub failing_read: Option<u64>,
+    /// Whether the input can be read a second time.
+    pub twice: bool,
+    /// The number of the read of the second reading that fails.
+    pub failing_again: Option<u64>,
     pub failing_write: Option<u64>,
     pub flush_fails: bool,
 }
@@ -83,6 +91,8 @@ struct Ran {
 pub const SMOOTH: Devices = Devices {
     most: 4096,
     failing_read: None,
+    twice: true,
+    failing_again: None,
     failing_write: None,
     flush_fails: false,
 };
@@ -141,11 +151,16 @@ fn run_on(
 ) -> Result<Ran, AllocError> {
     let most = devices.most.max(1);
     let mut input = Pieces::new(bytes, most, devices.failing_read);
+    let mut again = if devices.twice {
+        Some(Pieces::new(bytes, most, devices.failing_again))
+    } else {
+        None
+    };
     let mut held = vec![in alloc; 0u8; room]?;
     let mut output = Drip::new(&mut held, most, devices.failing_write, devices.flush_fails);
     let mut told = [0; 128];
     let mut messages = Drip::new(&mut told, 128, None, false);
-    let status = program.run(alloc, &mut input, &mut output, &mut messages);
+    let status = program.run(alloc, &mut input, &mut again, &mut output, &mut messages);
     Ok(Ran {
         status,
         output: output.written().to_vec(alloc)?,
@@ -165,6 +180,8 @@ fn pbm_of(alloc: Global, size: &str, rows: &str) -> Result<Vec<u8>, AllocError> 
 #[derive(Clone, Copy)]
 pub enum Bytes<'a> {
     Raw(&'a [u8]),
+    /// An image in the plain form, and how many of its bytes are the header.
+    Plain(&'a [u8], usize),
     /// A stream, as hexadecimal digits.
     Hex(&'a str),
     /// An image of this size, with these rows as hexadecimal digits.
@@ -174,7 +191,7 @@ pub enum Bytes<'a> {
 impl Bytes<'_> {
     pub fn to_vec(self, alloc: Global) -> Result<Vec<u8>, AllocError> {
         match self {
-            Bytes::Raw(bytes) => bytes.to_vec(alloc),
+            Bytes::Raw(bytes) | Bytes::Plain(bytes, _) => bytes.to_vec(alloc),
             Bytes::Hex(digits) => bytes_of(alloc, digits),
             Bytes::Image(size, rows) => pbm_of(alloc, size, rows),
         }
@@ -184,6 +201,7 @@ impl Bytes<'_> {
     fn header(self) -> Option<usize> {
         match self {
             Bytes::Raw(_) => None,
+            Bytes::Plain(_, header) => Some(header),
             Bytes::Hex(_) => Some(20),
             Bytes::Image(size, _) => Some("P4\n\n".len().saturating_add(size.len())),
         }
@@ -331,10 +349,59 @@ impl<'a> Case<'a> {
         let ran = self.run_on(alloc, &self.input, devices)?;
         let text = Some("input cannot be read");
         Ok(
+            self.may_stand(came, ran.output.len())
+                && self.output.as_slice().starts_with(ran.output.as_slice())
+                && has_told(alloc, &ran, self.program.name(), text)?,
+        )
+    }
+
+    /// Whether the height of the image may change, so that the stream is read twice.
+    fn is_read_twice(&self) -> bool {
+        match self.program {
+            Program::Encoder(_) => false,
+            Program::Decoder(_) => self
+                .input
+                .get(19)
+                .is_some_and(|options| *options & 0x20 != 0),
+        }
+    }
+
+    /// Whether so many bytes may stand where the read after so many bytes fails: none in the first of two readings.
+    fn may_stand(&self, came: u64, count: usize) -> bool {
+        if self.is_read_twice() {
+            count == 0
+        } else {
+            self.run.may_stand(came, count)
+        }
+    }
+
+    /// Whether the failing read of the second reading after so many bytes is told, with a beginning of the output written.
+    fn tells_second_read(&self, alloc: Global, came: u64) -> Result<bool, AllocError> {
+        let devices = Devices {
+            failing_again: Some(came.saturating_add(1)),
+            ..BYTEWISE
+        };
+        let ran = self.run_on(alloc, &self.input, devices)?;
+        let text = Some("input cannot be read");
+        Ok(
             self.run.may_stand(came, ran.output.len())
                 && self.output.as_slice().starts_with(ran.output.as_slice())
                 && has_told(alloc, &ran, self.program.name(), text)?,
         )
+    }
+
+    /// Whether each of so many reads of the second reading is told where it fails, and no more are asked for.
+    fn is_read_again(&self, alloc: Global, reads: u64) -> Result<bool, AllocError> {
+        for came in 0..reads {
+            if !self.tells_second_read(alloc, came)? {
+                return Ok(false);
+            }
+        }
+        let devices = Devices {
+            failing_again: Some(reads.saturating_add(1)),
+            ..BYTEWISE
+        };
+        self.ends(alloc, devices, self.run.fault)
     }
 
     fn tells_each_read(&self, alloc: Global) -> Result<bool, AllocError> {
@@ -410,7 +477,7 @@ impl<'a> Case<'a> {
                 fault,
             ),
             Trial::Flush => (
-                fault.is_some() || self.ends_early(alloc)?,
+                fault.is_some() || self.is_read_twice() || self.ends_early(alloc)?,
                 Devices {
                     flush_fails: true,
                     ..SMOOTH
@@ -456,6 +523,12 @@ impl<'a> Case<'a> {
 /// Whether the run stands the trial.
 pub fn stands(alloc: Global, run: Run<'_>, trial: Trial) -> Result<bool, LineFault> {
     let held = Case::new(alloc, run)?.stands(alloc, trial);
+    Ok(held?)
+}
+
+/// Whether each of so many reads of the run's second reading is told where it fails, and no more are asked for.
+pub fn is_read_again(alloc: Global, run: Run<'_>, reads: u64) -> Result<bool, LineFault> {
+    let held = Case::new(alloc, run)?.is_read_again(alloc, reads);
     Ok(held?)
 }
 

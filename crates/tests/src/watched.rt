@@ -4,7 +4,7 @@ ghost use Rattle.std.specs.Prelude.{◌≡◌, ◌<◌, ◌-◌, ◌^◌, length
 
 use crate::trial::Bytes::Image;
 use crate::trial::{Bytes, Program};
-use pbm_core::trial::Drip;
+use pbm_core::trial::{Drip, Pieces};
 use pbm_core::{DeviceFailed, Input, Output};
 use program_core::LineFault;
 use std::alloc::Global;
@@ -174,7 +174,13 @@ fn watch(alloc: Global, program: &Program, bytes: &[u8]) -> (u8, u64, [u64; MOST
     };
     let mut told = [0; 128];
     let mut messages = Drip::new(&mut told, 128, None, false);
-    let status = program.run(alloc, &mut input, &mut output, &mut messages);
+    let status = program.run(
+        alloc,
+        &mut input,
+        &mut None::<Pieces<'_>>,
+        &mut output,
+        &mut messages,
+    );
     (status, taken.get(), input.seen)
 }
 

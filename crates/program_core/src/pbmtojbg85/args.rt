@@ -8,7 +8,7 @@ use clap::{Arg, ArgAction, value_parser};
 use std::alloc::Global;
 
 /// An option of one letter with a number below 2^32.
-fn number_arg<'a>(alloc: Global, id: &'a str, letter: char, help: &'a str) -> Arg<'a>
+pub(super) fn number_arg<'a>(alloc: Global, id: &'a str, letter: char, help: &'a str) -> Arg<'a>
     ensures rule { rule_of result ≡ number_rule id.entry.now letter [] }
     ensures local { result.global ≡ false }
     ensures help { result.help ≡ Some help.entry }

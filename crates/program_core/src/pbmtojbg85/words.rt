@@ -6,11 +6,11 @@ ghost use Rattle.program_core.specs.Options.{number_in};
 ghost use Rattle.program_core.specs.Pbmtojbg85.{HasDefaults, IsFaultOf, IsJobOf, IsOptionFault, command as the_command, matched};
 
 use super::NAME;
-use super::args::{default_arg, flag_arg, text_arg};
+use super::args::{default_arg, flag_arg, number_arg, text_arg};
 use super::work::Job;
 use crate::args::file_arg;
 use crate::line_fault::LineFault;
-use crate::matches::{flag, matches_of, text};
+use crate::matches::{flag, matches_of, number, text};
 use clap::{ArgMatches, Command};
 use std::alloc::{AllocError, Global};
 use std::convert::AsStr;
@@ -25,7 +25,7 @@ fn command<'a>(alloc: Global) -> Result<Command<'a>, AllocError>
             "options",
             'p',
             "8",
-            "Options: 64 two lines, 8 typical prediction, or their sum",
+            "Options: 64 two lines, 32 variable height, 8 typical prediction, summed",
         ),
         default_arg(alloc, "stripe", 's', "128", "Rows in a stripe"),
         default_arg(
@@ -35,13 +35,15 @@ fn command<'a>(alloc: Global) -> Result<Command<'a>, AllocError>
             "0",
             "Greatest offset of the adaptive pixel",
         ),
+        number_arg(
+            alloc,
+            "announced",
+            'Y',
+            "Announce a height that the image may fall short of",
+        ),
         text_arg(alloc, "comment", 'C', "A comment in the stream"),
         flag_arg(alloc, "reset", 'r', "Begin each stripe anew"),
-        file_arg(
-            alloc,
-            "input",
-            "The raw PBM image, or `-` for standard input",
-        ),
+        file_arg(alloc, "input", "The PBM image, or `-` for standard input"),
         file_arg(
             alloc,
             "output",
@@ -79,17 +81,19 @@ fn job_of(alloc: Global, matches: &ArgMatches<'_>) -> Result<Job, LineFault>
     let p = given(matches, "options");
     let s = given(matches, "stripe");
     let m = given(matches, "move");
+    let announced = number(matches, "announced");
     let reset = flag(matches, "reset");
     let comment = text(alloc, matches, "comment")?;
     let input = text(alloc, matches, "input")?;
     let output = text(alloc, matches, "output")?;
-    if let Err(fault) = Options::new(p, s, m, reset, comment_bytes(&comment)) {
+    if let Err(fault) = Options::new(p, s, m, announced, reset, comment_bytes(&comment)) {
         return Err(LineFault::Fault(fault));
     }
     Ok(Job {
         p,
         s,
         m,
+        announced,
         reset,
         comment,
         input,

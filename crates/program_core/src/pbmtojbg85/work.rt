@@ -12,6 +12,8 @@ pub struct Job {
     pub s: u32,
     /// The greatest offset of the adaptive pixel.
     pub m: u32,
+    /// The height that is announced; the image's own without one.
+    pub announced: Option<u32>,
     /// Whether each stripe ends in a reset.
     pub reset: bool,
     pub comment: Option<String>,

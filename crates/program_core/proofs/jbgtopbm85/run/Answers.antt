@@ -1,5 +1,4 @@
-use Rattle.std.proofs.Common.{rules}
 use Rattle.program_core.proofs.jbgtopbm85.run.Goals as goal
 
 pub returns-clause-outcome : goal.returns-clause-outcome
-returns-clause-outcome g c = (c.if-job.outcome, c.report.ensures.status, search rules, search rules)
+returns-clause-outcome g c = (c.work_on-outcome.result, c.report.ensures.status, c.work_on-outcome.ensures.does, c.work_on-outcome.ensures.flushes)

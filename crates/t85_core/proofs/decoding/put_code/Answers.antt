@@ -22,21 +22,21 @@ pub returns-in-Err-Write-clause-same_input : goal.returns-in-Err-Write-clause-sa
 returns-in-Err-Write-clause-same_input g c = (unset_quiet _ _ c.args.entity.now c.put_rows.new.source _ _ _ _ _ _ c.requires.begun (c.in-Err-Write.ensures.unset (ap Err c.in-Err-Write.field-0-is))).input
 
 pub returns-in-Err-Write-clause-unset : goal.returns-in-Err-Write-clause-unset
-returns-in-Err-Write-clause-unset g c = λ h c' segments known begins.
+returns-in-Err-Write-clause-unset g c = λ h spot heights c' segments known begins.
     let ahead = ahead_of c.put_rows.new.source.first (g.S.Stream.known c.put_rows.new.source.stream.now) in
-    code_unset _ _ c.args.entity.now c.put_rows.new.source _ _ _ h c' segments known begins c.coder_laws.ensures _ _ _ _ ahead.0 ahead.1 (c.in-Err-Write.ensures.unset (ap Err c.in-Err-Write.field-0-is))
+    code_unset _ _ c.args.entity.now c.put_rows.new.source _ _ _ h spot heights c' segments known begins c.coder_laws.ensures _ _ _ _ ahead.0 ahead.1 (c.in-Err-Write.ensures.unset (ap Err c.in-Err-Write.field-0-is))
 
 -- ---- the source stopped
 
 pub returns-in-Err-Stopped-clause-unset : goal.returns-in-Err-Stopped-clause-unset
-returns-in-Err-Stopped-clause-unset g c = λ h c' segments known begins.
+returns-in-Err-Stopped-clause-unset g c = λ h spot heights c' segments known begins.
     let ahead = ahead_of c.put_rows.new.source.first (g.S.Stream.known c.put_rows.new.source.stream.now) in
-    cut_unset _ _ _ _ _ ahead.0 _ _ _ _
-    (code_stopped _ _ c.args.entity.now c.put_rows.new.source _ _ _ h c' segments known begins _ _ _ _ (c.in-Err-Stopped.ensures.stopped (ap Err c.in-Err-Stopped.field-0-is)) c.fault.ensures) ahead.1
+    cut_unset _ _ _ _ _ _ ahead.0 _ _ _ _
+    (code_stopped _ _ c.args.entity.now c.put_rows.new.source _ _ _ h spot heights c' segments known begins _ _ _ _ (c.in-Err-Stopped.ensures.stopped (ap Err c.in-Err-Stopped.field-0-is)) c.fault.ensures) ahead.1
 
 pub returns-in-Err-Stopped-clause-err : goal.returns-in-Err-Stopped-clause-err
-returns-in-Err-Stopped-clause-err g c = λ _ h c' segments known begins.
-    code_stopped _ _ c.args.entity.now c.put_rows.new.source _ _ _ h c' segments known begins _ _ _ _ (c.in-Err-Stopped.ensures.stopped (ap Err c.in-Err-Stopped.field-0-is)) c.fault.ensures
+returns-in-Err-Stopped-clause-err g c = λ _ h spot heights c' segments known begins.
+    code_stopped _ _ c.args.entity.now c.put_rows.new.source _ _ _ h spot heights c' segments known begins _ _ _ _ (c.in-Err-Stopped.ensures.stopped (ap Err c.in-Err-Stopped.field-0-is)) c.fault.ensures
 
 pub returns-in-Err-Stopped-clause-drained : goal.returns-in-Err-Stopped-clause-drained
 returns-in-Err-Stopped-clause-drained g c = λ is.
@@ -68,15 +68,15 @@ finish-requires g c = (rows_quiet _ _ c.args.entity.now c.put_rows.new.source _ 
 
 pub returns-in_err-reset-clause-err : goal.returns-in_err-reset-clause-err
 returns-in_err-reset-clause-err g c =
-    exit _ _ c.from_residual.ensures.1 (λ _ h c' segments known begins.
-    code_rest _ _ c.args.entity.now c.put_rows.new.source _ _ _ h c' segments known begins c.coder_laws.ensures _ _ _ _ _ _ c.in-Ok.ensures.ok c.in_err-reset.ensures.open c.in_err-reset.ensures.err)
+    exit _ _ c.from_residual.ensures.1 (λ _ h spot heights c' segments known begins.
+    code_rest _ _ c.args.entity.now c.put_rows.new.source _ _ _ h spot heights c' segments known begins c.coder_laws.ensures _ _ _ _ _ _ c.in-Ok.ensures.ok c.in_err-reset.ensures.open c.in_err-reset.ensures.err)
 
 pub returns-in_err-reset-clause-unset : goal.returns-in_err-reset-clause-unset
 returns-in_err-reset-clause-unset g c =
     let ahead = ahead_of c.finish.new.self.first (g.S.Stream.known c.finish.new.self.stream.now) in
-    exit _ _ c.from_residual.ensures.1 (λ h c' segments known begins.
-    cut_unset _ _ _ _ _ ahead.0 _ _ _ _
-    (code_rest _ _ c.args.entity.now c.put_rows.new.source _ _ _ h c' segments known begins c.coder_laws.ensures _ _ _ _ _ _ c.in-Ok.ensures.ok c.in_err-reset.ensures.open c.in_err-reset.ensures.err) ahead.1)
+    exit _ _ c.from_residual.ensures.1 (λ h spot heights c' segments known begins.
+    cut_unset _ _ _ _ _ _ ahead.0 _ _ _ _
+    (code_rest _ _ c.args.entity.now c.put_rows.new.source _ _ _ h spot heights c' segments known begins c.coder_laws.ensures _ _ _ _ _ _ c.in-Ok.ensures.ok c.in_err-reset.ensures.open c.in_err-reset.ensures.err) ahead.1)
 
 pub returns-in_err-reset-clause-reads : goal.returns-in_err-reset-clause-reads
 returns-in_err-reset-clause-reads g c =
@@ -97,8 +97,8 @@ returns-in_err-reset-clause-same_input g c = c.finish.ensures.same_input ∙ (ro
 -- ---- the stripe is whole
 
 pub returns-clause-ok : goal.returns-clause-ok
-returns-clause-ok g c = λ h c' segments known begins.
-    code_whole _ _ c.args.entity.now c.put_rows.new.source _ _ _ h c' segments known begins c.coder_laws.ensures _ _ _ _ _ _ _ c.in-Ok.ensures.ok c.in_ok-reset.ensures.ok
+returns-clause-ok g c = λ h spot heights c' segments known begins.
+    code_whole _ _ c.args.entity.now c.put_rows.new.source _ _ _ h spot heights c' segments known begins c.coder_laws.ensures _ _ _ _ _ _ _ c.in-Ok.ensures.ok c.in_ok-reset.ensures.ok
     (kept_wide _ _ _ _ _ (c.in-Ok.ensures.width ∙ c.requires.width ∙ begins.shape_is.width_is) c.end_stripe.ensures.next)
 
 pub returns-clause-reads : goal.returns-clause-reads

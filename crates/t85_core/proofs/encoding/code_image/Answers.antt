@@ -11,7 +11,7 @@ use Rattle.t85_core.proofs.encoding.code_image.Goals as goal
 use Rattle.t85_core.proofs.encoding.code_image.Goals.{in-Some+in_ok-put_comment, in_default}
 
 -- the header and the comment stand before the stripes
-head_put : (g : given.Over) (c : goal.After-code_stripes g) → Appends (g.P.Sheet.text c.args.sheet.now) (g.P.Sheet.text c.match-options.sheet) (head_of (settings_of c.args.options.now) c.args.size.width c.args.size.height)
+head_put : (g : given.Over) (c : goal.After-code_body g) → Appends (g.P.Sheet.text c.args.sheet.now) (g.P.Sheet.text c.match-options.sheet) (head_of (settings_of c.args.options.now) c.args.size.width c.args.size.height)
 head_put g c =
     let header = c.bytes.ensures ∙ ap header_bytes c.header-header.ensures in
     elim c.match-options.branch [
@@ -23,10 +23,10 @@ head_put g c =
 
 pub returns-clause-ok : goal.returns-clause-ok
 returns-clause-ok g c =
-    on_ok c.code_stripes.result (λ head image. image_headed (settings_of c.args.options.now) c.args.size.width c.args.size.height _ _ _ _ _ head image) (always c.code_stripes.result (head_put g c)) c.code_stripes.ensures.ok
+    on_ok c.code_body.result (λ head image. image_headed (settings_of c.args.options.now) c.args.size.width c.args.size.height _ _ _ _ _ head image) (always c.code_body.result (head_put g c)) c.code_body.ensures.ok
 
 pub returns-clause-short : goal.returns-clause-short
-returns-clause-short g c fault is = short_headed (settings_of c.args.options.now) c.args.size.width c.args.size.height _ _ _ _ _ (head_put g c) fault (c.code_stripes.ensures.short fault is)
+returns-clause-short g c fault is = short_headed (settings_of c.args.options.now) c.args.size.width c.args.size.height _ _ _ _ _ (head_put g c) fault (c.code_body.ensures.short fault is)
 
 pub returns-in_err-put-clause-unset : goal.returns-in_err-put-clause-unset
 returns-in_err-put-clause-unset g c is =
@@ -39,4 +39,4 @@ returns-in_err-put_comment-clause-unset g c is =
     (comment_cut (settings_of c.args.options.now) c.args.size.width c.args.size.height _ _ _ _ c.in-Some.text.now (c.bytes.ensures ∙ ap header_bytes c.header-header.ensures) (ap (option_map (λ text. text.now)) c.in-Some.is) c.in_ok-put.ensures.ok c.in_err-put_comment.ensures.cut)
 
 pub returns-clause-unset : goal.returns-clause-unset
-returns-clause-unset g c is = refused_headed (settings_of c.args.options.now) c.args.size.width c.args.size.height _ _ _ _ _ (head_put g c) (c.code_stripes.ensures.unset is)
+returns-clause-unset g c is = refused_headed (settings_of c.args.options.now) c.args.size.width c.args.size.height _ _ _ _ _ (head_put g c) (c.code_body.ensures.unset is)

@@ -12,7 +12,7 @@ abbrev pub invariant-rows : goal.invariant-rows
 invariant-rows g l = record {
   coded : (s : Settings) (move : Option (ℕ × ℕ)) (c : Carry) → IsShape s l.shape.width l.shape → IsHeld move 0 (begin c) l.fn.carried →
       (rows : List (List Bool)) × (length rows ≡ l.counter)
-      × RowsCoded g.C.CodeSink.took l.fn.sink l.sink s l.shape.width move c l.counted (g.R.Input.remaining l.fn.source) (g.R.Input.remaining l.source) rows l.carried l.tally l.encoder;
+      × RowsCoded g.C.CodeSink.took l.fn.sink l.sink s l.form l.shape.width move c l.counted (g.R.Input.remaining l.fn.source) (g.R.Input.remaining l.source) rows l.carried l.tally l.encoder;
   width : width_of l.carried.window.now ≡ width_of l.fn.carried.window.now;
   offset : l.carried.kept.offset ≡ l.fn.carried.kept.offset;
   going : has_failed l.encoder ≡ false;

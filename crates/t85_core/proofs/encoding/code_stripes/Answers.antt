@@ -44,7 +44,7 @@ returns-in_err-code_stripe-clause-short g c fault is =
     let course : IsOnCourse s c.args.shape.width so.at c.stripes.carried c.stripes.tally = subst (λ w. IsOnCourse s w so.at c.stripes.carried c.stripes.tally) (sym c.requires.shape) (so.on_course inside) in
     exit_same c.from_residual.result c.from_residual.ensures.1 (λ e.
     stripes_short s c.args.size.width c.args.size.height c.stripes.counter c.args.options.now.some_rows inside _ _ _ _ _ _ c.stripes.carried c.stripes.tally so c.min-rows.result fault count_is
-    (subst (λ w. StripeShort s w c.min-rows.result so.at (g.R.Input.remaining c.stripes.source) (g.R.Input.remaining c.code_stripe.new.source) (g.P.Sheet.text c.stripes.sheet) (g.P.Sheet.text c.code_stripe.new.sheet) fault) c.requires.shape (c.in_err-code_stripe.ensures.short fault e s so.at is_shape refl course))) is
+    (subst (λ w. StripeShort s c.args.form w c.min-rows.result so.at (g.R.Input.remaining c.stripes.source) (g.R.Input.remaining c.code_stripe.new.source) (g.P.Sheet.text c.stripes.sheet) (g.P.Sheet.text c.code_stripe.new.sheet) fault) c.requires.shape (c.in_err-code_stripe.ensures.short fault e s so.at is_shape refl course))) is
 
 pub returns-in_err-code_stripe-clause-unset : goal.returns-in_err-code_stripe-clause-unset
 returns-in_err-code_stripe-clause-unset g c is =
@@ -56,7 +56,7 @@ returns-in_err-code_stripe-clause-unset g c is =
     let course : IsOnCourse s c.args.shape.width so.at c.stripes.carried c.stripes.tally = subst (λ w. IsOnCourse s w so.at c.stripes.carried c.stripes.tally) (sym c.requires.shape) (so.on_course inside) in
     exit_same c.from_residual.result c.from_residual.ensures.1 (λ e.
     stripes_refused s c.args.size.width c.args.size.height c.stripes.counter c.args.options.now.some_rows inside _ _ _ _ _ _ c.stripes.carried c.stripes.tally so c.min-rows.result count_is
-    (subst (λ w. StripeRefused s w c.min-rows.result so.at (g.R.Input.remaining c.stripes.source) (g.R.Input.remaining c.code_stripe.new.source) (g.P.Sheet.text c.stripes.sheet) (g.P.Sheet.text c.code_stripe.new.sheet)) c.requires.shape (c.in_err-code_stripe.ensures.unset e s so.at is_shape refl course))) is
+    (subst (λ w. StripeRefused s c.args.form w c.min-rows.result so.at (g.R.Input.remaining c.stripes.source) (g.R.Input.remaining c.code_stripe.new.source) (g.P.Sheet.text c.stripes.sheet) (g.P.Sheet.text c.code_stripe.new.sheet)) c.requires.shape (c.in_err-code_stripe.ensures.unset e s so.at is_shape refl course))) is
 
 is_some : (b : Bool) (n : ℕ) → b ≡ nat_lt 0 n → 0 < n → IsTrue b
 is_some b n is some = grind (arith, nat_tests, is, some)
@@ -79,7 +79,7 @@ stripes-preserved g c =
     ] in
     record {
       coded = stripe_more s c.args.size.width c.args.size.height c.stripes.counter c.args.options.now.some_rows inside _ _ _ _ _ _ c.stripes.carried c.stripes.tally so c.min-rows.result c.if-left-gt0.is_counted c.code_stripe.new.carried c.code_stripe.new.tally count_is
-          (subst (λ w. StripeCoded s w c.min-rows.result c.if-left-gt0.is_counted so.at (g.R.Input.remaining c.stripes.source) (g.R.Input.remaining c.code_stripe.new.source) (g.P.Sheet.text c.stripes.sheet) (g.P.Sheet.text c.code_stripe.new.sheet) c.code_stripe.new.carried c.code_stripe.new.tally) c.requires.shape (c.in_ok-code_stripe.ensures.ok s so.at is_shape refl course)) counts;
+          (subst (λ w. StripeCoded s c.args.form w c.min-rows.result c.if-left-gt0.is_counted so.at (g.R.Input.remaining c.stripes.source) (g.R.Input.remaining c.code_stripe.new.source) (g.P.Sheet.text c.stripes.sheet) (g.P.Sheet.text c.code_stripe.new.sheet) c.code_stripe.new.carried c.code_stripe.new.tally) c.requires.shape (c.in_ok-code_stripe.ensures.ok s so.at is_shape refl course)) counts;
       left_is = omega (arith, c.stripes.invariant.left_is, c.min-rows.ensures, sum, within);
       width = c.in_ok-code_stripe.ensures.width ∙ c.stripes.invariant.width;
       offset = c.in_ok-code_stripe.ensures.offset;

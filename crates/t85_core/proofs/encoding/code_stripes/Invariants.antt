@@ -6,7 +6,7 @@ use Rattle.t85_core.proofs.encoding.code_stripes.Given as goal
 
 abbrev pub invariant-stripes : goal.invariant-stripes
 invariant-stripes g l = record {
-  coded : StripesCoded (settings_of l.options) l.size.width l.size.height l.counter (g.R.Input.remaining l.fn.source) (g.R.Input.remaining l.source) (g.P.Sheet.text l.fn.sheet) (g.P.Sheet.text l.sheet) l.carried l.tally;
+  coded : StripesCoded (settings_of l.options) l.form l.size.width l.size.height l.counter (g.R.Input.remaining l.fn.source) (g.R.Input.remaining l.source) (g.P.Sheet.text l.fn.sheet) (g.P.Sheet.text l.sheet) l.carried l.tally;
   left_is : l.left ≡ l.size.height - l.counter * l.options.stripe_rows;
   width : width_of l.carried.window.now ≡ l.size.width;
   offset : l.carried.kept.offset ≤ 127;

@@ -7,7 +7,7 @@ pub returns-clause-ok : goal.returns-clause-ok
 returns-clause-ok g c =
     let same = (ink_stays (λ s. record { sheet = s.sheet.ghost_name; target = g.P.Sheet.target s.sheet.now; written = g.P.Sheet.written s.sheet.now; text = g.P.Sheet.text s.sheet.now }) c.new-ink.result c.code_rows.new.sink c.args.shape c.args.rows c.args.counted _ _ c.args.carried.now c.code_rows.new.carried c.code_rows.new.tally c.code_rows.result c.requires.held c.code_rows.ensures.among c.code_rows.ensures.ok c.code_rows.ensures.short c.code_rows.ensures.refused).same_sheet in
     code_inked (λ s. record { sheet = s.sheet.ghost_name; target = g.P.Sheet.target s.sheet.now; written = g.P.Sheet.written s.sheet.now; text = g.P.Sheet.text s.sheet.now }) c.new-ink.result c.code_rows.new.sink c.args.shape c.args.rows _ _ _ _ c.args.carried.now
-    (ap (λ m. g.P.Sheet.text m.now) c.new-ink.ensures.lent) (ap g.P.Sheet.text (search (rules, same))) c.args.counted c.code_rows.new.carried c.code_rows.new.tally c.code_rows.result c.code_rows.ensures.ok
+    (ap (λ m. g.P.Sheet.text m.now) c.new-ink.ensures.lent) (ap g.P.Sheet.text (search (rules, same))) c.args.form c.args.counted c.code_rows.new.carried c.code_rows.new.tally c.code_rows.result c.code_rows.ensures.ok
 
 pub returns-clause-short : goal.returns-clause-short
 returns-clause-short g c =

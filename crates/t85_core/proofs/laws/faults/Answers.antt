@@ -1,12 +1,10 @@
-use Rattle.std.proofs.Common.{◌∙◌, sym, arith}
-use Rattle.t85_core.proofs.Cut.{parts_or_fault}
+use Rattle.t85_core.proofs.Heights.{whole_or_broken_at}
 use Rattle.t85_core.proofs.Parsed.{parsed}
 use Rattle.t85_core.proofs.FixedRows.{some_fixed_at, one_fixed_at}
 use Rattle.t85_core.proofs.laws.faults.Goals as goal
 
 pub returns-clause-whole_or_broken : goal.returns-clause-whole_or_broken
-returns-clause-whole_or_broken c = λ h n body fault u p b.
-    parts_or_fault h u.accepted.stripe_to p.stripes b.stripes p.rest b.tail fault p.each b.each (omega (arith, p.count, b.fewer)) b.tail_has (sym p.body_is ∙ b.bytes_are)
+returns-clause-whole_or_broken c = λ h n body fault u p b. whole_or_broken_at h n body fault u p b
 
 pub returns-clause-parts_or_fault : goal.returns-clause-parts_or_fault
 returns-clause-parts_or_fault c = λ h n body all. parsed h n body all
@@ -15,4 +13,4 @@ pub returns-clause-some_fixed : goal.returns-clause-some_fixed
 returns-clause-some_fixed c = λ h n body fault u b. some_fixed_at c.coder_laws.ensures h n body fault u.accepted b
 
 pub returns-clause-one_fixed : goal.returns-clause-one_fixed
-returns-clause-one_fixed c = λ h n body f g rows others u p q. one_fixed_at c.coder_laws.ensures h n body f g rows others u.accepted p q
+returns-clause-one_fixed c = λ h n body f g rows others u p q. one_fixed_at c.coder_laws.ensures h n body f g rows others u p q

@@ -15,4 +15,9 @@ returns c = record {
   moved = refl;
   moved_anew = refl;
   no_candidate = refl;
+  announced = refl;
+  announced_reset = refl;
+  announced_exactly = refl;
+  announced_twice = refl;
+  variable = refl;
 }

@@ -8,7 +8,7 @@ pub returns-in-4-clause-err : goal.returns-in-4-clause-err
 returns-in-4-clause-err g c =
     Ends-at Aborted (255 ∷ c.in_ok-escape.escape ∷ [])
     (escape_taken _ _ _ _ _ c.in_ok-first.ensures.ok c.if-first.false c.in_ok-escape.ensures.ok) refl (λ h. cc)
-    (λ h moves. rw c.in-4.is refl)
+    (λ h spot moves. rw c.in-4.is refl)
 
 pub returns-in_default-clause-err : goal.returns-in_default-clause-err
 returns-in_default-clause-err g c =
@@ -16,4 +16,4 @@ returns-in_default-clause-err g c =
     let other : (escape ≢ 0) × (escape ≢ 2) × (escape ≢ 3) × (escape ≢ 4) = (omega arith, omega arith, omega arith, omega arith) in
     Ends-at BadEscape (255 ∷ escape ∷ [])
     (escape_taken _ _ _ _ _ c.in_ok-first.ensures.ok c.if-first.false c.in_ok-escape.ensures.ok) refl (λ h. cc)
-    (λ h moves. escape_in_code h moves escape [] other.0 other.1 other.2 other.3)
+    (λ h spot moves. escape_in_code h spot moves escape [] other.0 other.1 other.2 other.3)

@@ -8,6 +8,7 @@ returns-clause-values c =
       p = c.given-p.ensures;
       s = c.given-s.ensures;
       m = c.given-m.ensures;
+      announced = c.number-announced.ensures;
       reset = c.flag-reset.ensures;
       comment = c.in_ok-comment.ensures;
       input = c.in_ok-input.ensures;

@@ -1,0 +1,19 @@
+use Rattle.std.proofs.Common.{Err, ap}
+use Rattle.t85_core.specs.Chosen.{fields_of}
+use Rattle.t85_core.proofs.Ends.{exit, exit_of}
+use Rattle.t85_core.proofs.HeightFound.{accepted, skipped_refused, open_unfinished}
+use Rattle.t85_core.proofs.Summed.{none_line}
+use Rattle.t85_core.proofs.summary.summary.Goals as goal
+
+pub returns-in_err-reached-clause-err : goal.returns-in_err-reached-clause-err
+returns-in_err-reached-clause-err g c =
+    exit _ _ c.from_residual.ensures.1 (λ n. skipped_refused (fields_of c.args.header.now) (accepted c.args.header.now) _ _ _ (c.in_err-reached.ensures.err n) n)
+
+pub returns-in_err-reached-clause-unread : goal.returns-in_err-reached-clause-unread
+returns-in_err-reached-clause-unread g c is =
+    exit_of c.from_residual.result c.from_residual.ensures.1 (λ e.
+    let u = c.in_err-reached.ensures.unread (ap Err e) in
+    (u.0, u.1, open_unfinished (fields_of c.args.header.now) (accepted c.args.header.now) u.0 u.2)) is
+
+pub returns-in-None-clause-ok : goal.returns-in-None-clause-ok
+returns-in-None-clause-ok g c = none_line (fields_of c.args.header.now) _ _ _ _ _ _ (rw c.in-None.is at c.in_ok-reached.ensures.ok) c.line_of.ensures

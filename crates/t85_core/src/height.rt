@@ -1,0 +1,249 @@
+//! The height of a stream, which may be given behind its stripes.
+
+ghost use Rattle.std.specs.Prelude.{◌≡◌, ◌≢◌, ◌≤◌, ◌-◌, ◌^◌, ◌<◌, List, ℕ, OnOk, IfOk, IfErr, IfSome, IsErrOf, None, true, false};
+ghost use Rattle.std.specs.Io.KnownBytes.{Consumes};
+ghost use Rattle.t85_core.specs.declared.fault.Fault.TheVariants.{Truncated, Read};
+ghost use Rattle.t85_core.specs.Chosen.{fields_of};
+ghost use Rattle.t85_core.specs.Header.{is_variable};
+ghost use Rattle.t85_core.specs.Walk.{CountsRead, Ends};
+ghost use Rattle.t85_core.specs.Grammar.{stripe_count};
+ghost use Rattle.t85_core.specs.Readings.{FindsHeight as HeightFound};
+ghost use Rattle.t85_core.specs.Info.{IsWalkFault};
+ghost use Rattle.t85_core.specs.Seek.{Skips, SkipFault, Sought, SkipsFault, LooksTo, LookEnds, LookOpen, Finds, FindsOpen, PassesRest, RestBreaks};
+ghost use Rattle.t85_core.specs.Piece.{IsCode};
+
+use crate::fault::Fault;
+use crate::header::Header;
+use crate::stream::{Buffered, Stream};
+use crate::walk::{Code, Next, Piece, Place, next_piece, read_segments, skip_code};
+use pbm_core::Input;
+
+/// How many moves and comments were passed. Comments are counted up to 2^64 - 1.
+#[derive(Clone, Copy)]
+pub struct Passed {
+    pub moves: u64,
+    pub comments: u64,
+}
+
+/// What was passed of a stripe: all of it, or its segments up to a height.
+#[derive(Clone, Copy)]
+struct Skipped {
+    passed: Passed,
+    height: Option<u32>,
+}
+
+/// What was passed of a stream: so many data entities with what stands before them, and, where a height came, the
+/// segments before that.
+#[derive(Clone, Copy)]
+pub struct Reached {
+    pub entities: u32,
+    pub passed: Passed,
+    pub part: Passed,
+    pub height: Option<u32>,
+}
+
+/// Finds the height of the image. The input stands behind the header.
+///
+/// Where the header says that the height may change, the segments are read up to the first valid height; where none
+/// comes, or the stream breaks before it, the height is the header's.
+pub fn find_height<R: Input>(header: &Header, input: &mut R) -> Result<u32, Fault>
+    requires input { R.failures input.old < 2 ^ 64 - 1 }
+    ensures { HeightFound (fields_of header.now) (R.remaining input.old) (R.remaining input.new) (R.failures input.old) (R.failures input.new) result }
+{
+    if !header.is_variable() {
+        return Ok(header.yd);
+    }
+    let mut stream = Buffered::new(input);
+    match find(header, &mut stream) {
+        Ok(reached) => match reached.height {
+            Some(height) => Ok(height),
+            None => Ok(header.yd),
+        },
+        Err(fault) => match fault {
+            Fault::Read => Err(Fault::Read),
+            _ => Ok(header.yd),
+        },
+    }
+}
+
+/// Passes the stripes that the header's height makes, up to the first height that is given in them or, where the height
+/// may change, behind them.
+pub fn find<S: Stream>(header: &Header, stream: &mut S) -> Result<Reached, Fault>
+    requires stream { S.failures stream.old < 2 ^ 64 - 1 }
+    ensures ok { IfOk result (λ r. Finds (fields_of header.now) (S.known stream.old) (S.known stream.new) r.entities r.passed.moves r.passed.comments r.part.moves r.part.comments r.height) }
+    ensures few { IfOk result (λ r. (r.passed.moves ≤ r.entities) × (r.part.moves ≤ 1)) }
+    ensures err { IfErr result (λ f. f ≢ Read → Ends Truncated (S.known stream.old) (S.known stream.new) (SkipsFault (fields_of header.now) 0 (stripe_count header.now.yd header.now.l0) false false) f) }
+    ensures unread { IsErrOf result Read → (given : List ℕ) × Consumes (S.known stream.old) (S.known stream.new) given × FindsOpen (fields_of header.now) given }
+    ensures among { IfErr result IsWalkFault }
+    ensures drained { IsErrOf result Read → S.known stream.new ≡ S.beyond stream.new }
+    ensures same_source { S.source stream.new ≡ S.source stream.old }
+    ensures counts { CountsRead (S.failures stream.old) (S.failures stream.new) result }
+{
+    let reached = skip_stripes(
+        header,
+        0,
+        header.yd.div_ceil(header.l0),
+        false,
+        false,
+        stream,
+    )?;
+    match reached.height {
+        Some(_) => Ok(reached),
+        None => {
+            if !header.is_variable() {
+                return Ok(reached);
+            }
+            let height = look(header, reached.entities, stream)?;
+            Ok(Reached { height, ..reached })
+        }
+    }
+}
+
+/// Passes comments behind the last stripe that the header's height makes, and a height where one stands behind them.
+fn look<S: Stream>(header: &Header, entities: u32, stream: &mut S) -> Result<Option<u32>, Fault>
+    requires stream { S.failures stream.old < 2 ^ 64 - 1 }
+    requires variable { is_variable (fields_of header.now) ≡ true }
+    ensures found { IfOk result (λ height. IfSome height (LooksTo (fields_of header.now) entities (S.known stream.old) (S.known stream.new))) }
+    ensures none { IfOk result (λ height. height ≡ None → IfSome (S.known stream.old) (LookEnds (fields_of header.now) entities)) }
+    ensures among { IfErr result (λ f. f ≡ Read) }
+    ensures unread { IsErrOf result Read → (given : List ℕ) × Consumes (S.known stream.old) (S.known stream.new) given × LookOpen (fields_of header.now) entities given }
+    ensures drained { IsErrOf result Read → S.known stream.new ≡ S.beyond stream.new }
+    ensures same_source { S.source stream.new ≡ S.source stream.old }
+    ensures counts { CountsRead (S.failures stream.old) (S.failures stream.new) result }
+{
+    let place = Place {
+        height: 0,
+        entities,
+        given: false,
+    };
+    'comments: loop {
+        match next_piece(header, place, true, stream) {
+            Ok(piece) => match piece {
+                Piece::Comment => {}
+                Piece::NewLength(height) => return Ok(Some(height)),
+                Piece::Move(_) => return Ok(None),
+                Piece::Code(_) => return Ok(None),
+            },
+            Err(fault) => match fault {
+                Fault::Read => return Err(Fault::Read),
+                _ => return Ok(None),
+            },
+        }
+    }
+}
+
+/// Passes stripes from the one number `from` up to `count` in all, or up to a height. Whether one was given before them
+/// is `given`, and whether a move stands before what is left of the first is `moved_before`.
+pub fn skip_stripes<S: Stream>(
+    header: &Header,
+    from: u32,
+    count: u32,
+    given: bool,
+    moved_before: bool,
+    stream: &mut S,
+) -> Result<Reached, Fault>
+    requires stream { S.failures stream.old < 2 ^ 64 - 1 }
+    requires from { from ≤ count }
+    ensures ok { IfOk result (λ r. Sought (fields_of header.now) from count given moved_before (S.known stream.old) (S.known stream.new) r.entities r.passed.moves r.passed.comments r.part.moves r.part.comments r.height) }
+    ensures few { IfOk result (λ r. (r.passed.moves ≤ r.entities - from) × (r.part.moves ≤ 1)) }
+    ensures err { IfErr result (Ends Truncated (S.known stream.old) (S.known stream.new) (SkipsFault (fields_of header.now) from count given moved_before)) }
+    ensures drained { IsErrOf result Read → S.known stream.new ≡ S.beyond stream.new }
+    ensures same_source { S.source stream.new ≡ S.source stream.old }
+    ensures counts { CountsRead (S.failures stream.old) (S.failures stream.new) result }
+{
+    let mut moved = moved_before;
+    let mut passed = Passed {
+        moves: 0,
+        comments: 0,
+    };
+    'stripes: for entities in from..count {
+        let skipped = skip_stripe(header, entities, given, moved, stream)?;
+        let part = skipped.passed;
+        match skipped.height {
+            Some(height) => {
+                return Ok(Reached {
+                    entities,
+                    passed,
+                    part,
+                    height: Some(height),
+                });
+            }
+            None => {}
+        }
+        moved = false;
+        passed = Passed {
+            moves: passed.moves + part.moves,
+            comments: passed.comments.saturating_add(part.comments),
+        };
+    }
+    Ok(Reached {
+        entities: count,
+        passed,
+        part: Passed {
+            moves: 0,
+            comments: 0,
+        },
+        height: None,
+    })
+}
+
+/// Passes what is left of a stripe, or of its segments up to a height, behind so many data entities.
+fn skip_stripe<S: Stream>(
+    header: &Header,
+    entities: u32,
+    given: bool,
+    moved_before: bool,
+    stream: &mut S,
+) -> Result<Skipped, Fault>
+    requires stream { S.failures stream.old < 2 ^ 64 - 1 }
+    ensures ok { IfOk result (λ s. Skips (fields_of header.now) entities given moved_before (S.known stream.old) (S.known stream.new) s.passed.moves s.passed.comments s.height) }
+    ensures few { IfOk result (λ s. s.passed.moves ≤ 1) }
+    ensures err { IfErr result (Ends Truncated (S.known stream.old) (S.known stream.new) (SkipFault (fields_of header.now) entities given moved_before)) }
+    ensures drained { IsErrOf result Read → S.known stream.new ≡ S.beyond stream.new }
+    ensures same_source { S.source stream.new ≡ S.source stream.old }
+    ensures counts { CountsRead (S.failures stream.old) (S.failures stream.new) result }
+{
+    // No height is in use where one is looked for, and none may come where one was given.
+    let place = Place {
+        height: 0,
+        entities,
+        given,
+    };
+    let segments = read_segments(header, place, moved_before, stream)?;
+    let passed = Passed {
+        moves: u64::from(segments.at.is_some()),
+        comments: segments.comments,
+    };
+    match segments.next {
+        Next::Height(height) => Ok(Skipped {
+            passed,
+            height: Some(height),
+        }),
+        Next::Code(code) => {
+            skip_rest(code, stream)?;
+            Ok(Skipped {
+                passed,
+                height: None,
+            })
+        }
+    }
+}
+
+/// Passes what is left of a data entity that begins so.
+fn skip_rest<S: Stream>(first: Code, stream: &mut S) -> Result<(), Fault>
+    requires stream { S.failures stream.old < 2 ^ 64 - 1 }
+    requires first { IsCode first }
+    ensures ok { OnOk result (PassesRest first (S.known stream.old) (S.known stream.new)) }
+    ensures err { IfErr result (Ends Truncated (S.known stream.old) (S.known stream.new) (RestBreaks first)) }
+    ensures drained { IsErrOf result Read → S.known stream.new ≡ S.beyond stream.new }
+    ensures same_source { S.source stream.new ≡ S.source stream.old }
+    ensures counts { CountsRead (S.failures stream.old) (S.failures stream.new) result }
+{
+    match first {
+        Code::Byte(_) => {
+            skip_code(stream)?;
+            Ok(())
+        }
+        Code::Marker(_) => Ok(()),
+    }
+}
