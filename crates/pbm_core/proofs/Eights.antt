@@ -8,7 +8,7 @@ use Rattle.std.proofs.lemmas.Bool.{cases_lt}
 use Rattle.std.proofs.lemmas.List.{length_push, get_or_append_left, get_or-append-add, get_or_past}
 use Rattle.pbm_core.specs.Pbm.{bytes_of_row, IsMasked, masked_row}
 use Rattle.pbm_core.specs.Image.{numbers_from, binary, packed_row, IsRowOf}
-use Rattle.pbm_core.specs.Held.{byte_at, PassesPixels}
+use Rattle.pbm_core.specs.Steps.{byte_at, PassesPixels}
 use Rattle.std.specs.Io.KnownBytes.{Consumes}
 use Rattle.pbm_core.specs.declared.form.Form.{Form}
 use Rattle.pbm_core.specs.declared.form.Form.TheVariants.{Raw, Plain}

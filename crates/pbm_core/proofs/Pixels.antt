@@ -11,8 +11,8 @@ use Rattle.pbm_core.specs.declared.form.Form.{Form}
 use Rattle.pbm_core.specs.declared.form.Form.TheVariants.{Raw, Plain}
 use Rattle.pbm_core.specs.Pbm.{bytes_of_row, IsWhite}
 use Rattle.pbm_core.specs.Image.{pixels_of, digit_of, ArePixels, IsRow, PixelFault, EndsInPixels, RowFault, AreRows, HasRow, HasRowFault, OneRow, OneRowFault, RowOrFault}
-use Rattle.pbm_core.specs.Held.{PassesPixels}
-use Rattle.pbm_core.specs.Walk.{Ends}
+use Rattle.pbm_core.specs.Steps.{PassesPixels}
+use Rattle.pbm_core.specs.Fault.{PbmEnds}
 use Rattle.pbm_core.proofs.Streams.{Consumes-none, Consumes-more}
 use Rattle.pbm_core.proofs.Ends.{Ends-after}
 use Rattle.pbm_core.proofs.Judged.{white_test, white-true, white-not}
@@ -24,7 +24,7 @@ pixels-append xs ys (black ∷ row) more p q = (p.0, p.1 ++ ys, ap (λ z. z ++ y
 
 -- so many pixels came, and then fewer than there are still to come
 pub pixels_then : {a b c : Option (List ℕ)} {f : PbmFault} (whole left rest many n : ℕ) (pixels : List Bool) → PassesPixels a b whole left pixels → length pixels + n ≤ many
-    → Ends b c (λ given e. EndsInPixels n given e × (rest + length given ≡ left)) f → Ends a c (λ given e. EndsInPixels many given e × (rest + length given ≡ whole)) f
+    → PbmEnds b c (λ given e. EndsInPixels n given e × (rest + length given ≡ left)) f → PbmEnds a c (λ given e. EndsInPixels many given e × (rest + length given ≡ whole)) f
 pixels_then whole left rest many n pixels p fits e =
     Ends-after p.given p.taken (λ given f q. (
       record {

@@ -29,7 +29,7 @@ use Rattle.clap.proofs.CallerLemmas.{default_present, entry_by_id, same_rules_by
 use Rattle.clap.proofs.CallerReads.{signed_reads}
 use Rattle.clap.proofs.WalkLemmas.{both}
 use Rattle.program_core.specs.Options.{decimal, number_rule}
-use Rattle.program_core.specs.Pbmtojbg85.{command}
+use Rattle.program_core.specs.Pbmtojbg85.{encode_command}
 use Rattle.program_core.proofs.Numbers.{decimal_reads}
 
 is_nil : {X : Type 0} (xs : List X) → is_empty xs ≡ true → xs ≡ []
@@ -195,9 +195,9 @@ some_arg [] h = absurd (omega arith)
 some_arg (x ∷ xs) h = x
 
 abbrev pub rules : List Rule
-rules = command.top.rules
+rules = encode_command.top.rules
 
-module _ (c : Command) (m : ArgMatches) (p : IsParsedFrom c m) (is : app_of c ≡ command) (k : ℕ) (id : Text) (letter : ℕ) (t : Text) where
+module _ (c : Command) (m : ArgMatches) (p : IsParsedFrom c m) (is : app_of c ≡ encode_command) (k : ℕ) (id : Text) (letter : ℕ) (t : Text) where
   here : (d : Arg) (j : ℕ) → j < length (args_of c) → rule_of (slice_index_or (args_of c) j d) ≡ slice_index_or rules j (rule_of d)
   here d j lt = sym (get_or-map rule_of (args_of c) j d (rule_of d) lt) ∙ ap (λ (a : App). slice_index_or a.top.rules j (rule_of d)) is
 
@@ -220,7 +220,7 @@ module _ (c : Command) (m : ArgMatches) (p : IsParsedFrom c m) (is : app_of c �
       let none : NamesNoGroup c = λ j d lt. is_nil _ (both _ _ (both _ _ (both _ _ (simple d j lt)).1).1).0 in
       (p.from.same_groups none).1 ∙ is_nil _ (both _ _ h).0
 
-  -- an option of the command with a default has a number
+  -- an option of the encode_command with a default has a number
   pub default_given : k < length rules → ((d : Rule) → slice_index_or rules k d ≡ number_rule id letter (t ∷ []))
       → lone_at (λ (r : Rule). bytes_eq r.id id) rules k ≡ true → (id ≡ [] → ⊥) → ((id ≡ codes "help") ⊎ (id ≡ codes "version") → ⊥)
       → is_some (option_and_then decimal (one_text (found_of m) id)) ≡ true

@@ -3,8 +3,8 @@ use Rattle.std.specs.Prelude.{◌≡◌, ◌-◌, ◌^◌, ℕ, Bool, true, fals
 use Rattle.clap.specs.Words.{App, Kinds, Row, fault_of, Rule, Text, first_of, matches_of, new_app, new_rule, with_rule}
 use Rattle.clap.specs.declared.builder.ArgAction.TheVariants.{SetTrue}
 use Rattle.t85_core.specs.declared.fault.Fault.{Fault}
-use Rattle.t85_core.specs.Info.{Informs}
-use Rattle.t85_core.specs.Readings.{ConvertsReadings}
+use Rattle.t85_core.specs.Info.{Info}
+use Rattle.t85_core.specs.ToPbm.{ToPbm}
 use Rattle.program_core.specs.Line.{flag_in}
 use Rattle.program_core.specs.Options.{long_number_rule, number_in}
 use Rattle.program_core.specs.declared.jbgtopbm85.work.Job.{Job}
@@ -18,23 +18,23 @@ abbrev pub max_rows_rule : Rule
 max_rows_rule = long_number_rule (codes "max-rows") (codes "max-rows")
 
 -- `jbgtopbm85 [options] [input [output]]`
-abbrev pub command : App
-command = with_rule (with_rule (with_rule (with_rule (new_app (codes "jbgtopbm85")) info_rule) max_rows_rule) (new_rule (codes "input"))) (new_rule (codes "output"))
+abbrev pub decode_command : App
+decode_command = with_rule (with_rule (with_rule (with_rule (new_app (codes "jbgtopbm85")) info_rule) max_rows_rule) (new_rule (codes "input"))) (new_rule (codes "output"))
 
--- the matches that clap's walk over the words gives the command
-unfoldable pub matched : List Text → List Row
-matched words = matches_of command words
+-- the matches that clap's walk over the words gives the decode_command
+unfoldable pub decode_matches : List Text → List Row
+decode_matches words = matches_of decode_command words
 
 -- the job that has the values of these matches
-pub record IsJobOf (rows : List Row) (job : Job) : Type 0 where
+pub record IsDecodeJobOf (rows : List Row) (job : Job) : Type 0 where
   pub info : job.info ≡ flag_in (codes "info") rows
   pub max_rows : job.max_rows ≡ number_in (codes "max-rows") rows
   pub input : option_map string_bytes job.input ≡ first_of (codes "input") rows
   pub output : option_map string_bytes job.output ≡ first_of (codes "output") rows
 
--- the kinds of refusal that clap's walk over the words gives the command, none where it takes them
-unfoldable pub refusals : List Text → Kinds
-refusals words = fault_of command words
+-- the kinds of refusal that clap's walk over the words gives the decode_command, none where it takes them
+unfoldable pub decode_refusals : List Text → Kinds
+decode_refusals words = fault_of decode_command words
 
 -- the most rows that a job takes; without a number of its own there is no limit, since no height is above this one
 abbrev pub limit_of : Job → ℕ
@@ -45,6 +45,6 @@ limit_of job = unwrap_or job.max_rows (2 ^ 32 - 1)
 abbrev pub Does : Bool → ℕ → Option (List ℕ) → Option (List ℕ) → ℕ → ℕ → Bool → Type 0 → Option (List ℕ) → Option (List ℕ) → ℕ → ℕ
     → Option (List ℕ) → Option (List ℕ) → ℕ → ℕ → Bool → Result (Unit {0}) Fault → Type 0
 Does true limit in_old in_new reads_old reads_new twice untouched again_old again_new again_reads_old again_reads_new out_old out_new writes_old writes_new flushed outcome =
-    Informs in_old in_new reads_old reads_new out_old out_new writes_old writes_new flushed outcome × untouched
+    Info in_old in_new reads_old reads_new out_old out_new writes_old writes_new flushed outcome × untouched
 Does false limit in_old in_new reads_old reads_new twice untouched again_old again_new again_reads_old again_reads_new out_old out_new writes_old writes_new flushed outcome =
-    ConvertsReadings limit in_old in_new reads_old reads_new twice untouched again_old again_new again_reads_old again_reads_new out_old out_new writes_old writes_new flushed outcome
+    ToPbm limit in_old in_new reads_old reads_new twice untouched again_old again_new again_reads_old again_reads_new out_old out_new writes_old writes_new flushed outcome

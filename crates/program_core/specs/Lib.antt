@@ -1,7 +1,8 @@
+-- What words say to a command, and what a run does.
 pub mod Line
-pub mod Run
-pub mod Message
-pub mod Files
 pub mod Options
 pub mod Jbgtopbm85
 pub mod Pbmtojbg85
+pub mod Run
+-- How it is proved.
+pub mod Message

@@ -12,8 +12,8 @@ use Rattle.program_core.specs.Options.{number_rule, text_rule, flag_rule, number
 use Rattle.program_core.specs.declared.pbmtojbg85.work.Job.{Job}
 
 -- `pbmtojbg85 [options] [input [output]]`
-abbrev pub command : App
-command = with_rule (with_rule (with_rule (with_rule (with_rule (with_rule (with_rule (with_rule
+abbrev pub encode_command : App
+encode_command = with_rule (with_rule (with_rule (with_rule (with_rule (with_rule (with_rule (with_rule
     (new_app (codes "pbmtojbg85"))
     (number_rule (codes "options") 112 (codes "8" ∷ [])))
     (number_rule (codes "stripe") 115 (codes "128" ∷ [])))
@@ -24,16 +24,16 @@ command = with_rule (with_rule (with_rule (with_rule (with_rule (with_rule (with
     (new_rule (codes "input")))
     (new_rule (codes "output"))
 
--- the matches that clap's walk over the words gives the command
-unfoldable pub matched : List Text → List Row
-matched words = matches_of command words
+-- the matches that clap's walk over the words gives the encode_command
+unfoldable pub encode_matches : List Text → List Row
+encode_matches words = matches_of encode_command words
 
--- the kinds of refusal that clap's walk over the words gives the command, none where it takes them
-unfoldable pub refusals : List Text → Kinds
-refusals words = fault_of command words
+-- the kinds of refusal that clap's walk over the words gives the encode_command, none where it takes them
+unfoldable pub encode_refusals : List Text → Kinds
+encode_refusals words = fault_of encode_command words
 
 -- the job that has the values of these matches
-pub record IsJobOf (rows : List Row) (job : Job) : Type 0 where
+pub record IsEncodeJobOf (rows : List Row) (job : Job) : Type 0 where
   pub p : number_in (codes "options") rows ≡ Some job.p
   pub s : number_in (codes "stripe") rows ≡ Some job.s
   pub m : number_in (codes "move") rows ≡ Some job.m
@@ -44,7 +44,7 @@ pub record IsJobOf (rows : List Row) (job : Job) : Type 0 where
   pub output : option_map string_bytes job.output ≡ first_of (codes "output") rows
 
 -- the values of these matches are refused as options by f
-pub record IsRefused (rows : List Row) (f : Fault) : Type 0 where
+pub record RefusesOptions (rows : List Row) (f : Fault) : Type 0 where
   pub p : ℕ
   pub s : ℕ
   pub m : ℕ
@@ -57,11 +57,11 @@ pub record IsRefused (rows : List Row) (f : Fault) : Type 0 where
 abbrev pub IsOptionFault : List Row → LineFault → Type 0
 IsOptionFault rows (line_fault.Help text) = ⊥
 IsOptionFault rows (line_fault.Usage text) = ⊥
-IsOptionFault rows (line_fault.Fault f) = (f ≡ fault.OutOfMemory) ⊎ IsRefused rows f
+IsOptionFault rows (line_fault.Fault f) = (f ≡ fault.OutOfMemory) ⊎ RefusesOptions rows f
 
--- the refusals of the words, or of the options that they give
+-- the encode_refusals of the words, or of the options that they give
 abbrev pub IsFaultOf : List Text → LineFault → Type 0
-IsFaultOf words fault = IsRefusal (refusals words) fault ⊎ IsOptionFault (matched words) fault
+IsFaultOf words fault = IsRefusal (encode_refusals words) fault ⊎ IsOptionFault (encode_matches words) fault
 
 -- each option with a default has a number
 pub record HasDefaults (rows : List Row) : Type 0 where

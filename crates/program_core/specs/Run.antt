@@ -1,6 +1,24 @@
--- How a run ends.
-use Rattle.std.specs.Prelude.{ℕ, Result, Ok, Err}
+-- What a run begins with and how it ends: what the name of a file stands for, and the exit status.
+use Rattle.std.specs.Prelude.{ℕ, Bool, true, false, not, List, Option, Some, None, codes, Result, Ok, Err}
+use Rattle.std.specs.Str.{bytes_eq}
+use Rattle.program_core.specs.declared.files.Readable.{Readable}
+use Rattle.program_core.specs.declared.files.Readable.TheVariants as readable
+use Rattle.program_core.specs.declared.files.Writable.{Writable}
+use Rattle.program_core.specs.declared.files.Writable.TheVariants as writable
 use Rattle.t85_core.specs.declared.fault.Fault.{Fault}
+
+-- whether there is a name, and it isn't `-`
+abbrev pub names_file : Option (List ℕ) → Bool
+names_file None = false
+names_file (Some name) = not (bytes_eq name (codes "-"))
+
+abbrev pub reads_file : Readable → Bool
+reads_file (readable.Stream stream) = false
+reads_file (readable.File file) = true
+
+abbrev pub writes_file : Writable → Bool
+writes_file (writable.Stream stream) = false
+writes_file (writable.File file) = true
 
 -- the exit status of an outcome of the engine
 abbrev pub exit_status : Result (Unit {0}) Fault → ℕ

@@ -1,7 +1,7 @@
 //! What is read and written: a named file, or a standard stream.
 
 ghost use Rattle.std.specs.Prelude.{◌≡◌, ◌≤◌, length, IfOk, OnErr, option_map, string_bytes, true};
-ghost use Rattle.program_core.specs.Files.{names_file, reads_file, writes_file};
+ghost use Rattle.program_core.specs.Run.{names_file, reads_file, writes_file};
 
 use std::fs::{self, File};
 use std::io::{self, Read, Stdin, Stdout, Write};
@@ -18,7 +18,8 @@ pub enum Readable {
 impl Readable {
     /// The standard input where there is no name or `-`, else the file of that name.
     pub(crate) fn open(rt: &HostRuntime, name: &Option<String>) -> io::Result<Readable>
-        ensures chosen { IfOk result (λ input. reads_file input ≡ names_file (option_map string_bytes name.now)) }
+        ensures chosen { IfOk result (λ input. reads_file input ≡ names_file
+            (option_map string_bytes name.now)) }
         ensures fails { OnErr result (names_file (option_map string_bytes name.now) ≡ true) }
     {
         match name {
@@ -58,7 +59,8 @@ pub enum Writable {
 impl Writable {
     /// The standard output where there is no name or `-`, else the file of that name, emptied.
     pub(crate) fn create(rt: &HostRuntime, name: &Option<String>) -> io::Result<Writable>
-        ensures chosen { IfOk result (λ output. writes_file output ≡ names_file (option_map string_bytes name.now)) }
+        ensures chosen { IfOk result (λ output. writes_file output ≡ names_file
+            (option_map string_bytes name.now)) }
         ensures fails { OnErr result (names_file (option_map string_bytes name.now) ≡ true) }
     {
         match name {

@@ -2,14 +2,13 @@
 
 ghost use Rattle.std.specs.Prelude.{◌≡◌, ◌≤◌, ◌<◌, ◌+◌, ◌-◌, ◌^◌, ◌&&◌, not, false, is_some, IfErr, IfOk, IfSome, Result, option_map, string_bytes};
 ghost use Rattle.std.specs.Option.{option_map_or};
-ghost use Rattle.t85_core.specs.Readings.{again_known, again_failures};
+ghost use Rattle.t85_core.specs.ToPbm.{again_known, again_failures};
 ghost use Rattle.std.specs.Io.KnownBytes.{Keeps};
 ghost use Rattle.t85_core.specs.declared.fault.Fault.{Fault};
 ghost use Rattle.std.specs.Process.{exit_status as exit_code_status};
-ghost use Rattle.program_core.specs.Files.{names_file, reads_file, writes_file};
-ghost use Rattle.program_core.specs.Run.{exit_status};
+ghost use Rattle.program_core.specs.Run.{names_file, reads_file, writes_file, exit_status};
 ghost use Rattle.program_core.specs.Jbgtopbm85.{Does, limit_of};
-ghost use Rattle.t85_core.specs.Walk.{FlushesOnce};
+ghost use Rattle.t85_core.specs.Failures.{FlushesOnce};
 
 mod words;
 mod work;
@@ -39,10 +38,12 @@ pub struct Files {
 /// Opens the job's input, and then creates or empties its output; where one can't be, that was told, and the program
 /// ends.
 pub fn open(rt: &HostRuntime, job: &Job) -> Result<Files, ExitCode>
-    ensures input { IfOk result (λ files. reads_file files.input ≡ names_file (option_map string_bytes job.now.input)) }
+    ensures input { IfOk result (λ files. reads_file files.input ≡ names_file
+        (option_map string_bytes job.now.input)) }
     ensures again { IfOk result (λ files. option_map_or reads_file files.again false
         ≡ (not job.now.info && names_file (option_map string_bytes job.now.input))) }
-    ensures output { IfOk result (λ files. writes_file files.output ≡ names_file (option_map string_bytes job.now.output)) }
+    ensures output { IfOk result (λ files. writes_file files.output ≡ names_file
+        (option_map string_bytes job.now.output)) }
     ensures status { IfErr result (λ e. exit_code_status e ≡ 1) }
 {
     let input = open_input(rt, NAME, &job.input)?;
@@ -61,29 +62,36 @@ pub fn open(rt: &HostRuntime, job: &Job) -> Result<Files, ExitCode>
 
 /// Does the job, tells a fault to `messages`, and gives the exit status: 0, or 1 after a fault. `again` has the same
 /// bytes as the input, from their beginning: it is wanted where the height of the image may change in the stream.
-pub fn run<R: Input, R2: Input, W: Output, M: Output>(
+pub fn run<R: Input, Second: Input, W: Output, M: Output>(
     alloc: Global,
     job: &Job,
     input: &mut R,
-    again: &mut Option<R2>,
+    again: &mut Option<Second>,
     output: &mut W,
     messages: &mut M,
 ) -> u8
     requires input { R.failures input.old < 2 ^ 64 - 1 }
-    requires again { IfSome again.old (λ reading. R2.failures reading < 2 ^ 64 - 1) }
+    requires again { IfSome again.old (λ reading. Second.failures reading < 2 ^ 64 - 1) }
     requires output { W.failures output.old < 2 ^ 64 - 1 }
     requires messages { M.failures messages.old < 2 ^ 64 - 1 }
 
     // The engine's outcome is passed on.
-    ensures outcome { (outcome : Result (Unit {0}) Fault) × (result ≡ exit_status outcome) × Does job.now.info (limit_of job.now)
-        (R.remaining input.old) (R.remaining input.new) (R.failures input.old) (R.failures input.new)
-        (is_some again.old) (again.new ≡ again.old) (again_known (λ reading. R2.remaining reading) again.old) (again_known (λ reading. R2.remaining reading) again.new)
-        (again_failures (λ reading. R2.failures reading) again.old) (again_failures (λ reading. R2.failures reading) again.new)
-        (W.contents output.old) (W.contents output.new) (W.failures output.old) (W.failures output.new) (W.flushed output.new) outcome
+    ensures outcome { (outcome : Result (Unit {0}) Fault) × (result ≡ exit_status outcome) ×
+        Does job.now.info (limit_of job.now)
+        (R.remaining input.old) (R.remaining input.new) (R.failures input.old)
+        (R.failures input.new)
+        (is_some again.old) (again.new ≡ again.old)
+        (again_known (λ reading. Second.remaining reading) again.old)
+        (again_known (λ reading. Second.remaining reading) again.new)
+        (again_failures (λ reading. Second.failures reading) again.old)
+        (again_failures (λ reading. Second.failures reading) again.new)
+        (W.contents output.old) (W.contents output.new) (W.failures output.old)
+        (W.failures output.new) (W.flushed output.new) outcome
         × FlushesOnce (W.flushes output.old) (W.flushes output.new) outcome }
 
     // A message is tried once, and only after a fault.
-    ensures quiet { result ≡ 0 → Keeps (M.contents messages.old) (M.contents messages.new) × (M.failures messages.new ≡ M.failures messages.old) }
+    ensures quiet { result ≡ 0 → Keeps (M.contents messages.old) (M.contents messages.new) ×
+        (M.failures messages.new ≡ M.failures messages.old) }
     ensures once { M.failures messages.new ≤ M.failures messages.old + 1 }
 {
     let outcome = work_on(alloc, job, input, again, output);
@@ -91,21 +99,26 @@ pub fn run<R: Input, R2: Input, W: Output, M: Output>(
 }
 
 /// Has the engine do what the job asks for.
-fn work_on<R: Input, R2: Input, W: Output>(
+fn work_on<R: Input, Second: Input, W: Output>(
     alloc: Global,
     job: &Job,
     input: &mut R,
-    again: &mut Option<R2>,
+    again: &mut Option<Second>,
     output: &mut W,
 ) -> Result<(), Fault>
     requires input { R.failures input.old < 2 ^ 64 - 1 }
-    requires again { IfSome again.old (λ reading. R2.failures reading < 2 ^ 64 - 1) }
+    requires again { IfSome again.old (λ reading. Second.failures reading < 2 ^ 64 - 1) }
     requires output { W.failures output.old < 2 ^ 64 - 1 }
     ensures does { Does job.now.info (limit_of job.now)
-        (R.remaining input.old) (R.remaining input.new) (R.failures input.old) (R.failures input.new)
-        (is_some again.old) (again.new ≡ again.old) (again_known (λ reading. R2.remaining reading) again.old) (again_known (λ reading. R2.remaining reading) again.new)
-        (again_failures (λ reading. R2.failures reading) again.old) (again_failures (λ reading. R2.failures reading) again.new)
-        (W.contents output.old) (W.contents output.new) (W.failures output.old) (W.failures output.new) (W.flushed output.new) result }
+        (R.remaining input.old) (R.remaining input.new) (R.failures input.old)
+        (R.failures input.new)
+        (is_some again.old) (again.new ≡ again.old)
+        (again_known (λ reading. Second.remaining reading) again.old)
+        (again_known (λ reading. Second.remaining reading) again.new)
+        (again_failures (λ reading. Second.failures reading) again.old)
+        (again_failures (λ reading. Second.failures reading) again.new)
+        (W.contents output.old) (W.contents output.new) (W.failures output.old)
+        (W.failures output.new) (W.flushed output.new) result }
     ensures flushes { FlushesOnce (W.flushes output.old) (W.flushes output.new) result }
 {
     if job.info {

@@ -18,10 +18,12 @@ pub(crate) fn matches_of<'a, S: AsStr>(
     words: &'a [S],
 ) -> Result<ArgMatches<'a>, LineFault>
     ensures rows { is_simple (app_of command.entry) ≡ true
-        → IfOk result (λ m. rows_of (found_of m) ≡ rows_matched (app_of command.entry) (map S.text words.entry.now)) }
+        → IfOk result (λ m. rows_of (found_of m) ≡ rows_matched (app_of command.entry)
+        (map S.text words.entry.now)) }
     ensures parsed { IfOk result (IsParsedFrom command.entry) }
     ensures fault { is_simple_and_free (app_of command.entry) ≡ true
-        → IfErr result (IsRefusal (refusals_of (app_of command.entry) (map S.text words.entry.now))) }
+        → IfErr result (IsRefusal (refusals_of (app_of command.entry)
+        (map S.text words.entry.now))) }
 {
     match command.try_get_matches_from(words) {
         Ok(matches) => Ok(matches),
@@ -35,7 +37,8 @@ pub(crate) fn text(
     matches: &ArgMatches<'_>,
     id: &str,
 ) -> Result<Option<String>, AllocError>
-    ensures { IfOk result (λ t. option_map string_bytes t ≡ first_of id.now (rows_of (found_of matches.now))) }
+    ensures { IfOk result (λ t. option_map string_bytes t ≡ first_of id.now
+        (rows_of (found_of matches.now))) }
 {
     match matches.get_str(id) {
         Some(text) => Ok(Some(String::from_str(alloc, text)?)),

@@ -56,7 +56,8 @@ pub(crate) fn report<M: Output>(program: &str, outcome: Result<(), Fault>, messa
     requires { M.failures messages.old < 2 ^ 64 - 1 }
     ensures status { result ≡ exit_status outcome }
     // A message is tried once, and only after a fault.
-    ensures quiet { result ≡ 0 → Keeps (M.contents messages.old) (M.contents messages.new) × (M.failures messages.new ≡ M.failures messages.old) }
+    ensures quiet { result ≡ 0 → Keeps (M.contents messages.old) (M.contents messages.new) ×
+        (M.failures messages.new ≡ M.failures messages.old) }
     ensures once { M.failures messages.new ≤ M.failures messages.old + 1 }
 {
     match outcome {

@@ -2,12 +2,11 @@
 
 ghost use Rattle.std.specs.Prelude.{◌≡◌, ◌≤◌, ◌<◌, ◌+◌, ◌-◌, ◌^◌, IfErr, IfOk, Result, option_map, string_bytes};
 ghost use Rattle.std.specs.Io.KnownBytes.{Keeps};
-ghost use Rattle.t85_core.specs.Encodes.{EncodesImage};
-ghost use Rattle.t85_core.specs.Walk.{FlushesOnce};
+ghost use Rattle.t85_core.specs.ToJbg.{ToJbg};
+ghost use Rattle.t85_core.specs.Failures.{FlushesOnce};
 ghost use Rattle.t85_core.specs.declared.fault.Fault.{Fault};
 ghost use Rattle.std.specs.Process.{exit_status as exit_code_status};
-ghost use Rattle.program_core.specs.Files.{names_file, reads_file, writes_file};
-ghost use Rattle.program_core.specs.Run.{exit_status};
+ghost use Rattle.program_core.specs.Run.{names_file, reads_file, writes_file, exit_status};
 ghost use Rattle.program_core.specs.Pbmtojbg85.{settings_asked};
 
 mod args;
@@ -31,7 +30,8 @@ pub const NAME: &str = "pbmtojbg85";
 /// Opens the job's input, and then creates or empties its output; where one can't be, that was told, and the program
 /// ends.
 pub fn open(rt: &HostRuntime, job: &Job) -> Result<(Readable, Writable), ExitCode>
-    ensures chosen { IfOk result (λ files. (reads_file files.0 ≡ names_file (option_map string_bytes job.now.input))
+    ensures chosen { IfOk result (λ files.
+        (reads_file files.0 ≡ names_file (option_map string_bytes job.now.input))
         × (writes_file files.1 ≡ names_file (option_map string_bytes job.now.output))) }
     ensures status { IfErr result (λ e. exit_code_status e ≡ 1) }
 {
@@ -53,13 +53,17 @@ pub fn run<R: Input, W: Output, M: Output>(
     requires messages { M.failures messages.old < 2 ^ 64 - 1 }
 
     // The engine's outcome is passed on.
-    ensures outcome { (outcome : Result (Unit {0}) Fault) × (result ≡ exit_status outcome) × EncodesImage (settings_asked job.now)
-        (R.remaining input.old) (R.remaining input.new) (R.failures input.old) (R.failures input.new)
-        (W.contents output.old) (W.contents output.new) (W.failures output.old) (W.failures output.new) (W.flushed output.new) outcome
+    ensures outcome { (outcome : Result (Unit {0}) Fault) × (result ≡ exit_status outcome) ×
+        ToJbg (settings_asked job.now)
+        (R.remaining input.old) (R.remaining input.new) (R.failures input.old)
+        (R.failures input.new)
+        (W.contents output.old) (W.contents output.new) (W.failures output.old)
+        (W.failures output.new) (W.flushed output.new) outcome
         × FlushesOnce (W.flushes output.old) (W.flushes output.new) outcome }
 
     // A message is tried once, and only after a fault.
-    ensures quiet { result ≡ 0 → Keeps (M.contents messages.old) (M.contents messages.new) × (M.failures messages.new ≡ M.failures messages.old) }
+    ensures quiet { result ≡ 0 → Keeps (M.contents messages.old) (M.contents messages.new) ×
+        (M.failures messages.new ≡ M.failures messages.old) }
     ensures once { M.failures messages.new ≤ M.failures messages.old + 1 }
 {
     let outcome = match Options::new(

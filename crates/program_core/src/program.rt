@@ -2,7 +2,7 @@
 
 ghost use Rattle.std.specs.Prelude.{◌≡◌, ◌⊎◌, IfErr, IfOk, option_map, string_bytes};
 ghost use Rattle.std.specs.Process.{exit_status};
-ghost use Rattle.program_core.specs.Files.{names_file, reads_file, writes_file};
+ghost use Rattle.program_core.specs.Run.{names_file, reads_file, writes_file};
 ghost use Rattle.program_core.specs.Line.{IsHelp, status_of};
 
 use crate::files::{Readable, Writable};
@@ -73,7 +73,8 @@ pub(crate) fn open_input(
     program: &str,
     name: &Option<String>,
 ) -> Result<Readable, ExitCode>
-    ensures chosen { IfOk result (λ input. reads_file input ≡ names_file (option_map string_bytes name.now)) }
+    ensures chosen { IfOk result (λ input. reads_file input ≡ names_file
+        (option_map string_bytes name.now)) }
     ensures status { IfErr result (λ e. exit_status e ≡ 1) }
 {
     match Readable::open(rt, name) {
@@ -88,7 +89,8 @@ pub(crate) fn create_output(
     program: &str,
     name: &Option<String>,
 ) -> Result<Writable, ExitCode>
-    ensures chosen { IfOk result (λ output. writes_file output ≡ names_file (option_map string_bytes name.now)) }
+    ensures chosen { IfOk result (λ output. writes_file output ≡ names_file
+        (option_map string_bytes name.now)) }
     ensures status { IfErr result (λ e. exit_status e ≡ 1) }
 {
     match Writable::create(rt, name) {

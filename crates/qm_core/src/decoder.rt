@@ -34,14 +34,14 @@ pub struct Decoder {
 impl Decoder {
     ghost use Rattle.std.specs.Prelude.{ℕ, List, [], ◌∷◌, ◌++◌};
     ghost use Rattle.qm_core.specs.Place.{Place, State, start, renormalised, step};
-    ghost use Rattle.qm_core.specs.Registers.{Registers};
-    ghost use Rattle.qm_core.specs.Answers.{Pulls};
-    ghost use Rattle.qm_core.specs.Standing.{has_stopped, Stands, Fills, Next};
+    ghost use Rattle.qm_core.specs.Machine.{Registers};
+    ghost use Rattle.qm_core.specs.Source.{Pulls};
+    ghost use Rattle.qm_core.specs.Decoder.{has_stopped, DecoderIsAt, Fills, Next};
     ghost use Rattle.qm_core.specs.declared.source.Pulled.{Pulled};
 
     /// A decoder at the beginning of a code, of which nothing was pulled.
     pub fn start() -> Decoder
-        ensures stands { Stands result start [] }
+        ensures stands { DecoderIsAt result start [] }
         ensures going { has_stopped result ≡ false }
     {
         Decoder {
@@ -65,15 +65,18 @@ impl Decoder {
         requires { S.failed source.old + 1 < 2 ^ 64 }
         // A decoder that has stopped stays as it is, and pulls nothing.
         ensures stopped { IsTrue (has_stopped self.old) →
-            IsErr result × (self.new ≡ self.old) × (learned.new ≡ learned.old) × (source.new ≡ source.old) }
+            IsErr result × (self.new ≡ self.old) × (learned.new ≡ learned.old) ×
+            (source.new ≡ source.old) }
         ensures stops { IsTrue (has_stopped self.new) ↔ IsErr result }
         ensures same { OnOk result (S.failed source.new ≡ S.failed source.old) }
-        ensures counted { has_stopped self.old ≡ false → OnErr result (S.failed source.new ≡ S.failed source.old + 1) }
+        ensures counted { has_stopped self.old ≡ false →
+            OnErr result (S.failed source.new ≡ S.failed source.old + 1) }
         ensures unchanged { OnErr result (learned.new ≡ learned.old) }
 
-        ensures next { (p : Place) (answers : List Pulled) → Stands self.old p answers →
+        ensures next { (p : Place) (answers : List Pulled) → DecoderIsAt self.old p answers →
             Next (Pulls S.gives S.failed) source.old source.new
-            (record { place = p; learned = learned.old }) answers cx.number self.new learned.new result }
+            (record { place = p; learned = learned.old }) answers cx.number self.new learned.new
+            result }
     {
         if self.bits < 16 {
             self.fill(source)?;
@@ -86,11 +89,13 @@ impl Decoder {
         requires few { self.old.bits < 16 }
         requires count { S.failed source.old + 1 < 2 ^ 64 }
         ensures bits { OnOk result (16 ≤ self.new.bits) }
-        ensures stopped { IsTrue (has_stopped self.old) → IsErr result × (self.new ≡ self.old) × (source.new ≡ source.old) }
+        ensures stopped { IsTrue (has_stopped self.old) → IsErr result × (self.new ≡ self.old) ×
+            (source.new ≡ source.old) }
         ensures stops { IsTrue (has_stopped self.new) ↔ IsErr result }
         ensures same { OnOk result (S.failed source.new ≡ S.failed source.old) }
-        ensures counted { has_stopped self.old ≡ false → OnErr result (S.failed source.new ≡ S.failed source.old + 1) }
-        ensures fills { (p : Place) (answers : List Pulled) → Stands self.old p answers →
+        ensures counted { has_stopped self.old ≡ false →
+            OnErr result (S.failed source.new ≡ S.failed source.old + 1) }
+        ensures fills { (p : Place) (answers : List Pulled) → DecoderIsAt self.old p answers →
             Fills (Pulls S.gives S.failed) source.old source.new p answers self.new result }
     {
         self.pull(source)?;
@@ -105,11 +110,13 @@ impl Decoder {
         requires few { self.old.bits < 16 }
         requires count { S.failed source.old + 1 < 2 ^ 64 }
         ensures bits { OnOk result (self.new.bits ≡ self.old.bits + 8) }
-        ensures stopped { IsTrue (has_stopped self.old) → IsErr result × (self.new ≡ self.old) × (source.new ≡ source.old) }
+        ensures stopped { IsTrue (has_stopped self.old) → IsErr result × (self.new ≡ self.old) ×
+            (source.new ≡ source.old) }
         ensures stops { IsTrue (has_stopped self.new) ↔ IsErr result }
         ensures same { OnOk result (S.failed source.new ≡ S.failed source.old) }
-        ensures counted { has_stopped self.old ≡ false → OnErr result (S.failed source.new ≡ S.failed source.old + 1) }
-        ensures fills { (p : Place) (answers : List Pulled) → Stands self.old p answers →
+        ensures counted { has_stopped self.old ≡ false →
+            OnErr result (S.failed source.new ≡ S.failed source.old + 1) }
+        ensures fills { (p : Place) (answers : List Pulled) → DecoderIsAt self.old p answers →
             Fills (Pulls S.gives S.failed) source.old source.new p answers self.new result }
     {
         match self.heard {
@@ -142,7 +149,8 @@ impl Decoder {
         requires going { self.old.heard ≢ Stopped }
         ensures heard { self.new.heard ≡ self.old.heard }
         ensures bits { self.new.bits ≡ self.old.bits + 8 }
-        ensures place { (p : Place) (b : List ℕ) → Registers self.old.code self.old.span self.old.bits p b →
+        ensures place { (p : Place) (b : List ℕ) → Registers self.old.code self.old.span
+            self.old.bits p b →
             Registers self.new.code self.new.span self.new.bits p (b ++ byte ∷ []) }
     {
         self.code += (byte as u32) << (15 - self.bits);
@@ -155,11 +163,13 @@ impl Decoder {
         requires { 16 ≤ self.old.bits }
         ensures heard { self.new.heard ≡ self.old.heard }
         ensures bits { self.new.bits ≤ self.old.bits }
-        ensures place { (p : Place) (b : List ℕ) → Registers self.old.code self.old.span self.old.bits p b →
+        ensures place { (p : Place) (b : List ℕ) → Registers self.old.code self.old.span
+            self.old.bits p b →
             Registers self.new.code self.new.span self.new.bits
             (step (record { place = p; learned = learned.old }) cx.number result).place b }
         ensures learned { (p : Place) → self.old.span ≡ 128 * p.size →
-            learned.new ≡ (step (record { place = p; learned = learned.old }) cx.number result).learned }
+            learned.new ≡ (step (record { place = p; learned = learned.old }) cx.number
+            result).learned }
     {
         let cell = learned.cell(cx);
         let entry = entry_of(cell);

@@ -3,8 +3,8 @@
 ghost use Rattle.std.specs.Prelude.{◌≡◌, ◌≢◌, ◌+◌, ◌-◌, ◌*◌, ◌%◌, ◌^◌, ◌≤◌, ◌<◌, List, ℕ, ◌++◌, None, IsTrue, false, true, Err, Ok, [], IsErr, OnOk, OnErr, ◌↔◌, nat_lt, not, if◌then◌else◌};
 ghost use Rattle.qm_core.specs.Place.{Place, State, start, step, renormalised, same};
 ghost use Rattle.qm_core.specs.Code.{stuffed};
-ghost use Rattle.qm_core.specs.Coding.{run_bytes, Digits};
-ghost use Rattle.qm_core.specs.Writing.{Writes};
+ghost use Rattle.qm_core.specs.Machine.{run_bytes, Digits};
+ghost use Rattle.qm_core.specs.Sink.{Writes};
 
 use crate::batch::{Batch, Tail};
 use crate::context::Context;
@@ -103,8 +103,10 @@ fn byte_out(tail: &mut Tail, low: u64, span: u32, bits: u32) -> Out
     ensures left { result.low < 2 ^ (bits - 1) }
     ensures fixed { tail.new.held ≡ None → result.low + span ≤ 2 ^ (bits - 1) }
     ensures count { tail.new.zeros + tail.new.ones ≤ tail.old.zeros + tail.old.ones + 1 }
-    ensures digits { (p : Place) (front : List ℕ) → Digits low span bits p (front ++ run_bytes tail.old.zeros tail.old.held tail.old.ones) →
-        Digits result.low span (bits - 8) p ((front ++ run_bytes result.batch.zeros result.batch.byte result.batch.ones)
+    ensures digits { (p : Place) (front : List ℕ) → Digits low span bits p
+        (front ++ run_bytes tail.old.zeros tail.old.held tail.old.ones) →
+        Digits result.low span (bits - 8) p
+        ((front ++ run_bytes result.batch.zeros result.batch.byte result.batch.ones)
         ++ run_bytes tail.new.zeros tail.new.held tail.new.ones) }
 {
     let byte = low >> (bits - 1);
@@ -139,7 +141,8 @@ fn bytes_out(tail: &mut Tail, low: u64, span: u32, bits: u32) -> Shifted
     ensures room { result.low + span ≤ 2 ^ (result.bits + 8) }
     ensures fixed { tail.new.held ≡ None → result.low + span ≤ 2 ^ (result.bits + 7) }
     ensures count { tail.new.zeros + tail.new.ones ≤ tail.old.zeros + tail.old.ones + 2 }
-    ensures digits { (p : Place) (front : List ℕ) → Digits low span bits p (front ++ run_bytes tail.old.zeros tail.old.held tail.old.ones) →
+    ensures digits { (p : Place) (front : List ℕ) → Digits low span bits p
+        (front ++ run_bytes tail.old.zeros tail.old.held tail.old.ones) →
         Digits result.low span result.bits p (((front
         ++ run_bytes result.first.zeros result.first.byte result.first.ones)
         ++ run_bytes result.second.zeros result.second.byte result.second.ones)
@@ -173,7 +176,8 @@ fn bytes_out(tail: &mut Tail, low: u64, span: u32, bits: u32) -> Shifted
 fn write_both<W: CodeSink>(first: Batch, second: Batch, out: &mut W) -> Result<(), CoderFault>
     requires { W.failed out.old + 1 < 2 ^ 64 }
     ensures writes { Writes W.took W.refused W.failed out.old
-        (stuffed (run_bytes first.zeros first.byte first.ones ++ run_bytes second.zeros second.byte second.ones))
+        (stuffed (run_bytes first.zeros first.byte first.ones ++ run_bytes second.zeros second.byte
+        second.ones))
         out.new result }
     ensures fault { IsErr result → result ≡ Err CoderFault.Write }
 {
@@ -219,12 +223,12 @@ fn next_cell(is_favoured: bool, entry: &Entry) -> u8
 }
 
 impl Encoder {
-    ghost use Rattle.qm_core.specs.Encoding.{events_of, has_failed, CodesAt, Codes, Goes, Put, Finish};
+    ghost use Rattle.qm_core.specs.Encoder.{event_count, has_failed, RegistersAreAt, EncoderIsAt, Goes, Put, Finish};
 
     /// An encoder at the beginning of a code, of which nothing was pushed.
     pub fn start() -> Encoder
-        ensures codes { Codes result start [] }
-        ensures events { events_of result ≡ 0 }
+        ensures codes { EncoderIsAt result start [] }
+        ensures events { event_count result ≡ 0 }
         ensures going { has_failed result ≡ false }
     {
         Encoder {
@@ -243,7 +247,7 @@ impl Encoder {
 
     /// How many pixels were put.
     pub fn events(&self) -> u64
-        ensures { result ≡ events_of self.now }
+        ensures { result ≡ event_count self.now }
     {
         self.events
     }
@@ -259,19 +263,24 @@ impl Encoder {
         pixel: bool,
         out: &mut W,
     ) -> Result<(), CoderFault>
-        requires events { events_of self.old < MAX_EVENTS }
+        requires events { event_count self.old < MAX_EVENTS }
         requires count { W.failed out.old + 1 < 2 ^ 64 }
         // An encoder that has failed stays as it is, and pushes nothing.
         ensures failed { IsTrue (has_failed self.old) →
-            (result ≡ Err CoderFault.Failed) × (self.new ≡ self.old) × (learned.new ≡ learned.old) × (out.new ≡ out.old) }
+            (result ≡ Err CoderFault.Failed) × (self.new ≡ self.old) × (learned.new ≡ learned.old) ×
+            (out.new ≡ out.old) }
         ensures fails { IsTrue (has_failed self.new) ↔ IsErr result }
         ensures fault { has_failed self.old ≡ false → IsErr result → result ≡ Err CoderFault.Write }
-        ensures events { has_failed self.old ≡ false → events_of self.new ≡ events_of self.old + 1 }
+        ensures events { has_failed self.old ≡ false → event_count self.new ≡ event_count self.old +
+            1 }
         ensures same { OnOk result (W.failed out.new ≡ W.failed out.old) }
-        ensures counted { has_failed self.old ≡ false → OnErr result (W.failed out.new ≡ W.failed out.old + 1) }
+        ensures counted { has_failed self.old ≡ false → OnErr result
+            (W.failed out.new ≡ W.failed out.old + 1) }
 
-        ensures put { (p : Place) (pushed : List ℕ) → has_failed self.old ≡ false → Codes self.old p pushed →
-            Put W.took W.refused W.failed out.old out.new (record { place = p; learned = learned.old }) pushed
+        ensures put { (p : Place) (pushed : List ℕ) → has_failed self.old ≡ false →
+            EncoderIsAt self.old p pushed →
+            Put W.took W.refused W.failed out.old out.new
+            (record { place = p; learned = learned.old }) pushed
             cx.number pixel self.new learned.new result }
     {
         if self.failed {
@@ -311,7 +320,8 @@ impl Encoder {
         ensures fails { IsTrue self.new.failed ↔ IsErr result }
         ensures same { OnOk result (W.failed out.new ≡ W.failed out.old) }
         ensures counted { OnErr result (W.failed out.new ≡ W.failed out.old + 1) }
-        ensures goes { (p : Place) (pushed : List ℕ) → CodesAt low span self.old.bits self.old.tail.zeros self.old.tail.held self.old.tail.ones p pushed →
+        ensures goes { (p : Place) (pushed : List ℕ) → RegistersAreAt low span self.old.bits
+            self.old.tail.zeros self.old.tail.held self.old.tail.ones p pushed →
             Goes W.took W.refused W.failed out.old out.new (renormalised p) pushed self.new result }
     {
         let to = raise(low, span, self.bits);
@@ -348,7 +358,8 @@ impl Encoder {
         ensures fails { IsTrue self.new.failed ↔ IsErr result }
         ensures same { OnOk result (W.failed out.new ≡ W.failed out.old) }
         ensures counted { OnErr result (W.failed out.new ≡ W.failed out.old + 1) }
-        ensures goes { (p : Place) (pushed : List ℕ) → CodesAt low span bits self.old.tail.zeros self.old.tail.held self.old.tail.ones p pushed →
+        ensures goes { (p : Place) (pushed : List ℕ) → RegistersAreAt low span bits
+            self.old.tail.zeros self.old.tail.held self.old.tail.ones p pushed →
             Goes W.took W.refused W.failed out.old out.new p pushed self.new result }
     {
         self.span = span;
@@ -363,12 +374,15 @@ impl Encoder {
     /// Ends the code with the chosen number of the place, without an end marker.
     pub fn finish<W: CodeSink>(self, out: &mut W) -> Result<(), CoderFault>
         requires { W.failed out.old + 1 < 2 ^ 64 }
-        ensures failed { IsTrue (has_failed self) → (result ≡ Err CoderFault.Failed) × (out.new ≡ out.old) }
+        ensures failed { IsTrue (has_failed self) → (result ≡ Err CoderFault.Failed) ×
+            (out.new ≡ out.old) }
         ensures fault { has_failed self ≡ false → IsErr result → result ≡ Err CoderFault.Write }
         ensures same { OnOk result (W.failed out.new ≡ W.failed out.old) }
-        ensures counted { has_failed self ≡ false → OnErr result (W.failed out.new ≡ W.failed out.old + 1) }
+        ensures counted { has_failed self ≡ false → OnErr result
+            (W.failed out.new ≡ W.failed out.old + 1) }
 
-        ensures code { (p : Place) (pushed : List ℕ) → has_failed self ≡ false → Codes self p pushed →
+        ensures code { (p : Place) (pushed : List ℕ) → has_failed self ≡ false →
+            EncoderIsAt self p pushed →
             Finish W.took W.refused W.failed out.old out.new p pushed result }
     {
         let Encoder {
@@ -398,7 +412,8 @@ fn chosen(low: u64, span: u32) -> u64
     requires room { low + span ≤ 2 ^ 40 }
     ensures from { low ≤ result }
     ensures below { result < low + span }
-    ensures most_even { (t w : ℕ) → low ≤ w * 2 ^ t → w * 2 ^ t < low + span → (u : ℕ) × (result ≡ u * 2 ^ t) }
+    ensures most_even { (t w : ℕ) → low ≤ w * 2 ^ t → w * 2 ^ t < low + span → (u : ℕ) ×
+        (result ≡ u * 2 ^ t) }
 {
     let top = low + (span as u64 - 1);
     for cleared in (0..41u32).rev() {

@@ -3,14 +3,14 @@ use Rattle.std.proofs.Common.{◌≡◌, ℕ, ◌+◌, ◌-◌, ◌*◌, ◌/◌
 use Rattle.std.specs.Prelude.{Result, OnErr}
 use Rattle.std.proofs.lemmas.List.{length-append, append-nil}
 use Rattle.qm_core.specs.Place.{Place, Event, Estimate, after}
-use Rattle.qm_core.specs.Standing.{Stands, Next}
+use Rattle.qm_core.specs.Decoder.{DecoderIsAt, Next}
 use Rattle.qm_core.specs.declared.source.Pulled.{Pulled}
 use Rattle.qm_core.specs.declared.decoder.Decoder.{Decoder}
 use Rattle.qm_core.specs.declared.decoder.Stop.{Stop}
 use Rattle.raster_core.specs.Lines.{Lines, Mode, context_at, pixel_events}
-use Rattle.raster_core.specs.Registers.{bit, before, past_bits, AreAt}
-use Rattle.raster_core.specs.Decoding.{Decodes}
-use Rattle.raster_core.specs.Decoded.{with_row, PixelsSoFar, Along, StopsAlong}
+use Rattle.raster_core.specs.Machine.Registers.{bit, before, past_bits, AreAt}
+use Rattle.raster_core.specs.Events.{Decodes}
+use Rattle.raster_core.specs.Machine.Decoded.{with_row, PixelsSoFar, Along, StopsAlong}
 use Rattle.raster_core.proofs.Before.{some_past, second_in, above_in}
 use Rattle.raster_core.proofs.Runs.{decodes_next, decodes_stop}
 use Rattle.raster_core.proofs.Causal.{pixel_events_more, past_next}
@@ -45,7 +45,7 @@ pub along_next : {S : Type 0} (pull : S → Pulled → S → Type 0) (old mid to
     (n past past' : ℕ) (d d' : Decoder) (learned learned' : List Estimate) (cx : ℕ) (result : Result Bool Stop) (pixel : Bool) →
     n < 8 → result ≡ Ok pixel → past' ≡ past % 2 ^ (past_bits offset - 1) * 2 + bit pixel →
     ((lines : Lines) (x : ℕ) → AreAt lines offset (second / 2 ^ 7 * 2 ^ n) (above / 2 ^ 6 * 2 ^ n) past x → cx ≡ context_at mode lines offset x) →
-    ((p : Place) (answers : List Pulled) → Stands d p answers → Next pull mid to (record { place = p; learned = learned }) answers cx d' learned' result) →
+    ((p : Place) (answers : List Pulled) → DecoderIsAt d p answers → Next pull mid to (record { place = p; learned = learned }) answers cx d' learned' result) →
     Along pull old mid mode offset second above past₀ d₀ learned₀ n past d learned →
     Along pull old to mode offset second above past₀ d₀ learned₀ (n + 1) past' d' learned'
 along_next {S} pull old mid to mode offset second above past₀ d₀ learned₀ n past past' d d' learned learned' cx result pixel few is past_is context next along = λ from first s answers lines done so_far s2 a2.
@@ -76,7 +76,7 @@ along_next {S} pull old mid to mode offset second above past₀ d₀ learned₀ 
 pub along_stop : {S : Type 0} (pull : S → Pulled → S → Type 0) (old mid to : S) (mode : Mode) (offset second above past₀ : ℕ) (d₀ : Decoder) (learned₀ : List Estimate)
     (n all past : ℕ) (d d' : Decoder) (learned learned' : List Estimate) (cx : ℕ) (result : Result Bool Stop) (fault : Stop) →
     n < all → result ≡ Err fault →
-    ((p : Place) (answers : List Pulled) → Stands d p answers → Next pull mid to (record { place = p; learned = learned }) answers cx d' learned' result) →
+    ((p : Place) (answers : List Pulled) → DecoderIsAt d p answers → Next pull mid to (record { place = p; learned = learned }) answers cx d' learned' result) →
     Along pull old mid mode offset second above past₀ d₀ learned₀ n past d learned →
     StopsAlong pull old to mode offset second above past₀ d₀ learned₀ all d'
 along_stop {S} pull old mid to mode offset second above past₀ d₀ learned₀ n all past d d' learned learned' cx result fault few is next along = λ from first s answers lines done so_far s2 a2.

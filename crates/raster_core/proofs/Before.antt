@@ -5,7 +5,7 @@ use Rattle.std.proofs.lemmas.Bool.Decides.{nat_tests}
 use Rattle.std.proofs.Math.Nat.{pow-suc, pow-le-pow_right, mul-div_cancel, div-div-eq-div-mul}
 use Rattle.std.proofs.lemmas.Nat.{pow_pos, pow-add, div-mul-add, mod-mul-add}
 use Rattle.raster_core.specs.Raster.{pixel_at, pixel_left}
-use Rattle.raster_core.specs.Registers.{bit, before, past_bits}
+use Rattle.raster_core.specs.Machine.Registers.{bit, before, past_bits}
 
 -- a register has some pixels
 pub some_past : (offset : ℕ) → suc (past_bits offset - 1) ≡ past_bits offset

@@ -8,8 +8,8 @@ use Rattle.std.proofs.Math.Seq.{get_or-append_seam}
 use Rattle.qm_core.specs.Place.{Event}
 use Rattle.raster_core.specs.Raster.{pixel_at, pixel_left}
 use Rattle.raster_core.specs.Lines.{Lines, Mode, numbers_from, binary, context_at, three_line, two_line, adaptive, pixel_events}
-use Rattle.raster_core.specs.Decoded.{with_row}
-use Rattle.raster_core.specs.Registers.{bit, before}
+use Rattle.raster_core.specs.Machine.Decoded.{with_row}
+use Rattle.raster_core.specs.Machine.Registers.{bit, before}
 use Rattle.raster_core.proofs.Before.{before_suc, before_none, before_zero, before_mod}
 
 pub numbers_from_last : (k n : ℕ) → numbers_from k (suc n) ≡ numbers_from k n ++ (k + n) ∷ []

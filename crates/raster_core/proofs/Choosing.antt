@@ -1,13 +1,12 @@
 -- The first number of a range with the greatest value.
 use Rattle.std.proofs.Common.{◌≡◌, ℕ, zero, suc, ◌+◌, ◌<◌, ◌≤◌, Bool, true, false, ◌&&◌, List, [], ◌∷◌, refl, sym, ◌∙◌, ap, subst, arith, None, Some, replicate, get_or, inl, inr, ◌⊎◌, cond}
-use Rattle.std.specs.Prelude.{find, nat_le}
+use Rattle.std.specs.Prelude.{find, nat_le, ◌-◌, ◌*◌, ◌/◌, length, nat_lt, if◌then◌else◌, option_and_then}
 use Rattle.std.specs.List.{list_all}
 use Rattle.std.specs.Bool.{then_some}
 use Rattle.std.proofs.lemmas.Bool.Decides.{nat_tests}
-use Rattle.std.specs.Prelude.{◌-◌, ◌*◌, ◌/◌, length, nat_lt, if◌then◌else◌, option_and_then}
 use Rattle.raster_core.specs.Lines.{Lines, numbers_from}
 use Rattle.raster_core.specs.Offset.{agreement, chosen_offset}
-use Rattle.raster_core.specs.Counts.{Counts, least_lag}
+use Rattle.raster_core.specs.Tally.{CountsLines, least_lag}
 use Rattle.raster_core.specs.declared.tally.Tally.{Tally}
 
 pub zeros : (n k : ℕ) → ◌≡◌ {A = ℕ} (get_or (replicate n 0) k 0) 0
@@ -88,7 +87,7 @@ pub record IsBest (t : Tally) (b : ℕ) : Type 0 where
   pub greatest : (u : ℕ) → least_lag t.two_line ≤ u → u ≤ t.most → get_or t.counts u 0 ≤ get_or t.counts b 0
   pub first : (u : ℕ) → least_lag t.two_line ≤ u → u < b → get_or t.counts u 0 < get_or t.counts b 0
 
-threshold : (t : Tally) (width current : ℕ) (rows : List Lines) → Counts t width current rows → width * length rows / 8 ≡ t.width * t.rows / 8
+threshold : (t : Tally) (width current : ℕ) (rows : List Lines) → CountsLines t width current rows → width * length rows / 8 ≡ t.width * t.rows / 8
 threshold t width current [] k =
     let none : t.rows ≡ 0 = k.number in
     ap (λ n. n / 8) (nothing width ∙ sym (nothing t.width) ∙ ap (λ n. t.width * n) (sym none))
@@ -100,7 +99,7 @@ threshold t width current (r ∷ rows) k =
     let w : t.width ≡ width = k.width_is some in
     ap (λ n. n / 8) (ap (λ x. x * length (r ∷ rows)) (sym w) ∙ ap (λ n. t.width * n) (sym k.number))
 
-pub chosen_by : (t : Tally) (width current : ℕ) (rows : List Lines) (b : ℕ) → Counts t width current rows → IsBest t b →
+pub chosen_by : (t : Tally) (width current : ℕ) (rows : List Lines) (b : ℕ) → CountsLines t width current rows → IsBest t b →
     chosen_offset t.two_line t.most width rows current
     ≡ (if nat_lt (t.width * t.rows / 8) (get_or t.counts b 0 - t.held) then Some b else None)
 chosen_by t width current rows b k h =

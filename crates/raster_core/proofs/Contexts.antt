@@ -6,7 +6,7 @@ use Rattle.std.proofs.Math.Nat.{pow-suc}
 use Rattle.std.proofs.lemmas.Nat.{div-mul-add, mod-mul-add}
 use Rattle.raster_core.specs.Raster.{pixel_at, pixel_left}
 use Rattle.raster_core.specs.Lines.{Lines, binary, three_line, two_line, adaptive}
-use Rattle.raster_core.specs.Registers.{bit, before, AreAt}
+use Rattle.raster_core.specs.Machine.Registers.{bit, before, AreAt}
 use Rattle.raster_core.proofs.Before.{before_suc, bit_lt, before_lt, before_part, before_far, before_zero, above_low, left_at, left_along, low_part, shifted_div}
 
 pub binary_bit : (b : Bool) (bits : List Bool) → binary (b ∷ bits) ≡ bit b * 2 ^ length bits + binary bits

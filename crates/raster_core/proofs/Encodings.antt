@@ -3,14 +3,14 @@ use Rattle.std.proofs.Common.{◌≡◌, ℕ, suc, ◌+◌, ◌-◌, ◌*◌, �
 use Rattle.std.specs.Prelude.{Result, map, nat_eq}
 use Rattle.std.proofs.lemmas.List.{map-append}
 use Rattle.qm_core.specs.Place.{Place, Event, Estimate, step, after}
-use Rattle.qm_core.specs.Encoding.{Codes, Put, IsStuffedFront}
-use Rattle.qm_core.specs.Writing.{Took, Refused}
+use Rattle.qm_core.specs.Encoder.{EncoderIsAt, Put, IsStuffedFront}
+use Rattle.qm_core.specs.Sink.{Took, Refused}
 use Rattle.qm_core.specs.declared.encoder.Encoder.{Encoder}
 use Rattle.qm_core.specs.declared.encoder.CoderFault.{CoderFault}
 use Rattle.raster_core.specs.Raster.{pixel_at}
 use Rattle.raster_core.specs.Lines.{Lines, Mode, numbers_from, context_at}
-use Rattle.raster_core.specs.Registers.{bit, before, past_bits, AreAt}
-use Rattle.raster_core.specs.Encoded.{events_to, EncodedTo, ByteAt, EncodesByte, FailsByte}
+use Rattle.raster_core.specs.Machine.Registers.{bit, before, past_bits, AreAt}
+use Rattle.raster_core.specs.Machine.Encoded.{events_to, EncodedTo, ByteAt, EncodesByte, FailsByte}
 use Rattle.raster_core.proofs.Joins.{Took-append}
 use Rattle.raster_core.proofs.Runs.{after_append}
 use Rattle.raster_core.proofs.Causal.{numbers_from_last}
@@ -78,7 +78,7 @@ pub byte_next : {S : Type 0} (took : S → ℕ → S → Type 0) (refused : S �
     (n past past' : ℕ) (e e' : Encoder) (learned learned' : List Estimate) (cx : ℕ) (pixel : Bool) (result : Result (Unit {0}) CoderFault) →
     n < 8 → result ≡ Ok tt → past' ≡ past % 2 ^ (past_bits offset - 1) * 2 + bit pixel → pixel ≡ nat_eq (byte * 2 ^ n / 2 ^ 7 % 2) 1 →
     ((lines : Lines) (x : ℕ) → AreAt lines offset (second / 2 ^ 7 * 2 ^ n) (above / 2 ^ 6 * 2 ^ n) past x → cx ≡ context_at mode lines offset x) →
-    ((p : Place) (pushed : List ℕ) → Codes e p pushed → Put took refused failed mid to (record { place = p; learned = learned }) pushed cx pixel e' learned' result) →
+    ((p : Place) (pushed : List ℕ) → EncoderIsAt e p pushed → Put took refused failed mid to (record { place = p; learned = learned }) pushed cx pixel e' learned' result) →
     EncodesByte took old mid mode offset second above byte past₀ e₀ learned₀ n past e learned →
     EncodesByte took old to mode offset second above byte past₀ e₀ learned₀ (n + 1) past' e' learned'
 byte_next {S} took refused failed old mid to mode offset second above byte past₀ e₀ learned₀ n past past' e e' learned learned' cx pixel result few is past_is pixel_is context put along = λ from first s pushed lines x h b.
@@ -99,8 +99,8 @@ byte_next {S} took refused failed old mid to mode offset second above byte past�
       run = record {
         more = m.run.more ++ u.more;
         taken = Took-append took from mid to m.run.more u.more m.run.taken u.writes.ok;
-        codes = subst (λ a. Codes e' (after s (first ++ events_to mode lines offset ((x + n) + 1))).place a) (append_assoc pushed m.run.more u.more)
-            (subst (λ t. Codes e' t.place ((pushed ++ m.run.more) ++ u.more)) last u.codes);
+        codes = subst (λ a. EncoderIsAt e' (after s (first ++ events_to mode lines offset ((x + n) + 1))).place a) (append_assoc pushed m.run.more u.more)
+            (subst (λ t. EncoderIsAt e' t.place ((pushed ++ m.run.more) ++ u.more)) last u.codes);
         taught = u.taught ∙ ap (λ t. t.learned) last;
       };
     })
@@ -109,7 +109,7 @@ pub byte_fails : {S : Type 0} (took : S → ℕ → S → Type 0) (refused : S �
     (n all past : ℕ) (e e' : Encoder) (learned learned' : List Estimate) (cx : ℕ) (pixel : Bool) (result : Result (Unit {0}) CoderFault) (fault : CoderFault) →
     n < 8 → n < all → result ≡ Err fault → failed mid ≡ failed old → pixel ≡ nat_eq (byte * 2 ^ n / 2 ^ 7 % 2) 1 →
     ((lines : Lines) (x : ℕ) → AreAt lines offset (second / 2 ^ 7 * 2 ^ n) (above / 2 ^ 6 * 2 ^ n) past x → cx ≡ context_at mode lines offset x) →
-    ((p : Place) (pushed : List ℕ) → Codes e p pushed → Put took refused failed mid to (record { place = p; learned = learned }) pushed cx pixel e' learned' result) →
+    ((p : Place) (pushed : List ℕ) → EncoderIsAt e p pushed → Put took refused failed mid to (record { place = p; learned = learned }) pushed cx pixel e' learned' result) →
     EncodesByte took old mid mode offset second above byte past₀ e₀ learned₀ n past e learned →
     FailsByte took refused old to mode offset second above byte past₀ e₀ learned₀ all
 byte_fails {S} took refused failed old mid to mode offset second above byte past₀ e₀ learned₀ n all past e e' learned learned' cx pixel result fault few within is same pixel_is context put along = λ from first s pushed lines x h b.

@@ -1,8 +1,8 @@
 -- What a source answered and a sink took, one after another.
 use Rattle.std.proofs.Common.{◌≡◌, ℕ, suc, Bool, true, false, List, [], ◌∷◌, ◌++◌, length, refl, sym, ap, subst, Ok, Err}
 use Rattle.std.specs.Prelude.{◌↔◌, Result, IsTrue, IsErr}
-use Rattle.qm_core.specs.Answers.{bytes_of, heard_of, Gives}
-use Rattle.qm_core.specs.Writing.{Took}
+use Rattle.qm_core.specs.Source.{bytes_of, heard_of, Gives}
+use Rattle.qm_core.specs.Sink.{Took}
 use Rattle.qm_core.specs.declared.source.Pulled.{Pulled}
 use Rattle.qm_core.specs.declared.source.Pulled.TheVariants.{Byte, End, Fault}
 use Rattle.qm_core.specs.declared.source.Heard.TheVariants.{More}

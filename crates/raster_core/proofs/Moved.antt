@@ -1,7 +1,7 @@
 -- Tests of const parameters, and offsets.
 use Rattle.std.proofs.Common.{◌≡◌, ℕ, zero, suc, Bool, true, false, not, refl, sym, ◌∙◌, ap, arith, eqb}
 use Rattle.std.proofs.lemmas.Bool.Decides.{nat_tests}
-use Rattle.raster_core.specs.Registers.{is_moved}
+use Rattle.raster_core.specs.Machine.Registers.{is_moved}
 
 pub set_is : (n : ℕ) (b : Bool) → (n ≡ 0 → ⊥) → not (eqb n 0) ≡ b → b ≡ true
 set_is zero b h e = absurd (h refl)

@@ -7,7 +7,7 @@ use Rattle.std.proofs.Math.ListN.{get_or-eq_default}
 use Rattle.raster_core.specs.Raster.{pixel_at}
 use Rattle.raster_core.specs.Lines.{numbers_from, binary}
 use Rattle.raster_core.specs.Packed.{row_bytes, packed_row}
-use Rattle.raster_core.specs.Registers.{before, past_bits}
+use Rattle.raster_core.specs.Machine.Registers.{before, past_bits}
 use Rattle.raster_core.proofs.Before.{before_suc, before_none, before_zero, before_mod, before_far, before_split, left_at, low_part}
 use Rattle.raster_core.proofs.Contexts.{binary_bit}
 

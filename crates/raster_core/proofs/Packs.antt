@@ -8,8 +8,8 @@ use Rattle.std.proofs.lemmas.Bool.Decides.{nat_tests}
 use Rattle.raster_core.specs.Raster.{pixel_at}
 use Rattle.raster_core.specs.Lines.{numbers_from, binary}
 use Rattle.raster_core.specs.Packed.{packed_row, row_bytes}
-use Rattle.raster_core.specs.Words.{word, led, is_within}
-use Rattle.raster_core.specs.Registers.{bit}
+use Rattle.raster_core.specs.Machine.Words.{word, led, is_within}
+use Rattle.raster_core.specs.Machine.Registers.{bit}
 use Rattle.raster_core.proofs.Shifts.{word_cat, word_same, word_lt}
 
 length_map : {A : Type 0} (f : ℕ → A) (a n : ℕ) → length (map f (numbers_from a n)) ≡ n

@@ -8,7 +8,7 @@ use Rattle.qm_core.specs.Place.{same}
 use Rattle.raster_core.specs.Raster.{pixel_at, pixel_left}
 use Rattle.raster_core.specs.Lines.{Lines, adaptive, numbers_from}
 use Rattle.raster_core.specs.Offset.{agreements, agreement}
-use Rattle.raster_core.specs.Words.{led, is_within, agreed_from, part_agreement}
+use Rattle.raster_core.specs.Machine.Words.{led, is_within, agreed_from, part_agreement}
 use Rattle.raster_core.proofs.Shifts.{count_same, count_cat}
 
 is_lt : (x y : ℕ) → x < y → nat_lt x y ≡ true

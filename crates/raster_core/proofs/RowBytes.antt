@@ -9,8 +9,8 @@ use Rattle.qm_core.specs.declared.source.Pulled.{Pulled}
 use Rattle.qm_core.specs.declared.decoder.Decoder.{Decoder}
 use Rattle.raster_core.specs.Lines.{Mode}
 use Rattle.raster_core.specs.Packed.{packed_row}
-use Rattle.raster_core.specs.Registers.{before}
-use Rattle.raster_core.specs.Decoded.{Along, StopsAlong, BytesAlong, RowAlong, RowStops}
+use Rattle.raster_core.specs.Machine.Registers.{before}
+use Rattle.raster_core.specs.Machine.Decoded.{Along, StopsAlong, BytesAlong, RowAlong, RowStops}
 use Rattle.raster_core.proofs.Causal.{before_front}
 use Rattle.raster_core.proofs.Packed.{packed_byte, packed_is, first_byte, byte_in, byte_out}
 

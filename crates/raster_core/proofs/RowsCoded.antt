@@ -4,17 +4,17 @@ use Rattle.std.specs.Prelude.{Result, OnOk, OnErr, IsErr, if◌then◌else◌, s
 use Rattle.std.specs.Bool.{Decides}
 use Rattle.std.proofs.lemmas.List.{append-nil, ext_get_or, map-append}
 use Rattle.qm_core.specs.Place.{Place, State, Event, Estimate, same}
-use Rattle.qm_core.specs.Encoding.{Codes, Put}
+use Rattle.qm_core.specs.Encoder.{EncoderIsAt, Put}
 use Rattle.qm_core.specs.declared.encoder.Encoder.{Encoder}
 use Rattle.qm_core.specs.declared.encoder.CoderFault.{CoderFault}
 use Rattle.raster_core.specs.Raster.{pixel_at}
 use Rattle.raster_core.specs.Lines.{Lines, Mode, numbers_from, pseudo_context, pseudo_event, same_row, may_be_typical, pixel_events, row_events}
-use Rattle.raster_core.specs.Modes.{mode_of}
+use Rattle.raster_core.specs.Window.{shape_mode}
 use Rattle.raster_core.specs.Packed.{packed_row}
-use Rattle.raster_core.specs.Registers.{bit, past_bits}
-use Rattle.raster_core.specs.Encoded.{Encodes, Fails, events_to, EncodedTo, FailedTo}
-use Rattle.raster_core.specs.RowDecoded.{first_events}
-use Rattle.raster_core.specs.RowEncoded.{canonical_events, FailsIn, RowEncoded}
+use Rattle.raster_core.specs.Machine.Registers.{bit, past_bits}
+use Rattle.raster_core.specs.Events.{Encodes, Fails}
+use Rattle.raster_core.specs.Machine.Encoded.{events_to, EncodedTo, FailedTo}
+use Rattle.raster_core.specs.Row.{first_events, canonical_events, FailsIn, RowEncoded}
 use Rattle.raster_core.specs.declared.shape.Shape.{Shape}
 use Rattle.raster_core.specs.declared.shape.Kept.{Kept}
 use Rattle.raster_core.proofs.Before.{before_none}
@@ -95,9 +95,9 @@ first_coded took old new mode previous flag s pushed e learned typical h = rw ty
 
 -- and without it none
 pub first_left : {S : Type 0} (took : S → ℕ → S → Type 0) (old : S) (mode : Mode) (previous flag : Bool) (s : State) (pushed : List ℕ) (e : Encoder) →
-    mode.typical ≡ false → Codes e s.place pushed → Encodes took old old s pushed (first_events mode previous flag) e s.learned
+    mode.typical ≡ false → EncoderIsAt e s.place pushed → Encodes took old old s pushed (first_events mode previous flag) e s.learned
 first_left took old mode previous flag s pushed e plain h =
-    rw plain (record { more = []; taken = refl; codes = subst (λ b. Codes e s.place b) (sym (append-nil pushed)) h; taught = refl })
+    rw plain (record { more = []; taken = refl; codes = subst (λ b. EncoderIsAt e s.place b) (sym (append-nil pushed)) h; taught = refl })
 
 -- the same for equal states
 pub encodes_as : {S : Type 0} {took : S → ℕ → S → Type 0} {from to to' : S} {s : State} {pushed : List ℕ} {events : List Event} {e e' : Encoder} {learned learned' : List Estimate} →
@@ -131,33 +131,33 @@ events_rest mode lines offset m n h =
     (_, ap (λ k. events_to mode lines offset k) e ∙ (ap (map _) (numbers_split 0 m (n - m)) ∙ map-append _ (numbers_from 0 m) (numbers_from (0 + m) (n - m))))
 
 pub fails_first : {S : Type 0} (took : S → ℕ → S → Type 0) (refused : S → S → Type 0) (from to : S) (shape : Shape) (kept : Kept) (flag : Bool) (s : State) (pushed : List ℕ) (lines : Lines) →
-    shape.typical ≡ true → flag ≡ may_be_typical (mode_of shape) lines → Fails took refused from to s pushed (pseudo_event (mode_of shape) kept.previous_typical flag ∷ []) →
+    shape.typical ≡ true → flag ≡ may_be_typical (shape_mode shape) lines → Fails took refused from to s pushed (pseudo_event (shape_mode shape) kept.previous_typical flag ∷ []) →
     FailsIn took refused from to s pushed (canonical_events shape kept lines)
 fails_first {S} took refused from to shape kept flag s pushed lines typical is f =
-    let g : Fails took refused from to s pushed (pseudo_event (mode_of shape) kept.previous_typical (may_be_typical (mode_of shape) lines) ∷ []) =
-    subst (λ b. Fails took refused from to s pushed (pseudo_event (mode_of shape) kept.previous_typical b ∷ [])) is f in
+    let g : Fails took refused from to s pushed (pseudo_event (shape_mode shape) kept.previous_typical (may_be_typical (shape_mode shape) lines) ∷ []) =
+    subst (λ b. Fails took refused from to s pushed (pseudo_event (shape_mode shape) kept.previous_typical b ∷ [])) is f in
     record {
-      events = pseudo_event (mode_of shape) kept.previous_typical (may_be_typical (mode_of shape) lines) ∷ [];
-      rest = if may_be_typical (mode_of shape) lines then [] else pixel_events (mode_of shape) lines kept.offset;
-      all_are = ap (λ t. (if t then pseudo_event (mode_of shape) kept.previous_typical (may_be_typical (mode_of shape) lines) ∷ [] else []) ++ (if may_be_typical (mode_of shape) lines then [] else pixel_events (mode_of shape) lines kept.offset)) typical;
+      events = pseudo_event (shape_mode shape) kept.previous_typical (may_be_typical (shape_mode shape) lines) ∷ [];
+      rest = if may_be_typical (shape_mode shape) lines then [] else pixel_events (shape_mode shape) lines kept.offset;
+      all_are = ap (λ t. (if t then pseudo_event (shape_mode shape) kept.previous_typical (may_be_typical (shape_mode shape) lines) ∷ [] else []) ++ (if may_be_typical (shape_mode shape) lines then [] else pixel_events (shape_mode shape) lines kept.offset)) typical;
       fails = g;
     }
 
 -- the events of a row that is coded by this flag
 abbrev events_by : Shape → Kept → Lines → Bool → List Event
-events_by shape kept lines flag = row_events (mode_of shape) lines kept.offset kept.previous_typical flag
+events_by shape kept lines flag = row_events (shape_mode shape) lines kept.offset kept.previous_typical flag
 
 pub fails_pixels : {S : Type 0} (took : S → ℕ → S → Type 0) (refused : S → S → Type 0) (from to : S) (shape : Shape) (kept : Kept) (s : State) (pushed : List ℕ) (lines : Lines) →
-    length lines.row ≡ shape.width → false ≡ may_be_typical (mode_of shape) lines →
-    FailedTo took refused from to (mode_of shape) kept.offset (first_events (mode_of shape) kept.previous_typical false) s pushed lines shape.width →
+    length lines.row ≡ shape.width → false ≡ may_be_typical (shape_mode shape) lines →
+    FailedTo took refused from to (shape_mode shape) kept.offset (first_events (shape_mode shape) kept.previous_typical false) s pushed lines shape.width →
     FailsIn took refused from to s pushed (canonical_events shape kept lines)
 fails_pixels {S} took refused from to shape kept s pushed lines wide is f =
     let below = f.below in
-    let r = events_rest (mode_of shape) lines kept.offset (f.at + 1) (length lines.row) (omega arith) in
-    let e : events_by shape kept lines false ≡ (first_events (mode_of shape) kept.previous_typical false ++ events_to (mode_of shape) lines kept.offset (f.at + 1)) ++ r.0 =
-    ap (λ es. first_events (mode_of shape) kept.previous_typical false ++ es) r.1 ∙ sym (append_assoc (first_events (mode_of shape) kept.previous_typical false) _ r.0) in
+    let r = events_rest (shape_mode shape) lines kept.offset (f.at + 1) (length lines.row) (omega arith) in
+    let e : events_by shape kept lines false ≡ (first_events (shape_mode shape) kept.previous_typical false ++ events_to (shape_mode shape) lines kept.offset (f.at + 1)) ++ r.0 =
+    ap (λ es. first_events (shape_mode shape) kept.previous_typical false ++ es) r.1 ∙ sym (append_assoc (first_events (shape_mode shape) kept.previous_typical false) _ r.0) in
     record {
-      events = first_events (mode_of shape) kept.previous_typical false ++ events_to (mode_of shape) lines kept.offset (f.at + 1);
+      events = first_events (shape_mode shape) kept.previous_typical false ++ events_to (shape_mode shape) lines kept.offset (f.at + 1);
       rest = r.0;
       all_are = ap (λ b. events_by shape kept lines b) (sym is) ∙ e;
       fails = f.fails;
@@ -169,17 +169,17 @@ begin_row {S} took from to mode offset first s pushed lines e learned h =
     record { past_is = sym (before_none lines.row (past_bits offset)); run = subst (λ es. Encodes took from to s pushed es e learned) (sym (append-nil first)) h }
 
 pub coded_typical : {S : Type 0} (took : S → ℕ → S → Type 0) (from to : S) (shape : Shape) (kept : Kept) (s : State) (pushed : List ℕ) (lines : Lines) (e : Encoder) (learned : List Estimate) →
-    true ≡ may_be_typical (mode_of shape) lines → Encodes took from to s pushed (first_events (mode_of shape) kept.previous_typical true) e learned →
+    true ≡ may_be_typical (shape_mode shape) lines → Encodes took from to s pushed (first_events (shape_mode shape) kept.previous_typical true) e learned →
     Encodes took from to s pushed (canonical_events shape kept lines) e learned
 coded_typical {S} took from to shape kept s pushed lines e learned is h =
-    subst (λ es. Encodes took from to s pushed es e learned) (sym (append-nil (first_events (mode_of shape) kept.previous_typical true)) ∙ ap (λ b. events_by shape kept lines b) is) h
+    subst (λ es. Encodes took from to s pushed es e learned) (sym (append-nil (first_events (shape_mode shape) kept.previous_typical true)) ∙ ap (λ b. events_by shape kept lines b) is) h
 
 pub coded_plain : {S : Type 0} (took : S → ℕ → S → Type 0) (from to : S) (shape : Shape) (kept : Kept) (s : State) (pushed : List ℕ) (lines : Lines) (e : Encoder) (learned : List Estimate) →
-    length lines.row ≡ shape.width → false ≡ may_be_typical (mode_of shape) lines →
-    Encodes took from to s pushed (first_events (mode_of shape) kept.previous_typical false ++ events_to (mode_of shape) lines kept.offset shape.width) e learned →
+    length lines.row ≡ shape.width → false ≡ may_be_typical (shape_mode shape) lines →
+    Encodes took from to s pushed (first_events (shape_mode shape) kept.previous_typical false ++ events_to (shape_mode shape) lines kept.offset shape.width) e learned →
     Encodes took from to s pushed (canonical_events shape kept lines) e learned
 coded_plain {S} took from to shape kept s pushed lines e learned wide is h =
-    subst (λ es. Encodes took from to s pushed es e learned) (ap (λ n. first_events (mode_of shape) kept.previous_typical false ++ events_to (mode_of shape) lines kept.offset n) (sym wide) ∙ ap (λ b. events_by shape kept lines b) is) h
+    subst (λ es. Encodes took from to s pushed es e learned) (ap (λ n. first_events (shape_mode shape) kept.previous_typical false ++ events_to (shape_mode shape) lines kept.offset n) (sym wide) ∙ ap (λ b. events_by shape kept lines b) is) h
 
 not_err : (x : Unit {0}) → IsErr {T = Unit {0}} {E = CoderFault} (Ok x) → ⊥
 not_err x h = cc

@@ -4,20 +4,20 @@ use Rattle.std.specs.Prelude.{Result, IsErr, IsTrue, if◌then◌else◌, ◌&&�
 use Rattle.std.proofs.lemmas.List.{append-nil}
 use Rattle.qm_core.specs.Place.{Place, IsPlace, State, Event, Estimate, step, after, same}
 use Rattle.qm_core.specs.Code.{Lies, wanted_bytes}
-use Rattle.qm_core.specs.Answers.{bytes_of, Agrees}
-use Rattle.qm_core.specs.Standing.{Stands}
+use Rattle.qm_core.specs.Source.{bytes_of, Agrees}
+use Rattle.qm_core.specs.Decoder.{DecoderIsAt}
 use Rattle.qm_core.specs.declared.source.Pulled.{Pulled}
 use Rattle.qm_core.specs.declared.decoder.Decoder.{Decoder}
 use Rattle.qm_core.specs.declared.decoder.Stop.{Stop}
-use Rattle.qm_core.specs.Laws.{PartForever}
-use Rattle.qm_core.specs.Runs.{AnswersLie}
+use Rattle.qm_core.specs.Laws.{PartForever, AnswersLie}
 use Rattle.raster_core.specs.Lines.{Lines, Mode, context_at, pixel_events, pseudo_event, IsLegalFlag, same_row}
-use Rattle.raster_core.specs.Modes.{mode_of}
+use Rattle.raster_core.specs.Window.{shape_mode}
 use Rattle.raster_core.specs.Packed.{packed_row, Held, HasLines}
-use Rattle.raster_core.specs.Decoding.{Decodes, AreEnough}
-use Rattle.raster_core.specs.Decoded.{with_row, PixelsSoFar, PixelsStop, RowPixels}
-use Rattle.raster_core.specs.RowDecoded.{first_events, events_after, FirstDecoded, FirstStopped, RowIs, IsUndecided, RowDecoded}
-use Rattle.raster_core.specs.Registers.{past_bits}
+use Rattle.raster_core.specs.Events.{Decodes}
+use Rattle.raster_core.specs.Enough.{AreEnough}
+use Rattle.raster_core.specs.Machine.Decoded.{with_row, PixelsSoFar, PixelsStop, RowPixels}
+use Rattle.raster_core.specs.Row.{first_events, events_after, FirstDecoded, FirstStopped, RowIs, IsRowUndecided, RowDecoded}
+use Rattle.raster_core.specs.Machine.Registers.{past_bits}
 use Rattle.raster_core.specs.declared.shape.Shape.{Shape}
 use Rattle.raster_core.specs.declared.shape.Kept.{Kept}
 use Rattle.raster_core.proofs.Causal.{pixel_events_more, pixel_events_front}
@@ -94,10 +94,10 @@ short_row apart mode lines offset first s done row c count place h inside short 
 
 -- before the row's pixels
 pub undecided_first : (shape : Shape) (kept : Kept) (s : State) (answers : List Pulled) (lines : Lines) → IsTrue shape.typical →
-    length (bytes_of answers) < wanted_bytes s.place.doublings → IsUndecided shape kept s answers lines
+    length (bytes_of answers) < wanted_bytes s.place.doublings → IsRowUndecided shape kept s answers lines
 undecided_first shape kept s answers lines typical short = λ row flag wide legal lies enough.
-    let e : AreEnough (length (bytes_of answers)) s ((pseudo_event (mode_of shape) kept.previous_typical flag ∷ []) ++ (if flag then [] else pixel_events (mode_of shape) (with_row lines row) kept.offset)) =
-    subst (λ b. AreEnough (length (bytes_of answers)) s ((if b then pseudo_event (mode_of shape) kept.previous_typical flag ∷ [] else []) ++ (if flag then [] else pixel_events (mode_of shape) (with_row lines row) kept.offset))) typical enough in
+    let e : AreEnough (length (bytes_of answers)) s ((pseudo_event (shape_mode shape) kept.previous_typical flag ∷ []) ++ (if flag then [] else pixel_events (shape_mode shape) (with_row lines row) kept.offset)) =
+    subst (λ b. AreEnough (length (bytes_of answers)) s ((if b then pseudo_event (shape_mode shape) kept.previous_typical flag ∷ [] else []) ++ (if flag then [] else pixel_events (shape_mode shape) (with_row lines row) kept.offset))) typical enough in
     let w : wanted_bytes s.place.doublings ≤ length (bytes_of answers) = e.0 in
     omega arith
 
@@ -107,32 +107,32 @@ flags_apart false e = cc
 
 -- at a pixel of a plain row
 pub undecided_row : AnswersLie → PartForever → (shape : Shape) (kept : Kept) (s : State) (answers : List Pulled) (lines : Lines) (done : List Bool) (d : Decoder) → IsPlace s.place → length done < shape.width →
-    Stands d (after s (first_events (mode_of shape) kept.previous_typical false ++ pixel_events (mode_of shape) (with_row lines done) kept.offset)).place answers →
-    length (bytes_of answers) < wanted_bytes (after s (first_events (mode_of shape) kept.previous_typical false ++ pixel_events (mode_of shape) (with_row lines done) kept.offset)).place.doublings →
-    IsUndecided shape kept s answers lines
+    DecoderIsAt d (after s (first_events (shape_mode shape) kept.previous_typical false ++ pixel_events (shape_mode shape) (with_row lines done) kept.offset)).place answers →
+    length (bytes_of answers) < wanted_bytes (after s (first_events (shape_mode shape) kept.previous_typical false ++ pixel_events (shape_mode shape) (with_row lines done) kept.offset)).place.doublings →
+    IsRowUndecided shape kept s answers lines
 undecided_row lie apart shape kept s answers lines done d place few stands short = λ row flag wide legal lies enough. by_flag row flag wide legal lies enough
   where
-    inside : Lies (bytes_of answers) (after s (first_events (mode_of shape) kept.previous_typical false ++ pixel_events (mode_of shape) (with_row lines done) kept.offset)).place
+    inside : Lies (bytes_of answers) (after s (first_events (shape_mode shape) kept.previous_typical false ++ pixel_events (shape_mode shape) (with_row lines done) kept.offset)).place
     inside = lie d _ answers (bytes_of answers) stands (agrees_bytes answers)
 
     typical_row : (row : List Bool) (t : Bool) → t ≡ shape.typical → IsTrue (t && same_row row lines.above) →
-        Lies (bytes_of answers) (after s (first_events (mode_of shape) kept.previous_typical true ++ [])).place → ⊥
+        Lies (bytes_of answers) (after s (first_events (shape_mode shape) kept.previous_typical true ++ [])).place → ⊥
     typical_row row false e legal lies = cc
     typical_row row true e legal lies =
-        let e₁ : Lies (bytes_of answers) (after s ((pseudo_event (mode_of shape) kept.previous_typical true ∷ []) ++ [])).place =
-        subst (λ b. Lies (bytes_of answers) (after s ((if b then pseudo_event (mode_of shape) kept.previous_typical true ∷ [] else []) ++ [])).place) (sym e) lies in
-        let e₂ : Lies (bytes_of answers) (after s ((pseudo_event (mode_of shape) kept.previous_typical false ∷ []) ++ pixel_events (mode_of shape) (with_row lines done) kept.offset)).place =
-        subst (λ b. Lies (bytes_of answers) (after s ((if b then pseudo_event (mode_of shape) kept.previous_typical false ∷ [] else []) ++ pixel_events (mode_of shape) (with_row lines done) kept.offset)).place) (sym e) inside in
-        apart [] (pixel_events (mode_of shape) (with_row lines done) kept.offset) [] s (pseudo_event (mode_of shape) kept.previous_typical true).context (same kept.previous_typical false) (same kept.previous_typical true)
+        let e₁ : Lies (bytes_of answers) (after s ((pseudo_event (shape_mode shape) kept.previous_typical true ∷ []) ++ [])).place =
+        subst (λ b. Lies (bytes_of answers) (after s ((if b then pseudo_event (shape_mode shape) kept.previous_typical true ∷ [] else []) ++ [])).place) (sym e) lies in
+        let e₂ : Lies (bytes_of answers) (after s ((pseudo_event (shape_mode shape) kept.previous_typical false ∷ []) ++ pixel_events (shape_mode shape) (with_row lines done) kept.offset)).place =
+        subst (λ b. Lies (bytes_of answers) (after s ((if b then pseudo_event (shape_mode shape) kept.previous_typical false ∷ [] else []) ++ pixel_events (shape_mode shape) (with_row lines done) kept.offset)).place) (sym e) inside in
+        apart [] (pixel_events (shape_mode shape) (with_row lines done) kept.offset) [] s (pseudo_event (shape_mode shape) kept.previous_typical true).context (same kept.previous_typical false) (same kept.previous_typical true)
         (bytes_of answers) place (flags_apart kept.previous_typical) e₂ e₁
 
-    by_flag : (row : List Bool) (flag : Bool) → length row ≡ shape.width → IsLegalFlag (mode_of shape) (with_row lines row) flag →
+    by_flag : (row : List Bool) (flag : Bool) → length row ≡ shape.width → IsLegalFlag (shape_mode shape) (with_row lines row) flag →
         Lies (bytes_of answers) (after s (events_after shape kept (with_row lines row) flag)).place →
         AreEnough (length (bytes_of answers)) s (events_after shape kept (with_row lines row) flag) → ⊥
     by_flag row true wide legal lies enough = typical_row row shape.typical refl (legal refl) lies
     by_flag row false wide legal lies enough =
         let longer : length done < length row = omega arith in
-        short_row apart (mode_of shape) lines kept.offset (first_events (mode_of shape) kept.previous_typical false) s done row (bytes_of answers) (length (bytes_of answers)) place longer inside short lies enough
+        short_row apart (shape_mode shape) lines kept.offset (first_events (shape_mode shape) kept.previous_typical false) s done row (bytes_of answers) (length (bytes_of answers)) place longer inside short lies enough
 
 -- ---- the row is decoded
 
@@ -142,7 +142,7 @@ same_row_self (b ∷ row) = rw (same_self b, same_row_self row) refl
 
 -- what is known of a run of a row's events
 pub row_is : AnswersLie → {S : Type 0} (pull : S → Pulled → S → Type 0) (from to : S) (shape : Shape) (kept kept' : Kept) (s : State) (answers more : List Pulled) (lines : Lines) (row : List Bool) (flag : Bool)
-    (window : Held) (d : Decoder) (learned : List Estimate) → length row ≡ shape.width → IsLegalFlag (mode_of shape) (with_row lines row) flag → HasLines window (with_row lines row) →
+    (window : Held) (d : Decoder) (learned : List Estimate) → length row ≡ shape.width → IsLegalFlag (shape_mode shape) (with_row lines row) flag → HasLines window (with_row lines row) →
     kept'.offset ≡ kept.offset → kept'.previous_typical ≡ flag →
     Decodes pull from to s answers more (events_after shape kept (with_row lines row) flag) d learned →
     RowIs shape kept kept' s (answers ++ more) lines window learned d
@@ -165,11 +165,11 @@ row_is lie pull from to shape kept kept' s answers more lines row flag window d 
 pub some_events : (shape : Shape) (kept : Kept) (lines : Lines) (row : List Bool) → length row ≡ shape.width → 1 ≤ shape.width → events_after shape kept (with_row lines row) false ≡ [] → ⊥
 some_events shape kept lines row wide some none = by_typical shape.typical none
   where
-    plain : (r : List Bool) → 1 ≤ length r → pixel_events (mode_of shape) (with_row lines r) kept.offset ≡ [] → ⊥
+    plain : (r : List Bool) → 1 ≤ length r → pixel_events (shape_mode shape) (with_row lines r) kept.offset ≡ [] → ⊥
     plain [] h e = omega arith
     plain (b ∷ r) h e = cc
 
-    by_typical : (t : Bool) → (if t then pseudo_event (mode_of shape) kept.previous_typical false ∷ [] else []) ++ pixel_events (mode_of shape) (with_row lines row) kept.offset ≡ [] → ⊥
+    by_typical : (t : Bool) → (if t then pseudo_event (shape_mode shape) kept.previous_typical false ∷ [] else []) ++ pixel_events (shape_mode shape) (with_row lines row) kept.offset ≡ [] → ⊥
     by_typical true e = cc
     by_typical false e = plain row (omega (arith, wide)) e
 
@@ -185,7 +185,7 @@ no_false : false ≡ true → ⊥
 no_false e = cc
 
 pub stop_first : {S : Type 0} (pull : S → Pulled → S → Type 0) (from to : S) (shape : Shape) (kept kept' : Kept) (p : Place) (learned learned' : List Estimate) (answers : List Pulled) (lines : Lines)
-    (window : Held) (d : Decoder) (result : Result (Unit {0}) Stop) → IsErr result → FirstStopped pull from to (mode_of shape) p learned answers d →
+    (window : Held) (d : Decoder) (result : Result (Unit {0}) Stop) → IsErr result → FirstStopped pull from to (shape_mode shape) p learned answers d →
     RowDecoded pull from to shape kept kept' (record { place = p; learned = learned }) answers lines window learned' d result
 stop_first pull from to shape kept kept' p learned learned' answers lines window d (Ok x) err f = absurd (not_err x err)
 stop_first pull from to shape kept kept' p learned learned' answers lines window d (Err e) err f =
@@ -200,7 +200,7 @@ stop_first pull from to shape kept kept' p learned learned' answers lines window
 
 pub stop_pixels : AnswersLie → PartForever → {S : Type 0} (pull : S → Pulled → S → Type 0) (from to : S) (shape : Shape) (kept kept' : Kept) (s : State) (learned' : List Estimate) (answers : List Pulled) (lines : Lines)
     (window : Held) (d : Decoder) (result : Result (Unit {0}) Stop) → IsErr result →
-    PixelsStop pull from to (mode_of shape) kept.offset (first_events (mode_of shape) kept.previous_typical false) s answers lines shape.width d →
+    PixelsStop pull from to (shape_mode shape) kept.offset (first_events (shape_mode shape) kept.previous_typical false) s answers lines shape.width d →
     RowDecoded pull from to shape kept kept' s answers lines window learned' d result
 stop_pixels lie apart pull from to shape kept kept' s learned' answers lines window d (Ok x) err f = absurd (not_err x err)
 stop_pixels lie apart pull from to shape kept kept' s learned' answers lines window d (Err e) err f =
@@ -214,19 +214,19 @@ stop_pixels lie apart pull from to shape kept kept' s learned' answers lines win
     }
 
 pub begin_pixels : {S : Type 0} (pull : S → Pulled → S → Type 0) (from to : S) (shape : Shape) (previous : Bool) (offset : ℕ) (p : Place) (learned learned' : List Estimate) (answers : List Pulled) (lines : Lines) (d : Decoder) →
-    (f : FirstDecoded pull from to (mode_of shape) previous false p learned answers d learned') →
-    PixelsSoFar pull from to (mode_of shape) offset (first_events (mode_of shape) previous false) (record { place = p; learned = learned }) answers lines [] 0 d learned'
+    (f : FirstDecoded pull from to (shape_mode shape) previous false p learned answers d learned') →
+    PixelsSoFar pull from to (shape_mode shape) offset (first_events (shape_mode shape) previous false) (record { place = p; learned = learned }) answers lines [] 0 d learned'
 begin_pixels pull from to shape previous offset p learned learned' answers lines d f =
     record {
       past_is = sym (before_none [] (past_bits offset));
       more = f.more;
-      decodes = subst (λ es. Decodes pull from to (record { place = p; learned = learned }) answers f.more es d learned') (sym (append-nil (first_events (mode_of shape) previous false))) f.decodes;
+      decodes = subst (λ es. Decodes pull from to (record { place = p; learned = learned }) answers f.more es d learned') (sym (append-nil (first_events (shape_mode shape) previous false))) f.decodes;
     }
 
 pub done_plain : AnswersLie → {S : Type 0} (pull : S → Pulled → S → Type 0) (from to : S) (shape : Shape) (kept kept' : Kept) (s : State) (learned : List Estimate) (answers : List Pulled) (lines : Lines) (current : List ℕ)
     (window : Held) (d : Decoder) → 1 ≤ shape.width → kept'.offset ≡ kept.offset → kept'.previous_typical ≡ false →
     ((row : List Bool) → length row ≡ shape.width → current ≡ packed_row row → HasLines window (with_row lines row)) →
-    RowPixels pull from to (mode_of shape) kept.offset (first_events (mode_of shape) kept.previous_typical false) s answers lines shape.width current d learned →
+    RowPixels pull from to (shape_mode shape) kept.offset (first_events (shape_mode shape) kept.previous_typical false) s answers lines shape.width current d learned →
     RowDecoded pull from to shape kept kept' s answers lines window learned d (Ok tt)
 done_plain lie pull from to shape kept kept' s learned answers lines current window d some offset_is flag_is has r =
     record {
@@ -241,23 +241,23 @@ done_plain lie pull from to shape kept kept' s learned answers lines current win
 pub done_typical : AnswersLie → {S : Type 0} (pull : S → Pulled → S → Type 0) (from to : S) (shape : Shape) (kept kept' : Kept) (p : Place) (learned learned' : List Estimate) (answers : List Pulled) (lines : Lines)
     (window : Held) (d : Decoder) → shape.typical ≡ true → kept'.offset ≡ kept.offset → kept'.previous_typical ≡ true → length lines.above ≡ shape.width →
     HasLines window (with_row lines lines.above) →
-    FirstDecoded pull from to (mode_of shape) kept.previous_typical true p learned answers d learned' →
+    FirstDecoded pull from to (shape_mode shape) kept.previous_typical true p learned answers d learned' →
     RowDecoded pull from to shape kept kept' (record { place = p; learned = learned }) answers lines window learned' d (Ok tt)
 done_typical lie {S} pull from to shape kept kept' p learned learned' answers lines window d typical offset_is flag_is wide has f =
     record {
       more = f.more;
       gives = f.decodes.gives;
       ok = row_is lie pull from to shape kept kept' (record { place = p; learned = learned }) answers f.more lines lines.above true window d learned' wide legal has offset_is flag_is
-          (subst (λ es. Decodes pull from to (record { place = p; learned = learned }) answers f.more es d learned') (sym (append-nil (first_events (mode_of shape) kept.previous_typical true))) f.decodes);
+          (subst (λ es. Decodes pull from to (record { place = p; learned = learned }) answers f.more es d learned') (sym (append-nil (first_events (shape_mode shape) kept.previous_typical true))) f.decodes);
       stop = ((λ e. absurd (not_err tt e)), (λ e. absurd (some_first shape.typical typical (f.decodes.going e))));
       undecided = tt;
       stays = tt;
     }
   where
-    legal : IsLegalFlag (mode_of shape) (with_row lines lines.above) true
+    legal : IsLegalFlag (shape_mode shape) (with_row lines lines.above) true
     legal = λ _. rw (typical, same_row_self lines.above) refl
 
-    some_first : (t : Bool) → t ≡ true → (if t then pseudo_event (mode_of shape) kept.previous_typical true ∷ [] else []) ≡ [] → ⊥
+    some_first : (t : Bool) → t ≡ true → (if t then pseudo_event (shape_mode shape) kept.previous_typical true ∷ [] else []) ≡ [] → ⊥
     some_first true e h = cc
     some_first false e h = cc
 

@@ -4,14 +4,15 @@ use Rattle.std.specs.Prelude.{Result, IsErr}
 use Rattle.std.proofs.lemmas.List.{append-nil, length-append}
 use Rattle.qm_core.specs.Place.{State, Event, Estimate, step, after}
 use Rattle.qm_core.specs.Code.{wanted_bytes}
-use Rattle.qm_core.specs.Answers.{bytes_of, heard_of}
-use Rattle.qm_core.specs.Standing.{Stands, Next}
+use Rattle.qm_core.specs.Source.{bytes_of, heard_of}
+use Rattle.qm_core.specs.Decoder.{DecoderIsAt, Next}
 use Rattle.qm_core.specs.declared.source.Pulled.{Pulled}
 use Rattle.qm_core.specs.declared.source.Pulled.TheVariants.{Byte, End, Fault}
 use Rattle.qm_core.specs.declared.source.Heard.TheVariants.{More, Stopped}
 use Rattle.qm_core.specs.declared.decoder.Decoder.{Decoder}
 use Rattle.qm_core.specs.declared.decoder.Stop.{Stop}
-use Rattle.raster_core.specs.Decoding.{Decodes, Stops, AreEnough}
+use Rattle.raster_core.specs.Events.{Decodes, Stops}
+use Rattle.raster_core.specs.Enough.{AreEnough}
 use Rattle.raster_core.proofs.Joins.{bytes_of-append, length-bytes_of, Gives-append}
 
 pub after_append : (s : State) (xs ys : List Event) → after s (xs ++ ys) ≡ after (after s xs) ys
@@ -51,7 +52,7 @@ no_err : (pixel : Bool) → IsErr {T = Bool} {E = Stop} (Ok pixel) → ⊥
 no_err pixel h = cc
 
 pub decodes_none : {S : Type 0} (pull : S → Pulled → S → Type 0) (from : S) (s : State) (answers : List Pulled) (d : Decoder) →
-    Stands d s.place answers → Decodes pull from from s answers [] [] d s.learned
+    DecoderIsAt d s.place answers → Decodes pull from from s answers [] [] d s.learned
 decodes_none pull from s answers d h =
     record { gives = refl; stands = rw append-nil h; taught = refl; enough = λ _. tt; going = λ _. refl }
 

@@ -8,8 +8,8 @@ use Rattle.std.proofs.lemmas.List.Sums.{sum_by-cons, sum_by-append}
 use Rattle.raster_core.proofs.Choosing.{le_cases}
 use Rattle.qm_core.specs.Place.{same}
 use Rattle.raster_core.specs.Lines.{numbers_from}
-use Rattle.raster_core.specs.Words.{word, agreed_from}
-use Rattle.raster_core.specs.Registers.{bit}
+use Rattle.raster_core.specs.Machine.Words.{word, agreed_from}
+use Rattle.raster_core.specs.Machine.Registers.{bit}
 
 pub order : (a b : ℕ) → (a < b) ⊎ (b ≤ a)
 order a b = grind arith

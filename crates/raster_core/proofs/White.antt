@@ -3,7 +3,7 @@ use Rattle.std.proofs.Common.{◌≡◌, ℕ, zero, suc, ◌+◌, ◌*◌, false
 use Rattle.std.specs.Prelude.{slice_index}
 use Rattle.raster_core.specs.Raster.{pixel_at, white_row}
 use Rattle.raster_core.specs.Packed.{packed_row, row_bytes, white_lines, HasLines}
-use Rattle.raster_core.specs.Registers.{before}
+use Rattle.raster_core.specs.Machine.Registers.{before}
 use Rattle.raster_core.proofs.Before.{before_suc, before_none, before_zero}
 use Rattle.raster_core.proofs.Packed.{packed_is}
 

@@ -1,14 +1,13 @@
+-- The standard: pixels, contexts, what is coded for a row, the choice of the offset.
 pub mod Raster
 pub mod Lines
-pub mod Registers
-pub mod Packed
-pub mod Rows
-pub mod Modes
-pub mod Decoding
-pub mod Decoded
-pub mod RowDecoded
-pub mod Encoded
-pub mod RowEncoded
 pub mod Offset
-pub mod Words
-pub mod Counts
+pub mod Enough
+-- What public calls promise.
+pub mod Packed
+pub mod Window
+pub mod Tally
+pub mod Events
+pub mod Row
+-- How it is proved.
+pub mod Machine

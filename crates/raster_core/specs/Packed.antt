@@ -1,4 +1,4 @@
--- Rows in bytes.
+-- Rows in bytes, and the rows that a window's bytes are.
 use Rattle.std.specs.Prelude.{ℕ, ◌*◌, ◌≡◌, ◌==◌, Bool, List, length, map, if◌then◌else◌}
 use Rattle.std.specs.Int.{div_ceil}
 use Rattle.raster_core.specs.Raster.{pixel_at, white_row}

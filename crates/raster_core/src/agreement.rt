@@ -3,7 +3,7 @@
 ghost use Rattle.std.specs.Prelude.{ℕ, ◌+◌, ◌-◌, ◌*◌, ◌^◌, ◌≡◌, ◌≤◌, ◌<◌, Bool, slice_index};
 ghost use Rattle.raster_core.specs.Lines.{Lines};
 ghost use Rattle.raster_core.specs.Packed.{packed_row};
-ghost use Rattle.raster_core.specs.Words.{word as pixels_word, led, is_within, agreed_from, part_agreement};
+ghost use Rattle.raster_core.specs.Machine.Words.{word as pixels_word, led, is_within, agreed_from, part_agreement};
 
 use crate::words::{agreed_word, joined, word_at};
 
@@ -73,9 +73,11 @@ pub(crate) fn add_word(
         before ≡ pixels_word p (place + 64) 64
         → word ≡ pixels_word p (place + 128) 64 → mask ≡ pixels_word m c 64
         → (lag : ℕ) → least ≤ lag → lag ≤ most
-        → slice_index counts.new lag + result ≡ slice_index counts.old lag + agreed_from p p m (place + 128)
+        → slice_index counts.new lag + result ≡ slice_index counts.old lag + agreed_from p p m
+        (place + 128)
         (place + 128 - lag) c 64 }
-    ensures room { (lag : ℕ) → slice_index counts.new lag + result ≤ slice_index counts.old lag + 64 }
+    ensures room { (lag : ℕ) → slice_index counts.new lag + result ≤ slice_index counts.old lag +
+        64 }
 {
     let end = most + 1;
     if second | before | word == 0 {

@@ -2,7 +2,7 @@
 
 ghost use Rattle.std.specs.Prelude.{◌≡◌, ℕ, ◌+◌, ◌-◌, ◌*◌, ◌%◌, ◌^◌, ◌≤◌, Bool};
 ghost use Rattle.raster_core.specs.Lines.{Lines, context_at, pseudo_context};
-ghost use Rattle.raster_core.specs.Registers.{AreAt, bit, is_moved, past_bits};
+ghost use Rattle.raster_core.specs.Machine.Registers.{AreAt, bit, is_moved, past_bits};
 
 use qm_core::Context;
 

@@ -2,17 +2,16 @@
 
 ghost use Rattle.std.specs.Prelude.{◌≡◌, ℕ, ◌+◌, ◌-◌, ◌*◌, ◌^◌, ◌<◌, ◌≤◌, ◌↔◌, length, List, IsTrue, IsErr, OnOk, OnErr, IfOk, false, true};
 ghost use Rattle.std.specs.Int.{div_ceil};
-ghost use Rattle.qm_core.specs.Answers.{Pulls};
+ghost use Rattle.qm_core.specs.Source.{Pulls};
 ghost use Rattle.qm_core.specs.Place.{Place};
-ghost use Rattle.qm_core.specs.Standing.{Stands, has_stopped};
+ghost use Rattle.qm_core.specs.Decoder.{DecoderIsAt, has_stopped};
 ghost use Rattle.qm_core.specs.declared.source.Pulled.{Pulled};
-ghost use Rattle.raster_core.specs.Decoded.{Along, StopsAlong, RowAlong, RowStops};
+ghost use Rattle.raster_core.specs.Machine.Decoded.{Along, StopsAlong, RowAlong, RowStops};
 ghost use Rattle.raster_core.specs.Lines.{Lines};
-ghost use Rattle.raster_core.specs.Modes.{mode_of};
+ghost use Rattle.raster_core.specs.Window.{shape_mode, held, width_of};
 ghost use Rattle.raster_core.specs.Packed.{HasLines, SameAbove};
-ghost use Rattle.raster_core.specs.Registers.{is_moved};
-ghost use Rattle.raster_core.specs.RowDecoded.{FirstDecoded, FirstStopped, RowDecoded};
-ghost use Rattle.raster_core.specs.Rows.{held, width_of};
+ghost use Rattle.raster_core.specs.Machine.Registers.{is_moved};
+ghost use Rattle.raster_core.specs.Row.{FirstDecoded, FirstStopped, RowDecoded};
 
 use crate::bytes::byte_at;
 use crate::context::{by_template, context_of, flag_context, past_and};
@@ -50,10 +49,10 @@ fn decode_byte<S: CodeBytes, const TWO_LINE: bool, const MOVED: bool>(
     ensures counted { has_stopped decoder.old ≡ false →
         OnErr result (S.failed source.new ≡ S.failed source.old + 1) }
     ensures ok { IfOk result (λ past. Along (Pulls S.gives S.failed) source.old source.new
-        (mode_of shape) offset second_bytes above_bytes before
+        (shape_mode shape) offset second_bytes above_bytes before
         decoder.old learned.old n past decoder.new learned.new) }
     ensures err { OnErr result (StopsAlong (Pulls S.gives S.failed) source.old source.new
-        (mode_of shape) offset second_bytes above_bytes before
+        (shape_mode shape) offset second_bytes above_bytes before
         decoder.old learned.old n decoder.new) }
 {
     let mut second = second_bytes >> 7;
@@ -93,10 +92,10 @@ fn decode_bytes<S: CodeBytes, const TWO_LINE: bool, const MOVED: bool>(
     ensures counted { has_stopped decoder.old ≡ false →
         OnErr result (S.failed source.new ≡ S.failed source.old + 1) }
     ensures ok { OnOk result (RowAlong (Pulls S.gives S.failed) source.old source.new
-        (mode_of shape) offset above.now second.now
+        (shape_mode shape) offset above.now second.now
         decoder.old learned.old shape.width current.new decoder.new learned.new) }
     ensures err { OnErr result (RowStops (Pulls S.gives S.failed) source.old source.new
-        (mode_of shape) offset above.now second.now
+        (shape_mode shape) offset above.now second.now
         decoder.old learned.old shape.width decoder.new) }
 {
     let mut above_bytes = byte_at(above, 0);
@@ -146,10 +145,10 @@ fn decode_pixels<S: CodeBytes>(
     ensures counted { has_stopped decoder.old ≡ false →
         OnErr result (S.failed source.new ≡ S.failed source.old + 1) }
     ensures ok { OnOk result (RowAlong (Pulls S.gives S.failed) source.old source.new
-        (mode_of shape) offset above.now second.now
+        (shape_mode shape) offset above.now second.now
         decoder.old learned.old shape.width current.new decoder.new learned.new) }
     ensures err { OnErr result (RowStops (Pulls S.gives S.failed) source.old source.new
-        (mode_of shape) offset above.now second.now
+        (shape_mode shape) offset above.now second.now
         decoder.old learned.old shape.width decoder.new) }
 {
     by_template!(
@@ -179,11 +178,13 @@ fn decode_flag<S: CodeBytes>(
     ensures counted { has_stopped decoder.old ≡ false →
         OnErr result (S.failed source.new ≡ S.failed source.old + 1) }
     ensures ok { IfOk result (λ flag. (p : Place) (answers : List Pulled) →
-        Stands decoder.old p answers →
-        FirstDecoded (Pulls S.gives S.failed) source.old source.new (mode_of shape) previous flag p
+        DecoderIsAt decoder.old p answers →
+        FirstDecoded (Pulls S.gives S.failed) source.old source.new (shape_mode shape) previous flag
+        p
         learned.old answers decoder.new learned.new) }
-    ensures err { OnErr result ((p : Place) (answers : List Pulled) → Stands decoder.old p answers →
-        FirstStopped (Pulls S.gives S.failed) source.old source.new (mode_of shape) p learned.old
+    ensures err { OnErr result ((p : Place) (answers : List Pulled) →
+        DecoderIsAt decoder.old p answers →
+        FirstStopped (Pulls S.gives S.failed) source.old source.new (shape_mode shape) p learned.old
         answers decoder.new) }
 {
     let pixel = decoder.next(learned, flag_context(shape.two_line), source)?;
@@ -216,7 +217,7 @@ fn decode_below<S: CodeBytes>(
     ensures above { above.new ≡ above.old }
     ensures second { second.new ≡ second.old }
     ensures row { (p : Place) (answers : List Pulled) (lines : Lines) →
-        Stands decoder.old p answers →
+        DecoderIsAt decoder.old p answers →
         HasLines (record {
           width = shape.width;
           current = current.old;
@@ -284,7 +285,7 @@ pub fn decode_row<S: CodeBytes>(
     ensures above { SameAbove (held window.old) (held window.new) }
 
     ensures row { (p : Place) (answers : List Pulled) (lines : Lines) →
-        Stands decoder.old p answers → HasLines (held window.old) lines →
+        DecoderIsAt decoder.old p answers → HasLines (held window.old) lines →
         RowDecoded (Pulls S.gives S.failed) source.old source.new shape kept.old kept.new
         (record { place = p; learned = learned.old }) answers lines (held window.new) learned.new
         decoder.new result }

@@ -2,15 +2,15 @@
 
 ghost use Rattle.std.specs.Prelude.{◌≡◌, ℕ, ◌+◌, ◌-◌, ◌*◌, ◌^◌, ◌<◌, ◌≤◌, ◌↔◌, length, List, [], ◌∷◌, IsTrue, IsErr, OnOk, OnErr, IfOk, Err, false, true};
 ghost use Rattle.std.specs.Int.{div_ceil};
-ghost use Rattle.qm_core.specs.Encoding.{Codes, events_of, has_failed};
+ghost use Rattle.qm_core.specs.Encoder.{EncoderIsAt, event_count, has_failed};
 ghost use Rattle.qm_core.specs.Place.{Place};
-ghost use Rattle.raster_core.specs.Encoded.{Encodes, Fails, EncodesByte, FailsByte, EncodesRow, FailsRow};
+ghost use Rattle.raster_core.specs.Events.{Encodes, Fails};
+ghost use Rattle.raster_core.specs.Machine.Encoded.{EncodesByte, FailsByte, EncodesRow, FailsRow};
 ghost use Rattle.raster_core.specs.Lines.{Lines, may_be_typical, pseudo_event};
-ghost use Rattle.raster_core.specs.Modes.{mode_of};
+ghost use Rattle.raster_core.specs.Window.{shape_mode, held, width_of};
 ghost use Rattle.raster_core.specs.Packed.{HasLines, packed_row};
-ghost use Rattle.raster_core.specs.Registers.{is_moved};
-ghost use Rattle.raster_core.specs.RowEncoded.{RowEncoded};
-ghost use Rattle.raster_core.specs.Rows.{held, width_of};
+ghost use Rattle.raster_core.specs.Machine.Registers.{is_moved};
+ghost use Rattle.raster_core.specs.Row.{RowEncoded};
 
 use crate::bytes::byte_at;
 use crate::context::{by_template, context_of, flag_context, past_and};
@@ -40,20 +40,21 @@ fn encode_byte<W: CodeSink, const TWO_LINE: bool, const MOVED: bool>(
     requires above { above_bytes < 2 ^ 24 }
     requires some { 1 ≤ n }
     requires few { n ≤ 8 }
-    requires events { events_of encoder.old + n ≤ MAX_EVENTS }
+    requires events { event_count encoder.old + n ≤ MAX_EVENTS }
     ensures failed { IsTrue (has_failed encoder.old) → (result ≡ Err CoderFault.Failed) ×
         (encoder.new ≡ encoder.old) × (out.new ≡ out.old) }
     ensures fails { IsTrue (has_failed encoder.new) ↔ IsErr result }
     ensures fault { has_failed encoder.old ≡ false → IsErr result → result ≡ Err CoderFault.Write }
-    ensures events { OnOk result (events_of encoder.new ≡ events_of encoder.old + n) }
+    ensures events { OnOk result (event_count encoder.new ≡ event_count encoder.old + n) }
     ensures same { OnOk result (W.failed out.new ≡ W.failed out.old) }
     ensures counted { has_failed encoder.old ≡ false →
         OnErr result (W.failed out.new ≡ W.failed out.old + 1) }
-    ensures ok { IfOk result (λ past. EncodesByte W.took out.old out.new (mode_of shape) offset
+    ensures ok { IfOk result (λ past. EncodesByte W.took out.old out.new (shape_mode shape) offset
         second_bytes above_bytes byte before
         encoder.old learned.old n past encoder.new learned.new) }
     ensures err { has_failed encoder.old ≡ false →
-        OnErr result (FailsByte W.took W.refused out.old out.new (mode_of shape) offset second_bytes
+        OnErr result (FailsByte W.took W.refused out.old out.new (shape_mode shape) offset
+        second_bytes
         above_bytes byte before
         encoder.old learned.old n) }
 {
@@ -90,20 +91,22 @@ fn encode_bytes<W: CodeSink, const TWO_LINE: bool, const MOVED: bool>(
     requires moved { MOVED ≡ is_moved offset }
     requires some { 1 ≤ shape.width }
     requires long { length current.now ≡ div_ceil shape.width 8 }
-    requires events { events_of encoder.old + shape.width ≤ MAX_EVENTS }
+    requires events { event_count encoder.old + shape.width ≤ MAX_EVENTS }
     ensures failed { IsTrue (has_failed encoder.old) → (result ≡ Err CoderFault.Failed) ×
         (encoder.new ≡ encoder.old) × (out.new ≡ out.old) }
     ensures fails { IsTrue (has_failed encoder.new) ↔ IsErr result }
     ensures fault { has_failed encoder.old ≡ false → IsErr result → result ≡ Err CoderFault.Write }
-    ensures events { OnOk result (events_of encoder.new ≡ events_of encoder.old + shape.width) }
+    ensures events { OnOk result (event_count encoder.new ≡ event_count encoder.old + shape.width) }
     ensures same { OnOk result (W.failed out.new ≡ W.failed out.old) }
     ensures counted { has_failed encoder.old ≡ false →
         OnErr result (W.failed out.new ≡ W.failed out.old + 1) }
-    ensures ok { OnOk result (EncodesRow W.took out.old out.new (mode_of shape) offset current.now
+    ensures ok { OnOk result (EncodesRow W.took out.old out.new (shape_mode shape) offset
+        current.now
         above.now second.now
         encoder.old learned.old shape.width encoder.new learned.new) }
     ensures err { has_failed encoder.old ≡ false →
-        OnErr result (FailsRow W.took W.refused out.old out.new (mode_of shape) offset current.now
+        OnErr result (FailsRow W.took W.refused out.old out.new (shape_mode shape) offset
+        current.now
         above.now second.now
         encoder.old learned.old shape.width) }
 {
@@ -147,20 +150,22 @@ fn encode_pixels<W: CodeSink>(
     requires offset { offset ≤ 127 }
     requires some { 1 ≤ shape.width }
     requires long { length current.now ≡ div_ceil shape.width 8 }
-    requires events { events_of encoder.old + shape.width ≤ MAX_EVENTS }
+    requires events { event_count encoder.old + shape.width ≤ MAX_EVENTS }
     ensures failed { IsTrue (has_failed encoder.old) → (result ≡ Err CoderFault.Failed) ×
         (encoder.new ≡ encoder.old) × (out.new ≡ out.old) }
     ensures fails { IsTrue (has_failed encoder.new) ↔ IsErr result }
     ensures fault { has_failed encoder.old ≡ false → IsErr result → result ≡ Err CoderFault.Write }
-    ensures events { OnOk result (events_of encoder.new ≡ events_of encoder.old + shape.width) }
+    ensures events { OnOk result (event_count encoder.new ≡ event_count encoder.old + shape.width) }
     ensures same { OnOk result (W.failed out.new ≡ W.failed out.old) }
     ensures counted { has_failed encoder.old ≡ false →
         OnErr result (W.failed out.new ≡ W.failed out.old + 1) }
-    ensures ok { OnOk result (EncodesRow W.took out.old out.new (mode_of shape) offset current.now
+    ensures ok { OnOk result (EncodesRow W.took out.old out.new (shape_mode shape) offset
+        current.now
         above.now second.now
         encoder.old learned.old shape.width encoder.new learned.new) }
     ensures err { has_failed encoder.old ≡ false →
-        OnErr result (FailsRow W.took W.refused out.old out.new (mode_of shape) offset current.now
+        OnErr result (FailsRow W.took W.refused out.old out.new (shape_mode shape) offset
+        current.now
         above.now second.now
         encoder.old learned.old shape.width) }
 {
@@ -177,7 +182,7 @@ fn is_typical(shape: Shape, current: &[u8], above: &[u8]) -> bool
     ensures plain { shape.typical ≡ false → result ≡ false }
     ensures typical { (lines : Lines) → current.now ≡ packed_row lines.row →
         above.now ≡ packed_row lines.above → length lines.row ≡ length lines.above →
-        result ≡ may_be_typical (mode_of shape) lines }
+        result ≡ may_be_typical (shape_mode shape) lines }
 {
     shape.typical && current == above
 }
@@ -192,22 +197,22 @@ fn encode_flag<W: CodeSink>(
     out: &mut W,
 ) -> Result<(), CoderFault>
     requires count { W.failed out.old + 1 < 2 ^ 64 }
-    requires events { events_of encoder.old < MAX_EVENTS }
+    requires events { event_count encoder.old < MAX_EVENTS }
     ensures failed { IsTrue (has_failed encoder.old) → (result ≡ Err CoderFault.Failed) ×
         (encoder.new ≡ encoder.old) × (out.new ≡ out.old) }
     ensures fails { IsTrue (has_failed encoder.new) ↔ IsErr result }
     ensures fault { has_failed encoder.old ≡ false → IsErr result → result ≡ Err CoderFault.Write }
-    ensures events { OnOk result (events_of encoder.new ≡ events_of encoder.old + 1) }
+    ensures events { OnOk result (event_count encoder.new ≡ event_count encoder.old + 1) }
     ensures same { OnOk result (W.failed out.new ≡ W.failed out.old) }
     ensures counted { has_failed encoder.old ≡ false →
         OnErr result (W.failed out.new ≡ W.failed out.old + 1) }
-    ensures ok { OnOk result ((p : Place) (pushed : List ℕ) → Codes encoder.old p pushed →
+    ensures ok { OnOk result ((p : Place) (pushed : List ℕ) → EncoderIsAt encoder.old p pushed →
         Encodes W.took out.old out.new (record { place = p; learned = learned.old }) pushed
-        (pseudo_event (mode_of shape) previous flag ∷ []) encoder.new learned.new) }
+        (pseudo_event (shape_mode shape) previous flag ∷ []) encoder.new learned.new) }
     ensures err { has_failed encoder.old ≡ false → OnErr result ((p : Place) (pushed : List ℕ) →
-        Codes encoder.old p pushed →
+        EncoderIsAt encoder.old p pushed →
         Fails W.took W.refused out.old out.new (record { place = p; learned = learned.old }) pushed
-        (pseudo_event (mode_of shape) previous flag ∷ [])) }
+        (pseudo_event (shape_mode shape) previous flag ∷ [])) }
 {
     encoder.put(learned, flag_context(shape.two_line), flag == previous, out)
 }
@@ -227,19 +232,20 @@ pub fn encode_row<W: CodeSink>(
     requires offset { kept.old.offset ≤ 127 }
     requires width { width_of window.now ≡ shape.width }
     requires some { 1 ≤ shape.width }
-    requires events { events_of encoder.old + shape.width + 1 ≤ MAX_EVENTS }
+    requires events { event_count encoder.old + shape.width + 1 ≤ MAX_EVENTS }
     ensures failed { IsTrue (has_failed encoder.old) → (result ≡ Err CoderFault.Failed) ×
         (encoder.new ≡ encoder.old) × (out.new ≡ out.old) }
     ensures fails { IsTrue (has_failed encoder.new) ↔ IsErr result }
     ensures fault { has_failed encoder.old ≡ false → IsErr result → result ≡ Err CoderFault.Write }
-    ensures events { OnOk result (events_of encoder.new ≤ events_of encoder.old + shape.width + 1) }
+    ensures events { OnOk result (event_count encoder.new ≤ event_count encoder.old + shape.width +
+        1) }
     ensures same { OnOk result (W.failed out.new ≡ W.failed out.old) }
     ensures counted { has_failed encoder.old ≡ false →
         OnErr result (W.failed out.new ≡ W.failed out.old + 1) }
     ensures offset { OnOk result (kept.new.offset ≡ kept.old.offset) }
 
     ensures row { (p : Place) (pushed : List ℕ) (lines : Lines) → has_failed encoder.old ≡ false →
-        Codes encoder.old p pushed → HasLines (held window.now) lines →
+        EncoderIsAt encoder.old p pushed → HasLines (held window.now) lines →
         RowEncoded W.took W.refused out.old out.new shape kept.old kept.new
         (record { place = p; learned = learned.old }) pushed lines encoder.new learned.new result }
 {

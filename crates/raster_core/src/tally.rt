@@ -24,18 +24,18 @@ pub struct Tally {
 
 impl Tally {
     ghost use Rattle.std.specs.Prelude.{◌<◌, ◌-◌, [], ◌∷◌, ◌++◌, List, IfSome};
-    ghost use Rattle.raster_core.specs.Counts.{Counts, is_two_line, least_lag, most_of, rows_of};
+    ghost use Rattle.raster_core.specs.Tally.{CountsLines, is_two_line, least_lag, most_of, row_count};
     ghost use Rattle.raster_core.specs.Lines.{Lines};
     ghost use Rattle.raster_core.specs.Offset.{chosen_offset};
     ghost use Rattle.raster_core.specs.Packed.{HasLines};
-    ghost use Rattle.raster_core.specs.Rows.{held as rows_held, width_of};
+    ghost use Rattle.raster_core.specs.Window.{held as rows_held, width_of};
 
     /// A tally of no rows. The lags that may be chosen are those from 5 (two lines) or 3 (three
     /// lines) to `most`.
     pub fn new(two_line: bool, most: u8) -> Tally
         requires { most ≤ 127 }
-        ensures counts { (width current : ℕ) → Counts result width current [] }
-        ensures rows { rows_of result ≡ 0 }
+        ensures counts { (width current : ℕ) → CountsLines result width current [] }
+        ensures rows { row_count result ≡ 0 }
         ensures two_line { is_two_line result ≡ two_line }
         ensures most { most_of result ≡ most }
     {
@@ -51,8 +51,8 @@ impl Tally {
 
     /// Takes all rows off again.
     pub fn restart(&mut self)
-        ensures counts { (width current : ℕ) → Counts self.new width current [] }
-        ensures rows { rows_of self.new ≡ 0 }
+        ensures counts { (width current : ℕ) → CountsLines self.new width current [] }
+        ensures rows { row_count self.new ≡ 0 }
         ensures two_line { is_two_line self.new ≡ is_two_line self.old }
         ensures most { most_of self.new ≡ most_of self.old }
     {
@@ -64,11 +64,12 @@ impl Tally {
     pub fn add_row(&mut self, window: &Window, width: u32, offset: u8)
         requires width { width_of window.now ≡ width }
         requires offset { offset ≤ 127 }
-        requires rows { rows_of self.old < 2 ^ 32 - 1 }
-        ensures counts { (rows : List Lines) (lines : Lines) → Counts self.old width offset rows →
+        requires rows { row_count self.old < 2 ^ 32 - 1 }
+        ensures counts { (rows : List Lines) (lines : Lines) →
+            CountsLines self.old width offset rows →
             HasLines (rows_held window.now) lines
-            → Counts self.new width offset (rows ++ lines ∷ []) }
-        ensures rows { rows_of self.new ≡ rows_of self.old + 1 }
+            → CountsLines self.new width offset (rows ++ lines ∷ []) }
+        ensures rows { row_count self.new ≡ row_count self.old + 1 }
         ensures two_line { is_two_line self.new ≡ is_two_line self.old }
         ensures most { most_of self.new ≡ most_of self.old }
     {
@@ -105,7 +106,7 @@ impl Tally {
     /// The least lag with the greatest count, where it agrees at more than an eighth of the pixels
     /// more than `offset` did.
     pub fn choose(&self, offset: u8) -> Option<u8>
-        ensures chosen { (width : ℕ) (rows : List Lines) → Counts self.now width offset rows
+        ensures chosen { (width : ℕ) (rows : List Lines) → CountsLines self.now width offset rows
             → result ≡ chosen_offset (is_two_line self.now) (most_of self.now) width rows offset }
         ensures reach { IfSome result (λ lag. lag ≤ most_of self.now) }
     {

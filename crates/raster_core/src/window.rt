@@ -25,7 +25,7 @@ pub struct Window<'a> {
 
 impl<'a> Window<'a> {
     ghost use Rattle.raster_core.specs.Packed.{HasLines, row_of, white_lines};
-    ghost use Rattle.raster_core.specs.Rows.{held, width_of, turned};
+    ghost use Rattle.raster_core.specs.Window.{held, width_of, turned};
 
     /// A window with all three rows white, over `window_bytes` of the width.
     pub fn over(bytes: &'a mut [u8], width: u32) -> Window<'a>

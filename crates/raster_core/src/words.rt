@@ -2,7 +2,7 @@
 
 ghost use Rattle.std.specs.Prelude.{ℕ, ◌+◌, ◌-◌, ◌*◌, ◌^◌, ◌≡◌, ◌≤◌, ◌<◌, Bool, List, length, nat_lt};
 ghost use Rattle.raster_core.specs.Packed.{packed_row};
-ghost use Rattle.raster_core.specs.Words.{word, led, is_within, agreed_from};
+ghost use Rattle.raster_core.specs.Machine.Words.{word, led, is_within, agreed_from};
 
 use crate::bytes::byte_at;
 

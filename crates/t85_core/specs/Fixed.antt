@@ -1,7 +1,7 @@
 -- What a broken stream fixes: its fault, and the rows that are decided before it.
 use Rattle.std.specs.Prelude.{ℕ, ◌+◌, ◌*◌, ◌≡◌, ◌≤◌, min, Bool, false, List, [], ◌∷◌, ◌++◌, length, map}
 use Rattle.std.specs.List.{AllByRecursion}
-use Rattle.raster_core.specs.Decoding.{AreEnough}
+use Rattle.raster_core.specs.Enough.{AreEnough}
 use Rattle.t85_core.specs.declared.fault.Fault.{Fault}
 use Rattle.t85_core.specs.Header.{Fields}
 use Rattle.t85_core.specs.Grammar.{Segment, Stripe}

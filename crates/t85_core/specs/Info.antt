@@ -1,5 +1,6 @@
--- What `info` says of a stream.
-use Rattle.std.specs.Prelude.{◌≡◌, ◌≢◌, ◌⊎◌, ◌-◌, ◌^◌, ⊤, ℕ, Bool, true, List, [], ◌∷◌, length, drop, sum_by, min, Option, IfSome, Result, OnOk, IfErr, IsErrOf}
+-- The line of `info`.
+use Rattle.std.specs.Prelude.{ℕ, List, [], ◌∷◌, ◌++◌, ◌≡◌, ◌≢◌, ◌⊎◌, ◌-◌, ◌^◌, ⊤, Bool, true, length, drop, sum_by, min, Option, IfSome, Result, OnOk, IfErr, IsErrOf}
+use Rattle.std.specs.Fmt.{decimal}
 use Rattle.std.specs.Io.KnownBytes.{Consumes, Appends, Keeps}
 use Rattle.pbm_core.specs.Device.{AppendsBeginning}
 use Rattle.t85_core.specs.declared.fault.Fault.{Fault}
@@ -7,8 +8,13 @@ use Rattle.t85_core.specs.declared.fault.Fault.TheVariants.{ShortHeader, Truncat
 use Rattle.t85_core.specs.Header.{Fields, HeaderOf}
 use Rattle.t85_core.specs.Grammar.{Stripe, Parts, moves_in, comments_in}
 use Rattle.t85_core.specs.Height.{IsHeight, IsOpen, StreamFault}
-use Rattle.t85_core.specs.Line.{line_text}
-use Rattle.t85_core.specs.Walk.{CountsRead, CountsWrite}
+use Rattle.t85_core.specs.Failures.{CountsRead, CountsWrite}
+
+-- decimal numbers with a space between each two, and the end of the line
+abbrev pub line_text : List ℕ → List ℕ
+line_text [] = []
+line_text (n ∷ []) = decimal n ++ 10 ∷ []
+line_text (n ∷ m ∷ more) = decimal n ++ 32 ∷ line_text (m ∷ more)
 
 -- The header's fields, the height in use, the data entities, and the moves and comments before the last of them.
 -- Comments are counted up to 2^64 - 1.
@@ -26,14 +32,14 @@ pub record HasLine (bytes text : List ℕ) : Type 0 where
   pub text_is : text ≡ line_text (numbers_of header height parts.stripes)
 
 -- an accepted header, and a body that ends before it is known whether it gives a height
-pub record IsUndecided (bytes : List ℕ) : Type 0 where
+pub record IsHeightUndecided (bytes : List ℕ) : Type 0 where
   pub header : Fields
   pub header_of : HeaderOf bytes header
   pub open_still : IsOpen header (drop 20 bytes)
 
 -- the bytes end before the header or the last data entity does, or before the height is known
 abbrev pub IsUnfinished : List ℕ → Type 0
-IsUnfinished bytes = StreamFault bytes ShortHeader ⊎ StreamFault bytes Truncated ⊎ IsUndecided bytes
+IsUnfinished bytes = StreamFault bytes ShortHeader ⊎ StreamFault bytes Truncated ⊎ IsHeightUndecided bytes
 
 -- the faults that a stream may have, or that reading it may answer
 abbrev pub IsWalkFault : Fault → Type 0
@@ -64,7 +70,7 @@ IsBodyFault _ = ⊥
 
 -- What `info` leaves of its input and its output. Of each are given the known bytes and the count of failures, before
 -- the call and after it, and of the output whether it was flushed last.
-pub record Informs (in_old in_new : Option (List ℕ)) (reads_old reads_new : ℕ)
+pub record Info (in_old in_new : Option (List ℕ)) (reads_old reads_new : ℕ)
     (out_old out_new : Option (List ℕ)) (writes_old writes_new : ℕ) (flushed : Bool)
     (answer : Result (Unit {0}) Fault) : Type 0 where
   -- a stream that has its parts gives the line

@@ -1,34 +1,23 @@
-pub mod Fault
+-- The standard: the header, the grammar of a body, what it denotes or fixes, and the stream of a raster.
 pub mod Header
 pub mod Grammar
 pub mod Refusal
 pub mod Height
-pub mod Walk
-pub mod Piece
-pub mod Line
-pub mod Info
-pub mod Seek
-pub mod Stream
-pub mod Chosen
 pub mod Coding
 pub mod Denotes
 pub mod Fixed
-pub mod Image
-pub mod Carried
-pub mod CoderLaws
-pub mod WritingLaws
-pub mod StreamLaws
-pub mod Broken
-pub mod RowsSoFar
-pub mod Entity
-pub mod Decoding
-pub mod Unset
-pub mod Converts
-pub mod Readings
+pub mod Outcome
 pub mod Jbg
+-- What public calls promise.
+pub mod Fault
+pub mod Failures
 pub mod Options
-pub mod Ink
-pub mod Written
-pub mod Encodes
-pub mod Encoding
-pub mod Worked
+pub mod Info
+pub mod Decode
+pub mod ToPbm
+pub mod Encode
+pub mod ToJbg
+-- Laws.
+pub mod Laws
+-- How it is proved.
+pub mod Steps

@@ -1,4 +1,4 @@
--- Which options are refused, and how.
+-- Which options are refused, and how; a header and options as the definitions see them.
 use Rattle.std.specs.Prelude.{ℕ, ◌≡◌, ◌%◌, ◌==◌, ◌||◌, not, nat_lt, nat_le, Bool, false, List, Option, Some, None, length, option_map, if◌then◌else◌}
 use Rattle.std.specs.Option.{option_map_or}
 use Rattle.t85_core.specs.declared.fault.Fault.{Fault}
@@ -6,6 +6,8 @@ use Rattle.t85_core.specs.declared.fault.Fault.TheVariants.{OptionBits, StripeZe
 use Rattle.t85_core.specs.declared.options.Options.{Options}
 use Rattle.t85_core.specs.Coding.{has_bit}
 use Rattle.t85_core.specs.Jbg.{Settings}
+use Rattle.t85_core.specs.declared.header.Header.{Header}
+use Rattle.t85_core.specs.Header.{Fields}
 
 -- a bit beside LRLTWO, VLENGTH and TPBON: one of the three lowest, bit 4, or bit 7 and above
 abbrev pub has_other_bit : ℕ → Bool
@@ -35,3 +37,6 @@ settings_of o = record {
 abbrev pub Holds : ℕ → ℕ → ℕ → Option ℕ → Bool → Option (List ℕ) → Options → Type 0
 Holds p s m announced reset comment o =
     settings_of o ≡ record { options = p; stripe_rows = s; most_offset = m; announced = announced; reset = reset; comment = comment }
+
+abbrev pub fields_of : Header → Fields
+fields_of h = record { xd = h.xd; yd = h.yd; l0 = h.l0; mx = h.mx; options = h.options }

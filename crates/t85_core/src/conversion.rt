@@ -1,17 +1,23 @@
-//! Writing the image of a whole stream.
+//! Whole files: the image of a stream, and the stream of an image.
 
-ghost use Rattle.std.specs.Prelude.{◌≡◌, ◌≤◌, ◌<◌, ◌-◌, ◌^◌, IfSome, is_some, true};
-ghost use Rattle.t85_core.specs.Chosen.{fields_of};
+ghost use Rattle.std.specs.Prelude.{◌≡◌, ◌≤◌, ◌<◌, ◌-◌, ◌^◌, IfSome, is_some, true, if◌then◌else◌};
+ghost use Rattle.t85_core.specs.Options.{fields_of, settings_of};
 ghost use Rattle.t85_core.specs.Header.{is_variable};
-ghost use Rattle.t85_core.specs.Walk.{FlushesOnce};
-ghost use Rattle.t85_core.specs.Readings.{ConvertsAt, ConvertsBehind, ConvertsReadings, again_known, again_failures, is_same_header};
+ghost use Rattle.t85_core.specs.Failures.{FlushesOnce};
+ghost use Rattle.t85_core.specs.ToPbm.{ToPbmAt, ToPbmBehind, ToPbm, again_known, again_failures, is_same_header};
+ghost use Rattle.t85_core.specs.ToJbg.{ToJbg};
+ghost use Rattle.t85_core.specs.Jbg.{is_low};
+ghost use Rattle.t85_core.specs.declared.fault.Fault.TheVariants.{Write, Pbm};
 
 use crate::decoding::decode;
+use crate::encoding::encode;
 use crate::fault::Fault;
 use crate::header::Header;
 use crate::height::find_height;
 use crate::laws::coder_laws;
-use pbm_core::{DeviceFailed, Input, Output};
+use crate::options::Options;
+use pbm_core::laws::headers;
+use pbm_core::{DeviceFailed, Input, Output, read_header};
 use raster_core::{Window, window_bytes};
 use std::alloc::Global;
 
@@ -20,20 +26,25 @@ use std::alloc::Global;
 ///
 /// Where the header says that the height may change, the height is found in the first reading, and the image is decoded
 /// from the second, which holds the same bytes. Else the second isn't touched.
-pub fn to_pbm<R: Input, R2: Input, W: Output>(
+pub fn to_pbm<R: Input, Second: Input, W: Output>(
     alloc: Global,
     first: &mut R,
-    again: &mut Option<R2>,
+    again: &mut Option<Second>,
     max_rows: u32,
     output: &mut W,
 ) -> Result<(), Fault>
     requires first { R.failures first.old < 2 ^ 64 - 1 }
-    requires again { IfSome again.old (λ reading. R2.failures reading < 2 ^ 64 - 1) }
+    requires again { IfSome again.old (λ reading. Second.failures reading < 2 ^ 64 - 1) }
     requires output { W.failures output.old < 2 ^ 64 - 1 }
-    ensures outcome { ConvertsReadings max_rows (R.remaining first.old) (R.remaining first.new) (R.failures first.old) (R.failures first.new)
-        (is_some again.old) (again.new ≡ again.old) (again_known (λ reading. R2.remaining reading) again.old) (again_known (λ reading. R2.remaining reading) again.new)
-        (again_failures (λ reading. R2.failures reading) again.old) (again_failures (λ reading. R2.failures reading) again.new)
-        (W.contents output.old) (W.contents output.new) (W.failures output.old) (W.failures output.new) (W.flushed output.new) result }
+    ensures outcome { ToPbm max_rows (R.remaining first.old) (R.remaining first.new)
+        (R.failures first.old) (R.failures first.new)
+        (is_some again.old) (again.new ≡ again.old)
+        (again_known (λ reading. Second.remaining reading) again.old)
+        (again_known (λ reading. Second.remaining reading) again.new)
+        (again_failures (λ reading. Second.failures reading) again.old)
+        (again_failures (λ reading. Second.failures reading) again.new)
+        (W.contents output.old) (W.contents output.new) (W.failures output.old)
+        (W.failures output.new) (W.flushed output.new) result }
     ensures flushes { FlushesOnce (W.flushes output.old) (W.flushes output.new) result }
 {
     // What the proof cites of the coder.
@@ -49,21 +60,24 @@ pub fn to_pbm<R: Input, R2: Input, W: Output>(
 }
 
 /// Writes the image of a stream whose height may change. The first reading stands behind the header.
-fn convert_again<R: Input, R2: Input, W: Output>(
+fn convert_again<R: Input, Second: Input, W: Output>(
     alloc: Global,
     header: &Header,
     max_rows: u32,
     first: &mut R,
-    again: &mut R2,
+    again: &mut Second,
     output: &mut W,
 ) -> Result<(), Fault>
     requires first { R.failures first.old < 2 ^ 64 - 1 }
-    requires again { R2.failures again.old < 2 ^ 64 - 1 }
+    requires again { Second.failures again.old < 2 ^ 64 - 1 }
     requires output { W.failures output.old < 2 ^ 64 - 1 }
     requires variable { is_variable (fields_of header.now) ≡ true }
-    ensures outcome { ConvertsBehind (fields_of header.now) max_rows (R.remaining first.old) (R.remaining first.new) (R.failures first.old) (R.failures first.new)
-        (again.new ≡ again.old) (R2.remaining again.old) (R2.remaining again.new) (R2.failures again.old) (R2.failures again.new)
-        (W.contents output.old) (W.contents output.new) (W.failures output.old) (W.failures output.new) (W.flushed output.new) result }
+    ensures outcome { ToPbmBehind (fields_of header.now) max_rows (R.remaining first.old)
+        (R.remaining first.new) (R.failures first.old) (R.failures first.new)
+        (again.new ≡ again.old) (Second.remaining again.old) (Second.remaining again.new)
+        (Second.failures again.old) (Second.failures again.new)
+        (W.contents output.old) (W.contents output.new) (W.failures output.old)
+        (W.failures output.new) (W.flushed output.new) result }
     ensures flushes { FlushesOnce (W.flushes output.old) (W.flushes output.new) result }
 {
     let height = find_height(header, first)?;
@@ -105,8 +119,10 @@ fn convert<R: Input, W: Output>(
     requires output { W.failures output.old < 2 ^ 64 - 1 }
     requires from { 1 ≤ height }
     requires to { height ≤ header.now.yd }
-    ensures outcome { ConvertsAt (fields_of header.now) height max_rows (R.remaining input.old) (R.remaining input.new) (R.failures input.old) (R.failures input.new)
-        (W.contents output.old) (W.contents output.new) (W.failures output.old) (W.failures output.new) (W.flushed output.new) result }
+    ensures outcome { ToPbmAt (fields_of header.now) height max_rows (R.remaining input.old)
+        (R.remaining input.new) (R.failures input.old) (R.failures input.new)
+        (W.contents output.old) (W.contents output.new) (W.failures output.old)
+        (W.failures output.new) (W.flushed output.new) result }
     ensures flushes { FlushesOnce (W.flushes output.old) (W.flushes output.new) result }
 {
     if height > max_rows {
@@ -117,6 +133,41 @@ fn convert<R: Input, W: Output>(
     };
     let mut window = Window::over(rows.as_mut_slice(), header.xd);
     decode(header, height, &mut window, input, output)?;
+    match output.flush() {
+        Ok(()) => Ok(()),
+        Err(DeviceFailed) => Err(Fault::Write),
+    }
+}
+
+/// Writes the stream of an image in the PBM format. The one memory that it takes is for three rows.
+pub fn to_jbg<R: Input, W: Output>(
+    alloc: Global,
+    input: &mut R,
+    output: &mut W,
+    options: &Options<'_>,
+) -> Result<(), Fault>
+    requires input { R.failures input.old < 2 ^ 64 - 1 }
+    requires output { W.failures output.old < 2 ^ 64 - 1 }
+    ensures outcome { ToJbg (settings_of options.now) (R.remaining input.old)
+        (R.remaining input.new) (R.failures input.old) (R.failures input.new)
+        (W.contents output.old) (W.contents output.new) (W.failures output.old)
+        (W.failures output.new) (W.flushed output.new) result }
+    ensures flushes { FlushesOnce (W.flushes output.old) (W.flushes output.new) result }
+{
+    // What the proof cites of headers.
+    headers();
+    let (size, form) = match read_header(input) {
+        Ok(header) => header,
+        Err(fault) => return Err(Fault::Pbm(fault)),
+    };
+    if options.is_low(size) {
+        return Err(Fault::AnnouncedLow);
+    }
+    let Ok(mut rows) = vec![in alloc; 0u8; window_bytes(size.width)] else {
+        return Err(Fault::OutOfMemory);
+    };
+    let mut window = Window::over(rows.as_mut_slice(), size.width);
+    encode(size, form, options, &mut window, input, output)?;
     match output.flush() {
         Ok(()) => Ok(()),
         Err(DeviceFailed) => Err(Fault::Write),

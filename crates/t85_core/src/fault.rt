@@ -1,7 +1,7 @@
 //! Why a stream, an image or a choice of options is refused, or a call ended early.
 
 ghost use Rattle.std.specs.Prelude.{◌≡◌};
-ghost use Rattle.t85_core.specs.Fault.{number_of};
+ghost use Rattle.t85_core.specs.Fault.{fault_number};
 
 use pbm_core::PbmFault;
 use thiserror::Error;
@@ -67,7 +67,7 @@ pub enum Fault {
 impl Fault {
     /// The number under which the fault is documented.
     pub fn number(&self) -> u8
-        ensures { result ≡ number_of self.now }
+        ensures { result ≡ fault_number self.now }
     {
         match self {
             Fault::ShortHeader => 1,

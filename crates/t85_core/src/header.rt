@@ -1,10 +1,9 @@
 //! The header: twenty bytes before the first segment.
 
-ghost use Rattle.std.specs.Prelude.{◌≡◌, ◌≢◌, ◌≤◌, ◌<◌, ◌%◌};
-ghost use Rattle.std.specs.Prelude.{◌-◌, ◌^◌, length, OnOk, IfErr};
+ghost use Rattle.std.specs.Prelude.{◌≡◌, ◌≢◌, ◌≤◌, ◌<◌, ◌%◌, ◌-◌, ◌^◌, length, OnOk, IfErr};
 ghost use Rattle.std.specs.Io.KnownBytes.{Consumes};
 ghost use Rattle.t85_core.specs.declared.fault.Fault.TheVariants.{ShortHeader};
-ghost use Rattle.t85_core.specs.Walk.{CountsRead, Ends};
+ghost use Rattle.t85_core.specs.Failures.{CountsRead, Ends};
 
 use crate::fault::Fault;
 use byteorder::{BigEndian, ByteOrder};
@@ -37,18 +36,20 @@ pub struct Header {
 impl Header {
     ghost use Rattle.std.specs.Prelude.{ℕ, List, ◌-◌, ◌^◌, length, Ok, Err, IfOk, IfErr, MatchResult, OnOk, None, Some};
     ghost use Rattle.std.specs.Io.KnownBytes.{Consumes, IsAtEnd};
-    ghost use Rattle.t85_core.specs.Walk.{counted_as};
+    ghost use Rattle.t85_core.specs.Failures.{counted_as};
     ghost use Rattle.t85_core.specs.Header.{HeaderOf, header_fault, header_bytes};
-    ghost use Rattle.t85_core.specs.Chosen.{fields_of};
-    ghost use Rattle.raster_core.specs.Modes as shapes;
+    ghost use Rattle.t85_core.specs.Options.{fields_of};
+    ghost use Rattle.raster_core.specs.Window.{shape_mode};
     ghost use Rattle.t85_core.specs.Coding.{has_bit, mode_of};
 
     /// Reads a header, and no byte after it.
     pub fn read<R: Input>(input: &mut R) -> Result<Header, Fault>
         requires { R.failures input.old < 2 ^ 64 - 1 }
         ensures accepted { IfOk result (λ h. (given : List ℕ) × (length given ≡ 20)
-            × Consumes (R.remaining input.old) (R.remaining input.new) given × HeaderOf given (fields_of h)) }
-        ensures refused { IfErr result (Ends ShortHeader (R.remaining input.old) (R.remaining input.new)
+            × Consumes (R.remaining input.old) (R.remaining input.new) given ×
+            HeaderOf given (fields_of h)) }
+        ensures refused { IfErr result (Ends ShortHeader (R.remaining input.old)
+            (R.remaining input.new)
             (λ given fault. (length given ≤ 20) × (header_fault given ≡ Some fault))) }
         ensures counts { CountsRead (R.failures input.old) (R.failures input.new) result }
     {
@@ -60,7 +61,8 @@ impl Header {
     /// Judges the twenty bytes.
     fn accept(bytes: &[u8; 20]) -> Result<Header, Fault>
         ensures accepted { IfOk result (λ h. HeaderOf bytes.now (fields_of h)) }
-        ensures refused { MatchResult result (λ _. header_fault bytes.now ≡ None) (λ f. header_fault bytes.now ≡ Some f) }
+        ensures refused { MatchResult result (λ _. header_fault bytes.now ≡ None)
+            (λ f. header_fault bytes.now ≡ Some f) }
         ensures judged { IfErr result (λ f. (counted_as ShortHeader f ≡ f) × (f ≢ ShortHeader)) }
     {
         let xd = BigEndian::read_u32(&bytes[4..]);
@@ -101,7 +103,7 @@ impl Header {
     /// How rows are coded: LRLTWO is bit 6 of the options, TPBON is bit 3.
     pub(crate) fn shape(&self) -> Shape
         ensures width { result.width ≡ self.now.xd }
-        ensures mode { shapes.mode_of result ≡ mode_of self.now.options }
+        ensures mode { shape_mode result ≡ mode_of self.now.options }
     {
         Shape {
             width: self.xd,
@@ -135,7 +137,8 @@ impl Header {
 /// Fills the buffer from the input, and takes nothing more.
 fn fill<R: Input>(input: &mut R, buf: &mut [u8]) -> Result<(), Fault>
     requires { R.failures input.old < 2 ^ 64 - 1 }
-    ensures filled { OnOk result (Consumes (R.remaining input.old) (R.remaining input.new) buf.new) }
+    ensures filled { OnOk result (Consumes (R.remaining input.old) (R.remaining input.new)
+        buf.new) }
     ensures short { IfErr result (Ends ShortHeader (R.remaining input.old) (R.remaining input.new)
         (λ given fault. (length given < length buf.old) × (fault ≡ ShortHeader))) }
     ensures counts { CountsRead (R.failures input.old) (R.failures input.new) result }

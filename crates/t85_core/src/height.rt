@@ -3,19 +3,19 @@
 ghost use Rattle.std.specs.Prelude.{◌≡◌, ◌≢◌, ◌≤◌, ◌-◌, ◌^◌, ◌<◌, List, ℕ, OnOk, IfOk, IfErr, IfSome, IsErrOf, None, true, false};
 ghost use Rattle.std.specs.Io.KnownBytes.{Consumes};
 ghost use Rattle.t85_core.specs.declared.fault.Fault.TheVariants.{Truncated, Read};
-ghost use Rattle.t85_core.specs.Chosen.{fields_of};
+ghost use Rattle.t85_core.specs.Options.{fields_of};
 ghost use Rattle.t85_core.specs.Header.{is_variable};
-ghost use Rattle.t85_core.specs.Walk.{CountsRead, Ends};
+ghost use Rattle.t85_core.specs.Failures.{CountsRead, Ends};
 ghost use Rattle.t85_core.specs.Grammar.{stripe_count};
-ghost use Rattle.t85_core.specs.Readings.{FindsHeight as HeightFound};
+ghost use Rattle.t85_core.specs.Decode.{FindHeight as HeightFound};
 ghost use Rattle.t85_core.specs.Info.{IsWalkFault};
-ghost use Rattle.t85_core.specs.Seek.{Skips, SkipFault, Sought, SkipsFault, LooksTo, LookEnds, LookOpen, Finds, FindsOpen, PassesRest, RestBreaks};
-ghost use Rattle.t85_core.specs.Piece.{IsCode};
+ghost use Rattle.t85_core.specs.Steps.HeightWalk.{Skips, SkipFault, Sought, SkipsFault, LooksTo, LookEnds, LookOpen, Finds, FindsOpen, PassesRest, RestBreaks};
+ghost use Rattle.t85_core.specs.Steps.Segments.{IsByteOrMarker};
 
 use crate::fault::Fault;
 use crate::header::Header;
-use crate::stream::{Buffered, Stream};
-use crate::walk::{Code, Next, Piece, Place, next_piece, read_segments, skip_code};
+use crate::input_buffer::{ByteSource, InputBuffer};
+use crate::segments::{Code, Next, Piece, Place, next_piece, read_segments, skip_code};
 use pbm_core::Input;
 
 /// How many moves and comments were passed. Comments are counted up to 2^64 - 1.
@@ -48,12 +48,13 @@ pub struct Reached {
 /// comes, or the stream breaks before it, the height is the header's.
 pub fn find_height<R: Input>(header: &Header, input: &mut R) -> Result<u32, Fault>
     requires input { R.failures input.old < 2 ^ 64 - 1 }
-    ensures { HeightFound (fields_of header.now) (R.remaining input.old) (R.remaining input.new) (R.failures input.old) (R.failures input.new) result }
+    ensures { HeightFound (fields_of header.now) (R.remaining input.old) (R.remaining input.new)
+        (R.failures input.old) (R.failures input.new) result }
 {
     if !header.is_variable() {
         return Ok(header.yd);
     }
-    let mut stream = Buffered::new(input);
+    let mut stream = InputBuffer::new(input);
     match find(header, &mut stream) {
         Ok(reached) => match reached.height {
             Some(height) => Ok(height),
@@ -68,12 +69,18 @@ pub fn find_height<R: Input>(header: &Header, input: &mut R) -> Result<u32, Faul
 
 /// Passes the stripes that the header's height makes, up to the first height that is given in them or, where the height
 /// may change, behind them.
-pub fn find<S: Stream>(header: &Header, stream: &mut S) -> Result<Reached, Fault>
+pub fn find<S: ByteSource>(header: &Header, stream: &mut S) -> Result<Reached, Fault>
     requires stream { S.failures stream.old < 2 ^ 64 - 1 }
-    ensures ok { IfOk result (λ r. Finds (fields_of header.now) (S.known stream.old) (S.known stream.new) r.entities r.passed.moves r.passed.comments r.part.moves r.part.comments r.height) }
+    ensures ok { IfOk result (λ r. Finds (fields_of header.now) (S.known stream.old)
+        (S.known stream.new) r.entities r.passed.moves r.passed.comments r.part.moves
+        r.part.comments r.height) }
     ensures few { IfOk result (λ r. (r.passed.moves ≤ r.entities) × (r.part.moves ≤ 1)) }
-    ensures err { IfErr result (λ f. f ≢ Read → Ends Truncated (S.known stream.old) (S.known stream.new) (SkipsFault (fields_of header.now) 0 (stripe_count header.now.yd header.now.l0) false false) f) }
-    ensures unread { IsErrOf result Read → (given : List ℕ) × Consumes (S.known stream.old) (S.known stream.new) given × FindsOpen (fields_of header.now) given }
+    ensures err { IfErr result (λ f. f ≢ Read → Ends Truncated (S.known stream.old)
+        (S.known stream.new) (SkipsFault (fields_of header.now) 0
+        (stripe_count header.now.yd header.now.l0) false false) f) }
+    ensures unread { IsErrOf result Read → (given : List ℕ) ×
+        Consumes (S.known stream.old) (S.known stream.new) given ×
+        FindsOpen (fields_of header.now) given }
     ensures among { IfErr result IsWalkFault }
     ensures drained { IsErrOf result Read → S.known stream.new ≡ S.beyond stream.new }
     ensures same_source { S.source stream.new ≡ S.source stream.old }
@@ -100,13 +107,17 @@ pub fn find<S: Stream>(header: &Header, stream: &mut S) -> Result<Reached, Fault
 }
 
 /// Passes comments behind the last stripe that the header's height makes, and a height where one stands behind them.
-fn look<S: Stream>(header: &Header, entities: u32, stream: &mut S) -> Result<Option<u32>, Fault>
+fn look<S: ByteSource>(header: &Header, entities: u32, stream: &mut S) -> Result<Option<u32>, Fault>
     requires stream { S.failures stream.old < 2 ^ 64 - 1 }
     requires variable { is_variable (fields_of header.now) ≡ true }
-    ensures found { IfOk result (λ height. IfSome height (LooksTo (fields_of header.now) entities (S.known stream.old) (S.known stream.new))) }
-    ensures none { IfOk result (λ height. height ≡ None → IfSome (S.known stream.old) (LookEnds (fields_of header.now) entities)) }
+    ensures found { IfOk result (λ height. IfSome height
+        (LooksTo (fields_of header.now) entities (S.known stream.old) (S.known stream.new))) }
+    ensures none { IfOk result (λ height. height ≡ None →
+        IfSome (S.known stream.old) (LookEnds (fields_of header.now) entities)) }
     ensures among { IfErr result (λ f. f ≡ Read) }
-    ensures unread { IsErrOf result Read → (given : List ℕ) × Consumes (S.known stream.old) (S.known stream.new) given × LookOpen (fields_of header.now) entities given }
+    ensures unread { IsErrOf result Read → (given : List ℕ) ×
+        Consumes (S.known stream.old) (S.known stream.new) given ×
+        LookOpen (fields_of header.now) entities given }
     ensures drained { IsErrOf result Read → S.known stream.new ≡ S.beyond stream.new }
     ensures same_source { S.source stream.new ≡ S.source stream.old }
     ensures counts { CountsRead (S.failures stream.old) (S.failures stream.new) result }
@@ -134,7 +145,7 @@ fn look<S: Stream>(header: &Header, entities: u32, stream: &mut S) -> Result<Opt
 
 /// Passes stripes from the one number `from` up to `count` in all, or up to a height. Whether one was given before them
 /// is `given`, and whether a move stands before what is left of the first is `moved_before`.
-pub fn skip_stripes<S: Stream>(
+pub fn skip_stripes<S: ByteSource>(
     header: &Header,
     from: u32,
     count: u32,
@@ -144,9 +155,12 @@ pub fn skip_stripes<S: Stream>(
 ) -> Result<Reached, Fault>
     requires stream { S.failures stream.old < 2 ^ 64 - 1 }
     requires from { from ≤ count }
-    ensures ok { IfOk result (λ r. Sought (fields_of header.now) from count given moved_before (S.known stream.old) (S.known stream.new) r.entities r.passed.moves r.passed.comments r.part.moves r.part.comments r.height) }
+    ensures ok { IfOk result (λ r. Sought (fields_of header.now) from count given moved_before
+        (S.known stream.old) (S.known stream.new) r.entities r.passed.moves r.passed.comments
+        r.part.moves r.part.comments r.height) }
     ensures few { IfOk result (λ r. (r.passed.moves ≤ r.entities - from) × (r.part.moves ≤ 1)) }
-    ensures err { IfErr result (Ends Truncated (S.known stream.old) (S.known stream.new) (SkipsFault (fields_of header.now) from count given moved_before)) }
+    ensures err { IfErr result (Ends Truncated (S.known stream.old) (S.known stream.new)
+        (SkipsFault (fields_of header.now) from count given moved_before)) }
     ensures drained { IsErrOf result Read → S.known stream.new ≡ S.beyond stream.new }
     ensures same_source { S.source stream.new ≡ S.source stream.old }
     ensures counts { CountsRead (S.failures stream.old) (S.failures stream.new) result }
@@ -188,7 +202,7 @@ pub fn skip_stripes<S: Stream>(
 }
 
 /// Passes what is left of a stripe, or of its segments up to a height, behind so many data entities.
-fn skip_stripe<S: Stream>(
+fn skip_stripe<S: ByteSource>(
     header: &Header,
     entities: u32,
     given: bool,
@@ -196,9 +210,11 @@ fn skip_stripe<S: Stream>(
     stream: &mut S,
 ) -> Result<Skipped, Fault>
     requires stream { S.failures stream.old < 2 ^ 64 - 1 }
-    ensures ok { IfOk result (λ s. Skips (fields_of header.now) entities given moved_before (S.known stream.old) (S.known stream.new) s.passed.moves s.passed.comments s.height) }
+    ensures ok { IfOk result (λ s. Skips (fields_of header.now) entities given moved_before
+        (S.known stream.old) (S.known stream.new) s.passed.moves s.passed.comments s.height) }
     ensures few { IfOk result (λ s. s.passed.moves ≤ 1) }
-    ensures err { IfErr result (Ends Truncated (S.known stream.old) (S.known stream.new) (SkipFault (fields_of header.now) entities given moved_before)) }
+    ensures err { IfErr result (Ends Truncated (S.known stream.old) (S.known stream.new)
+        (SkipFault (fields_of header.now) entities given moved_before)) }
     ensures drained { IsErrOf result Read → S.known stream.new ≡ S.beyond stream.new }
     ensures same_source { S.source stream.new ≡ S.source stream.old }
     ensures counts { CountsRead (S.failures stream.old) (S.failures stream.new) result }
@@ -230,11 +246,12 @@ fn skip_stripe<S: Stream>(
 }
 
 /// Passes what is left of a data entity that begins so.
-fn skip_rest<S: Stream>(first: Code, stream: &mut S) -> Result<(), Fault>
+fn skip_rest<S: ByteSource>(first: Code, stream: &mut S) -> Result<(), Fault>
     requires stream { S.failures stream.old < 2 ^ 64 - 1 }
-    requires first { IsCode first }
+    requires first { IsByteOrMarker first }
     ensures ok { OnOk result (PassesRest first (S.known stream.old) (S.known stream.new)) }
-    ensures err { IfErr result (Ends Truncated (S.known stream.old) (S.known stream.new) (RestBreaks first)) }
+    ensures err { IfErr result (Ends Truncated (S.known stream.old) (S.known stream.new)
+        (RestBreaks first)) }
     ensures drained { IsErrOf result Read → S.known stream.new ≡ S.beyond stream.new }
     ensures same_source { S.source stream.new ≡ S.source stream.old }
     ensures counts { CountsRead (S.failures stream.old) (S.failures stream.new) result }

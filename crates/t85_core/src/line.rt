@@ -5,8 +5,8 @@ ghost use Rattle.std.specs.Fmt.{decimal};
 ghost use Rattle.std.specs.Io.KnownBytes.{Appends};
 ghost use Rattle.t85_core.specs.declared.fault.Fault.TheVariants.{Write};
 ghost use Rattle.pbm_core.specs.Device.{AppendsBeginning};
-ghost use Rattle.t85_core.specs.Walk.{CountsWrite, FlushesOnce};
-ghost use Rattle.t85_core.specs.Line.{line_text};
+ghost use Rattle.t85_core.specs.Failures.{CountsWrite, FlushesOnce};
+ghost use Rattle.t85_core.specs.Info.{line_text};
 
 use crate::fault::Fault;
 use pbm_core::{Output, write_bytes};
@@ -29,7 +29,7 @@ impl Model for Line {
 
 impl Line {
     /// The numbers, a space between each two, and the end of the line.
-    #[tactic(auto, using(crate::proofs::Numerals::digits))]
+    #[tactic(auto, using(crate::proofs::Bytes::Numerals::digits))]
     pub fn of(numbers: &[u64]) -> Line
         requires { length numbers.now ≤ 9 }
         ensures { result ≡ line_text numbers.now }
@@ -45,7 +45,7 @@ impl Line {
         line
     }
 
-    #[tactic(auto, using(crate::proofs::Numerals::digits))]
+    #[tactic(auto, using(crate::proofs::Bytes::Numerals::digits))]
     fn number(&mut self, n: u64)
         requires { length self.old + length (decimal n) ≤ 192 }
         ensures { self.new ≡ self.old ++ decimal n }
@@ -67,9 +67,11 @@ impl Line {
     /// Writes the line, and flushes once.
     pub fn put<W: Output>(&self, output: &mut W) -> Result<(), Fault>
         requires { W.failures output.old < 2 ^ 64 - 1 }
-        ensures ok { OnOk result (Appends (W.contents output.old) (W.contents output.new) self.now) }
+        ensures ok { OnOk result (Appends (W.contents output.old) (W.contents output.new)
+            self.now) }
         ensures err { IfErr result (λ f. f ≡ Write) }
-        ensures cut { IfErr result (λ _. AppendsBeginning (W.contents output.old) (W.contents output.new) self.now) }
+        ensures cut { IfErr result (λ _. AppendsBeginning (W.contents output.old)
+            (W.contents output.new) self.now) }
         ensures flushed { OnOk result (W.flushed output.new ≡ true) }
         ensures flushes { FlushesOnce (W.flushes output.old) (W.flushes output.new) result }
         ensures counts { CountsWrite (W.failures output.old) (W.failures output.new) result }

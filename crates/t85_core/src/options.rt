@@ -33,12 +33,10 @@ pub struct Options<'a> {
 }
 
 impl<'a> Options<'a> {
-    ghost use Rattle.std.specs.Prelude.{MatchResult, None, Some, IfOk};
-    ghost use Rattle.t85_core.specs.Options.{refusal_of, settings_of, Holds};
-    ghost use Rattle.t85_core.specs.Chosen.{fields_of};
+    ghost use Rattle.std.specs.Prelude.{MatchResult, None, Some, IfOk, ◌&&◌, not, is_some};
+    ghost use Rattle.t85_core.specs.Options.{refusal_of, settings_of, Holds, fields_of};
     ghost use Rattle.t85_core.specs.Jbg.{header_of, is_low, written_options};
     ghost use Rattle.t85_core.specs.Coding.{has_bit};
-    ghost use Rattle.std.specs.Prelude.{◌&&◌, not, is_some};
 
     /// Judges the options byte `p`, the rows of a stripe `s` and the greatest offset `m`, in this order, and then the
     /// length of the comment.
@@ -50,9 +48,11 @@ impl<'a> Options<'a> {
         reset: bool,
         comment: Option<&'a [u8]>,
     ) -> Result<Options<'a>, Fault>
-        ensures judged { MatchResult result (λ _. refusal_of p s m (option_map (λ c. c.now) comment.entry) ≡ None)
+        ensures judged { MatchResult result
+            (λ _. refusal_of p s m (option_map (λ c. c.now) comment.entry) ≡ None)
             (λ fault. refusal_of p s m (option_map (λ c. c.now) comment.entry) ≡ Some fault) }
-        ensures held { IfOk result (λ o. Holds p s m announced reset (option_map (λ c. c.now) comment.entry) o) }
+        ensures held { IfOk result (λ o. Holds p s m announced reset
+            (option_map (λ c. c.now) comment.entry) o) }
     {
         if p >= 0x80 || p % 8 != 0 || p / 16 % 2 != 0 {
             return Err(Fault::OptionBits);

@@ -3,17 +3,16 @@
 ghost use Rattle.std.specs.Prelude.{◌≡◌, ◌≢◌, ◌≤◌, ◌-◌, ◌^◌, ◌<◌, ◌∷◌, [], List, ℕ, Option, IfOk, IfErr, IfSome, IsErrOf, Some};
 ghost use Rattle.std.specs.Io.KnownBytes.{Consumes};
 ghost use Rattle.t85_core.specs.declared.fault.Fault.TheVariants.{Read};
-ghost use Rattle.t85_core.specs.Chosen.{fields_of};
-ghost use Rattle.t85_core.specs.Info.{Informs, IsWalkFault};
-ghost use Rattle.t85_core.specs.Line.{line_text};
-ghost use Rattle.t85_core.specs.Seek.{FindsGiven, BodyLine, BodyRefused, BodyUnfinished};
-ghost use Rattle.t85_core.specs.Walk.{CountsRead, FlushesOnce};
+ghost use Rattle.t85_core.specs.Options.{fields_of};
+ghost use Rattle.t85_core.specs.Info.{Info, IsWalkFault, line_text};
+ghost use Rattle.t85_core.specs.Steps.HeightWalk.{FindsGiven, BodyLine, BodyRefused, BodyUnfinished};
+ghost use Rattle.t85_core.specs.Failures.{CountsRead, FlushesOnce};
 
 use crate::fault::Fault;
 use crate::header::Header;
 use crate::height::{Passed, Reached, find, skip_stripes};
+use crate::input_buffer::{ByteSource, InputBuffer};
 use crate::line::Line;
-use crate::stream::{Buffered, Stream};
 use pbm_core::{Input, Output};
 
 /// Walks the stream and writes one line of nine numbers: width, height, rows of a stripe, greatest
@@ -21,22 +20,28 @@ use pbm_core::{Input, Output};
 pub fn info<R: Input, W: Output>(input: &mut R, output: &mut W) -> Result<(), Fault>
     requires input { R.failures input.old < 2 ^ 64 - 1 }
     requires output { W.failures output.old < 2 ^ 64 - 1 }
-    ensures outcome { Informs (R.remaining input.old) (R.remaining input.new) (R.failures input.old) (R.failures input.new)
-        (W.contents output.old) (W.contents output.new) (W.failures output.old) (W.failures output.new) (W.flushed output.new) result }
+    ensures outcome { Info (R.remaining input.old) (R.remaining input.new) (R.failures input.old)
+        (R.failures input.new)
+        (W.contents output.old) (W.contents output.new) (W.failures output.old)
+        (W.failures output.new) (W.flushed output.new) result }
     ensures flushes { FlushesOnce (W.flushes output.old) (W.flushes output.new) result }
 {
     let header = Header::read(input)?;
-    let mut stream = Buffered::new(input);
+    let mut stream = InputBuffer::new(input);
     let line = summary(&header, &mut stream)?;
     line.put(output)
 }
 
 /// The line of a stream that stands behind this header.
-fn summary<S: Stream>(header: &Header, stream: &mut S) -> Result<Line, Fault>
+fn summary<S: ByteSource>(header: &Header, stream: &mut S) -> Result<Line, Fault>
     requires stream { S.failures stream.old < 2 ^ 64 - 1 }
-    ensures ok { IfOk result (λ line. IfSome (S.known stream.old) (BodyLine (fields_of header.now) line)) }
-    ensures err { IfErr result (λ f. f ≢ Read → IfSome (S.known stream.old) (BodyRefused (fields_of header.now) f)) }
-    ensures unread { IsErrOf result Read → (given : List ℕ) × Consumes (S.known stream.old) (S.known stream.new) given × BodyUnfinished (fields_of header.now) given }
+    ensures ok { IfOk result (λ line. IfSome (S.known stream.old)
+        (BodyLine (fields_of header.now) line)) }
+    ensures err { IfErr result (λ f. f ≢ Read → IfSome (S.known stream.old)
+        (BodyRefused (fields_of header.now) f)) }
+    ensures unread { IsErrOf result Read → (given : List ℕ) ×
+        Consumes (S.known stream.old) (S.known stream.new) given ×
+        BodyUnfinished (fields_of header.now) given }
     ensures among { IfErr result IsWalkFault }
     ensures drained { IsErrOf result Read → S.known stream.new ≡ S.beyond stream.new }
     ensures same_source { S.source stream.new ≡ S.source stream.old }
@@ -45,12 +50,12 @@ fn summary<S: Stream>(header: &Header, stream: &mut S) -> Result<Line, Fault>
     let reached = find(header, stream)?;
     match reached.height {
         None => Ok(line_of(header, header.yd, reached.entities, reached.passed)),
-        Some(height) => go_on(header, height, reached, stream),
+        Some(height) => walk_on(header, height, reached, stream),
     }
 }
 
 /// Passes what is left of the stripes that a height makes, where it was given before the last of them.
-fn go_on<S: Stream>(
+fn walk_on<S: ByteSource>(
     header: &Header,
     height: u32,
     reached: Reached,
@@ -59,12 +64,19 @@ fn go_on<S: Stream>(
     requires stream { S.failures stream.old < 2 ^ 64 - 1 }
     requires few { reached.passed.moves ≤ reached.entities }
     requires part { reached.part.moves ≤ 1 }
-    ensures ok { IfOk result (λ line. (known : Option (List ℕ)) → FindsGiven (fields_of header.now) known (S.known stream.old) reached.entities reached.passed.moves reached.passed.comments reached.part.moves reached.part.comments height
+    ensures ok { IfOk result (λ line. (known : Option (List ℕ)) →
+        FindsGiven (fields_of header.now) known (S.known stream.old) reached.entities
+        reached.passed.moves reached.passed.comments reached.part.moves reached.part.comments height
         → IfSome known (BodyLine (fields_of header.now) line)) }
-    ensures err { IfErr result (λ f. f ≢ Read → (known : Option (List ℕ)) → FindsGiven (fields_of header.now) known (S.known stream.old) reached.entities reached.passed.moves reached.passed.comments reached.part.moves reached.part.comments height
+    ensures err { IfErr result (λ f. f ≢ Read → (known : Option (List ℕ)) →
+        FindsGiven (fields_of header.now) known (S.known stream.old) reached.entities
+        reached.passed.moves reached.passed.comments reached.part.moves reached.part.comments height
         → IfSome known (BodyRefused (fields_of header.now) f)) }
-    ensures unread { IsErrOf result Read → (known : Option (List ℕ)) → FindsGiven (fields_of header.now) known (S.known stream.old) reached.entities reached.passed.moves reached.passed.comments reached.part.moves reached.part.comments height
-        → (given : List ℕ) × Consumes known (S.known stream.new) given × BodyUnfinished (fields_of header.now) given }
+    ensures unread { IsErrOf result Read → (known : Option (List ℕ)) →
+        FindsGiven (fields_of header.now) known (S.known stream.old) reached.entities
+        reached.passed.moves reached.passed.comments reached.part.moves reached.part.comments height
+        → (given : List ℕ) × Consumes known (S.known stream.new) given ×
+        BodyUnfinished (fields_of header.now) given }
     ensures among { IfErr result IsWalkFault }
     ensures drained { IsErrOf result Read → S.known stream.new ≡ S.beyond stream.new }
     ensures same_source { S.source stream.new ≡ S.source stream.old }
@@ -89,7 +101,9 @@ fn go_on<S: Stream>(
 
 /// The line of a header, of a height and so many data entities, and of what was passed in them.
 fn line_of(header: &Header, height: u32, entities: u32, passed: Passed) -> Line
-    ensures { let h = header.now in result ≡ line_text (h.xd ∷ h.yd ∷ h.l0 ∷ h.mx ∷ h.options ∷ height ∷ entities ∷ passed.moves ∷ passed.comments ∷ []) }
+    ensures { let h = header.now in result ≡ line_text
+        (h.xd ∷ h.yd ∷ h.l0 ∷ h.mx ∷ h.options ∷ height ∷ entities ∷ passed.moves ∷ passed.comments
+        ∷ []) }
 {
     Line::of(&[
         u64::from(header.xd),

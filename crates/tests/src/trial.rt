@@ -35,16 +35,16 @@ impl Program {
     }
 
     /// Runs it over these devices, and gives the exit status. A second reading is the decoder's.
-    pub fn run<R: Input, R2: Input, W: Output, M: Output>(
+    pub fn run<R: Input, Second: Input, W: Output, M: Output>(
         &self,
         alloc: Global,
         input: &mut R,
-        again: &mut Option<R2>,
+        again: &mut Option<Second>,
         output: &mut W,
         messages: &mut M,
     ) -> u8
         requires input { R.failures input.old < 2 ^ 64 - 1 }
-        requires again { IfSome again.old (λ reading. R2.failures reading < 2 ^ 64 - 1) }
+        requires again { IfSome again.old (λ reading. Second.failures reading < 2 ^ 64 - 1) }
         requires output { W.failures output.old < 2 ^ 64 - 1 }
         requires messages { M.failures messages.old < 2 ^ 64 - 1 }
     {
@@ -130,7 +130,8 @@ fn has_told(
     program: &str,
     fault: Option<&str>,
 ) -> Result<bool, AllocError>
-    ensures { IfOk result (λ told. IsTrue told ↔ HasTold program.now (option_map (λ f. f.now) fault.entry) ran.now.status ran.now.messages.items) }
+    ensures { IfOk result (λ told. IsTrue told ↔ HasTold program.now
+        (option_map (λ f. f.now) fault.entry) ran.now.status ran.now.messages.items) }
 {
     match fault {
         None => Ok(ran.status == 0 && ran.messages.is_empty()),

@@ -3,7 +3,7 @@
 ghost use Rattle.std.specs.Prelude.{◌≡◌, IfErr, IfOk, map, false, true};
 ghost use Rattle.clap.specs.Words.{app_of, found_of, is_simple, rows_of, rule_of};
 ghost use Rattle.program_core.specs.Line.{IsRefusal};
-ghost use Rattle.program_core.specs.Jbgtopbm85.{IsJobOf, command as the_command, info_rule, matched, max_rows_rule, refusals};
+ghost use Rattle.program_core.specs.Jbgtopbm85.{IsDecodeJobOf, decode_command as the_command, info_rule, decode_matches, max_rows_rule, decode_refusals};
 
 use super::NAME;
 use super::work::Job;
@@ -59,7 +59,7 @@ fn command<'a>(alloc: Global) -> Result<Command<'a>, AllocError>
 
 /// The job that the matches ask for.
 fn job_of(alloc: Global, matches: &ArgMatches<'_>) -> Result<Job, AllocError>
-    ensures { IfOk result (IsJobOf (rows_of (found_of matches.now))) }
+    ensures { IfOk result (IsDecodeJobOf (rows_of (found_of matches.now))) }
 {
     let info = flag(matches, "info");
     let max_rows = number(matches, "max-rows");
@@ -76,8 +76,8 @@ fn job_of(alloc: Global, matches: &ArgMatches<'_>) -> Result<Job, AllocError>
 /// The job that the words ask for, of which the first is the program's name.
 pub fn job<S: AsStr>(alloc: Global, words: &[S]) -> Result<Job, LineFault>
     ensures simple { is_simple the_command ≡ true }
-    ensures values { IfOk result (IsJobOf (matched (map S.text words.now))) }
-    ensures fault { IfErr result (IsRefusal (refusals (map S.text words.now))) }
+    ensures values { IfOk result (IsDecodeJobOf (decode_matches (map S.text words.now))) }
+    ensures fault { IfErr result (IsRefusal (decode_refusals (map S.text words.now))) }
 {
     let command = command(alloc)?;
     let matches = matches_of(alloc, command, words)?;

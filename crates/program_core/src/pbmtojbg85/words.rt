@@ -3,7 +3,7 @@
 ghost use Rattle.std.specs.Prelude.{◌≡◌, Some, is_some, IfErr, IfOk, map, option_map, string_bytes, true};
 ghost use Rattle.clap.specs.Words.{app_of, found_of, is_simple, rows_of};
 ghost use Rattle.program_core.specs.Options.{number_in};
-ghost use Rattle.program_core.specs.Pbmtojbg85.{HasDefaults, IsFaultOf, IsJobOf, IsOptionFault, command as the_command, matched};
+ghost use Rattle.program_core.specs.Pbmtojbg85.{HasDefaults, IsFaultOf, IsEncodeJobOf, IsOptionFault, encode_command as the_command, encode_matches};
 
 use super::NAME;
 use super::args::{default_arg, flag_arg, number_arg, text_arg};
@@ -75,7 +75,7 @@ fn given(matches: &ArgMatches<'_>, id: &str) -> u32
 /// The job that the matches ask for.
 fn job_of(alloc: Global, matches: &ArgMatches<'_>) -> Result<Job, LineFault>
     requires { HasDefaults (rows_of (found_of matches.now)) }
-    ensures values { IfOk result (IsJobOf (rows_of (found_of matches.now))) }
+    ensures values { IfOk result (IsEncodeJobOf (rows_of (found_of matches.now))) }
     ensures fault { IfErr result (IsOptionFault (rows_of (found_of matches.now))) }
 {
     let p = given(matches, "options");
@@ -104,7 +104,7 @@ fn job_of(alloc: Global, matches: &ArgMatches<'_>) -> Result<Job, LineFault>
 /// The job that the words ask for, of which the first is the program's name.
 pub fn job<S: AsStr>(alloc: Global, words: &[S]) -> Result<Job, LineFault>
     ensures simple { is_simple the_command ≡ true }
-    ensures values { IfOk result (IsJobOf (matched (map S.text words.now))) }
+    ensures values { IfOk result (IsEncodeJobOf (encode_matches (map S.text words.now))) }
     ensures fault { IfErr result (IsFaultOf (map S.text words.now)) }
 {
     let command = command(alloc)?;

@@ -1,6 +1,6 @@
 use Rattle.std.proofs.Common.{◌≡◌, Bool, List, length}
 use Rattle.pbm_core.specs.Image.{binary}
-use Rattle.pbm_core.specs.Held.{PassesPixels}
+use Rattle.pbm_core.specs.Steps.{PassesPixels}
 use Rattle.pbm_core.proofs.rows.read_eight.Given as goal
 
 -- the pixels so far were passed

@@ -1,5 +1,5 @@
 use Rattle.std.proofs.Common.{◌≡◌, ◌<◌, ◌+◌, ◌*◌, ℕ, Bool, List, length, min, get_or}
-use Rattle.pbm_core.specs.Held.{byte_at, PassesPixels}
+use Rattle.pbm_core.specs.Steps.{byte_at, PassesPixels}
 use Rattle.pbm_core.proofs.rows.read_plain.Given as goal
 
 -- the pixels so far were passed, and stand in the bytes so far

@@ -1,4 +1,4 @@
-use Rattle.qm_core.specs.Answers.{Pulls}
+use Rattle.qm_core.specs.Source.{Pulls}
 use Rattle.qm_core.proofs.Pulling.{Gives-append}
 use Rattle.qm_core.proofs.laws.pulls_join.Goals as goal
 

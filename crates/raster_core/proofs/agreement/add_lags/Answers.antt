@@ -1,6 +1,6 @@
 use Rattle.std.proofs.Common.{◌≡◌, ℕ, ◌+◌, ◌-◌, ◌*◌, ◌/◌, ◌%◌, ◌^◌, ◌<◌, ◌≤◌, ◌≢◌, ◌∙◌, sym, ap, arith, get_or, set, List, length, ◌⊎◌, inl, inr, get_or-set_other, get_or-set_same, length-set, refl}
 use Rattle.std.specs.Prelude.{bit_or}
-use Rattle.raster_core.specs.Words.{word, agreed_from}
+use Rattle.raster_core.specs.Machine.Words.{word, agreed_from}
 use Rattle.raster_core.proofs.Choosing.{le_cases}
 use Rattle.raster_core.proofs.Parts.{order}
 use Rattle.raster_core.proofs.Shifts.{begun, far_next, near_next}

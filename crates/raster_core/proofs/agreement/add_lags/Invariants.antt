@@ -1,5 +1,5 @@
 use Rattle.std.proofs.Common.{◌≡◌, ℕ, ◌+◌, ◌-◌, ◌<◌, ◌≤◌, get_or, length, Bool}
-use Rattle.raster_core.specs.Words.{word, agreed_from}
+use Rattle.raster_core.specs.Machine.Words.{word, agreed_from}
 use Rattle.raster_core.proofs.agreement.add_lags.Given as goal
 
 abbrev pub invariant-loop-lag : goal.invariant-loop-lag

@@ -1,5 +1,5 @@
 use Rattle.std.proofs.Common.{◌≡◌, ℕ, ◌+◌, ◌-◌, ◌∙◌, sym, ap, arith, get_or, inl, inr}
-use Rattle.raster_core.specs.Words.{word, agreed_from}
+use Rattle.raster_core.specs.Machine.Words.{word, agreed_from}
 use Rattle.std.specs.Prelude.{bit_or, count_ones}
 use Rattle.std.proofs.lemmas.Nat.{le_or_l, le_or_r}
 use Rattle.raster_core.proofs.Shifts.{white_agreed}

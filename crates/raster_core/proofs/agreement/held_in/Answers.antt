@@ -1,5 +1,5 @@
 use Rattle.std.proofs.Common.{◌≡◌, ℕ, ◌+◌, ◌-◌, ◌*◌, ◌∙◌, sym, ap, arith}
-use Rattle.raster_core.specs.Words.{word, led, is_within, part_agreement}
+use Rattle.raster_core.specs.Machine.Words.{word, led, is_within, part_agreement}
 use Rattle.raster_core.proofs.Parts.{row_part, nominal_part}
 use Rattle.raster_core.proofs.agreement.held_in.Goals as goal
 

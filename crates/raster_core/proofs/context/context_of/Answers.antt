@@ -1,5 +1,5 @@
 use Rattle.std.proofs.Common.{◌≡◌, subst}
-use Rattle.raster_core.specs.Registers.{AreAt}
+use Rattle.raster_core.specs.Machine.Registers.{AreAt}
 use Rattle.raster_core.proofs.Moved.{clear_is, nominal_none}
 use Rattle.raster_core.proofs.context.context_of.Goals as goal
 

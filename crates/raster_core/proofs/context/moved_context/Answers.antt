@@ -1,6 +1,6 @@
 use Rattle.std.proofs.Common.{◌≡◌, suc, ◌-◌, ◌/◌, ◌%◌, ◌^◌, ◌<◌, arith, refl, sym, ◌∙◌, subst}
 use Rattle.raster_core.specs.Lines.{adaptive}
-use Rattle.raster_core.specs.Registers.{bit, AreAt}
+use Rattle.raster_core.specs.Machine.Registers.{bit, AreAt}
 use Rattle.raster_core.proofs.Contexts.{adaptive_moved, three_line_moved, two_line_moved}
 use Rattle.raster_core.proofs.Moved.{set_is, clear_is}
 use Rattle.raster_core.proofs.context.moved_context.Goals as goal

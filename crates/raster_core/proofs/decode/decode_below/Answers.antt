@@ -1,7 +1,7 @@
 use Rattle.std.proofs.Common.{◌≡◌, true, false, refl, sym, ◌∙◌, subst}
-use Rattle.qm_core.specs.Answers.{Pulls}
-use Rattle.raster_core.specs.Modes.{mode_of}
-use Rattle.raster_core.specs.RowDecoded.{FirstDecoded, first_events}
+use Rattle.qm_core.specs.Source.{Pulls}
+use Rattle.raster_core.specs.Window.{shape_mode}
+use Rattle.raster_core.specs.Row.{FirstDecoded, first_events}
 use Rattle.raster_core.proofs.Firsts.{first_none, first_as}
 use Rattle.raster_core.proofs.RowsDone.{stop_first, stop_pixels, begin_pixels, done_plain, done_typical, carried}
 use Rattle.raster_core.proofs.decode.decode_below.Goals as goal
@@ -14,26 +14,26 @@ returns-in_err-flag-clause-row g c = λ p answers lines h w.
 
 pub returns-in_err-decode_pixels-clause-row : goal.returns-in_err-decode_pixels-clause-row
 returns-in_err-decode_pixels-clause-row g c = λ p answers lines h w.
-    let first : FirstDecoded (Pulls g.S.CodeBytes.gives g.S.CodeBytes.failed) c.args.source.now c.if-shape.source (mode_of c.args.shape) c.args.kept.now.previous_typical c.if-shape.flag p c.args.learned.now answers c.if-shape.decoder c.if-shape.learned = elim c.if-shape.branch [
+    let first : FirstDecoded (Pulls g.S.CodeBytes.gives g.S.CodeBytes.failed) c.args.source.now c.if-shape.source (shape_mode c.args.shape) c.args.kept.now.previous_typical c.if-shape.flag p c.args.learned.now answers c.if-shape.decoder c.if-shape.learned = elim c.if-shape.branch [
       | then-shape+in_ok-flag w ↦ first_as w.source-is w.flag-is w.decoder-is w.learned-is (w.in_ok-flag.ensures.ok p answers h)
       | else-shape w ↦
           first_as w.source-is refl w.decoder-is w.learned-is
-          (first_none (Pulls g.S.CodeBytes.gives g.S.CodeBytes.failed) c.args.source.now (mode_of c.args.shape) c.args.kept.now.previous_typical c.if-shape.flag p c.args.learned.now answers c.args.decoder.now w.if-shape.false h)
+          (first_none (Pulls g.S.CodeBytes.gives g.S.CodeBytes.failed) c.args.source.now (shape_mode c.args.shape) c.args.kept.now.previous_typical c.if-shape.flag p c.args.learned.now answers c.args.decoder.now w.if-shape.false h)
     ] in
-    let f = subst (λ b. FirstDecoded (Pulls g.S.CodeBytes.gives g.S.CodeBytes.failed) c.args.source.now c.if-shape.source (mode_of c.args.shape) c.args.kept.now.previous_typical b p c.args.learned.now answers c.if-shape.decoder c.if-shape.learned) c.if-flag.false first in
+    let f = subst (λ b. FirstDecoded (Pulls g.S.CodeBytes.gives g.S.CodeBytes.failed) c.args.source.now c.if-shape.source (shape_mode c.args.shape) c.args.kept.now.previous_typical b p c.args.learned.now answers c.if-shape.decoder c.if-shape.learned) c.if-flag.false first in
     stop_pixels c.answers.ensures.answers_lie c.apart.ensures (Pulls g.S.CodeBytes.gives g.S.CodeBytes.failed) c.args.source.now c.decode_pixels.new.source c.args.shape c.args.kept.now c.args.kept.now (record { place = p; learned = c.args.learned.now }) c.decode_pixels.new.learned answers lines
     (record { width = c.args.shape.width; current = c.decode_pixels.new.current; above = c.args.above.now; second = c.args.second.now }) c.decode_pixels.new.decoder c.from_residual-in_err-decode_pixels.result c.from_residual-in_err-decode_pixels.ensures.0
-    (c.in_err-decode_pixels.ensures.err c.args.source.now (first_events (mode_of c.args.shape) c.args.kept.now.previous_typical false) (record { place = p; learned = c.args.learned.now }) answers lines
+    (c.in_err-decode_pixels.ensures.err c.args.source.now (first_events (shape_mode c.args.shape) c.args.kept.now.previous_typical false) (record { place = p; learned = c.args.learned.now }) answers lines
     (begin_pixels (Pulls g.S.CodeBytes.gives g.S.CodeBytes.failed) c.args.source.now c.if-shape.source c.args.shape c.args.kept.now.previous_typical c.args.kept.now.offset p c.args.learned.now c.if-shape.learned answers lines c.if-shape.decoder f)
     w.above_is w.second_is)
 
 pub returns-clause-row : goal.returns-clause-row
 returns-clause-row g c = λ p answers lines h w.
-    let first : FirstDecoded (Pulls g.S.CodeBytes.gives g.S.CodeBytes.failed) c.args.source.now c.if-shape.source (mode_of c.args.shape) c.args.kept.now.previous_typical c.if-shape.flag p c.args.learned.now answers c.if-shape.decoder c.if-shape.learned = elim c.if-shape.branch [
+    let first : FirstDecoded (Pulls g.S.CodeBytes.gives g.S.CodeBytes.failed) c.args.source.now c.if-shape.source (shape_mode c.args.shape) c.args.kept.now.previous_typical c.if-shape.flag p c.args.learned.now answers c.if-shape.decoder c.if-shape.learned = elim c.if-shape.branch [
       | then-shape+in_ok-flag w ↦ first_as w.source-is w.flag-is w.decoder-is w.learned-is (w.in_ok-flag.ensures.ok p answers h)
       | else-shape w ↦
           first_as w.source-is refl w.decoder-is w.learned-is
-          (first_none (Pulls g.S.CodeBytes.gives g.S.CodeBytes.failed) c.args.source.now (mode_of c.args.shape) c.args.kept.now.previous_typical c.if-shape.flag p c.args.learned.now answers c.args.decoder.now w.if-shape.false h)
+          (first_none (Pulls g.S.CodeBytes.gives g.S.CodeBytes.failed) c.args.source.now (shape_mode c.args.shape) c.args.kept.now.previous_typical c.if-shape.flag p c.args.learned.now answers c.args.decoder.now w.if-shape.false h)
     ] in
     elim c.if-flag.branch [
       | then-flag v ↦
@@ -46,15 +46,15 @@ returns-clause-row g c = λ p answers lines h w.
           (done_typical c.answers.ensures.answers_lie (Pulls g.S.CodeBytes.gives g.S.CodeBytes.failed) c.args.source.now c.if-shape.source c.args.shape c.args.kept.now _ p c.args.learned.now c.if-shape.learned answers lines
           (record { width = c.args.shape.width; current = v.copy_from_slice.new.self; above = c.args.above.now; second = c.args.second.now }) c.if-shape.decoder typical refl v.if-flag.true w.above_wide
           (record { row_is = v.copy_from_slice.ensures.after ∙ w.above_is; above_is = w.above_is; second_is = w.second_is; row_wide = w.above_wide; above_wide = w.above_wide; second_wide = w.second_wide })
-          (subst (λ b. FirstDecoded (Pulls g.S.CodeBytes.gives g.S.CodeBytes.failed) c.args.source.now c.if-shape.source (mode_of c.args.shape) c.args.kept.now.previous_typical b p c.args.learned.now answers c.if-shape.decoder c.if-shape.learned) v.if-flag.true first))
+          (subst (λ b. FirstDecoded (Pulls g.S.CodeBytes.gives g.S.CodeBytes.failed) c.args.source.now c.if-shape.source (shape_mode c.args.shape) c.args.kept.now.previous_typical b p c.args.learned.now answers c.if-shape.decoder c.if-shape.learned) v.if-flag.true first))
       | else-flag+in_ok-decode_pixels v ↦
           carried c.args.shape.width c.args.above.now c.args.second.now v.decode_pixels.new.source c.if-flag.source v.decode_pixels.new.current c.if-flag.current v.decode_pixels.new.learned c.if-flag.learned v.decode_pixels.new.decoder c.if-flag.decoder
           v.source-is v.current-is v.learned-is v.decoder-is
           (done_plain c.answers.ensures.answers_lie (Pulls g.S.CodeBytes.gives g.S.CodeBytes.failed) c.args.source.now v.decode_pixels.new.source c.args.shape c.args.kept.now _ (record { place = p; learned = c.args.learned.now }) v.decode_pixels.new.learned answers lines
           v.decode_pixels.new.current (record { width = c.args.shape.width; current = v.decode_pixels.new.current; above = c.args.above.now; second = c.args.second.now }) v.decode_pixels.new.decoder c.requires.some refl v.if-flag.false
           (λ row wide packed. record { row_is = packed; above_is = w.above_is; second_is = w.second_is; row_wide = wide; above_wide = w.above_wide; second_wide = w.second_wide })
-          (v.in_ok-decode_pixels.ensures.ok c.args.source.now (first_events (mode_of c.args.shape) c.args.kept.now.previous_typical false) (record { place = p; learned = c.args.learned.now }) answers lines
+          (v.in_ok-decode_pixels.ensures.ok c.args.source.now (first_events (shape_mode c.args.shape) c.args.kept.now.previous_typical false) (record { place = p; learned = c.args.learned.now }) answers lines
           (begin_pixels (Pulls g.S.CodeBytes.gives g.S.CodeBytes.failed) c.args.source.now c.if-shape.source c.args.shape c.args.kept.now.previous_typical c.args.kept.now.offset p c.args.learned.now c.if-shape.learned answers lines c.if-shape.decoder
-          (subst (λ b. FirstDecoded (Pulls g.S.CodeBytes.gives g.S.CodeBytes.failed) c.args.source.now c.if-shape.source (mode_of c.args.shape) c.args.kept.now.previous_typical b p c.args.learned.now answers c.if-shape.decoder c.if-shape.learned) v.if-flag.false first))
+          (subst (λ b. FirstDecoded (Pulls g.S.CodeBytes.gives g.S.CodeBytes.failed) c.args.source.now c.if-shape.source (shape_mode c.args.shape) c.args.kept.now.previous_typical b p c.args.learned.now answers c.if-shape.decoder c.if-shape.learned) v.if-flag.false first))
           w.above_is w.second_is))
     ]

@@ -1,9 +1,9 @@
 use Rattle.std.proofs.Common.{◌≡◌, arith, refl, sym, ◌∙◌, subst, false, ◌*◌, ◌/◌, ◌^◌, ◌<◌}
-use Rattle.qm_core.specs.Answers.{Pulls}
-use Rattle.qm_core.specs.Standing.{has_stopped}
+use Rattle.qm_core.specs.Source.{Pulls}
+use Rattle.qm_core.specs.Decoder.{has_stopped}
 use Rattle.raster_core.specs.Lines.{context_at}
-use Rattle.raster_core.specs.Modes.{mode_of}
-use Rattle.raster_core.specs.Registers.{AreAt}
+use Rattle.raster_core.specs.Window.{shape_mode}
+use Rattle.raster_core.specs.Machine.Registers.{AreAt}
 use Rattle.raster_core.proofs.Before.{shift_fits, begins, goes_on, grows}
 use Rattle.raster_core.proofs.Alongs.{along_none, along_next, along_stop, exit_err}
 use Rattle.raster_core.proofs.Joins.{had_not_stopped, has_not_failed, not_both}
@@ -18,12 +18,12 @@ loop-j-init g c = record {
   above = begins _;
   second_small = omega arith;
   above_small = omega arith;
-  along = along_none (Pulls g.S.CodeBytes.gives g.S.CodeBytes.failed) c.args.source.now (mode_of c.args.shape) c.args.offset c.args.second_bytes c.args.above_bytes c.args.before c.args.decoder.now c.args.learned.now;
+  along = along_none (Pulls g.S.CodeBytes.gives g.S.CodeBytes.failed) c.args.source.now (shape_mode c.args.shape) c.args.offset c.args.second_bytes c.args.above_bytes c.args.before c.args.decoder.now c.args.learned.now;
 }
 
 pub returns-in_err-pixel-clause-err : goal.returns-in_err-pixel-clause-err
 returns-in_err-pixel-clause-err g c =
-    exit_err c.from_residual.result _ (along_stop (Pulls g.S.CodeBytes.gives g.S.CodeBytes.failed) c.args.source.now c.loop-j.source c.next.new.source (mode_of c.args.shape) c.args.offset c.args.second_bytes c.args.above_bytes c.args.before c.args.decoder.now c.args.learned.now
+    exit_err c.from_residual.result _ (along_stop (Pulls g.S.CodeBytes.gives g.S.CodeBytes.failed) c.args.source.now c.loop-j.source c.next.new.source (shape_mode c.args.shape) c.args.offset c.args.second_bytes c.args.above_bytes c.args.before c.args.decoder.now c.args.learned.now
     c.loop-j._j c.args.n c.loop-j.past c.loop-j.decoder c.next.new.self c.loop-j.learned c.next.new.learned c.context_of-cx.result.number c.next.result _ c.loop-j-test.true c.in_err-pixel.was
     c.next.ensures.next c.loop-j.invariant.along)
 
@@ -39,7 +39,7 @@ loop-j-preserved g c =
       above = goes_on _ _ _ c.loop-j.invariant.above;
       second_small = grows _ _ _ c.loop-j.invariant.second_small;
       above_small = grows _ _ _ c.loop-j.invariant.above_small;
-      along = along_next (Pulls g.S.CodeBytes.gives g.S.CodeBytes.failed) c.args.source.now c.loop-j.source c.next.new.source (mode_of c.args.shape) c.args.offset c.args.second_bytes c.args.above_bytes c.args.before c.args.decoder.now c.args.learned.now
+      along = along_next (Pulls g.S.CodeBytes.gives g.S.CodeBytes.failed) c.args.source.now c.loop-j.source c.next.new.source (shape_mode c.args.shape) c.args.offset c.args.second_bytes c.args.above_bytes c.args.before c.args.decoder.now c.args.learned.now
           c.loop-j._j c.loop-j.past _ c.loop-j.decoder c.next.new.self c.loop-j.learned c.next.new.learned c.context_of-cx.result.number c.next.result c.in_ok-pixel.pixel
           (omega arith) c.in_ok-pixel.was (c.past_and-past.ensures c.args.offset c.requires.moved)
           (λ lines x r. subst (λ t. c.context_of-cx.result.number ≡ context_at (record { two_line = t; typical = c.args.shape.typical }) lines c.args.offset x) c.requires.template (c.context_of-cx.ensures c.args.shape.typical lines x (subst (λ z. AreAt lines c.args.offset c.loop-j.second z c.loop-j.past x) (sym c.loop-j.invariant.above) (subst (λ z. AreAt lines c.args.offset z (c.args.above_bytes / 2 ^ 6 * 2 ^ c.loop-j._j) c.loop-j.past x) (sym c.loop-j.invariant.second) r)))) c.next.ensures.next c.loop-j.invariant.along;

@@ -1,9 +1,9 @@
 use Rattle.std.proofs.Common.{◌≡◌, ◌+◌, ◌-◌, ◌*◌, ◌%◌, ◌^◌, ◌<◌, length, arith, refl, sym, ◌∙◌, subst, false, slice_index}
 use Rattle.std.specs.Int.{div_ceil}
-use Rattle.qm_core.specs.Answers.{Pulls}
-use Rattle.qm_core.specs.Standing.{has_stopped}
-use Rattle.raster_core.specs.Modes.{mode_of}
-use Rattle.raster_core.specs.Decoded.{Along, StopsAlong}
+use Rattle.qm_core.specs.Source.{Pulls}
+use Rattle.qm_core.specs.Decoder.{has_stopped}
+use Rattle.raster_core.specs.Window.{shape_mode}
+use Rattle.raster_core.specs.Machine.Decoded.{Along, StopsAlong}
 use Rattle.raster_core.proofs.Alongs.{exit_err}
 use Rattle.raster_core.proofs.Joins.{had_not_stopped, has_not_failed, not_both}
 use Rattle.raster_core.proofs.RowBytes.{bytes_none, bytes_next, bytes_stop, bytes_all, wrap}
@@ -16,18 +16,18 @@ loop-i-init g c = record {
   stuck = λ _. (refl, refl, refl);
   left = omega arith;
   along = let p = Pulls g.S.CodeBytes.gives g.S.CodeBytes.failed in
-      rw (c.byte_at-above_bytes.ensures.byte, c.byte_at-second_bytes.ensures.byte) (bytes_none p c.args.source.now (mode_of c.args.shape) c.args.offset c.args.above.now c.args.second.now c.args.decoder.now c.args.learned.now c.args.shape.width c.args.current.now);
+      rw (c.byte_at-above_bytes.ensures.byte, c.byte_at-second_bytes.ensures.byte) (bytes_none p c.args.source.now (shape_mode c.args.shape) c.args.offset c.args.above.now c.args.second.now c.args.decoder.now c.args.learned.now c.args.shape.width c.args.current.now);
 }
 
 pub returns-in_err-past-clause-err : goal.returns-in_err-past-clause-err
 returns-in_err-past-clause-err g c =
     let inside : 8 * c.loop-i.i < c.args.shape.width = omega arith in
     exit_err c.from_residual.result _
-    (bytes_stop (Pulls g.S.CodeBytes.gives g.S.CodeBytes.failed) c.args.source.now c.loop-i.source c.decode_byte.new.source (mode_of c.args.shape) c.args.offset c.args.above.now c.args.second.now c.args.decoder.now c.args.learned.now
+    (bytes_stop (Pulls g.S.CodeBytes.gives g.S.CodeBytes.failed) c.args.source.now c.loop-i.source c.decode_byte.new.source (shape_mode c.args.shape) c.args.offset c.args.above.now c.args.second.now c.args.decoder.now c.args.learned.now
     c.args.shape.width c.loop-i.left c.loop-i.i c.loop-i.second_bytes c.loop-i.above_bytes c.loop-i.past c.min-n.result c.loop-i.current c.loop-i.decoder c.decode_byte.new.decoder c.loop-i.learned
     c.loop-i.invariant.left inside (omega arith) c.loop-i.invariant.along
-    (subst (λ z. StopsAlong (Pulls g.S.CodeBytes.gives g.S.CodeBytes.failed) c.loop-i.source c.decode_byte.new.source (mode_of c.args.shape) c.args.offset (c.loop-i.second_bytes % 65536 * 256 + z) (c.loop-i.above_bytes % 65536 * 256 + slice_index c.args.above.now (c.loop-i.i + 1)) c.loop-i.past c.loop-i.decoder c.loop-i.learned c.min-n.result c.decode_byte.new.decoder) c.byte_at-in-loop-i.ensures.byte
-    (subst (λ z. StopsAlong (Pulls g.S.CodeBytes.gives g.S.CodeBytes.failed) c.loop-i.source c.decode_byte.new.source (mode_of c.args.shape) c.args.offset (c.loop-i.second_bytes % 65536 * 256 + c.byte_at-in-loop-i.result) (c.loop-i.above_bytes % 65536 * 256 + z) c.loop-i.past c.loop-i.decoder c.loop-i.learned c.min-n.result c.decode_byte.new.decoder) c.byte_at.ensures.byte
+    (subst (λ z. StopsAlong (Pulls g.S.CodeBytes.gives g.S.CodeBytes.failed) c.loop-i.source c.decode_byte.new.source (shape_mode c.args.shape) c.args.offset (c.loop-i.second_bytes % 65536 * 256 + z) (c.loop-i.above_bytes % 65536 * 256 + slice_index c.args.above.now (c.loop-i.i + 1)) c.loop-i.past c.loop-i.decoder c.loop-i.learned c.min-n.result c.decode_byte.new.decoder) c.byte_at-in-loop-i.ensures.byte
+    (subst (λ z. StopsAlong (Pulls g.S.CodeBytes.gives g.S.CodeBytes.failed) c.loop-i.source c.decode_byte.new.source (shape_mode c.args.shape) c.args.offset (c.loop-i.second_bytes % 65536 * 256 + c.byte_at-in-loop-i.result) (c.loop-i.above_bytes % 65536 * 256 + z) c.loop-i.past c.loop-i.decoder c.loop-i.learned c.min-n.result c.decode_byte.new.decoder) c.byte_at.ensures.byte
     c.in_err-past.ensures.err)))
 
 pub loop-i-preserved : goal.loop-i-preserved
@@ -41,17 +41,17 @@ loop-i-preserved g c =
       stuck = λ t. absurd (not_both (has_stopped c.args.decoder.now) t was);
       left = omega arith;
       along = rw (c.byte_at.ensures.byte, c.byte_at-in-loop-i.ensures.byte)
-          (bytes_next (Pulls g.S.CodeBytes.gives g.S.CodeBytes.failed) c.args.source.now c.loop-i.source c.decode_byte.new.source (mode_of c.args.shape) c.args.offset c.args.above.now c.args.second.now c.args.decoder.now c.args.learned.now
+          (bytes_next (Pulls g.S.CodeBytes.gives g.S.CodeBytes.failed) c.args.source.now c.loop-i.source c.decode_byte.new.source (shape_mode c.args.shape) c.args.offset c.args.above.now c.args.second.now c.args.decoder.now c.args.learned.now
           c.args.shape.width c.loop-i.left c.loop-i.i c.loop-i.second_bytes c.loop-i.above_bytes c.loop-i.past c.in_ok-past.past c.min-n.result (c.in_ok-past.past % 256 * 2 ^ (8 - c.min-n.result) % 4294967296 % 256) c.loop-i.current c.loop-i.decoder c.decode_byte.new.decoder c.loop-i.learned c.decode_byte.new.learned
           c.loop-i.invariant.left inside (omega arith) (omega arith) (wrap (c.in_ok-past.past % 256 * 2 ^ (8 - c.min-n.result))) c.loop-i.invariant.along
-          (subst (λ z. Along (Pulls g.S.CodeBytes.gives g.S.CodeBytes.failed) c.loop-i.source c.decode_byte.new.source (mode_of c.args.shape) c.args.offset (c.loop-i.second_bytes % 65536 * 256 + z) (c.loop-i.above_bytes % 65536 * 256 + slice_index c.args.above.now (c.loop-i.i + 1)) c.loop-i.past c.loop-i.decoder c.loop-i.learned c.min-n.result c.in_ok-past.past c.decode_byte.new.decoder c.decode_byte.new.learned) c.byte_at-in-loop-i.ensures.byte
-          (subst (λ z. Along (Pulls g.S.CodeBytes.gives g.S.CodeBytes.failed) c.loop-i.source c.decode_byte.new.source (mode_of c.args.shape) c.args.offset (c.loop-i.second_bytes % 65536 * 256 + c.byte_at-in-loop-i.result) (c.loop-i.above_bytes % 65536 * 256 + z) c.loop-i.past c.loop-i.decoder c.loop-i.learned c.min-n.result c.in_ok-past.past c.decode_byte.new.decoder c.decode_byte.new.learned) c.byte_at.ensures.byte
+          (subst (λ z. Along (Pulls g.S.CodeBytes.gives g.S.CodeBytes.failed) c.loop-i.source c.decode_byte.new.source (shape_mode c.args.shape) c.args.offset (c.loop-i.second_bytes % 65536 * 256 + z) (c.loop-i.above_bytes % 65536 * 256 + slice_index c.args.above.now (c.loop-i.i + 1)) c.loop-i.past c.loop-i.decoder c.loop-i.learned c.min-n.result c.in_ok-past.past c.decode_byte.new.decoder c.decode_byte.new.learned) c.byte_at-in-loop-i.ensures.byte
+          (subst (λ z. Along (Pulls g.S.CodeBytes.gives g.S.CodeBytes.failed) c.loop-i.source c.decode_byte.new.source (shape_mode c.args.shape) c.args.offset (c.loop-i.second_bytes % 65536 * 256 + c.byte_at-in-loop-i.result) (c.loop-i.above_bytes % 65536 * 256 + z) c.loop-i.past c.loop-i.decoder c.loop-i.learned c.min-n.result c.in_ok-past.past c.decode_byte.new.decoder c.decode_byte.new.learned) c.byte_at.ensures.byte
           c.in_ok-past.ensures.ok)));
     }
 
 pub returns-clause-ok : goal.returns-clause-ok
 returns-clause-ok g c =
     let long : length c.loop-i.current ≡ div_ceil c.args.shape.width 8 = c.loop-i.auto.current ∙ c.requires.long in
-    bytes_all (Pulls g.S.CodeBytes.gives g.S.CodeBytes.failed) c.args.source.now c.loop-i.source (mode_of c.args.shape) c.args.offset c.args.above.now c.args.second.now c.args.decoder.now c.args.learned.now
+    bytes_all (Pulls g.S.CodeBytes.gives g.S.CodeBytes.failed) c.args.source.now c.loop-i.source (shape_mode c.args.shape) c.args.offset c.args.above.now c.args.second.now c.args.decoder.now c.args.learned.now
     c.args.shape.width c.loop-i.left c.loop-i.i c.loop-i.second_bytes c.loop-i.above_bytes c.loop-i.past c.loop-i.current c.loop-i.decoder c.loop-i.learned
     c.loop-i.invariant.left long (omega arith) c.loop-i.invariant.along

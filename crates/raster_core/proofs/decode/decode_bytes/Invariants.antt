@@ -1,9 +1,9 @@
 use Rattle.std.proofs.Common.{◌≡◌, ◌*◌, ◌-◌}
 use Rattle.std.specs.Prelude.{IsTrue}
-use Rattle.qm_core.specs.Answers.{Pulls}
-use Rattle.qm_core.specs.Standing.{has_stopped}
-use Rattle.raster_core.specs.Modes.{mode_of}
-use Rattle.raster_core.specs.Decoded.{BytesAlong}
+use Rattle.qm_core.specs.Source.{Pulls}
+use Rattle.qm_core.specs.Decoder.{has_stopped}
+use Rattle.raster_core.specs.Window.{shape_mode}
+use Rattle.raster_core.specs.Machine.Decoded.{BytesAlong}
 use Rattle.raster_core.proofs.decode.decode_bytes.Given as goal
 
 abbrev pub invariant-loop-i : goal.invariant-loop-i
@@ -12,6 +12,6 @@ invariant-loop-i g l = record {
   going : has_stopped l.decoder ≡ has_stopped l.fn.decoder;
   stuck : IsTrue (has_stopped l.fn.decoder) → (l.i ≡ 0) × (l.decoder ≡ l.fn.decoder) × (l.source ≡ l.fn.source);
   left : l.left ≡ l.shape.width - 8 * l.i;
-  along : BytesAlong (Pulls g.S.CodeBytes.gives g.S.CodeBytes.failed) l.fn.source l.source (mode_of l.shape) l.offset l.above l.second l.fn.decoder l.fn.learned
+  along : BytesAlong (Pulls g.S.CodeBytes.gives g.S.CodeBytes.failed) l.fn.source l.source (shape_mode l.shape) l.offset l.above l.second l.fn.decoder l.fn.learned
       l.shape.width l.left l.i l.second_bytes l.above_bytes l.past l.current l.decoder l.learned;
 }

@@ -1,9 +1,9 @@
 use Rattle.std.proofs.Common.{◌≡◌, false, arith, refl, sym, ◌∙◌, subst, ◌*◌, ◌/◌, ◌^◌, ◌<◌, ◌%◌, ap}
 use Rattle.std.specs.Prelude.{nat_eq}
-use Rattle.qm_core.specs.Encoding.{has_failed}
+use Rattle.qm_core.specs.Encoder.{has_failed}
 use Rattle.raster_core.specs.Lines.{context_at}
-use Rattle.raster_core.specs.Modes.{mode_of}
-use Rattle.raster_core.specs.Registers.{AreAt}
+use Rattle.raster_core.specs.Window.{shape_mode}
+use Rattle.raster_core.specs.Machine.Registers.{AreAt}
 use Rattle.raster_core.proofs.Before.{shift_fits, begins, goes_on, grows}
 use Rattle.raster_core.proofs.Alongs.{exit_err}
 use Rattle.raster_core.proofs.Joins.{had_not_failed, has_not_failed, not_both}
@@ -22,13 +22,13 @@ loop-j-init g c = record {
   second_small = omega arith;
   above_small = omega arith;
   row_small = omega (arith, c.from-row.ensures);
-  along = byte_none g.W.CodeSink.took c.args.out.now (mode_of c.args.shape) c.args.offset c.args.second_bytes c.args.above_bytes c.args.byte c.args.before c.args.encoder.now c.args.learned.now;
+  along = byte_none g.W.CodeSink.took c.args.out.now (shape_mode c.args.shape) c.args.offset c.args.second_bytes c.args.above_bytes c.args.byte c.args.before c.args.encoder.now c.args.learned.now;
 }
 
 pub returns-in_err-put-clause-err : goal.returns-in_err-put-clause-err
 returns-in_err-put-clause-err g c = λ going.
     exit_err c.from_residual.result _
-    (byte_fails g.W.CodeSink.took g.W.CodeSink.refused g.W.CodeSink.failed c.args.out.now c.loop-j.out c.put.new.out (mode_of c.args.shape) c.args.offset c.args.second_bytes c.args.above_bytes c.args.byte c.args.before c.args.encoder.now c.args.learned.now
+    (byte_fails g.W.CodeSink.took g.W.CodeSink.refused g.W.CodeSink.failed c.args.out.now c.loop-j.out c.put.new.out (shape_mode c.args.shape) c.args.offset c.args.second_bytes c.args.above_bytes c.args.byte c.args.before c.args.encoder.now c.args.learned.now
     c.loop-j._j c.args.n c.loop-j.past c.loop-j.encoder c.put.new.self c.loop-j.learned c.put.new.learned c.context_of-cx.result.number (nat_eq (c.loop-j.row / 2 ^ 7 % 2) 1) c.put.result _
     (omega arith) c.loop-j-test.true c.in_err-put.was c.loop-j.invariant.same (ap (λ z. nat_eq (z / 2 ^ 7 % 2) 1) c.loop-j.invariant.row) (λ lines x r. subst (λ t. c.context_of-cx.result.number ≡ context_at (record { two_line = t; typical = c.args.shape.typical }) lines c.args.offset x) c.requires.template (c.context_of-cx.ensures c.args.shape.typical lines x (subst (λ z. AreAt lines c.args.offset c.loop-j.second z c.loop-j.past x) (sym c.loop-j.invariant.above) (subst (λ z. AreAt lines c.args.offset z (c.args.above_bytes / 2 ^ 6 * 2 ^ c.loop-j._j) c.loop-j.past x) (sym c.loop-j.invariant.second) r))))
     (λ p pushed h. c.put.ensures.put p pushed (c.loop-j.invariant.going ∙ going) h) c.loop-j.invariant.along)
@@ -48,7 +48,7 @@ loop-j-preserved g c =
       second_small = grows _ _ _ c.loop-j.invariant.second_small;
       above_small = grows _ _ _ c.loop-j.invariant.above_small;
       row_small = grows _ _ _ c.loop-j.invariant.row_small;
-      along = byte_next g.W.CodeSink.took g.W.CodeSink.refused g.W.CodeSink.failed c.args.out.now c.loop-j.out c.put.new.out (mode_of c.args.shape) c.args.offset c.args.second_bytes c.args.above_bytes c.args.byte c.args.before c.args.encoder.now c.args.learned.now
+      along = byte_next g.W.CodeSink.took g.W.CodeSink.refused g.W.CodeSink.failed c.args.out.now c.loop-j.out c.put.new.out (shape_mode c.args.shape) c.args.offset c.args.second_bytes c.args.above_bytes c.args.byte c.args.before c.args.encoder.now c.args.learned.now
           c.loop-j._j c.loop-j.past _ c.loop-j.encoder c.put.new.self c.loop-j.learned c.put.new.learned c.context_of-cx.result.number (nat_eq (c.loop-j.row / 2 ^ 7 % 2) 1) c.put.result
           (omega arith) c.in_ok-put.was (c.past_and-past.ensures c.args.offset c.requires.moved) (ap (λ z. nat_eq (z / 2 ^ 7 % 2) 1) c.loop-j.invariant.row) (λ lines x r. subst (λ t. c.context_of-cx.result.number ≡ context_at (record { two_line = t; typical = c.args.shape.typical }) lines c.args.offset x) c.requires.template (c.context_of-cx.ensures c.args.shape.typical lines x (subst (λ z. AreAt lines c.args.offset c.loop-j.second z c.loop-j.past x) (sym c.loop-j.invariant.above) (subst (λ z. AreAt lines c.args.offset z (c.args.above_bytes / 2 ^ 6 * 2 ^ c.loop-j._j) c.loop-j.past x) (sym c.loop-j.invariant.second) r))))
           (λ p pushed h. c.put.ensures.put p pushed going h) c.loop-j.invariant.along;

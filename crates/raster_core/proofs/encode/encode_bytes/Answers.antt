@@ -1,7 +1,7 @@
 use Rattle.std.proofs.Common.{◌≡◌, ◌+◌, ◌*◌, ◌%◌, ◌<◌, arith, refl, sym, ◌∙◌, subst, false, slice_index}
-use Rattle.qm_core.specs.Encoding.{has_failed}
-use Rattle.raster_core.specs.Modes.{mode_of}
-use Rattle.raster_core.specs.Encoded.{EncodesByte, FailsByte}
+use Rattle.qm_core.specs.Encoder.{has_failed}
+use Rattle.raster_core.specs.Window.{shape_mode}
+use Rattle.raster_core.specs.Machine.Encoded.{EncodesByte, FailsByte}
 use Rattle.raster_core.proofs.Alongs.{exit_err}
 use Rattle.raster_core.proofs.Joins.{had_not_failed, has_not_failed, not_both}
 use Rattle.raster_core.proofs.RowEncodings.{row_none, row_next, row_fails, row_all}
@@ -14,18 +14,18 @@ loop-i-init g c = record {
   events = refl;
   going = refl;
   stuck = λ _. (refl, refl, refl);
-  along = rw (c.byte_at-above_bytes.ensures.byte, c.byte_at-second_bytes.ensures.byte) (row_none g.W.CodeSink.took c.args.out.now (mode_of c.args.shape) c.args.offset c.args.current.now c.args.above.now c.args.second.now c.args.encoder.now c.args.learned.now c.args.shape.width);
+  along = rw (c.byte_at-above_bytes.ensures.byte, c.byte_at-second_bytes.ensures.byte) (row_none g.W.CodeSink.took c.args.out.now (shape_mode c.args.shape) c.args.offset c.args.current.now c.args.above.now c.args.second.now c.args.encoder.now c.args.learned.now c.args.shape.width);
 }
 
 pub returns-in_err-past-clause-err : goal.returns-in_err-past-clause-err
 returns-in_err-past-clause-err g c = λ going.
     let inside : 8 * c.loop-i.i < c.args.shape.width = omega arith in
     exit_err c.from_residual.result _
-    (row_fails g.W.CodeSink.took g.W.CodeSink.refused c.args.out.now c.loop-i.out c.encode_byte.new.out (mode_of c.args.shape) c.args.offset c.args.current.now c.args.above.now c.args.second.now c.args.encoder.now c.args.learned.now
+    (row_fails g.W.CodeSink.took g.W.CodeSink.refused c.args.out.now c.loop-i.out c.encode_byte.new.out (shape_mode c.args.shape) c.args.offset c.args.current.now c.args.above.now c.args.second.now c.args.encoder.now c.args.learned.now
     c.args.shape.width c.loop-i.left c.loop-i.i c.loop-i.second_bytes c.loop-i.above_bytes c.loop-i.past c.min-n.result c.loop-i.encoder c.loop-i.learned
     c.loop-i.invariant.left inside (omega arith) c.loop-i.invariant.along
-    (subst (λ z. FailsByte g.W.CodeSink.took g.W.CodeSink.refused c.loop-i.out c.encode_byte.new.out (mode_of c.args.shape) c.args.offset (c.loop-i.second_bytes % 65536 * 256 + z) (c.loop-i.above_bytes % 65536 * 256 + slice_index c.args.above.now (c.loop-i.i + 1)) (slice_index c.args.current.now c.loop-i.i) c.loop-i.past c.loop-i.encoder c.loop-i.learned c.min-n.result) c.byte_at-in-loop-i.ensures.byte
-    (subst (λ z. FailsByte g.W.CodeSink.took g.W.CodeSink.refused c.loop-i.out c.encode_byte.new.out (mode_of c.args.shape) c.args.offset (c.loop-i.second_bytes % 65536 * 256 + c.byte_at-in-loop-i.result) (c.loop-i.above_bytes % 65536 * 256 + z) (slice_index c.args.current.now c.loop-i.i) c.loop-i.past c.loop-i.encoder c.loop-i.learned c.min-n.result) c.byte_at.ensures.byte
+    (subst (λ z. FailsByte g.W.CodeSink.took g.W.CodeSink.refused c.loop-i.out c.encode_byte.new.out (shape_mode c.args.shape) c.args.offset (c.loop-i.second_bytes % 65536 * 256 + z) (c.loop-i.above_bytes % 65536 * 256 + slice_index c.args.above.now (c.loop-i.i + 1)) (slice_index c.args.current.now c.loop-i.i) c.loop-i.past c.loop-i.encoder c.loop-i.learned c.min-n.result) c.byte_at-in-loop-i.ensures.byte
+    (subst (λ z. FailsByte g.W.CodeSink.took g.W.CodeSink.refused c.loop-i.out c.encode_byte.new.out (shape_mode c.args.shape) c.args.offset (c.loop-i.second_bytes % 65536 * 256 + c.byte_at-in-loop-i.result) (c.loop-i.above_bytes % 65536 * 256 + z) (slice_index c.args.current.now c.loop-i.i) c.loop-i.past c.loop-i.encoder c.loop-i.learned c.min-n.result) c.byte_at.ensures.byte
     (c.in_err-past.ensures.err (c.loop-i.invariant.going ∙ going)))))
 
 pub loop-i-preserved : goal.loop-i-preserved
@@ -40,16 +40,16 @@ loop-i-preserved g c =
       going = has_not_failed (has_failed c.encode_byte.new.encoder) c.encode_byte.result c.in_ok-past.past c.encode_byte.ensures.fails c.in_ok-past.was ∙ sym was;
       stuck = λ t. absurd (not_both (has_failed c.args.encoder.now) t was);
       along = rw (c.byte_at.ensures.byte, c.byte_at-in-loop-i.ensures.byte)
-          (row_next g.W.CodeSink.took c.args.out.now c.loop-i.out c.encode_byte.new.out (mode_of c.args.shape) c.args.offset c.args.current.now c.args.above.now c.args.second.now c.args.encoder.now c.args.learned.now
+          (row_next g.W.CodeSink.took c.args.out.now c.loop-i.out c.encode_byte.new.out (shape_mode c.args.shape) c.args.offset c.args.current.now c.args.above.now c.args.second.now c.args.encoder.now c.args.learned.now
           c.args.shape.width c.loop-i.left c.loop-i.i c.loop-i.second_bytes c.loop-i.above_bytes c.loop-i.past c.in_ok-past.past c.min-n.result c.loop-i.encoder c.encode_byte.new.encoder c.loop-i.learned c.encode_byte.new.learned
           c.loop-i.invariant.left inside (omega arith) c.loop-i.invariant.along
-          (subst (λ z. EncodesByte g.W.CodeSink.took c.loop-i.out c.encode_byte.new.out (mode_of c.args.shape) c.args.offset (c.loop-i.second_bytes % 65536 * 256 + z) (c.loop-i.above_bytes % 65536 * 256 + slice_index c.args.above.now (c.loop-i.i + 1)) (slice_index c.args.current.now c.loop-i.i) c.loop-i.past c.loop-i.encoder c.loop-i.learned c.min-n.result c.in_ok-past.past c.encode_byte.new.encoder c.encode_byte.new.learned) c.byte_at-in-loop-i.ensures.byte
-          (subst (λ z. EncodesByte g.W.CodeSink.took c.loop-i.out c.encode_byte.new.out (mode_of c.args.shape) c.args.offset (c.loop-i.second_bytes % 65536 * 256 + c.byte_at-in-loop-i.result) (c.loop-i.above_bytes % 65536 * 256 + z) (slice_index c.args.current.now c.loop-i.i) c.loop-i.past c.loop-i.encoder c.loop-i.learned c.min-n.result c.in_ok-past.past c.encode_byte.new.encoder c.encode_byte.new.learned) c.byte_at.ensures.byte
+          (subst (λ z. EncodesByte g.W.CodeSink.took c.loop-i.out c.encode_byte.new.out (shape_mode c.args.shape) c.args.offset (c.loop-i.second_bytes % 65536 * 256 + z) (c.loop-i.above_bytes % 65536 * 256 + slice_index c.args.above.now (c.loop-i.i + 1)) (slice_index c.args.current.now c.loop-i.i) c.loop-i.past c.loop-i.encoder c.loop-i.learned c.min-n.result c.in_ok-past.past c.encode_byte.new.encoder c.encode_byte.new.learned) c.byte_at-in-loop-i.ensures.byte
+          (subst (λ z. EncodesByte g.W.CodeSink.took c.loop-i.out c.encode_byte.new.out (shape_mode c.args.shape) c.args.offset (c.loop-i.second_bytes % 65536 * 256 + c.byte_at-in-loop-i.result) (c.loop-i.above_bytes % 65536 * 256 + z) (slice_index c.args.current.now c.loop-i.i) c.loop-i.past c.loop-i.encoder c.loop-i.learned c.min-n.result c.in_ok-past.past c.encode_byte.new.encoder c.encode_byte.new.learned) c.byte_at.ensures.byte
           c.in_ok-past.ensures.ok)));
     }
 
 pub returns-clause-ok : goal.returns-clause-ok
 returns-clause-ok g c =
     let none : c.loop-i.left ≡ 0 = omega arith in
-    row_all g.W.CodeSink.took c.args.out.now c.loop-i.out (mode_of c.args.shape) c.args.offset c.args.current.now c.args.above.now c.args.second.now c.args.encoder.now c.args.learned.now
+    row_all g.W.CodeSink.took c.args.out.now c.loop-i.out (shape_mode c.args.shape) c.args.offset c.args.current.now c.args.above.now c.args.second.now c.args.encoder.now c.args.learned.now
     c.args.shape.width c.loop-i.left c.loop-i.i c.loop-i.second_bytes c.loop-i.above_bytes c.loop-i.past c.loop-i.encoder c.loop-i.learned none c.loop-i.invariant.along

@@ -1,6 +1,6 @@
 use Rattle.std.proofs.Common.{◌≡◌, ℕ, ◌+◌, ◌-◌, ◌*◌, ◌∙◌, ap, arith, get_or}
 use Rattle.raster_core.specs.Packed.{packed_row}
-use Rattle.raster_core.specs.Words.{led, word}
+use Rattle.raster_core.specs.Machine.Words.{led, word}
 use Rattle.raster_core.proofs.Packs.{led_white, nothing, one_byte, byte_led}
 use Rattle.raster_core.proofs.words.word_at.Goals as goal
 

@@ -1,12 +1,12 @@
-use Rattle.t85_core.specs.Chosen.{fields_of}
-use Rattle.t85_core.specs.Readings.{ConvertsAt}
-use Rattle.t85_core.proofs.Told.{exit_all}
-use Rattle.t85_core.proofs.Converted.{at_high, at_broken, at_unflushed, at_whole}
+use Rattle.t85_core.specs.Options.{fields_of}
+use Rattle.t85_core.specs.ToPbm.{ToPbmAt}
+use Rattle.t85_core.proofs.Walks.InfoEnds.{exit_all}
+use Rattle.t85_core.proofs.Decodings.Converted.{at_high, at_broken, at_unflushed, at_whole}
 use Rattle.t85_core.proofs.conversion.convert.Goals as goal
 
 pub returns-in_err-decode-clause-outcome : goal.returns-in_err-decode-clause-outcome
 returns-in_err-decode-clause-outcome g c =
-    exit_all (ConvertsAt _ _ _ _ _ _ _ _ _ _ _ _) c.from_residual.result c.from_residual.ensures.1
+    exit_all (ToPbmAt _ _ _ _ _ _ _ _ _ _ _ _) c.from_residual.result c.from_residual.ensures.1
     (at_broken (fields_of c.args.header.now) c.args.height c.args.max_rows _ _ _ _ _ _ _ _ _ c.if-height-max_rows.false _ c.in_err-decode.ensures.outcome)
 
 pub returns-in-Ok-flush-clause-outcome : goal.returns-in-Ok-flush-clause-outcome

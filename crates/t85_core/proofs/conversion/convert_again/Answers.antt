@@ -1,8 +1,8 @@
 use Rattle.std.proofs.Common.{inl, inr, refl, subst}
-use Rattle.t85_core.specs.Chosen.{fields_of}
-use Rattle.t85_core.specs.Readings.{TakesHeader}
-use Rattle.t85_core.proofs.Held.{Keeps-same}
-use Rattle.t85_core.proofs.Converted.{same_fields, other_fields}
+use Rattle.t85_core.specs.Options.{fields_of}
+use Rattle.t85_core.specs.ToPbm.{TakesHeader}
+use Rattle.t85_core.proofs.Bytes.Held.{Keeps-same}
+use Rattle.t85_core.proofs.Decodings.Converted.{same_fields, other_fields}
 use Rattle.t85_core.proofs.conversion.convert_again.Goals as goal
 
 pub returns-then-not-is_same-clause-outcome : goal.returns-then-not-is_same-clause-outcome
@@ -29,8 +29,8 @@ returns-else-not-is_same-clause-outcome g c =
       c.in_ok-height.height,
       c.in_ok-height.ensures,
       inr (inr (record {
-        body = g.R2.Input.remaining c.read.new.input;
-        taken = subst (λ z. TakesHeader z (g.R2.Input.remaining c.args.again.now) (g.R2.Input.remaining c.read.new.input)) same (record { given = taken.0; long = taken.1; taken = taken.2; header_of = taken.3 });
+        body = g.Second.Input.remaining c.read.new.input;
+        taken = subst (λ z. TakesHeader z (g.Second.Input.remaining c.args.again.now) (g.Second.Input.remaining c.read.new.input)) same (record { given = taken.0; long = taken.1; taken = taken.2; header_of = taken.3 });
         converts = rw c.in-Ok.ensures.counts at c.convert.ensures.outcome;
       })),
     )

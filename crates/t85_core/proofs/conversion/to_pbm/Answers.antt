@@ -1,8 +1,8 @@
 use Rattle.std.proofs.Common.{inl, inr, refl, sym, ap, ◌∙◌}
 use Rattle.std.specs.Prelude.{is_some}
-use Rattle.t85_core.specs.Chosen.{fields_of}
-use Rattle.t85_core.proofs.Held.{Keeps-same}
-use Rattle.t85_core.proofs.Converted.{goes_once, goes_twice}
+use Rattle.t85_core.specs.Options.{fields_of}
+use Rattle.t85_core.proofs.Bytes.Held.{Keeps-same}
+use Rattle.t85_core.proofs.Decodings.Converted.{goes_once, goes_twice}
 use Rattle.t85_core.proofs.conversion.to_pbm.Goals as goal
 
 pub returns-then-not-is_variable-clause-outcome : goal.returns-then-not-is_variable-clause-outcome
@@ -14,7 +14,7 @@ returns-then-not-is_variable-clause-outcome g c =
 pub returns-in-Some-clause-outcome : goal.returns-in-Some-clause-outcome
 returns-in-Some-clause-outcome g c =
     let taken = c.in_ok-header.ensures.accepted in
-    goes_twice c.coder_laws.ensures (λ reading. g.R2.Input.remaining reading) (λ reading. g.R2.Input.failures reading) (fields_of c.in_ok-header.header) c.args.max_rows _ (g.R.Input.remaining c.read.new.input) _ _ _ _ _ _ _ _ _ _ c.convert_again.result
+    goes_twice c.coder_laws.ensures (λ reading. g.Second.Input.remaining reading) (λ reading. g.Second.Input.failures reading) (fields_of c.in_ok-header.header) c.args.max_rows _ (g.R.Input.remaining c.read.new.input) _ _ _ _ _ _ _ _ _ _ c.convert_again.result
     (record { given = taken.0; long = taken.1; taken = taken.2; header_of = taken.3 }) (sym c.is_variable.ensures ∙ c.if-not-is_variable.false) (rw c.in_ok-header.ensures.counts at c.convert_again.ensures.outcome) c.args.again.now c.in-Some.is
 
 pub returns-in-None-clause-outcome : goal.returns-in-None-clause-outcome

@@ -1,8 +1,8 @@
 use Rattle.std.proofs.Common.{Err, ap}
-use Rattle.t85_core.specs.Chosen.{fields_of}
-use Rattle.t85_core.proofs.Ends.{exit, exit_of}
-use Rattle.t85_core.proofs.HeightFound.{accepted, skipped_refused, open_unfinished}
-use Rattle.t85_core.proofs.Summed.{none_line}
+use Rattle.t85_core.specs.Options.{fields_of}
+use Rattle.t85_core.proofs.Bytes.Ends.{exit, exit_of}
+use Rattle.t85_core.proofs.Walks.HeightFound.{accepted, skipped_refused, open_unfinished}
+use Rattle.t85_core.proofs.Walks.Summed.{none_line}
 use Rattle.t85_core.proofs.summary.summary.Goals as goal
 
 pub returns-in_err-reached-clause-err : goal.returns-in_err-reached-clause-err

@@ -5,13 +5,13 @@ use Rattle.std.proofs.lemmas.Result.{IfErr-weaker, err_from_is_err_and}
 use Rattle.clap.specs.Words.{App, Row, found_of, app_of, fault_of, is_simple, is_simple_and_free, matches_of, rows_of}
 use Rattle.std.specs.Prelude.{IfOk}
 use Rattle.program_core.specs.Line.{IsRefusal}
-use Rattle.program_core.specs.Pbmtojbg85.{IsFaultOf, IsJobOf, IsOptionFault, command, matched, refusals}
+use Rattle.program_core.specs.Pbmtojbg85.{IsFaultOf, IsEncodeJobOf, IsOptionFault, encode_command, encode_matches, encode_refusals}
 use Rattle.program_core.proofs.pbmtojbg85.words.job.Goals as goal
 
 pub returns-in_err-matches-clause-fault : goal.returns-in_err-matches-clause-fault
-unfolding refusals
+unfolding encode_refusals
 returns-in_err-matches-clause-fault g c =
-    let is : app_of c.in_ok-command.command ≡ command = c.in_ok-command.ensures in
+    let is : app_of c.in_ok-command.command ≡ encode_command = c.in_ok-command.ensures in
     let words = map g.S.AsStr.text c.args.words.now in
     let told = c.in_err-matches.ensures.fault (ap is_simple_and_free is) in
     let p = err_from_is_err_and c.from_residual-in_err-matches.result c.from_residual-in_err-matches.ensures.1 in
@@ -19,7 +19,7 @@ returns-in_err-matches-clause-fault g c =
 
 pub job_of-requires : goal.job_of-requires
 job_of-requires g c =
-    let is : app_of c.in_ok-command.command ≡ command = c.in_ok-command.ensures in
+    let is : app_of c.in_ok-command.command ≡ encode_command = c.in_ok-command.ensures in
     let m = c.in_ok-matches.matches in
     let given = default_given c.in_ok-command.command m c.in_ok-matches.ensures.parsed is in
     let f = found_of m in
@@ -30,17 +30,17 @@ job_of-requires g c =
     }
 
 pub returns-clause-values : goal.returns-clause-values
-unfolding matched
+unfolding encode_matches
 returns-clause-values g c =
-    let is : app_of c.in_ok-command.command ≡ command = c.in_ok-command.ensures in
+    let is : app_of c.in_ok-command.command ≡ encode_command = c.in_ok-command.ensures in
     let words = map g.S.AsStr.text c.args.words.now in
-    subst (λ (rows : List Row). IfOk c.job_of.result (IsJobOf rows))
+    subst (λ (rows : List Row). IfOk c.job_of.result (IsEncodeJobOf rows))
     (c.in_ok-matches.ensures.rows (ap is_simple is) ∙ ap (λ (a : App). matches_of a words) is) c.job_of.ensures.values
 
 pub returns-clause-fault : goal.returns-clause-fault
-unfolding matched
+unfolding encode_matches
 returns-clause-fault g c =
-    let is : app_of c.in_ok-command.command ≡ command = c.in_ok-command.ensures in
+    let is : app_of c.in_ok-command.command ≡ encode_command = c.in_ok-command.ensures in
     let words = map g.S.AsStr.text c.args.words.now in
     let rows_is = c.in_ok-matches.ensures.rows (ap is_simple is) ∙ ap (λ (a : App). matches_of a words) is in
     IfErr-weaker c.job_of.result (IsOptionFault (rows_of (found_of c.in_ok-matches.matches))) (IsFaultOf words)

@@ -1,6 +1,6 @@
 use Rattle.std.proofs.Common.{◌≤◌, List, [], ◌++◌, append-nil, sym}
-use Rattle.qm_core.specs.Answers.{Pulls, Gives}
-use Rattle.qm_core.specs.Standing.{Stands}
+use Rattle.qm_core.specs.Source.{Pulls, Gives}
+use Rattle.qm_core.specs.Decoder.{DecoderIsAt}
 use Rattle.qm_core.specs.declared.source.Pulled.{Pulled}
 use Rattle.qm_core.proofs.Deciding.{next_ok, next_err}
 use Rattle.qm_core.proofs.decoder.Decoder.next.Goals as goal
@@ -12,7 +12,7 @@ returns-in_err-fill-clause-next g c = λ p answers s.
 
 pub returns-clause-next : goal.returns-clause-next
 returns-clause-next g c = λ p answers s.
-    let ready : (more : List Pulled) × Gives (Pulls g.S.CodeBytes.gives g.S.CodeBytes.failed) c.args.source.now more c.if-self-lt16.source × Stands c.if-self-lt16.self p (answers ++ more) × (16 ≤ c.if-self-lt16.self.bits) =
+    let ready : (more : List Pulled) × Gives (Pulls g.S.CodeBytes.gives g.S.CodeBytes.failed) c.args.source.now more c.if-self-lt16.source × DecoderIsAt c.if-self-lt16.self p (answers ++ more) × (16 ≤ c.if-self-lt16.self.bits) =
     elim c.if-self-lt16.branch [
       | then-self-lt16+in_ok-fill w ↦
           let f = w.in_ok-fill.ensures.fills p answers s in

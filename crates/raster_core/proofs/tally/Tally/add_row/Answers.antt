@@ -1,7 +1,7 @@
 use Rattle.std.proofs.Common.{◌≡◌, ℕ, ◌+◌, ◌*◌, ◌≤◌, ◌∙◌, sym, ap, arith, get_or, length, [], ◌∷◌, ◌++◌, refl}
 use Rattle.raster_core.specs.Lines.{Lines}
 use Rattle.raster_core.specs.Offset.{agreement}
-use Rattle.raster_core.specs.Words.{word, led, is_within, part_agreement}
+use Rattle.raster_core.specs.Machine.Words.{word, led, is_within, part_agreement}
 use Rattle.raster_core.proofs.Packs.{led_white}
 use Rattle.raster_core.proofs.Parts.{row_part, part_none, part_more, part_all, agreement_push, all_push, length_push}
 use Rattle.raster_core.proofs.tally.Tally.add_row.Goals as goal

@@ -1,7 +1,7 @@
 use Rattle.std.proofs.Common.{◌≡◌, ℕ, ◌+◌, ◌*◌, ◌^◌, ◌≤◌, get_or, Bool, List}
 use Rattle.raster_core.specs.Lines.{Lines}
 use Rattle.raster_core.specs.Packed.{packed_row}
-use Rattle.raster_core.specs.Words.{word, led, part_agreement}
+use Rattle.raster_core.specs.Machine.Words.{word, led, part_agreement}
 use Rattle.raster_core.proofs.tally.Tally.add_row.Given as goal
 
 abbrev pub invariant-loop-k : goal.invariant-loop-k

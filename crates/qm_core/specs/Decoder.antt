@@ -1,0 +1,46 @@
+-- What a decoder stands for.
+use Rattle.std.specs.Prelude.{ℕ, ◌≡◌, ◌≢◌, ◌≤◌, ◌↔◌, Bool, List, ◌++◌, length, replicate, Result, IfOk, OnErr, IsErr}
+use Rattle.qm_core.specs.Place.{Place, State, Estimate, step}
+use Rattle.qm_core.specs.Code.{IsBytes, Lies, wanted_bytes}
+use Rattle.qm_core.specs.Source.{bytes_of, heard_of, is_stopped, IsClosed, Agrees, HasAsked, Gives}
+use Rattle.qm_core.specs.Machine.{Registers}
+use Rattle.qm_core.specs.declared.source.Pulled.{Pulled}
+use Rattle.qm_core.specs.declared.source.Heard.TheVariants.{Ended, Stopped}
+use Rattle.qm_core.specs.declared.decoder.Decoder.{Decoder}
+use Rattle.qm_core.specs.declared.decoder.Stop.{Stop}
+
+-- whether the source of a decoder has failed
+abbrev pub has_stopped : Decoder → Bool
+has_stopped d = is_stopped d.heard
+
+-- the decoder is at the place, and its source has answered so
+pub record DecoderIsAt (d : Decoder) (p : Place) (answers : List Pulled) : Type 0 where
+  pub heard : d.heard ≡ heard_of answers
+  pub closed : IsClosed answers
+  pub bytes : IsBytes (bytes_of answers)
+  pub few : length answers ≤ wanted_bytes p.doublings
+  -- the zeros that were taken after the end
+  pub zeros : ℕ
+  pub no_zeros : heard_of answers ≢ Ended → zeros ≡ 0
+  pub registers : Registers d.code d.span d.bits p (bytes_of answers ++ replicate zeros 0)
+
+-- what a wish for 16 bits leaves
+pub record Fills {S : Type 0} (pull : S → Pulled → S → Type 0) (from to : S) (p : Place) (answers : List Pulled) (d : Decoder) (result : Result (Unit {0}) Stop) : Type 0 where
+  pub more : List Pulled
+  pub gives : Gives pull from more to
+  pub stands : DecoderIsAt d p (answers ++ more)
+  pub stop : IsErr result ↔ (heard_of (answers ++ more) ≡ Stopped)
+
+-- what a call of `next` leaves, for a decoder at a state whose source has answered so
+pub record Next {S : Type 0} (pull : S → Pulled → S → Type 0) (from to : S) (s : State) (answers : List Pulled) (cx : ℕ)
+    (d : Decoder) (learned : List Estimate) (result : Result Bool Stop) : Type 0 where
+  -- what the source answered in this call
+  pub more : List Pulled
+  pub gives : Gives pull from more to
+  pub asked : HasAsked (answers ++ more) s.place.doublings
+  -- the pixel is the one that keeps the code inside, however it goes on
+  pub inside : IfOk result (λ pixel. (c : List ℕ) → Agrees (answers ++ more) c → Lies c s.place × Lies c (step s cx pixel).place)
+  pub stands : IfOk result (λ pixel. DecoderIsAt d (step s cx pixel).place (answers ++ more))
+  pub taught : IfOk result (λ pixel. learned ≡ (step s cx pixel).learned)
+  pub stop : IsErr result ↔ (heard_of (answers ++ more) ≡ Stopped)
+  pub unchanged : OnErr result ((learned ≡ s.learned) × DecoderIsAt d s.place (answers ++ more))

@@ -1,0 +1,59 @@
+-- What an encoder stands for.
+use Rattle.std.specs.Prelude.{ℕ, ◌≡◌, Bool, List, ◌++◌, Result, Option}
+use Rattle.qm_core.specs.Place.{Place, State, Estimate, step}
+use Rattle.qm_core.specs.Code.{IsBytes, IsTrimmed, IsFront, IsCode, stuffed}
+use Rattle.qm_core.specs.Sink.{Writes}
+use Rattle.qm_core.specs.Machine.{run_bytes, Digits}
+use Rattle.qm_core.specs.declared.encoder.Encoder.{Encoder}
+use Rattle.qm_core.specs.declared.encoder.CoderFault.{CoderFault}
+
+-- how many events were put to an encoder
+abbrev pub event_count : Encoder → ℕ
+event_count e = e.events
+
+-- whether the sink of an encoder has refused a byte
+abbrev pub has_failed : Encoder → Bool
+has_failed e = e.failed
+
+-- the registers and the tail are those of the place, and these bytes were handed to the sink
+pub record RegistersAreAt (low span bits zeros : ℕ) (held : Option ℕ) (ones : ℕ) (p : Place) (pushed : List ℕ) : Type 0 where
+  pub front : List ℕ
+  pub is : pushed ≡ stuffed front
+  pub bytes : IsBytes front
+  pub trimmed : IsTrimmed front
+  pub digits : Digits low span bits p (front ++ run_bytes zeros held ones)
+
+-- the encoder is at the place, and these bytes were handed to the sink
+abbrev pub EncoderIsAt : Encoder → Place → List ℕ → Type 0
+EncoderIsAt e p pushed = RegistersAreAt e.low e.span e.bits e.tail.zeros e.tail.held e.tail.ones p pushed
+
+-- these bytes are the stuffed front of a place
+pub record IsStuffedFront (bytes : List ℕ) (p : Place) : Type 0 where
+  pub front : List ℕ
+  pub is : bytes ≡ stuffed front
+  pub begins : IsFront front p
+
+-- what a call of `put` leaves, for an encoder that has not failed, at a state with these bytes pushed.
+-- After a refusal the sink has taken a beginning of `more`.
+pub record Put {S : Type 0} (took : S → ℕ → S → Type 0) (refused : S → S → Type 0) (failed : S → ℕ) (from to : S) (s : State) (pushed : List ℕ)
+    (cx : ℕ) (pixel : Bool) (e : Encoder) (learned : List Estimate) (result : Result (Unit {0}) CoderFault) : Type 0 where
+  -- what this pixel adds to the bytes pushed, where the sink takes it
+  pub more : List ℕ
+  pub writes : Writes took refused failed from more to result
+  pub codes : EncoderIsAt e (step s cx pixel).place (pushed ++ more)
+  pub begins : IsStuffedFront (pushed ++ more) (step s cx pixel).place
+  pub taught : learned ≡ (step s cx pixel).learned
+
+-- what going to a part leaves
+pub record Goes {S : Type 0} (took : S → ℕ → S → Type 0) (refused : S → S → Type 0) (failed : S → ℕ) (from to : S) (p : Place) (pushed : List ℕ) (e : Encoder) (result : Result (Unit {0}) CoderFault) : Type 0 where
+  pub more : List ℕ
+  pub writes : Writes took refused failed from more to result
+  pub codes : EncoderIsAt e p (pushed ++ more)
+
+-- what `finish` leaves
+pub record Finish {S : Type 0} (took : S → ℕ → S → Type 0) (refused : S → S → Type 0) (failed : S → ℕ) (from to : S) (p : Place) (pushed : List ℕ) (result : Result (Unit {0}) CoderFault) : Type 0 where
+  pub code : List ℕ
+  pub is : IsCode p code
+  pub more : List ℕ
+  pub all : pushed ++ more ≡ stuffed code
+  pub writes : Writes took refused failed from more to result

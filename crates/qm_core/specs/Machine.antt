@@ -1,0 +1,35 @@
+-- What the registers, the bytes that are held back and the cells of the code stand for.
+use Rattle.std.specs.Prelude.{ℕ, ◌+◌, ◌-◌, ◌*◌, ◌^◌, ◌≡◌, List, length, Option, Some, None, [], ◌∷◌, ◌++◌, replicate, ◌/◌, ◌%◌, nat_eq}
+use Rattle.qm_core.specs.Place.{Place, Estimate}
+use Rattle.qm_core.specs.Code.{number}
+
+-- The registers of a decoder that has these bytes at a place: the size times 128, the bits beyond the doublings,
+-- and 128 times the distance of the bytes' value from the place's low end.
+pub record Registers (code span bits : ℕ) (p : Place) (b : List ℕ) : Type 0 where
+  pub size : span ≡ 128 * p.size
+  pub count : bits + p.doublings ≡ 8 * length b
+  pub value : code + 128 * p.low ≡ number b * 2 ^ (23 - bits)
+
+abbrev pub option_bytes : Option ℕ → List ℕ
+option_bytes None = []
+option_bytes (Some b) = b ∷ []
+
+-- zero bytes, a byte where there is one, and bytes 255
+abbrev pub run_bytes : ℕ → Option ℕ → ℕ → List ℕ
+run_bytes zeros byte ones = replicate zeros 0 ++ (option_bytes byte ++ replicate ones 255)
+
+-- The registers of an encoder whose code has these digits so far: `low` is what the place's low end, times 128, has
+-- beyond them.
+pub record Digits (low span bits : ℕ) (p : Place) (digits : List ℕ) : Type 0 where
+  pub size : span ≡ 128 * p.size
+  pub count : 8 * length digits + bits ≡ 16 + p.doublings
+  pub value : 128 * p.low ≡ number digits * 2 ^ (bits + 7) + low
+
+-- the digits after a byte, which may be above 255 by a carry
+pub record Appends (old new : List ℕ) (byte : ℕ) : Type 0 where
+  pub value : number new ≡ number old * 256 + byte
+  pub longer : length new ≡ length old + 1
+
+-- twice the row, and one more where black is favoured
+abbrev pub estimate : ℕ → Estimate
+estimate cell = record { row = cell / 2; pixel = nat_eq (cell % 2) 1 }

@@ -1,0 +1,5 @@
+-- How rows are coded: what registers, words and bytes stand for on the way.
+pub mod Registers
+pub mod Words
+pub mod Decoded
+pub mod Encoded

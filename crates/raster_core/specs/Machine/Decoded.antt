@@ -1,0 +1,93 @@
+-- What decoding the pixels of a row leaves, on the way.
+use Rattle.std.specs.Prelude.{ℕ, ◌+◌, ◌*◌, ◌≡◌, ◌<◌, Bool, List, [], ◌++◌, length, slice_index}
+use Rattle.qm_core.specs.Place.{State, Event, Estimate}
+use Rattle.qm_core.specs.declared.source.Pulled.{Pulled}
+use Rattle.qm_core.specs.declared.decoder.Decoder.{Decoder}
+use Rattle.raster_core.specs.Lines.{Lines, Mode, pixel_events}
+use Rattle.raster_core.specs.Machine.Registers.{before, past_bits}
+use Rattle.raster_core.specs.Events.{Decodes, Stops}
+use Rattle.raster_core.specs.Packed.{packed_row}
+
+-- the lines with another current row
+abbrev pub with_row : Lines → List Bool → Lines
+with_row lines row = record { row = row; above = lines.above; second = lines.second }
+
+-- After the first events the pixels `done` of a row are decoded; `past` are the last of them.
+pub record PixelsSoFar {S : Type 0} (pull : S → Pulled → S → Type 0) (from to : S) (mode : Mode) (offset : ℕ) (first : List Event)
+    (s : State) (answers : List Pulled) (lines : Lines) (done : List Bool) (past : ℕ) (d : Decoder) (learned : List Estimate) : Type 0 where
+  pub past_is : past ≡ before done (length done) (past_bits offset)
+  pub more : List Pulled
+  pub decodes : Decodes pull from to s answers more (first ++ pixel_events mode (with_row lines done) offset) d learned
+
+-- the same for n pixels more
+pub record MorePixels {S : Type 0} (pull : S → Pulled → S → Type 0) (from to : S) (mode : Mode) (offset : ℕ) (first : List Event)
+    (s : State) (answers : List Pulled) (lines : Lines) (done : List Bool) (n past : ℕ) (d : Decoder) (learned : List Estimate) : Type 0 where
+  pub pixels : List Bool
+  pub count : length pixels ≡ n
+  pub so_far : PixelsSoFar pull from to mode offset first s answers lines (done ++ pixels) past d learned
+
+-- The source stopped at one of the first `width` pixels.
+pub record PixelsStop {S : Type 0} (pull : S → Pulled → S → Type 0) (from to : S) (mode : Mode) (offset : ℕ) (first : List Event)
+    (s : State) (answers : List Pulled) (lines : Lines) (width : ℕ) (d : Decoder) : Type 0 where
+  pub done : List Bool
+  pub few : length done < width
+  pub more : List Pulled
+  pub stops : Stops pull from to s answers more (first ++ pixel_events mode (with_row lines done) offset) d
+
+-- n pixels more were decoded of a byte, for which the registers of the rows above are these
+abbrev pub Along : {S : Type 0} (pull : S → Pulled → S → Type 0) (old new : S) (mode : Mode) (offset second above past : ℕ) (d : Decoder) (learned : List Estimate)
+    (n past' : ℕ) (d' : Decoder) (learned' : List Estimate) → Type 0
+Along {S} pull old new mode offset second above past d learned n past' d' learned' =
+    (from : S) (first : List Event) (s : State) (answers : List Pulled) (lines : Lines) (done : List Bool) →
+    PixelsSoFar pull from old mode offset first s answers lines done past d learned →
+    second ≡ before lines.second (length done + 16) 24 → above ≡ before lines.above (length done + 16) 24 →
+    MorePixels pull from new mode offset first s answers lines done n past' d' learned'
+
+-- the source stopped at one of n pixels
+abbrev pub StopsAlong : {S : Type 0} (pull : S → Pulled → S → Type 0) (old new : S) (mode : Mode) (offset second above past : ℕ) (d : Decoder) (learned : List Estimate)
+    (n : ℕ) (d' : Decoder) → Type 0
+StopsAlong {S} pull old new mode offset second above past d learned n d' =
+    (from : S) (first : List Event) (s : State) (answers : List Pulled) (lines : Lines) (done : List Bool) →
+    PixelsSoFar pull from old mode offset first s answers lines done past d learned →
+    second ≡ before lines.second (length done + 16) 24 → above ≡ before lines.above (length done + 16) 24 →
+    PixelsStop pull from new mode offset first s answers lines (length done + n) d'
+
+-- The bytes of a row have been decoded up to byte i.
+pub record BytesSoFar {S : Type 0} (pull : S → Pulled → S → Type 0) (from to : S) (mode : Mode) (offset : ℕ) (first : List Event)
+    (s : State) (answers : List Pulled) (lines : Lines) (width left i second above past : ℕ) (current : List ℕ) (d : Decoder) (learned : List Estimate) : Type 0 where
+  pub done : List Bool
+  pub rest : length done + left ≡ width
+  pub so_far : PixelsSoFar pull from to mode offset first s answers lines done past d learned
+  pub bytes : (k : ℕ) → k < i → slice_index current k ≡ before done (8 * k + 8) 8
+  pub second_is : second ≡ before lines.second (8 * i + 8) 24
+  pub above_is : above ≡ before lines.above (8 * i + 8) 24
+
+abbrev pub BytesAlong : {S : Type 0} (pull : S → Pulled → S → Type 0) (old new : S) (mode : Mode) (offset : ℕ) (above second : List ℕ) (d : Decoder) (learned : List Estimate)
+    (width left i second' above' past : ℕ) (current : List ℕ) (d' : Decoder) (learned' : List Estimate) → Type 0
+BytesAlong {S} pull old new mode offset above second d learned width left i second' above' past current d' learned' =
+    (from : S) (first : List Event) (s : State) (answers : List Pulled) (lines : Lines) →
+    PixelsSoFar pull from old mode offset first s answers lines [] 0 d learned → above ≡ packed_row lines.above → second ≡ packed_row lines.second →
+    BytesSoFar pull from new mode offset first s answers lines width left i second' above' past current d' learned'
+
+-- a row was decoded
+pub record RowPixels {S : Type 0} (pull : S → Pulled → S → Type 0) (from to : S) (mode : Mode) (offset : ℕ) (first : List Event)
+    (s : State) (answers : List Pulled) (lines : Lines) (width : ℕ) (current : List ℕ) (d : Decoder) (learned : List Estimate) : Type 0 where
+  pub row : List Bool
+  pub wide : length row ≡ width
+  pub packed : current ≡ packed_row row
+  pub more : List Pulled
+  pub decodes : Decodes pull from to s answers more (first ++ pixel_events mode (with_row lines row) offset) d learned
+
+abbrev pub RowAlong : {S : Type 0} (pull : S → Pulled → S → Type 0) (old new : S) (mode : Mode) (offset : ℕ) (above second : List ℕ) (d : Decoder) (learned : List Estimate)
+    (width : ℕ) (current : List ℕ) (d' : Decoder) (learned' : List Estimate) → Type 0
+RowAlong {S} pull old new mode offset above second d learned width current d' learned' =
+    (from : S) (first : List Event) (s : State) (answers : List Pulled) (lines : Lines) →
+    PixelsSoFar pull from old mode offset first s answers lines [] 0 d learned → above ≡ packed_row lines.above → second ≡ packed_row lines.second →
+    RowPixels pull from new mode offset first s answers lines width current d' learned'
+
+abbrev pub RowStops : {S : Type 0} (pull : S → Pulled → S → Type 0) (old new : S) (mode : Mode) (offset : ℕ) (above second : List ℕ) (d : Decoder) (learned : List Estimate)
+    (width : ℕ) (d' : Decoder) → Type 0
+RowStops {S} pull old new mode offset above second d learned width d' =
+    (from : S) (first : List Event) (s : State) (answers : List Pulled) (lines : Lines) →
+    PixelsSoFar pull from old mode offset first s answers lines [] 0 d learned → above ≡ packed_row lines.above → second ≡ packed_row lines.second →
+    PixelsStop pull from new mode offset first s answers lines width d'

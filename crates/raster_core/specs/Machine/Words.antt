@@ -1,0 +1,28 @@
+-- Pixels in words, the first one highest.
+use Rattle.std.specs.Prelude.{ℕ, zero, suc, ◌+◌, ◌-◌, ◌*◌, Bool, false, List, count_by, ◌&&◌, nat_lt, if◌then◌else◌}
+use Rattle.raster_core.specs.Raster.{pixel_at}
+use Rattle.qm_core.specs.Place.{same}
+use Rattle.raster_core.specs.Machine.Registers.{bit}
+use Rattle.raster_core.specs.Lines.{Lines, adaptive, numbers_from}
+
+-- n pixels from `first` on, as a number
+unfoldable pub word : (ℕ → Bool) → ℕ → ℕ → ℕ
+word p first zero = 0
+word p first (suc n) = word p first n * 2 + bit (p (first + n))
+
+-- a row with 128 white pixels in front of it
+abbrev pub led : List Bool → ℕ → Bool
+led row i = if nat_lt i 128 then false else pixel_at row (i - 128)
+
+-- which places are left of this width
+abbrev pub is_within : ℕ → ℕ → Bool
+is_within width x = nat_lt x width
+
+-- at how many of n places, each counted from its own, p and q have the same pixel where m holds
+unfoldable pub agreed_from : (p q m : ℕ → Bool) → (a b c n : ℕ) → ℕ
+agreed_from p q m a b c n = count_by (λ i. m (c + i) && same (p (a + i)) (q (b + i))) (numbers_from 0 n)
+
+-- at how many of n places from `first` on, left of `width`, the row has the pixel of the adaptive pixel
+unfoldable pub part_agreement : Lines → (width offset first n : ℕ) → ℕ
+part_agreement lines width offset first n =
+    count_by (λ x. is_within width x && same (pixel_at lines.row x) (adaptive lines offset x)) (numbers_from first n)

@@ -1,0 +1,29 @@
+-- Which rows a tally stands for.
+use Rattle.std.specs.Prelude.{ℕ, ◌≡◌, ◌≤◌, ◌<◌, Bool, List, length, slice_index, if◌then◌else◌}
+use Rattle.std.specs.List.{AllByRecursion}
+use Rattle.raster_core.specs.Lines.{Lines}
+use Rattle.raster_core.specs.Offset.{agreement}
+use Rattle.raster_core.specs.declared.tally.Tally.{Tally}
+
+-- the template of the contexts, and the greatest offset that may be chosen
+abbrev pub is_two_line : Tally → Bool
+is_two_line t = t.two_line
+
+abbrev pub most_of : Tally → ℕ
+most_of t = t.most
+
+-- how many rows were added
+abbrev pub row_count : Tally → ℕ
+row_count t = t.rows
+
+-- the least offset that may be chosen
+abbrev pub least_lag : Bool → ℕ
+least_lag two_line = if two_line then 5 else 3
+
+-- the tally is of these rows, at this width and offset
+pub record CountsLines (t : Tally) (width current : ℕ) (rows : List Lines) : Type 0 where
+  pub number : t.rows ≡ length rows
+  pub width_is : 0 < length rows → t.width ≡ width
+  pub wide : AllByRecursion (λ lines. length lines.row ≡ width) rows
+  pub each : (lag : ℕ) → least_lag t.two_line ≤ lag → lag ≤ t.most → slice_index t.counts lag ≡ agreement rows lag
+  pub held : t.held ≡ agreement rows current

@@ -1,0 +1,75 @@
+-- A walk that ends in the middle, seen from its beginning.
+use Rattle.std.proofs.Common.{◌≡◌, ◌≢◌, ℕ, List, [], ◌++◌, Option, Result, Ok, Err, sym, ap, ◌∙◌, append-nil, subst}
+use Rattle.std.specs.Io.KnownBytes.{Consumes}
+use Rattle.std.specs.Result.{OnOk, OnErr, IfErr, IsErrAnd, IsErrOf}
+use Rattle.t85_core.specs.declared.fault.Fault.{Fault}
+use Rattle.t85_core.specs.declared.fault.Fault.TheVariants.{Truncated}
+use Rattle.t85_core.specs.Failures.{Ends, counted_as}
+use Rattle.t85_core.proofs.Bytes.Streams.{Consumes-more}
+
+-- bytes that were passed before stand in front of what came
+pub Ends-after : {ending : Fault} {a b c : Option (List ℕ)} {P Q : List ℕ → Fault → Type 0} {f : Fault} (front : List ℕ) → Consumes a b front → ((given : List ℕ) (e : Fault) → P given e → Q (front ++ given) e) → Ends ending b c P f → Ends ending a c Q f
+Ends-after {ending} {a} {b} {c} {P} {Q} {f} front taken widen e = record {
+  given = front ++ e.given;
+  taken = Consumes-more a b c front e.given taken e.taken;
+  has_fault = widen e.given (counted_as ending f) e.has_fault;
+  at_end = e.at_end;
+}
+
+-- a fault that the bytes so far have, and that is told at once
+pub Ends-at : {ending : Fault} {a b : Option (List ℕ)} {Q : List ℕ → Fault → Type 0} (f : Fault) (given : List ℕ) → Consumes a b given → counted_as ending f ≡ f → f ≢ ending → Q given f → Ends ending a b Q f
+Ends-at {ending} {a} {b} {Q} f given taken same other q = record {
+  given = given;
+  taken = taken;
+  has_fault = subst (λ e. Q given e) (sym same) q;
+  at_end = λ h. absurd (other h);
+}
+
+-- the exit of a `?` that passes a fault on
+pub exit : {T : Type 0} (P : Fault → Type 0) (r : Result T Fault) {e : Fault} → IsErrAnd r (λ y. y ≡ e) → P e → IfErr r P
+exit P (Ok x) a p = tt
+exit P (Err y) a p = subst P (sym a) p
+
+-- the next byte is missing
+pub Ends-missing : {a b c : Option (List ℕ)} {f : Fault} (Q : List ℕ → Fault → Type 0) (front : List ℕ) → Consumes a b front → Q front Truncated → Ends Truncated b c (λ given fault. (given ≡ []) × (fault ≡ Truncated)) f → Ends Truncated a c Q f
+Ends-missing Q front taken q e = Ends-after front taken (λ given f p.
+    subst (λ x. Q (front ++ given) x) (sym p.1) (subst (λ xs. Q xs Truncated) (sym (ap (λ z. front ++ z) p.0 ∙ append-nil front)) q)) e
+
+-- what follows from the fault that a `?` passed on
+pub exit_of : {T : Type 0} {P : Type 0} (r : Result T Fault) {e f : Fault} → IsErrAnd r (λ y. y ≡ e) → (e ≡ f → P) → IsErrOf r f → P
+exit_of (Ok x) a k b = absurd a
+exit_of (Err y) a k b = k (cc)
+
+-- what holds of the fault, holds of the answer that a `?` passed on
+pub exit_same : {T E : Type 0} {P : Type 0} (r : Result T E) {e f : E} → IsErrAnd r (λ y. y ≡ e) → (IsErrOf {T = T} {E = E} (Err e) f → P) → IsErrOf r f → P
+exit_same (Ok x) a k b = absurd a
+exit_same {T} {E} {P} (Err y) {e} {f} a k b = k (subst (λ z. IsErrOf {T = T} {E = E} (Err z) f) a b)
+
+pub on_ok : {T E : Type 0} (r : Result T E) {P Q S : Type 0} → (P → Q → S) → OnOk r P → OnOk r Q → OnOk r S
+on_ok (Ok x) k p q = k p q
+on_ok (Err e) k p q = tt
+
+pub all_ok : {T E : Type 0} (r : Result T E) {P Q S U V : Type 0} → OnOk r P → OnOk r Q → OnOk r S → OnOk r U → (P → Q → S → U → V) → OnOk r V
+all_ok (Ok x) p q s u k = k p q s u
+all_ok (Err e) p q s u k = tt
+
+pub if_err : {T E : Type 0} (r : Result T E) {P Q S : E → Type 0} → ((e : E) → P e → Q e → S e) → IfErr r P → IfErr r Q → IfErr r S
+if_err (Ok x) k p q = tt
+if_err (Err e) k p q = k e p q
+
+pub always : {T E : Type 0} (r : Result T E) {P : Type 0} → P → OnOk r P
+always (Ok x) p = p
+always (Err e) p = tt
+
+pub on_err : {T E : Type 0} (r : Result T E) {P Q : Type 0} → (P → Q) → OnErr r P → OnErr r Q
+on_err (Ok x) k p = tt
+on_err (Err e) k p = k p
+
+pub always_err : {T E : Type 0} (r : Result T E) {P : Type 0} → P → OnErr r P
+always_err (Ok x) p = tt
+always_err (Err e) p = p
+
+-- what holds of each fault, of this one
+pub err_of : {T E : Type 0} {P : Type 0} (r : Result T E) {e : E} → IsErrOf r e → OnErr r P → P
+err_of (Ok x) is p = absurd (let bot : ⊥ = cc in bot)
+err_of (Err e) is p = p

@@ -1,0 +1,61 @@
+-- Bytes that are held in front of those that an input has still to give.
+use Rattle.std.proofs.Common.{◌≡◌, ◌≤◌, ◌<◌, ◌+◌, ◌-◌, ℕ, suc, List, [], ◌∷◌, ◌++◌, Option, None, Some, length, take, drop, get_or, refl, sym, ap, ◌∙◌, append_assoc, take-append-drop, add-one, subst, arith}
+use Rattle.std.specs.Io.KnownBytes.{Consumes, Keeps, prepend_known}
+use Rattle.std.proofs.lemmas.List.{drop-take, drop-drop}
+use Rattle.std.proofs.Math.Seq.{drop-cons}
+use Rattle.t85_core.specs.Steps.Buffers.{held_of}
+
+pub keeps_refill : (a b : Option (List ℕ)) (held more : List ℕ) → held ≡ [] → Consumes a b more → Keeps (prepend_known held a) (prepend_known more b)
+keeps_refill None b held more e k = tt
+keeps_refill (Some a) None held more e k = k
+keeps_refill (Some a) (Some b) held more e k = sym k ∙ ap (λ z. z ++ a) (sym e)
+
+pub Keeps-same : (a : Option (List ℕ)) → Keeps a a
+Keeps-same None = tt
+Keeps-same (Some a) = refl
+
+pub consumes_held : (k : ℕ) (held : List ℕ) (a : Option (List ℕ)) → Consumes (prepend_known held a) (prepend_known (drop k held) a) (take k held)
+consumes_held k held None = tt
+consumes_held k held (Some a) = ap (λ z. z ++ a) (sym (take-append-drop k held)) ∙ append_assoc (take k held) (drop k held) a
+
+pub Keeps-consumes : (a b c : Option (List ℕ)) (xs : List ℕ) → Keeps a b → Consumes b c xs → Consumes a c xs
+Keeps-consumes None b c xs k p = tt
+Keeps-consumes (Some a) None c xs k p = absurd k
+Keeps-consumes (Some a) (Some b) None xs k p = p
+Keeps-consumes (Some a) (Some b) (Some c) xs k p = sym k ∙ p
+
+-- what is held after so many bytes of it were given
+pub held_after : (bytes : List ℕ) (at count end : ℕ) → at + count ≤ end → take (end - (at + count)) (drop (at + count) bytes) ≡ drop count (take (end - at) (drop at bytes))
+held_after bytes at count end h =
+    let n : end - at ≡ count + (end - (at + count)) = omega arith in
+    sym (ap (λ k. drop count (take k (drop at bytes))) n ∙ drop-take count (end - (at + count)) (drop at bytes) ∙ ap (take (end - (at + count))) (drop-drop count at bytes))
+
+pub none_held : (bytes : List ℕ) (at end : ℕ) → at ≡ end → take (end - at) (drop at bytes) ≡ []
+none_held bytes at end e = let n : end - at ≡ 0 = omega arith in ap (λ k. take k (drop at bytes)) n
+
+pub keeps_refilled : (a b : Option (List ℕ)) (held buf : List ℕ) (n : ℕ) → held ≡ [] → Consumes a b (take n buf) → Keeps (prepend_known held a) (prepend_known (take (n - 0) buf) b)
+keeps_refilled a b held buf n e p =
+    let same : n ≡ n - 0 = omega arith in
+    subst (λ k. Keeps (prepend_known held a) (prepend_known (take k buf) b)) same (keeps_refill a b held (take n buf) e p)
+
+-- the next byte of those that are held
+pub next_taken : (bytes : List ℕ) (at end : ℕ) (a : Option (List ℕ)) → at < end → end ≤ length bytes → Consumes (prepend_known (held_of bytes at end) a) (prepend_known (held_of bytes (at + 1) end) a) (get_or bytes at 0 ∷ [])
+next_taken bytes at end a some within =
+    let n : end - at ≡ suc (end - (at + 1)) = omega arith in
+    let front : held_of bytes at end ≡ get_or bytes at 0 ∷ held_of bytes (at + 1) end =
+    ap (λ k. take k (drop at bytes)) n ∙ ap (take (suc (end - (at + 1)))) (drop-cons bytes at 0 (omega arith)) ∙ ap (λ k. get_or bytes at 0 ∷ take (end - (at + 1)) (drop k bytes)) (sym (add-one at)) in
+    subst (λ z. Consumes (prepend_known z a) (prepend_known (held_of bytes (at + 1) end) a) (get_or bytes at 0 ∷ [])) (sym front) (taken a)
+  where
+    taken : (a : Option (List ℕ)) → Consumes (prepend_known (get_or bytes at 0 ∷ held_of bytes (at + 1) end) a) (prepend_known (held_of bytes (at + 1) end) a) (get_or bytes at 0 ∷ [])
+    taken None = tt
+    taken (Some a) = refl
+
+-- so many bytes of those that are held
+pub some_taken : (bytes : List ℕ) (at count end : ℕ) (a : Option (List ℕ)) → at + count ≤ end → Consumes (prepend_known (held_of bytes at end) a) (prepend_known (held_of bytes (at + count) end) a) (take count (held_of bytes at end))
+some_taken bytes at count end a fits =
+    subst (λ z. Consumes (prepend_known (held_of bytes at end) a) (prepend_known z a) (take count (held_of bytes at end))) (sym (held_after bytes at count end fits)) (consumes_held count (held_of bytes at end) a)
+
+-- where none is held, the known bytes are those that the input has still to give
+pub known_unheld : (bytes : List ℕ) (at end : ℕ) (a : Option (List ℕ)) → at ≡ end → prepend_known (held_of bytes at end) a ≡ a
+known_unheld bytes at end None e = refl
+known_unheld bytes at end (Some a) e = ap (λ z. Some (z ++ a)) (none_held bytes at end e)

@@ -1,0 +1,78 @@
+-- Bytes that are held behind those that an output has taken.
+use Rattle.std.proofs.Common.{◌≡◌, ◌≤◌, ◌+◌, ◌-◌, ℕ, List, [], ◌∷◌, ◌++◌, Option, None, Some, length, take, drop, refl, sym, ap, ◌∙◌, append_assoc, append-nil, length-append, length-take-le, arith}
+use Rattle.std.specs.Io.KnownBytes.{Appends, Keeps, append_known}
+use Rattle.std.proofs.lemmas.List.{drop-take, drop-append-le}
+use Rattle.std.proofs.lemmas.Slice.{take-put_mid}
+use borrow.Rule.Slice.PartMut.{put_mid}
+use Rattle.pbm_core.specs.Device.{AppendsBeginning}
+use Rattle.t85_core.specs.Steps.Buffers.{held_of, known_length}
+
+-- a front of those that are held was written
+pub keeps_written : (a b c : Option (List ℕ)) (whole rest front back : List ℕ) → Keeps (append_known a whole) (append_known b rest) → Appends b c front → rest ≡ front ++ back → Keeps (append_known a whole) (append_known c back)
+keeps_written None b c whole rest front back k p e = tt
+keeps_written (Some a) None c whole rest front back k p e = absurd k
+keeps_written (Some a) (Some b) None whole rest front back k p e = absurd p
+keeps_written (Some a) (Some b) (Some c) whole rest front back k p e = ap (λ z. z ++ back) p ∙ append_assoc b front back ∙ ap (λ z. b ++ z) (sym e) ∙ k
+
+pub keeps_failed : (a b c : Option (List ℕ)) (whole rest : List ℕ) → Keeps (append_known a whole) (append_known b rest) → Keeps b c → Keeps (append_known a whole) (append_known c rest)
+keeps_failed None b c whole rest k p = tt
+keeps_failed (Some a) None c whole rest k p = absurd k
+keeps_failed (Some a) (Some b) None whole rest k p = absurd p
+keeps_failed (Some a) (Some b) (Some c) whole rest k p = ap (λ z. z ++ rest) p ∙ k
+
+-- all that are held were written
+pub all_written : (a b : Option (List ℕ)) (whole rest : List ℕ) → Keeps (append_known a whole) (append_known b rest) → rest ≡ [] → Appends a b whole
+all_written None b whole rest k e = tt
+all_written (Some a) None whole rest k e = absurd k
+all_written (Some a) (Some b) whole rest k e = sym (append-nil b) ∙ ap (λ z. b ++ z) (sym e) ∙ k
+
+pub keeps_handed : (a b : Option (List ℕ)) (held : List ℕ) → Appends a b held → Keeps (append_known a held) (append_known b [])
+keeps_handed None b held p = tt
+keeps_handed (Some a) None held p = absurd p
+keeps_handed (Some a) (Some b) held p = append-nil b ∙ p
+
+pub appends_held : (a : Option (List ℕ)) (held more : List ℕ) → Appends (append_known a held) (append_known a (held ++ more)) more
+appends_held None held more = tt
+appends_held (Some a) held more = sym (append_assoc a held more)
+
+-- no byte is lost
+pub grows_with : (a b : Option (List ℕ)) (more : List ℕ) → Appends a b more → known_length a ≤ known_length b
+grows_with None b more p = omega arith
+grows_with (Some a) None more p = absurd p
+grows_with (Some a) (Some b) more p = let e = ap length p ∙ length-append a more in omega (arith, e)
+
+pub grows_kept : (a b : Option (List ℕ)) → Keeps a b → known_length a ≤ known_length b
+grows_kept None b p = omega arith
+grows_kept (Some a) None p = absurd p
+grows_kept (Some a) (Some b) p = let e = ap length p in omega (arith, e)
+
+cut_front : (a c held front : List ℕ) → length a ≤ length c → c ++ held ≡ a ++ front → (more : List ℕ) × (c ≡ a ++ more) × (front ≡ more ++ held)
+cut_front [] c held front le e = (c, refl, sym e)
+cut_front (x ∷ a) [] held front le e = absurd (omega (arith, le))
+cut_front (x ∷ a) (y ∷ c) held front le e =
+    let same : y ≡ x = cc in
+    let rest : c ++ held ≡ a ++ front = cc in
+    let k = cut_front a c held front (omega (arith, le)) rest in
+    (k.0, ap (λ z. z ∷ c) same ∙ ap (λ z. x ∷ z) k.1, k.2)
+
+-- what was handed on of a beginning is a beginning
+pub beginning_handed : (a c : Option (List ℕ)) (held text : List ℕ) → known_length a ≤ known_length c → AppendsBeginning a (append_known c held) text → AppendsBeginning a c text
+beginning_handed None c held text le p = record { front = p.front; rest = p.rest; text_is = p.text_is; appends = tt }
+beginning_handed (Some a) None held text le p = absurd p.appends
+beginning_handed (Some a) (Some c) held text le p =
+    let k = cut_front a c held p.front le p.appends in
+    record { front = k.0; rest = held ++ p.rest; text_is = p.text_is ∙ ap (λ z. z ++ p.rest) k.2 ∙ append_assoc k.0 held p.rest; appends = k.1 }
+
+held_is : (bytes : List ℕ) (at end : ℕ) → at ≤ end → held_of bytes at end ≡ drop at (take end bytes)
+held_is bytes at end h =
+    let e : end ≡ at + (end - at) = omega arith in
+    sym (ap (λ k. drop at (take k bytes)) e ∙ drop-take at (end - at) bytes)
+
+-- bytes that were put behind those that are held
+pub held_grows : (bytes more : List ℕ) (at end k n : ℕ) → n ≡ end + length more → at ≤ end → end ≤ length bytes → held_of (put_mid end k bytes more) at n ≡ held_of bytes at end ++ more
+held_grows bytes more at end k n e h within =
+    let long : length (take end bytes) ≡ end = length-take-le end bytes within in
+    held_is (put_mid end k bytes more) at n (omega arith)
+    ∙ ap (drop at) (take-put_mid end k bytes more n e within)
+    ∙ drop-append-le at (take end bytes) more (omega arith)
+    ∙ ap (λ z. z ++ more) (sym (held_is bytes at end h))

@@ -1,0 +1,77 @@
+-- The heights that segments give.
+use Rattle.std.proofs.Common.{◌≡◌, ◌≤◌, ◌+◌, ◌-◌, ◌*◌, ◌<◌, ◌&&◌, ℕ, zero, suc, Bool, true, false, List, [], ◌∷◌, ◌++◌, length, nat_le, nat_lt, refl, sym, ap, ◌∙◌, subst, length-append, arith, true≢false}
+use Rattle.std.specs.List.{AllByRecursion}
+use Rattle.std.proofs.lemmas.Bool.Decides.{nat_tests}
+use Rattle.std.proofs.lemmas.Grind.{div_ceil_times}
+use Rattle.std.proofs.Math.Nat.{mul-le-mul_right}
+use Rattle.t85_core.specs.Header.{Fields}
+use Rattle.t85_core.specs.Grammar.{Segment, NewLength, Move, Comment, lengths, GiveOnly, IsLegal, is_valid_length, stripe_count}
+use Rattle.t85_core.proofs.Bytes.Lists.{All-append}
+
+pub lengths_append : (ss ts : List Segment) → lengths (ss ++ ts) ≡ lengths ss ++ lengths ts
+lengths_append [] ts = refl
+lengths_append (NewLength a ∷ ss) ts = ap (λ u. a ∷ u) (lengths_append ss ts)
+lengths_append (Move row offset ∷ ss) ts = lengths_append ss ts
+lengths_append (Comment text ∷ ss) ts = lengths_append ss ts
+
+-- how many there are
+pub many_lengths : (ss ts : List Segment) → length (lengths (ss ++ ts)) ≡ length (lengths ss) + length (lengths ts)
+many_lengths ss ts = ap length (lengths_append ss ts) ∙ length-append (lengths ss) (lengths ts)
+
+left_of : (P : ℕ → Type 0) (xs ys : List ℕ) → AllByRecursion P (xs ++ ys) → AllByRecursion P xs
+left_of P [] ys h = tt
+left_of P (x ∷ xs) ys h = (h.0, left_of P xs ys h.1)
+
+right_of : (P : ℕ → Type 0) (xs ys : List ℕ) → AllByRecursion P (xs ++ ys) → AllByRecursion P ys
+right_of P [] ys h = h
+right_of P (x ∷ xs) ys h = right_of P xs ys h.1
+
+module _ (height heights : ℕ) where
+  all_in : (ss ts : List Segment) → GiveOnly height heights (ss ++ ts) → AllByRecursion (λ n. n ≡ height) (lengths ss ++ lengths ts)
+  all_in ss ts g = subst (AllByRecursion (λ n. n ≡ height)) (lengths_append ss ts) g.this
+
+  pub gives_left : (ss ts : List Segment) → GiveOnly height heights (ss ++ ts) → GiveOnly height heights ss
+  gives_left ss ts g = record { one = (let e = many_lengths ss ts in omega (arith, e, g.one)); this = left_of (λ n. n ≡ height) (lengths ss) (lengths ts) (all_in ss ts g) }
+
+  pub gives_right : (ss ts : List Segment) → GiveOnly height heights (ss ++ ts) → GiveOnly height (heights + length (lengths ss)) ts
+  gives_right ss ts g = record { one = (let e = many_lengths ss ts in omega (arith, e, g.one)); this = right_of (λ n. n ≡ height) (lengths ss) (lengths ts) (all_in ss ts g) }
+
+  pub gives_both : (ss ts : List Segment) → GiveOnly height heights ss → GiveOnly height (heights + length (lengths ss)) ts → GiveOnly height heights (ss ++ ts)
+  gives_both ss ts g k = record {
+    one = (let e = many_lengths ss ts in omega (arith, e, k.one));
+    this = subst (AllByRecursion (λ n. n ≡ height)) (sym (lengths_append ss ts)) (All-append (λ n. n ≡ height) (lengths ss) (lengths ts) g.this k.this);
+  }
+
+  pub gives_none : (ss : List Segment) → heights ≤ 1 → lengths ss ≡ [] → GiveOnly height heights ss
+  gives_none ss few none = record { one = (let e : length (lengths ss) ≡ 0 = ap length none in omega (arith, e, few)); this = subst (AllByRecursion (λ n. n ≡ height)) (sym none) tt }
+
+-- where 0 is in use no height that is legal is given
+pub legal_give_none : (h : Fields) (ss : List Segment) → AllByRecursion (IsLegal h) ss → AllByRecursion (λ n. n ≡ 0) (lengths ss) → lengths ss ≡ []
+legal_give_none h [] l g = refl
+legal_give_none h (NewLength n ∷ ss) l g = absurd (omega (arith, l.0.1, g.0))
+legal_give_none h (Move row offset ∷ ss) l g = legal_give_none h ss l.1 g
+legal_give_none h (Comment text ∷ ss) l g = legal_give_none h ss l.1 g
+
+-- ---- valid heights
+
+pub valid_parts : (h : Fields) (k n : ℕ) → is_valid_length h k n ≡ true → (1 ≤ n) × (n ≤ h.yd)
+valid_parts h k n e = went (nat_le 1 n) (nat_le n h.yd) (nat_lt ((k - 1) * h.l0) n) refl refl e where
+  went : (a b c : Bool) → nat_le 1 n ≡ a → nat_le n h.yd ≡ b → (a && b && c) ≡ true → (1 ≤ n) × (n ≤ h.yd)
+  went true true c p q e = (grind (arith, nat_tests), grind (arith, nat_tests))
+  went true false c p q e = absurd (true≢false (sym e))
+  went false b c p q e = absurd (true≢false (sym e))
+
+-- a height in use is valid behind as many entities as it makes, or fewer
+pub valid_in_use : (h : Fields) (height k : ℕ) → 0 < h.l0 → 1 ≤ height → height ≤ h.yd → k ≤ stripe_count height h.l0 → is_valid_length h k height ≡ true
+valid_in_use h height k some one most few =
+    let near : (k - 1) * h.l0 < height = below k few in
+    grind (arith, nat_tests)
+  where
+    below : (k : ℕ) → k ≤ stripe_count height h.l0 → (k - 1) * h.l0 < height
+    below zero few = let z : (0 - 1) * h.l0 ≡ 0 = omega arith in omega (arith, z, one)
+    below (suc j) few =
+        let up : suc j * h.l0 ≤ stripe_count height h.l0 * h.l0 = mul-le-mul_right h.l0 few in
+        let t = div_ceil_times height h.l0 some in
+        let e : suc j - 1 ≡ j = omega arith in
+        let c : (suc j - 1) * h.l0 ≡ j * h.l0 = ap (λ z. z * h.l0) e in
+        omega (arith, up, t.1, c)

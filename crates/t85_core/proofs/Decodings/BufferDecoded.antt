@@ -1,0 +1,173 @@
+-- What a buffer holds back is handed on.
+use Rattle.std.proofs.Common.{◌≡◌, ◌≢◌, ◌+◌, ◌⊎◌, inl, inr, ℕ, List, [], ◌++◌, Option, None, Some, Result, Ok, Err, refl, sym, ap, ◌∙◌, subst, append-nil, arith}
+use Rattle.std.specs.Prelude.{IfErr, flat_map}
+use Rattle.std.specs.Io.KnownBytes.{Consumes, Keeps, append_known}
+use Rattle.raster_core.specs.Packed.{packed_row}
+use Rattle.pbm_core.specs.declared.fault.PbmFault.TheVariants as pbm
+use Rattle.t85_core.specs.declared.fault.Fault.{Fault}
+use Rattle.t85_core.specs.declared.fault.Fault.TheVariants.{ShortHeader, ReservedBits, Layers, Planes, ZeroSize, TooWide, MoveRange, PrivateTable, Truncated, BadEscape, Aborted, MoveRefused, SecondMove, LengthRefused, SecondLength, Changed, AnnouncedLow, TooManyRows, VariableHeight, Read, Write, OutOfMemory, OptionBits, StripeZero, MoveLarge, CommentLong, Pbm}
+use Rattle.t85_core.specs.Header.{Fields}
+use Rattle.t85_core.specs.Steps.Buffers.{held_of}
+use Rattle.t85_core.specs.Failures.{failed_reads, failed_writes, CountsFault, CountsBoth}
+use Rattle.t85_core.specs.Steps.DecodeStripes.{ImageRead, ImageCut, ImageUnwritten}
+use Rattle.t85_core.specs.Laws.{IsInUse}
+use Rattle.t85_core.specs.Steps.CoderLaws.{CoderLaws}
+use Rattle.t85_core.proofs.Bytes.Held.{none_held}
+use Rattle.t85_core.proofs.Decodings.Firsts.{whole_first}
+use Rattle.t85_core.proofs.Bytes.Streams.{Appends-keeps, beginning_all}
+
+append_nothing : (a : Option (List ℕ)) → Keeps (append_known a []) a
+append_nothing None = tt
+append_nothing (Some a) = sym (append-nil a)
+
+keeps_then : (a b c : Option (List ℕ)) → Keeps a b → Keeps b c → Keeps a c
+keeps_then None b c p q = tt
+keeps_then (Some a) None c p q = absurd p
+keeps_then (Some a) (Some b) None p q = absurd q
+keeps_then (Some a) (Some b) (Some c) p q = q ∙ p
+
+-- nothing is held after that
+pub all_handed : (old new : Option (List ℕ)) (bytes : List ℕ) (at end : ℕ) → at ≡ 0 → end ≡ 0 → Keeps old (append_known new (held_of bytes at end)) → Keeps old new
+all_handed old new bytes at end a e k =
+    keeps_then old (append_known new []) new
+    (subst (λ z. Keeps old (append_known new z)) (none_held bytes at end (a ∙ sym e)) k) (append_nothing new)
+
+pub image_handed : (h : Fields) (height : ℕ) (known known' text old new : Option (List ℕ)) → ImageRead h height known known' text old → Keeps old new → ImageRead h height known known' text new
+image_handed h height known known' text old new i k = record { given = i.given; taken = i.taken; rows = i.rows; denotes = i.denotes; appended = Appends-keeps text old new _ i.appended k }
+
+pub cut_handed : (h : Fields) (height : ℕ) (known known' text old new : Option (List ℕ)) (fault : Fault) → ImageCut h height known known' text old fault → Keeps old new → ImageCut h height known known' text new fault
+cut_handed h height known known' text old new fault i k = record { rows = i.rows; ends = i.ends; appended = Appends-keeps text old new _ i.appended k }
+
+pub begun_handed : (h : Fields) (height : ℕ) (known known' text old new : Option (List ℕ)) → ImageUnwritten h height known known' text old → Keeps old new → ImageUnwritten h height known known' text new
+begun_handed h height known known' text old new i k = record {
+  given = i.given;
+  ahead = i.ahead;
+  taken = i.taken;
+  rows = i.rows;
+  first = i.first;
+  appended = record { front = i.appended.front; rest = i.appended.rest; text_is = i.appended.text_is; appends = Appends-keeps text old new _ i.appended.appends k };
+}
+
+-- an image that was set out begins with all of its rows
+pub image_begun : CoderLaws → (h : Fields) (height : ℕ) → IsInUse h height → (known known' text text' : Option (List ℕ)) → ImageRead h height known known' text text' → ImageUnwritten h height known known' text text'
+image_begun q h height use_ known known' text text' i = record {
+  given = i.given;
+  ahead = [];
+  taken = subst (Consumes known known') (sym (append-nil i.given)) i.taken;
+  rows = i.rows;
+  first = whole_first q h height use_ i.given i.rows i.denotes;
+  appended = beginning_all text text' (flat_map packed_row i.rows) i.appended;
+}
+
+-- ---- failed reads
+
+pub counts_any : (old new : ℕ) (fault : Fault) → new ≡ old + failed_reads fault → CountsFault old new fault
+counts_any old new Write e = inl (omega (arith, e))
+counts_any old new ShortHeader e = e
+counts_any old new ReservedBits e = e
+counts_any old new Layers e = e
+counts_any old new Planes e = e
+counts_any old new ZeroSize e = e
+counts_any old new TooWide e = e
+counts_any old new MoveRange e = e
+counts_any old new PrivateTable e = e
+counts_any old new Truncated e = e
+counts_any old new BadEscape e = e
+counts_any old new Aborted e = e
+counts_any old new MoveRefused e = e
+counts_any old new SecondMove e = e
+counts_any old new LengthRefused e = e
+counts_any old new SecondLength e = e
+counts_any old new Changed e = e
+counts_any old new AnnouncedLow e = e
+counts_any old new TooManyRows e = e
+counts_any old new VariableHeight e = e
+counts_any old new Read e = e
+counts_any old new OutOfMemory e = e
+counts_any old new OptionBits e = e
+counts_any old new StripeZero e = e
+counts_any old new MoveLarge e = e
+counts_any old new CommentLong e = e
+counts_any old new (Pbm f) e = e
+
+reads_few : (fault : Fault) → (failed_reads fault ≡ 0) ⊎ (failed_reads fault ≡ 1)
+reads_few Read = inr refl
+reads_few ShortHeader = inl refl
+reads_few ReservedBits = inl refl
+reads_few Layers = inl refl
+reads_few Planes = inl refl
+reads_few ZeroSize = inl refl
+reads_few TooWide = inl refl
+reads_few MoveRange = inl refl
+reads_few PrivateTable = inl refl
+reads_few Truncated = inl refl
+reads_few BadEscape = inl refl
+reads_few Aborted = inl refl
+reads_few MoveRefused = inl refl
+reads_few SecondMove = inl refl
+reads_few LengthRefused = inl refl
+reads_few SecondLength = inl refl
+reads_few Changed = inl refl
+reads_few AnnouncedLow = inl refl
+reads_few TooManyRows = inl refl
+reads_few VariableHeight = inl refl
+reads_few Write = inl refl
+reads_few OutOfMemory = inl refl
+reads_few OptionBits = inl refl
+reads_few StripeZero = inl refl
+reads_few MoveLarge = inl refl
+reads_few CommentLong = inl refl
+reads_few (Pbm pbm.Read) = inr refl
+reads_few (Pbm pbm.NotPbm) = inl refl
+reads_few (Pbm pbm.BadNumber) = inl refl
+reads_few (Pbm pbm.ZeroSize) = inl refl
+reads_few (Pbm pbm.TooWide) = inl refl
+reads_few (Pbm pbm.TooTall) = inl refl
+reads_few (Pbm pbm.BadDigit) = inl refl
+reads_few (Pbm pbm.Truncated) = inl refl
+
+-- whatever was told of the rows, a write failed after them
+pub counts_written : (old new : ℕ) (fault last : Fault) → new ≡ old + failed_reads fault → last ≡ Write → CountsFault old new last
+counts_written old new fault last e is = subst (CountsFault old new) (sym is) (went (reads_few fault)) where
+  went : (failed_reads fault ≡ 0) ⊎ (failed_reads fault ≡ 1) → (new ≡ old) ⊎ (new ≡ old + 1)
+  went (inl z) = inl (omega (arith, e, z))
+  went (inr z) = inr (omega (arith, e, z))
+
+pub counts_whole : (old new : ℕ) (r : Result (Unit {0}) Fault) → new ≡ old → IfErr r (λ f. f ≡ Write) → CountsBoth old new r
+counts_whole old new (Ok u) e is = e
+counts_whole old new (Err f) e is = subst (CountsFault old new) (sym is) (inl e)
+
+-- no write has failed with another fault
+pub no_failed_write : (fault : Fault) → fault ≢ Write → failed_writes fault ≡ 0
+no_failed_write Write n = absurd (n refl)
+no_failed_write ShortHeader n = refl
+no_failed_write ReservedBits n = refl
+no_failed_write Layers n = refl
+no_failed_write Planes n = refl
+no_failed_write ZeroSize n = refl
+no_failed_write TooWide n = refl
+no_failed_write MoveRange n = refl
+no_failed_write PrivateTable n = refl
+no_failed_write Truncated n = refl
+no_failed_write BadEscape n = refl
+no_failed_write Aborted n = refl
+no_failed_write MoveRefused n = refl
+no_failed_write SecondMove n = refl
+no_failed_write LengthRefused n = refl
+no_failed_write SecondLength n = refl
+no_failed_write Changed n = refl
+no_failed_write AnnouncedLow n = refl
+no_failed_write TooManyRows n = refl
+no_failed_write VariableHeight n = refl
+no_failed_write Read n = refl
+no_failed_write OutOfMemory n = refl
+no_failed_write OptionBits n = refl
+no_failed_write StripeZero n = refl
+no_failed_write MoveLarge n = refl
+no_failed_write CommentLong n = refl
+no_failed_write (Pbm f) n = refl
+
+-- a buffer that is empty
+pub text_unheld : (bytes : List ℕ) (at end : ℕ) (a : Option (List ℕ)) → at ≡ end → append_known a (held_of bytes at end) ≡ a
+text_unheld bytes at end None e = refl
+text_unheld bytes at end (Some a) e = ap (λ z. Some (a ++ z)) (none_held bytes at end e) ∙ ap Some (append-nil a)

@@ -1,0 +1,129 @@
+-- A data entity, pull by pull.
+use Rattle.std.proofs.Common.{◌≡◌, ◌<◌, ◌≤◌, ◌⊎◌, inl, inr, ℕ, Bool, List, [], ◌∷◌, ◌++◌, length, Option, None, Some, Result, Ok, Err, refl, sym, ap, ◌∙◌, subst, append_assoc, arith}
+use Rattle.std.specs.Prelude.{IfOk, IfErr}
+use Rattle.std.specs.Io.KnownBytes.{Consumes, prepend_known}
+use Rattle.qm_core.specs.Code.{stuffed}
+use Rattle.qm_core.specs.Source.{bytes_of, heard_of, IsClosed, Pulls, Gives}
+use Rattle.qm_core.specs.declared.source.Pulled.{Pulled}
+use Rattle.qm_core.specs.declared.source.Pulled.TheVariants.{Byte, End, Fault}
+use Rattle.qm_core.specs.declared.source.Heard.{Heard}
+use Rattle.qm_core.specs.declared.source.Heard.TheVariants.{More, Ended, Stopped}
+use Rattle.t85_core.specs.declared.fault.Fault as fault
+use Rattle.t85_core.specs.declared.fault.Fault.TheVariants.{Truncated}
+use Rattle.t85_core.specs.declared.segments.Code.{Code}
+use Rattle.t85_core.specs.declared.segments.Code.TheVariants as code
+use Rattle.t85_core.specs.Grammar.{marker_bytes}
+use Rattle.t85_core.specs.Failures.{Ends}
+use Rattle.t85_core.specs.Steps.Segments.{CodeFault, PassesCode}
+use Rattle.t85_core.specs.Steps.Entity.{EntityView, GivesByte, GivesEnd, GivesFault, EntityGives, entity_known, BreaksIn, Finishes}
+use Rattle.t85_core.proofs.Bytes.Ends.{Ends-after}
+use Rattle.t85_core.proofs.Walks.Passed.{Consumes-none}
+use Rattle.t85_core.proofs.Bytes.Streams.{Consumes-more}
+use Rattle.t85_core.proofs.Bytes.Stuffing.{stuffed_append}
+
+pub consumes_front : (known : Option (List ℕ)) (front : List ℕ) → Consumes (prepend_known front known) known front
+consumes_front None front = tt
+consumes_front (Some known) front = refl
+
+-- ---- finishing
+
+-- the byte that was read ahead, and the rest of the code
+pub byte_then : (first : Option Code) (b : ℕ) (old new : Option (List ℕ)) (marker : Option Bool) (r : Result Bool fault.Fault) → first ≡ Some (code.Byte b) → b < 256 → marker ≡ None →
+    IfOk r (PassesCode old new) → IfOk r (Finishes (entity_known first old) new marker)
+byte_then first b old new marker (Err f) e small none h = tt
+byte_then first b old new marker (Ok reset) e small none h =
+    subst (λ m. Finishes (entity_known first old) new m reset) (sym none)
+    (subst (λ x. PassesCode (entity_known x old) new reset) (sym e) (record {
+      code = b ∷ h.code;
+      bytes = (small, h.bytes);
+      taken =
+          subst (Consumes (prepend_known (stuffed (b ∷ [])) old) new)
+          (sym (append_assoc (stuffed (b ∷ [])) (stuffed h.code) (marker_bytes reset)) ∙ ap (λ z. z ++ marker_bytes reset) (sym (stuffed_append (b ∷ []) h.code)))
+          (Consumes-more (prepend_known (stuffed (b ∷ [])) old) old new (stuffed (b ∷ [])) (stuffed h.code ++ marker_bytes reset) (consumes_front old (stuffed (b ∷ []))) h.taken);
+    }))
+
+pub byte_cut : (first : Option Code) (b : ℕ) (old new : Option (List ℕ)) (r : Result Bool fault.Fault) → first ≡ Some (code.Byte b) → b < 256 →
+    IfErr r (Ends Truncated old new CodeFault) → IfErr r (Ends Truncated (entity_known first old) new (BreaksIn first))
+byte_cut first b old new (Ok reset) e small h = tt
+byte_cut first b old new (Err f) e small h =
+    subst (λ x. Ends Truncated (entity_known x old) new (BreaksIn first) f) (sym e)
+    (Ends-after (stuffed (b ∷ [])) (consumes_front old (stuffed (b ∷ []))) (λ given why has. (
+      record {
+        code = b ∷ has.code;
+        rest = has.rest;
+        bytes_are = ap (λ z. stuffed (b ∷ []) ++ z) has.bytes_are ∙ sym (append_assoc (stuffed (b ∷ [])) (stuffed has.code) has.rest) ∙ ap (λ z. z ++ has.rest) (sym (stuffed_append (b ∷ []) has.code));
+        small = (small, has.small);
+        rest_has = has.rest_has;
+      },
+      inr (omega arith),
+    )) h)
+
+-- ---- pulls
+
+-- the code went on over these bytes
+pub record WentOn (s t : EntityView) (bytes : List ℕ) : Type 0 where
+  pub taken : Consumes s.known t.known (stuffed bytes)
+  pub reads : t.reads ≡ s.reads
+  pub marker : t.marker ≡ None
+  pub fault : t.fault ≡ None
+  pub begun : ((1 ≤ length bytes) × (t.first ≡ None)) ⊎ ((bytes ≡ []) × (t.first ≡ s.first))
+  pub source : t.source ≡ s.source
+  pub input : t.input ≡ s.input
+
+-- what the last answer was, after the bytes
+abbrev pub LastIs : {T : Type 0} → (T → EntityView) → T → Heard → T → Type 0
+LastIs standing mid More t = mid ≡ t
+LastIs standing mid Ended t = GivesEnd (standing mid) (standing t) × ((standing t).source ≡ (standing mid).source) × ((standing t).input ≡ (standing mid).input)
+LastIs standing mid Stopped t = GivesFault (standing mid) (standing t) × ((standing t).source ≡ (standing mid).source) × ((standing t).input ≡ (standing mid).input)
+
+-- answers are bytes, and then nothing, an end or a fault
+pub record Parted {T : Type 0} (standing : T → EntityView) (s : T) (answers : List Pulled) (t : T) : Type 0 where
+  pub mid : T
+  pub went : WentOn (standing s) (standing mid) (bytes_of answers)
+  pub last : LastIs standing mid (heard_of answers) t
+
+module _ {T : Type 0} (standing : T → EntityView) (failed : T → ℕ) where
+  abbrev pub Pull : T → Pulled → T → Type 0
+  Pull = Pulls (λ a x b. EntityGives (standing a) x (standing b)) failed
+
+  stays : (s : T) → (standing s).marker ≡ None → (standing s).fault ≡ None → WentOn (standing s) (standing s) []
+  stays s marker fault = record { taken = Consumes-none (standing s).known; reads = refl; marker = marker; fault = fault; begun = inr (refl, refl); source = refl; input = refl }
+
+  pub pulls_part : (answers : List Pulled) (s t : T) → IsClosed answers → (standing s).marker ≡ None → (standing s).fault ≡ None → Gives Pull s answers t → Parted standing s answers t
+  pulls_part [] s t closed marker fault gives = record { mid = s; went = stays s marker fault; last = gives }
+  pulls_part (Byte b ∷ answers) s t closed marker fault gives =
+      let next : T = gives.0 in
+      let here : GivesByte (standing s) (standing next) b = gives.1.step.gives marker fault in
+      let rest = pulls_part answers next t closed here.marker here.fault gives.2 in
+      record {
+        mid = rest.mid;
+        went = record {
+          taken = subst (Consumes (standing s).known (standing rest.mid).known) (sym (stuffed_append (b ∷ []) (bytes_of answers))) (Consumes-more (standing s).known (standing next).known (standing rest.mid).known (stuffed (b ∷ [])) (stuffed (bytes_of answers)) here.taken rest.went.taken);
+          reads = rest.went.reads ∙ here.reads;
+          marker = rest.went.marker;
+          fault = rest.went.fault;
+          begun = inl (omega arith, first_none (standing rest.mid).first (standing next).first rest.went.begun here.begun);
+          source = rest.went.source ∙ gives.1.step.same_source;
+          input = rest.went.input ∙ gives.1.step.same_input;
+        };
+        last = rest.last;
+      } where
+        first_none : (t s : Option Code) → ((1 ≤ length (bytes_of answers)) × (t ≡ None)) ⊎ ((bytes_of answers ≡ []) × (t ≡ s)) → s ≡ None → t ≡ None
+        first_none t s (inl e) none = e.1
+        first_none t s (inr e) none = e.1 ∙ none
+  pulls_part (End ∷ []) s t closed marker fault gives = record {
+    mid = s;
+    went = stays s marker fault;
+    last = subst (λ z. GivesEnd (standing s) (standing z) × ((standing z).source ≡ (standing s).source) × ((standing z).input ≡ (standing s).input)) gives.2 (gives.1.step.gives marker fault, gives.1.step.same_source, gives.1.step.same_input);
+  }
+  pulls_part (End ∷ x ∷ answers) s t closed marker fault gives = absurd (let bot : ⊥ = cc in bot)
+  pulls_part (Fault ∷ []) s t closed marker fault gives = record {
+    mid = s;
+    went = stays s marker fault;
+    last = subst (λ z. GivesFault (standing s) (standing z) × ((standing z).source ≡ (standing s).source) × ((standing z).input ≡ (standing s).input)) gives.2 (gives.1.step.gives marker fault, gives.1.step.same_source, gives.1.step.same_input);
+  }
+  pulls_part (Fault ∷ x ∷ answers) s t closed marker fault gives = absurd (let bot : ⊥ = cc in bot)
+
+pub none_of : {X : Type 0} (m : Option X) → ((x : X) → m ≡ Some x → ⊥) → m ≡ None
+none_of None h = refl
+none_of (Some x) h = absurd (h x refl)

@@ -1,0 +1,135 @@
+-- Stripes one after another are an image, or the rows that what came fixes.
+use Rattle.std.proofs.Common.{◌≡◌, ◌<◌, ◌≤◌, ◌+◌, ◌-◌, ◌*◌, ℕ, List, [], ◌∷◌, ◌++◌, length, min, Option, refl, sym, ap, ◌∙◌, subst, arith, append_assoc, length-append, Bool}
+use Rattle.std.specs.Prelude.{flat_map}
+use Rattle.std.specs.Io.KnownBytes.{Appends, Consumes}
+use Rattle.std.proofs.lemmas.Grind.{flat_map-append}
+use Rattle.raster_core.specs.Packed.{packed_row}
+use Rattle.t85_core.specs.declared.fault.Fault.{Fault}
+use Rattle.t85_core.specs.declared.state.CodingState.{CodingState}
+use Rattle.t85_core.specs.declared.header.Header.{Header}
+use Rattle.t85_core.specs.Header.{Fields}
+use Rattle.t85_core.specs.Options.{fields_of}
+use Rattle.t85_core.specs.Laws.{IsInUse}
+use Rattle.t85_core.specs.Grammar.{stripe_bytes, stripe_count, lengths, all_segments, GiveOnly}
+use Rattle.t85_core.specs.Refusal.{Spot, spot_after, StripeFault}
+use Rattle.t85_core.specs.Fixed.{Fixes}
+use Rattle.t85_core.specs.Steps.State.{first_row_start, image_start, StripeRun}
+use Rattle.t85_core.specs.Steps.Cut.{BegunRun}
+use Rattle.t85_core.specs.Steps.DecodeStripes.{StripeRead, StripeCut, StripesRead, ImageRead, ImageCut, DecidesRows, StripeDecides, StripeUnwritten, ImageUnwritten}
+use Rattle.t85_core.specs.Steps.DecodeRows.{IsCarried}
+use Rattle.pbm_core.specs.Device.{AppendsBeginning}
+use Rattle.t85_core.specs.Steps.CoderLaws.{CoderLaws}
+use Rattle.t85_core.proofs.Decodings.CarriedDenotes.{carried_denotes}
+use Rattle.t85_core.proofs.Decodings.CarriedFixes.{carried_fixes}
+use Rattle.t85_core.proofs.Bytes.Ends.{Ends-after}
+use Rattle.t85_core.proofs.Bytes.Lists.{flat_map_push}
+use Rattle.t85_core.proofs.Bytes.Lengths.{many_lengths, gives_both, gives_none}
+use Rattle.t85_core.proofs.Decodings.RowPut.{appends_nothing}
+use Rattle.t85_core.proofs.Walks.Passed.{segments_push, Consumes-none}
+use Rattle.t85_core.proofs.Decodings.Runs.{stripes_push}
+use Rattle.t85_core.proofs.Decodings.Firsts.{are_first}
+use Rattle.t85_core.proofs.Bytes.Streams.{Consumes-more, Appends-more, beginning_after}
+
+module _ (h : Fields) (height : ℕ) (known known' known'' : Option (List ℕ)) (count heights rows : ℕ) (carried carried' : CodingState) (text text' text'' : Option (List ℕ))
+    (r : StripesRead h height known known' count heights carried text text') (rows_are : rows ≡ min (height - count * h.l0) h.l0) where
+  rows_is : rows ≡ min (height - length r.stripes * h.l0) h.l0
+  rows_is = rows_are ∙ ap (λ n. min (height - n * h.l0) h.l0) (sym r.many)
+
+  heights_is : heights ≡ length (lengths (all_segments r.stripes))
+  heights_is = omega (arith, r.gives_in.heights_are)
+
+  -- a stripe more
+  pub stripes_next : (more : ℕ) → StripeRead h (record { height = height; entities = count; heights = heights }) more r.next known' known'' rows carried' text' text'' → StripesRead h height known known'' (count + 1) more carried' text text''
+  stripes_next more s = record {
+    stripes = r.stripes ++ s.stripe ∷ [];
+    many = (let long = length-append r.stripes (s.stripe ∷ []) in omega (arith, long, r.many));
+    gives_in = record {
+      gives = subst (GiveOnly height 0) (sym (segments_push r.stripes s.stripe)) (gives_both height 0 (all_segments r.stripes) s.stripe.segments r.gives_in.gives
+          (subst (λ n. GiveOnly height n s.stripe.segments) r.gives_in.heights_are s.gives_in.gives));
+      heights_are = (let n = many_lengths (all_segments r.stripes) s.stripe.segments in let e = ap (λ z. length (lengths z)) (segments_push r.stripes s.stripe) in omega (arith, s.gives_in.heights_are, r.gives_in.heights_are, n, e));
+    };
+    taken = subst (Consumes known known'') (sym (flat_map_push stripe_bytes r.stripes s.stripe)) (Consumes-more known known' known'' (flat_map stripe_bytes r.stripes) (stripe_bytes s.stripe) r.taken s.taken);
+    rows = r.rows ++ s.rows;
+    flags = r.flags ++ s.flags;
+    next = s.next;
+    run = stripes_push h height (image_start h.xd) r.stripes r.rows r.flags r.next s.stripe s.rows s.flags s.next r.run (subst (λ n. StripeRun h n r.next s.stripe s.rows s.flags s.next) rows_is s.run);
+    is_carried = s.is_carried;
+    appended = subst (Appends text text'') (sym (flat_map-append packed_row r.rows s.rows)) (Appends-more text text' text'' (flat_map packed_row r.rows) (flat_map packed_row s.rows) r.appended s.appended);
+  }
+
+  abbrev spot_with : ℕ → ℕ → Spot
+  spot_with k n = record { height = height; entities = k; heights = n }
+
+  here : spot_with count heights ≡ spot_after height r.stripes
+  here = ap (λ k. spot_with k heights) (sym r.many) ∙ ap (spot_with (length r.stripes)) heights_is
+
+  -- what is said of the stripe that breaks, where it stands
+  fixed : CoderLaws → IsInUse h height → count < stripe_count height h.l0 → (given : List ℕ) (why : Fault) (rows' : List (List Bool)) (flags' : List Bool) (at : Spot) → spot_with count heights ≡ at → DecidesRows h (spot_with count heights) r.next rows rows' flags' given why →
+      ((e : StripeFault h at given why) → BegunRun h (min (height - length r.stripes * h.l0) h.l0) r.next e.segments e.code rows' flags' → Fixes h height (flat_map stripe_bytes r.stripes ++ given) why (r.rows ++ rows')) → Fixes h height (flat_map stripe_bytes r.stripes ++ given) why (r.rows ++ rows')
+  fixed q use_ fewer given why rows' flags' at same d k =
+      let both : DecidesRows h at r.next rows rows' flags' given why = subst (λ u. DecidesRows h u r.next rows rows' flags' given why) same d in
+      k both.0 (subst (λ n. BegunRun h n r.next both.0.segments both.0.code rows' flags') rows_is both.1)
+
+  -- a stripe that breaks
+  pub image_cut : CoderLaws → IsInUse h height → count < stripe_count height h.l0 → (fault : Fault) → StripeCut h (record { height = height; entities = count; heights = heights }) r.next known' known'' rows text' text'' fault → ImageCut h height known known'' text text'' fault
+  image_cut q use_ fewer fault s = record {
+    rows = r.rows ++ s.rows;
+    ends = Ends-after (flat_map stripe_bytes r.stripes) r.taken (λ given why d. fixed q use_ fewer given why s.rows s.flags (spot_after height r.stripes) here d (λ e b.
+        carried_fixes q h height (flat_map stripe_bytes r.stripes ++ given) given why r.stripes e r.rows s.rows r.flags s.flags r.next use_.accepted refl (subst (λ n. n < stripe_count height h.l0) (sym r.many) fewer) r.gives_in.gives r.run b)) s.ends;
+    appended = subst (Appends text text'') (sym (flat_map-append packed_row r.rows s.rows)) (Appends-more text text' text'' (flat_map packed_row r.rows) (flat_map packed_row s.rows) r.appended s.appended);
+  }
+
+  -- a stripe of which not all was set out
+  pub image_unset : CoderLaws → IsInUse h height → count < stripe_count height h.l0 → StripeUnwritten h (record { height = height; entities = count; heights = heights }) r.next known' known'' rows text' text'' → ImageUnwritten h height known known'' text text''
+  image_unset q use_ fewer s = record {
+    given = flat_map stripe_bytes r.stripes ++ s.given;
+    ahead = s.ahead;
+    taken = subst (Consumes known known'') (sym (append_assoc (flat_map stripe_bytes r.stripes) s.given s.ahead)) (Consumes-more known known' known'' (flat_map stripe_bytes r.stripes) (s.given ++ s.ahead) r.taken s.taken);
+    rows = r.rows ++ s.rows;
+    first = are_first q h height use_ r.stripes r.rows r.flags r.next (subst (λ n. n < stripe_count height h.l0) (sym r.many) fewer) r.gives_in.gives r.run s.given s.rows s.flags
+        (subst (λ (z : Spot). StripeDecides h z r.next (min (height - length r.stripes * h.l0) h.l0) s.given s.rows s.flags) here (subst (λ n. StripeDecides h (record { height = height; entities = count; heights = heights }) r.next n s.given s.rows s.flags) rows_is s.decides));
+    appended = subst (AppendsBeginning text text'') (sym (flat_map-append packed_row r.rows s.rows)) (beginning_after text text' text'' (flat_map packed_row r.rows) (flat_map packed_row s.rows) r.appended s.appended);
+  }
+
+-- no stripe
+pub stripes_start : (h : Fields) (height width : ℕ) (known text : Option (List ℕ)) (carried : CodingState) → width ≡ h.xd → IsCarried (first_row_start (image_start width)) carried → StripesRead h height known known 0 0 carried text text
+stripes_start h height width known text carried wide first = record {
+  stripes = [];
+  many = refl;
+  gives_in = record { gives = gives_none height 0 [] (omega arith) refl; heights_are = refl };
+  taken = Consumes-none known;
+  rows = [];
+  flags = [];
+  next = image_start h.xd;
+  run = (refl, refl, refl);
+  is_carried = subst (λ w. IsCarried (first_row_start (image_start w)) carried) wide first;
+  appended = appends_nothing text;
+}
+
+-- all stripes
+pub image_read : (h : Fields) (height : ℕ) (known known' : Option (List ℕ)) (count heights : ℕ) (carried : CodingState) (text text' : Option (List ℕ)) → StripesRead h height known known' count heights carried text text' → IsInUse h height → count ≡ stripe_count height h.l0 → ImageRead h height known known' text text'
+image_read h height known known' count heights carried text text' r use_ all = record {
+  given = flat_map stripe_bytes r.stripes;
+  taken = r.taken;
+  rows = r.rows;
+  denotes = λ rest. carried_denotes h height (flat_map stripe_bytes r.stripes ++ rest) rest r.stripes r.rows r.flags r.next use_.accepted use_.from use_.to refl (r.many ∙ all) r.gives_in.gives r.run;
+  appended = r.appended;
+}
+
+-- a header, and a height from 1 to its own
+pub in_use : (header : Header) (height : ℕ) → 1 ≤ height → height ≤ header.yd → IsInUse (fields_of header) height
+in_use header height from to = record {
+  accepted = record {
+    width_from = header.some_width;
+    width_to = header.not_too_wide;
+    height_from = header.some_height;
+    height_to = header.not_too_tall;
+    stripe_from = header.some_rows;
+    stripe_to = header.not_too_long;
+    offset_to = header.in_range;
+    options_to = header.no_reserved_bit;
+    no_table = header.no_private_table;
+  };
+  from = from;
+  to = to;
+}

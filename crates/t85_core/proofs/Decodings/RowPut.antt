@@ -1,0 +1,175 @@
+-- A row of a stripe is decoded and set out, or the source stops in it.
+use Rattle.std.proofs.Common.{◌≡◌, ℕ, ◌+◌, ◌≤◌, List, [], ◌∷◌, ◌++◌, length, refl, sym, ◌∙◌, ap, subst, arith, Option, None, Some, Result, Ok, Err, append-nil, length-append}
+use Rattle.std.specs.Prelude.{flat_map, IsErr}
+use Rattle.std.specs.Io.KnownBytes.{Appends, append_known}
+use Rattle.pbm_core.specs.Device.{AppendsBeginning}
+use Rattle.qm_core.specs.Place.{Place, Estimate, start}
+use Rattle.qm_core.specs.Source.{heard_of}
+use Rattle.qm_core.specs.Laws.{PullsJoin}
+use Rattle.qm_core.specs.Decoder.{DecoderIsAt}
+use Rattle.qm_core.specs.declared.source.Pulled.{Pulled}
+use Rattle.qm_core.specs.declared.source.Heard.TheVariants.{Stopped}
+use Rattle.qm_core.specs.declared.decoder.Decoder.{Decoder}
+use Rattle.qm_core.specs.declared.decoder.Stop.{Stop}
+use Rattle.raster_core.specs.Lines.{Lines}
+use Rattle.raster_core.specs.Packed.{Held, HasLines, packed_row}
+use Rattle.raster_core.specs.Window.{held, turned}
+use Rattle.raster_core.specs.Row.{RowDecoded, RowIs}
+use Rattle.raster_core.specs.declared.shape.Shape.{Shape}
+use Rattle.raster_core.specs.declared.shape.Kept.{Kept}
+use Rattle.raster_core.specs.declared.window.Window.{Window}
+use Rattle.t85_core.specs.declared.state.CodingState.{CodingState}
+use Rattle.t85_core.specs.Header.{Fields}
+use Rattle.t85_core.specs.Grammar.{Segment}
+use Rattle.t85_core.specs.Coding.{mode_of, move_of}
+use Rattle.t85_core.specs.Steps.State.{RowStart, StripeStart, first_row_start, after_row, offset_at}
+use Rattle.t85_core.specs.Steps.Cut.{IsReady}
+use Rattle.t85_core.specs.Steps.DecodeRows.{IsShapeOf, IsCarried, RowsRead, RowsCut, RowsUnwritten}
+use Rattle.t85_core.specs.Steps.CoderLaws.{CoderLaws}
+use Rattle.t85_core.proofs.Bytes.Lists.{flat_map_push}
+use Rattle.t85_core.proofs.Decodings.Runs.{row_stands, row_taught}
+use Rattle.t85_core.proofs.Decodings.RowsSoFar.{rows_none, rows_step, kept_step, rows_stop}
+use Rattle.t85_core.proofs.Bytes.Streams.{Appends-more, beginning_after}
+
+-- what a call of `decode_row` gives, wherever the decoder stands
+abbrev pub Gave : {S : Type 0} → (S → Pulled → S → Type 0) → S → S → Shape → Kept → Kept → List Estimate → List Estimate → Held → Held → Decoder → Decoder → Result (Unit {0}) Stop → Type 0
+Gave {S} pull old new shape kept kept' learned learned' window window' d d' result =
+    (p : Place) (answers : List Pulled) (lines : Lines) → DecoderIsAt d p answers → HasLines window lines →
+    RowDecoded pull old new shape kept kept' (record { place = p; learned = learned }) answers lines window' learned' d' result
+
+is_err : (e : Stop) → IsErr {T = Unit {0}} {E = Stop} (Err e)
+is_err e = refl
+
+not_err : (x : Unit {0}) → IsErr {T = Unit {0}} {E = Stop} (Ok x) → ⊥
+not_err x e = cc
+
+appends_known : (a : Option (List ℕ)) (bytes : List ℕ) → Appends a (append_known a bytes) bytes
+appends_known None bytes = tt
+appends_known (Some a) bytes = refl
+
+module _ {S : Type 0} (pull : S → Pulled → S → Type 0) (from old new : S) (h : Fields) (shape : Shape) (c : StripeStart) (segments : List Segment) (row : ℕ)
+    (carried carried' : CodingState) (d d' : Decoder) (began text : Option (List ℕ)) (r : RowsRead pull from old h shape c segments row carried d began text)
+    (kept : Kept) (window : Window) (offset_is : kept.offset ≡ offset_at (move_of segments) row carried.kept.offset) (previous_is : kept.previous_typical ≡ carried.kept.previous_typical)
+    (turned_is : held window ≡ turned (held carried.window.now)) where
+  -- the rows above the next one
+  abbrev below : Lines
+  below = record { row = r.is_carried.third; above = r.last.above; second = r.last.second }
+
+  below_are : HasLines (held window) below
+  below_are = subst (λ w. HasLines w below) (sym turned_is) (let l = r.is_carried.lines_are in record {
+    row_is = l.second_is;
+    above_is = l.row_is;
+    second_is = l.above_is;
+    row_wide = l.second_wide;
+    above_wide = l.row_wide;
+    second_wide = l.above_wide;
+  })
+
+  ready : IsReady h shape kept below (move_of segments) (length r.rows) r.last
+  ready = record {
+    width_is = r.shape_is.width_is;
+    mode_is = r.shape_is.mode_is;
+    offset_is = offset_is ∙ ap (λ z. offset_at (move_of segments) row z) r.is_carried.offset_is ∙ ap (λ n. offset_at (move_of segments) n r.last.offset) (sym r.many);
+    previous_is = previous_is ∙ r.is_carried.previous_is;
+    above_is = refl;
+    second_is = refl;
+  }
+
+  module _ (result : Result (Unit {0}) Stop) (gave : Gave pull old new shape kept carried'.kept carried.learned carried'.learned (held window) (held carried'.window.now) d d' result) where
+    done : RowDecoded pull old new shape kept carried'.kept r.last.state r.answers below (held carried'.window.now) carried'.learned d' result
+    done =
+        subst (λ l. RowDecoded pull old new shape kept carried'.kept (record { place = r.last.state.place; learned = l }) r.answers below (held carried'.window.now) carried'.learned d' result) r.is_carried.learned_is
+        (gave r.last.state.place r.answers below r.stands below_are)
+
+  -- it was decoded
+  pub row_more : PullsJoin pull → (text' : Option (List ℕ)) → Gave pull old new shape kept carried'.kept carried.learned carried'.learned (held window) (held carried'.window.now) d d' (Ok tt) →
+      Appends text text' (held carried'.window.now).current → RowsRead pull from new h shape c segments (row + 1) carried' d' began text'
+  row_more join text' gave put =
+      let done' = done (Ok tt) gave in
+      let k : RowIs shape kept carried'.kept r.last.state (r.answers ++ done'.more) below (held carried'.window.now) carried'.learned d' = done'.ok in
+      let after : RowStart = after_row (mode_of h.options) (move_of segments) (length r.rows) r.last k.row k.flag in
+      let kept_is = kept_step h c segments r.answers r.rows r.flags r.last r.so_far shape kept carried'.kept below (held carried'.window.now) carried'.learned d' done'.more ready k in
+      record {
+        answers = r.answers ++ done'.more;
+        gives = join from old new r.answers done'.more r.gives done'.gives;
+        rows = r.rows ++ k.row ∷ [];
+        flags = r.flags ++ k.flag ∷ [];
+        last = after;
+        so_far = rows_step h c segments r.answers r.rows r.flags r.last r.so_far shape kept carried'.kept below (held carried'.window.now) carried'.learned d' done'.more ready k;
+        many = (let long = length-append r.rows (k.row ∷ []) in omega (arith, long, r.many));
+        stands = row_stands shape kept r.last.state below (mode_of h.options) (move_of segments) (length r.rows) r.last ready.mode_is ready.offset_is ready.previous_is refl refl refl carried'.kept (r.answers ++ done'.more) (held carried'.window.now) carried'.learned d' k;
+        unstopped = λ s. not_err tt (done'.stop.1 s);
+        shape_is = r.shape_is;
+        is_carried = record {
+          offset_is = kept_is.0;
+          previous_is = kept_is.1;
+          learned_is = row_taught shape kept r.last.state below (mode_of h.options) (move_of segments) (length r.rows) r.last ready.mode_is ready.offset_is ready.previous_is refl refl refl carried'.kept (r.answers ++ done'.more) (held carried'.window.now) carried'.learned d' k;
+          third = r.last.second;
+          lines_are = k.lines_are;
+        };
+        appended = subst (Appends began text') (sym (flat_map_push packed_row r.rows k.row)) (Appends-more began text text' (flat_map packed_row r.rows) (packed_row k.row) r.appended (subst (Appends text text') k.lines_are.row_is put));
+      }
+
+  -- it was decoded, but the target didn't take it
+  pub row_unset : PullsJoin pull → (text' : Option (List ℕ)) → (count : ℕ) → row + 1 ≤ count → Gave pull old new shape kept carried'.kept carried.learned carried'.learned (held window) (held carried'.window.now) d d' (Ok tt) →
+      AppendsBeginning text text' (held carried'.window.now).current → RowsUnwritten pull from new h c segments count began text'
+  unfolding row_more
+  row_unset join text' count few gave put =
+      let done' = done (Ok tt) gave in
+      let all = row_more join (append_known text (held carried'.window.now).current) gave (appends_known text (held carried'.window.now).current) in
+      record {
+        answers = all.answers;
+        gives = all.gives;
+        closed = all.stands.closed;
+        unstopped = all.unstopped;
+        rows = all.rows;
+        flags = all.flags;
+        last = all.last;
+        so_far = all.so_far;
+        few = (let many = all.many in omega (arith, many, few));
+        decoder = d';
+        stands = all.stands;
+        appended = subst (AppendsBeginning began text') (sym (flat_map_push packed_row r.rows done'.ok.row))
+            (beginning_after began text text' (flat_map packed_row r.rows) (packed_row done'.ok.row) r.appended (subst (AppendsBeginning text text') done'.ok.lines_are.row_is put));
+      }
+
+  -- the source stopped
+  pub row_cut : CoderLaws → PullsJoin pull → (count : ℕ) → row ≤ count → (e : Stop) → Gave pull old new shape kept carried'.kept carried.learned carried'.learned (held window) (held carried'.window.now) d d' (Err e) →
+      RowsCut pull from new h c segments count began text
+  row_cut q join count few e gave =
+      let done' = done (Err e) gave in
+      let stays = done'.stays in
+      let stopped : heard_of (r.answers ++ done'.more) ≡ Stopped = done'.stop.0 (is_err e) in
+      record {
+        answers = r.answers ++ done'.more;
+        gives = join from old new r.answers done'.more r.gives done'.gives;
+        closed = stays.1.closed;
+        bytes = stays.1.bytes;
+        stopped = stopped;
+        rows = r.rows;
+        flags = r.flags;
+        begun = rows_stop h c segments r.answers r.rows r.flags r.last r.so_far shape kept carried'.kept below (held carried'.window.now) carried'.learned d' done'.more ready q count d (omega (arith, few, r.many)) r.stands stopped stays.1.bytes done'.undecided r.unstopped;
+        appended = r.appended;
+      }
+
+pub appends_nothing : (a : Option (List ℕ)) → Appends a a []
+appends_nothing None = tt
+appends_nothing (Some xs) = sym (append-nil xs)
+
+-- before the first row
+pub rows_begin : {S : Type 0} (pull : S → Pulled → S → Type 0) (from : S) (h : Fields) (shape : Shape) (c : StripeStart) (segments : List Segment) (carried : CodingState) (d : Decoder) (text : Option (List ℕ)) →
+    DecoderIsAt d start [] → IsShapeOf h shape → IsCarried (first_row_start c) carried → RowsRead pull from from h shape c segments 0 carried d text text
+rows_begin pull from h shape c segments carried d text stands shape_is is = record {
+  answers = [];
+  gives = refl;
+  rows = [];
+  flags = [];
+  last = first_row_start c;
+  so_far = rows_none h c segments [];
+  many = refl;
+  stands = stands;
+  unstopped = λ e. cc;
+  shape_is = shape_is;
+  is_carried = is;
+  appended = appends_nothing text;
+}

@@ -1,0 +1,20 @@
+-- From a row to a whole image that is encoded.
+pub mod RowsTaken
+pub mod RowsJoined
+pub mod RowsDown
+pub mod RowCode
+pub mod RowShort
+pub mod RowsCode
+pub mod SinkTakes
+pub mod EntityPut
+pub mod StripeCode
+pub mod EncoderRows
+pub mod EncoderStarts
+pub mod RowsOn
+pub mod HeadPut
+pub mod BufferEncoded
+pub mod RowsHeld
+pub mod StripesCode
+pub mod Encoded
+pub mod ImageEncoded
+pub mod ImageWritten

@@ -1,0 +1,111 @@
+-- What a buffer holds back of a stream is handed on.
+use Rattle.std.proofs.Common.{◌≡◌, ◌≢◌, ◌≤◌, ◌⊎◌, inl, inr, ℕ, List, [], take, Option, Err, refl, sym, ap, ◌∙◌, append-nil, arith}
+use Rattle.std.specs.Prelude.{IsErrOf}
+use Rattle.std.proofs.lemmas.Grind.{div_ceil_times}
+use Rattle.std.proofs.Math.Seq.{take-length}
+use Rattle.pbm_core.specs.Image.{RowFault}
+use Rattle.pbm_core.specs.Fault.{fault_of_given}
+use Rattle.std.specs.Io.KnownBytes.{Keeps}
+use Rattle.pbm_core.specs.declared.fault.PbmFault.{PbmFault}
+use Rattle.pbm_core.specs.declared.fault.PbmFault.TheVariants as pbm
+use Rattle.pbm_core.specs.declared.form.Form.TheVariants.{Raw, Plain}
+use Rattle.pbm_core.specs.declared.form.Form.{Form}
+use Rattle.raster_core.specs.Raster.{Raster}
+use Rattle.t85_core.specs.Steps.EncodeStripes.{ImageCoded, ImageShort, ImageRefused, ImageFront}
+use Rattle.t85_core.specs.declared.fault.Fault.{Fault}
+use Rattle.t85_core.specs.declared.fault.Fault.TheVariants.{Write, Pbm}
+use Rattle.t85_core.specs.Encode.{raster_of, IsEncodeFault}
+use Rattle.t85_core.proofs.Encodings.SinkTakes.{which, is_of}
+use Rattle.t85_core.proofs.Walks.Passed.{Consumes-none}
+use Rattle.t85_core.specs.Jbg.{Settings}
+use Rattle.t85_core.proofs.Bytes.Streams.{Appends-keeps}
+
+module _ {form : Form} (width height' : ℕ) (whole : Raster → List ℕ) (known known' text old new : Option (List ℕ)) where
+  pub coded_handed : ImageCoded form width height' whole known known' text old → Keeps old new → ImageCoded form width height' whole known known' text new
+  coded_handed i k = record { rows = i.rows; many = i.many; read = i.read; appended = Appends-keeps text old new _ i.appended k }
+
+  pub short_handed : (s : Settings) (up_to : Raster → ℕ → List ℕ) (fault : PbmFault) → ImageShort s form width height' up_to whole known known' text old fault → Keeps old new → ImageShort s form width height' up_to whole known known' text new fault
+  short_handed s up_to fault i k = record { rows = i.rows; few = i.few; mid = i.mid; read = i.read; part = i.part; bytes = i.bytes; holds = i.holds; begins = i.begins; appended = Appends-keeps text old new _ i.appended k }
+
+  pub front_handed : ImageFront form width height' whole known known' text old → Keeps old new → ImageFront form width height' whole known known' text new
+  front_handed i k = record {
+    rows = i.rows;
+    few = i.few;
+    mid = i.mid;
+    read = i.read;
+    part = i.part;
+    part_taken = i.part_taken;
+    fault = i.fault;
+    short = i.short;
+    bytes = i.bytes;
+    begins = i.begins;
+    appended = Appends-keeps text old new _ i.appended k;
+  }
+
+-- no byte at all ends within a row
+pub nothing_short : (form : Form) (width : ℕ) → 1 ≤ width → RowFault form width [] pbm.Truncated
+nothing_short Raw width some = (let enough = (div_ceil_times width 8 (omega arith)).0 in omega (arith, enough, some), refl)
+nothing_short Plain width some = record { pixels = []; digits = []; space = []; following = []; bytes_are = refl; few = omega (arith, some); are_pixels = refl; is_space = tt; has_fault = refl }
+
+module _ {form : Form} (width height' : ℕ) (whole : Raster → List ℕ) (known known' text text' : Option (List ℕ)) where
+  -- all rows were read
+  pub coded_front : 1 ≤ width → ImageCoded form width height' whole known known' text text' → ImageFront form width height' whole known known' text text'
+  coded_front some i = record {
+    rows = i.rows;
+    few = (let many = i.many in omega (arith, many));
+    mid = known';
+    read = i.read;
+    part = [];
+    part_taken = Consumes-none known';
+    fault = pbm.Truncated;
+    short = nothing_short form width some;
+    bytes = whole (raster_of width i.rows);
+    begins = λ raster b. record {
+      rest = [];
+      bytes_are =
+          ap (λ w. whole (raster_of w raster.rows)) b.width_is
+          ∙ ap (λ rows. whole (raster_of width rows)) (sym (take-length raster.rows) ∙ ap (λ n. take n raster.rows) (b.height_is ∙ sym i.many) ∙ b.first)
+          ∙ sym (append-nil (whole (raster_of width i.rows)));
+    };
+    appended = i.appended;
+  }
+
+  -- some were, and nothing more
+  pub refused_front : 1 ≤ width → ImageRefused form width height' whole known known' text text' → ImageFront form width height' whole known known' text text'
+  refused_front some i = record {
+    rows = i.rows;
+    few = i.few;
+    mid = known';
+    read = i.read;
+    part = [];
+    part_taken = Consumes-none known';
+    fault = pbm.Truncated;
+    short = nothing_short form width some;
+    bytes = i.bytes;
+    begins = i.begins;
+    appended = i.appended;
+  }
+
+  -- some were, and a row of which less came
+  pub short_front : (s : Settings) (up_to : Raster → ℕ → List ℕ) (fault : PbmFault) → ImageShort s form width height' up_to whole known known' text text' fault → ImageFront form width height' whole known known' text text'
+  short_front s up_to fault i = record {
+    rows = i.rows;
+    few = (let less = i.few in omega (arith, less));
+    mid = i.mid;
+    read = i.read;
+    part = i.part.given;
+    part_taken = i.part.taken;
+    fault = fault_of_given fault;
+    short = i.part.has_fault;
+    bytes = i.bytes;
+    begins = i.begins;
+    appended = i.appended;
+  }
+
+  -- whatever was told
+  pub told_front : (s : Settings) (up_to : Raster → ℕ → List ℕ) (fault : Fault) → IsEncodeFault fault → fault ≢ Write →
+      ((why : PbmFault) → IsErrOf {T = Unit {0}} {E = Fault} (Err fault) (Pbm why) → ImageShort s form width height' up_to whole known known' text text' why) → ImageFront form width height' whole known known' text text'
+  told_front s up_to fault among other short = went (which fault among) where
+    went : (fault ≡ Write) ⊎ ((why : PbmFault) × (fault ≡ Pbm why)) → ImageFront form width height' whole known known' text text'
+    went (inl is) = absurd (other is)
+    went (inr (why, is)) = short_front s up_to why (short why (is_of fault (Pbm why) is))

@@ -1,0 +1,112 @@
+-- From a header and the rows behind it to what is said of a whole image that was written, or begun.
+use Rattle.std.proofs.Common.{◌≡◌, ◌+◌, inl, inr, ℕ, Bool, true, false, ap, List, ◌++◌, length, Option, None, Some, Ok, Err, refl, sym, ◌∙◌, subst, arith}
+use Rattle.std.specs.Prelude.{IfSome}
+use Rattle.std.specs.Io.KnownBytes.{Consumes, Keeps}
+use Rattle.pbm_core.specs.Outcome.{HasHeader}
+use Rattle.pbm_core.specs.declared.fault.PbmFault.{PbmFault}
+use Rattle.pbm_core.specs.declared.fault.PbmFault.TheVariants as pbm
+use Rattle.pbm_core.specs.declared.form.Form.{Form}
+use Rattle.t85_core.specs.declared.fault.Fault.{Fault}
+use Rattle.t85_core.specs.declared.fault.Fault.TheVariants.{Write, OutOfMemory}
+use Rattle.t85_core.specs.Encode.{raster_of, IsEncodeFault, WritesCode, WritesCodeBegun, WritesCodeFront, Encode}
+use Rattle.t85_core.specs.ToJbg.{WritesStreamFront, WritesStream, WritesStreamBegun, RefusesPbm, ToJbg}
+use Rattle.t85_core.specs.Jbg.{Settings, is_low, jbg}
+use Rattle.t85_core.specs.Failures.{CountsBoth}
+use Rattle.t85_core.proofs.Encodings.ImageEncoded.{TakesHeader, among_faults, not_no_memory}
+use Rattle.t85_core.proofs.Bytes.Held.{Keeps-same}
+use Rattle.t85_core.proofs.Bytes.Streams.{Appends-keeps, Consumes-more}
+
+module _ (s : Settings) (in_old mid in_new : Option (List ℕ)) (reads_old reads_mid reads_new : ℕ) (out_old out_new : Option (List ℕ)) (writes_old writes_new : ℕ)
+    (form : Form) (width height' : ℕ) (t : TakesHeader in_old mid form width height') (counted : reads_mid ≡ reads_old) where
+  -- a write failed, or the flush behind all that was written
+  cut_at : (out_last : Option (List ℕ)) → Keeps out_new out_last → (given : List ℕ) → Consumes mid in_new given → WritesCodeFront s form width height' given out_old out_new →
+      (all : List ℕ) × Consumes in_old in_new all × WritesStreamFront s all out_old out_last
+  cut_at out_last keeps given taken w = (
+    t.front ++ given,
+    Consumes-more in_old mid in_new t.front given t.taken taken,
+    record {
+      form = form;
+      width = width;
+      height' = height';
+      body = given;
+      header = t.header given;
+      writes = record { rows = w.rows; rest = w.rest; holds = w.holds; few = w.few; fault = w.fault; part = w.part; text = w.text; begins = w.begins; appends = Appends-keeps out_old out_new out_last w.text w.appends keeps };
+    },
+  )
+
+  pub image_unflushed : (flushed : Bool) (out_last : Option (List ℕ)) (writes_last : ℕ) → Encode s form width height' mid in_new reads_mid reads_new out_old out_new writes_old writes_new (Ok tt) → Keeps out_new out_last → writes_last ≡ writes_new + 1 →
+      ToJbg s in_old in_new reads_old reads_new out_old out_last writes_old writes_last flushed (Err Write)
+  image_unflushed flushed out_last writes_last e keeps more = record {
+    whole = tt;
+    flushed_last = tt;
+    refused = λ fault _ is. absurd (let bot : ⊥ = cc in bot);
+    low = λ is. absurd (let bot : ⊥ = cc in bot);
+    no_memory = λ is. absurd (let bot : ⊥ = cc in bot);
+    unread = λ is. absurd (let bot : ⊥ = cc in bot);
+    cut = λ _. cut_at out_last keeps e.front.0 e.front.1 e.front.2;
+    among = λ _ _ n. absurd (n refl);
+    reads = inl (e.reads ∙ counted);
+    writes = (let same = e.writes in omega (arith, more, same));
+  }
+
+  -- rows are missing, or a device failed
+  pub image_broken : is_low s height' ≡ false → (flushed : Bool) (f : Fault) → Encode s form width height' mid in_new reads_mid reads_new out_old out_new writes_old writes_new (Err f) →
+      ToJbg s in_old in_new reads_old reads_new out_old out_new writes_old writes_new flushed (Err f)
+  image_broken fits flushed f e = record {
+    whole = tt;
+    flushed_last = tt;
+    refused = λ fault read is.
+        refused in_old mid fault t.taken (e.short fault read is);
+    low = λ is. absurd (not_low_told (e.low is).0);
+    no_memory = λ is. absurd (not_no_memory (subst IsEncodeFault (let same : f ≡ OutOfMemory = cc in same) may));
+    unread = λ is. (let u = e.unread is in (t.front ++ u.0, Consumes-more in_old mid in_new t.front u.0 t.taken u.1, inr (some pbm.Truncated u.0 u.2)));
+    cut = λ _. cut_at out_new (Keeps-same out_new) e.front.0 e.front.1 e.front.2;
+    among = λ _. among_faults f may;
+    reads = subst (λ n. CountsBoth n reads_new (Err f)) counted e.reads;
+    writes = e.writes;
+  } where
+    not_low_told : is_low s height' ≡ true → ⊥
+    not_low_told is = let both : true ≡ false = sym is ∙ fits in let bot : ⊥ = cc in bot
+
+    may : IsEncodeFault f
+    may = e.among (λ is. not_low_told (e.low (ap Err is)).0)
+
+    some : (fault : PbmFault) (body : List ℕ) → WritesCodeBegun s form width height' body fault out_old out_new → WritesStreamBegun s (t.front ++ body) fault out_old out_new
+    some fault body w = record { form = form; width = width; height' = height'; body = body; header = t.header body; writes = w }
+
+    refused : (old new : Option (List ℕ)) (fault : PbmFault) → Consumes old new t.front → IfSome new (λ body. WritesCodeBegun s form width height' body fault out_old out_new) → IfSome old (λ bytes. RefusesPbm s bytes fault out_old out_new)
+    refused None new fault taken w = tt
+    refused (Some bytes) None fault taken w = absurd taken
+    refused (Some bytes) (Some body) fault taken w = inr (subst (λ z. WritesStreamBegun s z fault out_old out_new) (sym taken) (some fault body w))
+
+  -- the stream was written, and flushed
+  pub image_whole : (flushed : Bool) (out_last : Option (List ℕ)) (writes_last : ℕ) → Encode s form width height' mid in_new reads_mid reads_new out_old out_new writes_old writes_new (Ok tt) → Keeps out_new out_last → flushed ≡ true → writes_last ≡ writes_new →
+      ToJbg s in_old in_new reads_old reads_new out_old out_last writes_old writes_last flushed (Ok tt)
+  image_whole flushed out_last writes_last e keeps last same = record {
+    whole = whole in_old mid t.taken e.whole;
+    flushed_last = last;
+    refused = λ fault _ is. absurd (let bot : ⊥ = cc in bot);
+    low = λ is. absurd (let bot : ⊥ = cc in bot);
+    no_memory = λ is. absurd (let bot : ⊥ = cc in bot);
+    unread = λ is. absurd (let bot : ⊥ = cc in bot);
+    cut = λ is. absurd (let bot : ⊥ = cc in bot);
+    among = tt;
+    reads = e.reads ∙ counted;
+    writes = same ∙ e.writes;
+  } where
+    whole : (old new : Option (List ℕ)) → Consumes old new t.front → IfSome new (λ body. WritesCode s form width height' body out_old out_new) → IfSome old (λ bytes. WritesStream s bytes out_old out_last)
+    whole None new taken w = tt
+    whole (Some bytes) None taken w = absurd taken
+    whole (Some bytes) (Some body) taken w = record {
+      raster = raster_of width w.rows;
+      rest = w.rest;
+      is = record {
+        form = form;
+        body = body;
+        header = subst (λ z. HasHeader z form width (length w.rows) body) (sym taken) (subst (λ n. HasHeader (t.front ++ body) form width n body) (sym w.many) (t.header body));
+        holds = w.holds;
+      };
+      proper = w.denotes.denotes.proper;
+      appends = Appends-keeps out_old out_new out_last (jbg s (raster_of width w.rows)) w.appends keeps;
+      denotes = w.denotes;
+    }

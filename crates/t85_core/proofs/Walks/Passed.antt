@@ -1,0 +1,250 @@
+-- What was passed of a stripe so far.
+use Rattle.std.proofs.Common.{cond, ◌≡◌, ◌≢◌, ◌<◌, ◌≤◌, ◌+◌, ◌-◌, ◌^◌, ℕ, Bool, true, false, List, [], ◌∷◌, ◌++◌, Option, None, Some, count_by, length, sum_by, min, is_some, refl, sym, ap, ◌∙◌, subst, append_assoc, append-nil, arith}
+use Rattle.std.specs.Prelude.{flat_map, option_map}
+use Rattle.std.specs.List.{AllByRecursion}
+use Rattle.std.specs.Io.KnownBytes.{Consumes}
+use Rattle.std.proofs.lemmas.List.Sums.{sum_by-append}
+use Rattle.qm_core.specs.Code.{stuffed}
+use Rattle.t85_core.specs.declared.fault.Fault.{Fault}
+use Rattle.t85_core.specs.declared.fault.Fault.TheVariants.{Truncated, Changed}
+use Rattle.t85_core.specs.declared.segments.Code.{Code}
+use Rattle.t85_core.specs.declared.segments.Move as move
+use Rattle.t85_core.specs.Header.{Fields}
+use Rattle.t85_core.specs.Grammar.{Segment, NewLength, Move, Comment, lengths, GiveOnly, segment_bytes, is_move, is_comment, marker_bytes, Stripe, all_segments, IsLegal, IsBegun, is_valid_length}
+use Rattle.t85_core.specs.Coding.{move_of}
+use Rattle.t85_core.specs.Steps.DecodeRows.{pair_of}
+use Rattle.t85_core.specs.Refusal.{Spot, spot_behind, rest_fault, StripeFault}
+use Rattle.t85_core.specs.Failures.{Ends, counted_as}
+use Rattle.t85_core.specs.Steps.Segments.{spot_at, CodeFault, HeadFault, PieceFault, next_bytes, IsNextItem, PassesCode, PassesHead, PassesSegment, PassesSegments, SegmentsFault}
+use Rattle.t85_core.specs.declared.segments.Next.{Next}
+use Rattle.t85_core.specs.declared.segments.Next.TheVariants as next
+use Rattle.t85_core.specs.declared.segments.Place.{Place}
+use Rattle.t85_core.specs.declared.segments.Segments.{Segments}
+use Rattle.t85_core.specs.Steps.Buffers.{ArePlain}
+use Rattle.t85_core.proofs.Bytes.Streams.{Consumes-more}
+use Rattle.t85_core.proofs.Bytes.Ends.{Ends-after, Ends-at}
+use Rattle.t85_core.proofs.Bytes.Lists.{All-push, All-append, count_push, flat_map_push}
+use Rattle.t85_core.proofs.Bytes.Lengths.{many_lengths, gives_none, gives_both}
+use Rattle.t85_core.proofs.Walks.Segments.{length_changed}
+use Rattle.t85_core.proofs.Bytes.Stuffing.{stuffed_append, stuffed_plain}
+
+-- segments of a stripe, and the move among them, where one stood before them or none
+pub record HasPassed (h : Fields) (place : Place) (before : Bool) (old new : Option (List ℕ)) (at : Option move.Move) (moved given : Bool) (comments : ℕ) : Type 0 where
+  pub segments : List Segment
+  pub begun : IsBegun h segments []
+  pub gives : GiveOnly place.height (cond place.given 1 0) segments
+  pub given_is : cond given 1 0 ≡ cond place.given 1 0 + length (lengths segments)
+  pub move_is : option_map pair_of at ≡ move_of segments
+  pub counted : cond moved 1 0 ≡ cond before 1 0 + count_by is_move segments
+  pub found : cond (is_some at) 1 0 ≡ count_by is_move segments
+  pub told : comments ≡ min (count_by is_comment segments) (2 ^ 64 - 1)
+  pub taken : Consumes old new (flat_map segment_bytes segments)
+
+pub Consumes-none : (a : Option (List ℕ)) → Consumes a a []
+Consumes-none None = tt
+Consumes-none (Some xs) = refl
+
+few_byte : (t : Bool) → cond t 1 0 ≤ 1
+few_byte true = omega arith
+few_byte false = omega arith
+
+pub passed_none : (h : Fields) (place : Place) (before : Bool) (a : Option (List ℕ)) → HasPassed h place before a a None before place.given 0
+passed_none h place before a = record {
+  segments = [];
+  begun = record { legal = tt; one_move = omega arith; bytes = tt };
+  gives = gives_none place.height (cond place.given 1 0) [] (few_byte place.given) refl;
+  given_is = omega arith;
+  move_is = refl;
+  counted = omega arith;
+  found = refl;
+  told = refl;
+  taken = Consumes-none a;
+}
+
+move_of_push : (segments : List Segment) (s : Segment) → count_by is_move segments ≡ 0 → move_of (segments ++ s ∷ []) ≡ move_of (s ∷ [])
+move_of_push [] s none = refl
+move_of_push (Move row offset ∷ segments) s none = absurd (let e = sum_by-append (λ y. cond (is_move y) 1 0) (Move row offset ∷ []) segments in omega (arith, none, e))
+move_of_push (NewLength n ∷ segments) s none = move_of_push segments s (let e = sum_by-append (λ y. cond (is_move y) 1 0) (NewLength n ∷ []) segments in omega (arith, none, e))
+move_of_push (Comment text ∷ segments) s none = move_of_push segments s (let e = sum_by-append (λ y. cond (is_move y) 1 0) (Comment text ∷ []) segments in omega (arith, none, e))
+
+move_of_comment : (segments : List Segment) (text : List ℕ) → move_of (segments ++ Comment text ∷ []) ≡ move_of segments
+move_of_comment [] text = refl
+move_of_comment (NewLength n ∷ segments) text = move_of_comment segments text
+move_of_comment (Move row offset ∷ segments) text = refl
+move_of_comment (Comment other ∷ segments) text = move_of_comment segments text
+
+move_of_length : (segments : List Segment) (n : ℕ) → move_of (segments ++ NewLength n ∷ []) ≡ move_of segments
+move_of_length [] n = refl
+move_of_length (NewLength m ∷ segments) n = move_of_length segments n
+move_of_length (Move row offset ∷ segments) n = refl
+move_of_length (Comment other ∷ segments) n = move_of_length segments n
+
+gives_more : (place : Place) (segments : List Segment) (s : Segment) → GiveOnly place.height (cond place.given 1 0) segments → GiveOnly place.height (cond place.given 1 0 + length (lengths segments)) (s ∷ []) → GiveOnly place.height (cond place.given 1 0) (segments ++ s ∷ [])
+gives_more place segments s g k = gives_both place.height (cond place.given 1 0) segments (s ∷ []) g k
+
+few_moves : (before moved : Bool) (n : ℕ) → cond moved 1 0 ≡ cond before 1 0 + n → cond before 1 0 + n ≤ 1
+few_moves before moved n e = let few = few_byte moved in omega (arith, e, few)
+
+module _ {h : Fields} {place : Place} {before : Bool} {a b c : Option (List ℕ)} {at : Option move.Move} {moved given : Bool} {comments : ℕ} (p : HasPassed h place before a b at moved given comments) where
+  -- the height in use was given
+  pub passed_length : (n : ℕ) → given ≡ false → n ≡ place.height → PassesSegment h b c (NewLength n) → HasPassed h place before a c at moved true comments
+  passed_length n none same s =
+      let segment : Segment = NewLength n in
+      let count = count_push is_move p.segments segment in
+      let comments_all = count_push is_comment p.segments segment in
+      let zero_heights : cond place.given 1 0 + length (lengths p.segments) ≡ 0 = sym p.given_is ∙ ap (λ t. cond t 1 0) none in
+      record {
+        segments = p.segments ++ segment ∷ [];
+        begun = record { legal = All-push (IsLegal h) p.segments segment p.begun.legal s.legal; one_move = omega (arith, p.begun.one_move, count); bytes = tt };
+        gives = gives_more place p.segments segment p.gives (record { one = omega (arith, zero_heights); this = (same, tt) });
+        given_is = (let n = many_lengths p.segments (segment ∷ []) in omega (arith, zero_heights, n));
+        move_is = p.move_is ∙ sym (move_of_length p.segments n);
+        counted = omega (arith, p.counted, count);
+        found = omega (arith, p.found, count);
+        told = omega (arith, p.told, comments_all);
+        taken = subst (λ z. Consumes a c z) (sym (flat_map_push segment_bytes p.segments segment)) (Consumes-more a b c _ _ p.taken s.taken);
+      }
+
+  pub passed_move : (to : move.Move) → moved ≡ false → PassesSegment h b c (Move to.row to.offset) → HasPassed h place before a c (Some to) true given comments
+  passed_move to none s =
+      let segment : Segment = Move to.row to.offset in
+      let no_move : cond before 1 0 + count_by is_move p.segments ≡ 0 = sym p.counted ∙ ap (λ t. cond t 1 0) none in
+      let zero_moves : count_by is_move p.segments ≡ 0 = omega (arith, no_move) in
+      let count = count_push is_move p.segments segment in
+      let comments_all = count_push is_comment p.segments segment in
+      record {
+        segments = p.segments ++ segment ∷ [];
+        begun = record { legal = All-push (IsLegal h) p.segments segment p.begun.legal s.legal; one_move = omega (arith, zero_moves, count); bytes = tt };
+        gives = gives_more place p.segments segment p.gives (gives_none place.height (cond place.given 1 0 + length (lengths p.segments)) (segment ∷ []) p.gives.one refl);
+        given_is = (let n = many_lengths p.segments (segment ∷ []) in omega (arith, p.given_is, n));
+        move_is = sym (move_of_push p.segments segment zero_moves);
+        counted = omega (arith, no_move, count);
+        found = omega (arith, zero_moves, count);
+        told = omega (arith, p.told, comments_all);
+        taken = subst (λ z. Consumes a c z) (sym (flat_map_push segment_bytes p.segments segment)) (Consumes-more a b c _ _ p.taken s.taken);
+      }
+
+  pub passed_comment : (more_comments : ℕ) (text : List ℕ) → PassesSegment h b c (Comment text) → more_comments ≡ min (comments + 1) (2 ^ 64 - 1) → HasPassed h place before a c at moved given more_comments
+  passed_comment more_comments text s told =
+      let segment : Segment = Comment text in
+      let count = count_push is_move p.segments segment in
+      let comments_all = count_push is_comment p.segments segment in
+      record {
+        segments = p.segments ++ segment ∷ [];
+        begun = record { legal = All-push (IsLegal h) p.segments segment p.begun.legal s.legal; one_move = omega (arith, p.begun.one_move, count); bytes = tt };
+        gives = gives_more place p.segments segment p.gives (gives_none place.height (cond place.given 1 0 + length (lengths p.segments)) (segment ∷ []) p.gives.one refl);
+        given_is = (let n = many_lengths p.segments (segment ∷ []) in omega (arith, p.given_is, n));
+        move_is = p.move_is ∙ sym (move_of_comment p.segments text);
+        counted = omega (arith, p.counted, count);
+        found = omega (arith, p.found, count);
+        told = omega (arith, p.told, comments_all, told);
+        taken = subst (λ z. Consumes a c z) (sym (flat_map_push segment_bytes p.segments segment)) (Consumes-more a b c _ _ p.taken s.taken);
+      }
+
+  -- what was passed, and what is next
+  pub segments_passed : (n : Next) → IsNextItem h place given n → Consumes b c (next_bytes n) → PassesSegments h place before a c (record { at = at; given = given; comments = comments; next = n })
+  segments_passed n is taken = record {
+    segments = p.segments;
+    begun = p.begun;
+    alone = few_moves before moved (count_by is_move p.segments) p.counted;
+    gives = p.gives;
+    given_is = p.given_is;
+    move_is = p.move_is;
+    moves_are = p.found;
+    comments_are = p.told;
+    next_is = is;
+    taken = Consumes-more a b c _ _ p.taken taken;
+  }
+
+  -- what was passed, and a rest with a fault before the code
+  pub cut_segments : {f : Fault} → Ends Truncated b c (PieceFault h (record { height = place.height; entities = place.entities; given = given }) moved) f → Ends Truncated a c (SegmentsFault h place before) f
+  cut_segments e = Ends-after (flat_map segment_bytes p.segments) p.taken (λ bytes fault has. record {
+    segments = p.segments;
+    rest = bytes;
+    bytes_are = refl;
+    begun = p.begun;
+    alone = few_moves before moved (count_by is_move p.segments) p.counted;
+    gives = p.gives;
+    rest_has = λ n. subst (λ m. rest_fault h (record { height = n; entities = place.entities; heights = cond place.given 1 0 + length (lengths p.segments) }) m false bytes ≡ Some fault) p.counted
+        (subst (λ m. rest_fault h (record { height = n; entities = place.entities; heights = m }) (cond moved 1 0) false bytes ≡ Some fault) p.given_is (has n));
+  }) e
+
+-- a height behind segments isn't the one in use
+changed : (h : Fields) → h.yd < 2 ^ 32 → (height k m moves n : ℕ) → m ≡ 0 → is_valid_length h k n ≡ true → IsLegal h (NewLength n) → n ≢ height →
+    rest_fault h (record { height = height; entities = k; heights = m }) moves false (segment_bytes (NewLength n)) ≡ Some Changed
+changed h small height k m moves n none valid legal other =
+    subst (λ u. rest_fault h (record { height = height; entities = k; heights = u }) moves false (segment_bytes (NewLength n)) ≡ Some Changed) (sym none)
+    (length_changed h height k legal.0 n [] (omega (arith, legal.2, small)) valid other)
+
+module _ {h : Fields} {place : Place} {a b : Option (List ℕ)} {s : Segments} where
+  -- behind them is another height
+  pub head_changed : (n : ℕ) → h.yd < 2 ^ 32 → s.next ≡ next.Height n → PassesSegments h place false a b s → Ends Truncated a b (HeadFault h (spot_at place)) Changed
+  head_changed n small is p =
+      let next_is : IsNextItem h place s.given (next.Height n) = subst (IsNextItem h place s.given) is p.next_is in
+      Ends-at Changed (flat_map segment_bytes p.segments ++ segment_bytes (NewLength n)) (subst (λ k. Consumes a b (flat_map segment_bytes p.segments ++ next_bytes k)) is p.taken) refl (λ e. cc) (
+        record {
+          segments = p.segments;
+          code = [];
+          rest = segment_bytes (NewLength n);
+          bytes_are = refl;
+          begun = p.begun;
+          gives = p.gives;
+          rest_has = changed h small place.height place.entities (cond place.given 1 0 + length (lengths p.segments)) (count_by is_move p.segments) n
+              (sym p.given_is ∙ ap (λ t. cond t 1 0) next_is.0) next_is.1 next_is.2 next_is.3;
+        },
+        refl,
+      )
+
+pub cut_head : {h : Fields} {place : Place} {a b : Option (List ℕ)} {f : Fault} → Ends Truncated a b (SegmentsFault h place false) f → Ends Truncated a b (HeadFault h (spot_at place)) f
+cut_head {h} {place} {a} {b} {f} e = record { given = e.given; taken = e.taken; at_end = e.at_end; has_fault = (broken e.given (counted_as Truncated f) e.has_fault, refl) } where
+  broken : (given : List ℕ) (fault : Fault) → SegmentsFault h place false given fault → StripeFault h (spot_at place) given fault
+  broken given fault q = record {
+    segments = q.segments;
+    code = [];
+    rest = q.rest;
+    bytes_are = q.bytes_are;
+    begun = q.begun;
+    gives = q.gives;
+    rest_has = (let z : 0 + count_by is_move q.segments ≡ count_by is_move q.segments = omega arith in
+        subst (λ m. rest_fault h (spot_behind (spot_at place) q.segments) m false q.rest ≡ Some fault) z (q.rest_has place.height));
+  }
+
+-- bytes of a code so far
+pub record HasSkipped (old new : Option (List ℕ)) : Type 0 where
+  pub code : List ℕ
+  pub bytes : AllByRecursion (λ b. b < 256) code
+  pub taken : Consumes old new (stuffed code)
+
+pub skipped_none : (a : Option (List ℕ)) → HasSkipped a a
+skipped_none a = record { code = []; bytes = tt; taken = Consumes-none a }
+
+below : (xs : List ℕ) → ArePlain xs → AllByRecursion (λ x. x < 256) xs
+below [] p = tt
+below (x ∷ xs) p = (p.0.0, below xs p.1)
+
+pub skipped_plain : {a b c : Option (List ℕ)} (plain : List ℕ) → HasSkipped a b → ArePlain plain → Consumes b c plain → HasSkipped a c
+skipped_plain {a} {b} {c} plain p each taken = record {
+  code = p.code ++ plain;
+  bytes = All-append (λ x. x < 256) p.code plain p.bytes (below plain each);
+  taken = subst (λ z. Consumes a c z) (ap (λ z. stuffed p.code ++ z) (sym (stuffed_plain plain each)) ∙ sym (stuffed_append p.code plain)) (Consumes-more a b c _ _ p.taken taken);
+}
+
+pub skipped_byte : {a b c : Option (List ℕ)} (byte : ℕ) → HasSkipped a b → byte < 256 → Consumes b c (stuffed (byte ∷ [])) → HasSkipped a c
+skipped_byte {a} {b} {c} byte p small taken = record {
+  code = p.code ++ byte ∷ [];
+  bytes = All-push (λ x. x < 256) p.code byte p.bytes small;
+  taken = subst (λ z. Consumes a c z) (sym (stuffed_append p.code (byte ∷ []))) (Consumes-more a b c _ _ p.taken taken);
+}
+
+pub code_ends : {a b c : Option (List ℕ)} (reset : Bool) → HasSkipped a b → Consumes b c (marker_bytes reset) → PassesCode a c reset
+code_ends {a} {b} {c} reset p taken = record { code = p.code; bytes = p.bytes; taken = Consumes-more a b c _ _ p.taken taken }
+
+pub code_cut : {a b c : Option (List ℕ)} {f : Fault} → HasSkipped a b → Ends Truncated b c (λ given fault. (h : Fields) (spot : Spot) (moves : ℕ) → rest_fault h spot moves true given ≡ Some fault) f → Ends Truncated a c CodeFault f
+code_cut p e = Ends-after (stuffed p.code) p.taken (λ given fault has. record { code = p.code; rest = given; bytes_are = refl; small = p.bytes; rest_has = has }) e
+
+pub sum_push : {X : Type 0} (f : X → ℕ) (xs : List X) (x : X) → sum_by f (xs ++ x ∷ []) ≡ sum_by f xs + f x
+sum_push f xs x = let e = sum_by-append f xs (x ∷ []) in omega (arith, e)
+
+pub segments_push : (ss : List Stripe) (s : Stripe) → all_segments (ss ++ s ∷ []) ≡ all_segments ss ++ s.segments
+segments_push [] s = append-nil s.segments
+segments_push (t ∷ ss) s = ap (λ z. t.segments ++ z) (segments_push ss s) ∙ sym (append_assoc t.segments (all_segments ss) s.segments)

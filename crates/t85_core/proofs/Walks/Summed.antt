@@ -1,0 +1,235 @@
+-- The line of a body whose height was found, or why it has none.
+use Rattle.std.proofs.Common.{cond, ◌≡◌, ◌≢◌, ◌⊎◌, inl, inr, ◌<◌, ◌≤◌, ◌+◌, ◌-◌, ◌*◌, ◌^◌, ◌&&◌, ℕ, zero, suc, Bool, true, false, List, [], ◌∷◌, ◌++◌, Option, None, Some, IfSome, count_by, length, sum_by, min, nat_lt, nat_le, refl, sym, ap, ◌∙◌, subst, append_assoc, arith, true≢false}
+use Rattle.std.specs.Prelude.{flat_map}
+use Rattle.std.specs.List.{AllByRecursion}
+use Rattle.std.specs.Io.KnownBytes.{Consumes}
+use Rattle.std.proofs.lemmas.Bool.Decides.{nat_tests}
+use Rattle.std.proofs.lemmas.Bool.{cases_lt}
+use Rattle.std.proofs.lemmas.Grind.{div_ceil_times}
+use Rattle.std.proofs.Math.Nat.{mul-le-mul_right}
+use Rattle.t85_core.specs.declared.fault.Fault.{Fault}
+use Rattle.t85_core.specs.declared.fault.Fault.TheVariants.{Truncated, Read}
+use Rattle.t85_core.specs.Header.{Fields, IsAccepted}
+use Rattle.t85_core.specs.Grammar.{NewLength, segment_bytes, is_move, is_comment, lengths, all_segments, Stripe, stripe_bytes, stripe_count, is_valid_length, IsLegal, IsBegun, GiveOnly, moves_in, comments_in}
+use Rattle.t85_core.specs.Height.{GivesHeight, IsHeight}
+use Rattle.t85_core.specs.Info.{line_text}
+use Rattle.t85_core.specs.Failures.{Ends, counted_as}
+use Rattle.t85_core.specs.Steps.HeightWalk.{IsAlone, SkipsStripes, SkipsFault, FindsGiven, FindsNone, BodyLine, BodyRefused, BodyUnfinished}
+use Rattle.t85_core.proofs.Bytes.Streams.{Consumes-more}
+use Rattle.t85_core.proofs.Bytes.Lists.{All-push, count_push, flat_map_push}
+use Rattle.t85_core.proofs.Bytes.Lengths.{lengths_append, gives_none, valid_in_use}
+use Rattle.t85_core.proofs.Walks.Found.{joined_to, broken_behind, parts_behind, joined_sum}
+use Rattle.t85_core.proofs.Walks.HeightFound.{skipped_whole}
+
+same_line : (h : Fields) (height count moves comments count' moves' comments' : ℕ) → count ≡ count' → moves ≡ moves' → comments ≡ comments' →
+    line_text (h.xd ∷ h.yd ∷ h.l0 ∷ h.mx ∷ h.options ∷ height ∷ count ∷ moves ∷ comments ∷ []) ≡ line_text (h.xd ∷ h.yd ∷ h.l0 ∷ h.mx ∷ h.options ∷ height ∷ count' ∷ moves' ∷ comments' ∷ [])
+same_line h height count moves comments count' moves' comments' a b c =
+    ap (λ n. line_text (h.xd ∷ h.yd ∷ h.l0 ∷ h.mx ∷ h.options ∷ height ∷ n ∷ moves ∷ comments ∷ [])) a
+    ∙ ap (λ n. line_text (h.xd ∷ h.yd ∷ h.l0 ∷ h.mx ∷ h.options ∷ height ∷ count' ∷ n ∷ comments ∷ [])) b
+    ∙ ap (λ n. line_text (h.xd ∷ h.yd ∷ h.l0 ∷ h.mx ∷ h.options ∷ height ∷ count' ∷ moves' ∷ n ∷ [])) c
+
+-- no height is given
+pub none_line : (h : Fields) (old new : Option (List ℕ)) (entities moves comments : ℕ) (line : List ℕ) → FindsNone h old new entities moves comments →
+    line ≡ line_text (h.xd ∷ h.yd ∷ h.l0 ∷ h.mx ∷ h.options ∷ h.yd ∷ entities ∷ moves ∷ comments ∷ []) → IfSome old (BodyLine h line)
+none_line h old new entities moves comments line f is = went old f.mid f.before.taken f.height_is where
+  went : (old mid : Option (List ℕ)) → Consumes old mid (flat_map stripe_bytes f.before.stripes) → IfSome old (λ body. IsHeight h body h.yd) → IfSome old (BodyLine h line)
+  went None mid taken height = tt
+  went (Some body) None taken height = absurd taken
+  went (Some body) (Some rest) taken height = record {
+    height = h.yd;
+    height_is = height;
+    parts = record {
+      stripes = f.before.stripes;
+      rest = rest;
+      body_is = taken;
+      count = f.before.count_is ∙ f.all;
+      each = f.before.each;
+      gives = gives_none h.yd 0 (all_segments f.before.stripes) (omega arith) f.before.none;
+    };
+    line_is = is ∙ same_line h h.yd entities moves comments (length f.before.stripes) (sum_by moves_in f.before.stripes) (min (sum_by comments_in f.before.stripes) (2 ^ 64 - 1)) (sym f.before.count_is) f.before.moves_are f.before.comments_are;
+  }
+
+-- the last data entity before a valid height has a row of the image
+last_within : (h : Fields) (k n : ℕ) → is_valid_length h k n ≡ true → (k - 1) * h.l0 < n
+last_within h k n e = went (nat_le 1 n) (nat_le n h.yd) (nat_lt ((k - 1) * h.l0) n) refl e where
+  went : (a b c : Bool) → nat_lt ((k - 1) * h.l0) n ≡ c → (a && b && c) ≡ true → (k - 1) * h.l0 < n
+  went true true true r e = grind (arith, nat_tests)
+  went true true false r e = absurd (true≢false (sym e))
+  went true false c r e = absurd (true≢false (sym e))
+  went false b c r e = absurd (true≢false (sym e))
+
+fits : (l n k : ℕ) → 0 < l → (k - 1) * l < n → k ≤ stripe_count n l
+fits l n zero some low = omega arith
+fits l n (suc j) some low = went (cases_lt (stripe_count n l) (suc j)) where
+  went : (stripe_count n l < suc j) ⊎ (suc j ≤ stripe_count n l) → suc j ≤ stripe_count n l
+  went (inr fits) = fits
+  went (inl more) =
+      let t = div_ceil_times n l some in
+      let up : stripe_count n l * l ≤ j * l = mul-le-mul_right l (let f : stripe_count n l ≤ j = omega (arith, more) in f) in
+      let same : suc j - 1 ≡ j = omega arith in
+      let c : (suc j - 1) * l ≡ j * l = ap (λ z. z * l) same in
+      absurd (omega (arith, t.0, up, low, c))
+
+entities_fit : (h : Fields) (k n : ℕ) → 0 < h.l0 → is_valid_length h k n ≡ true → k ≤ stripe_count n h.l0
+entities_fit h k n some e = fits h.l0 n k some (last_within h k n e)
+
+-- a lower height makes no more stripes
+fewer_stripes : (h : Fields) (n : ℕ) → 0 < h.l0 → 1 ≤ n → n ≤ h.yd → stripe_count n h.l0 ≤ stripe_count h.yd h.l0
+fewer_stripes h n some one most =
+    let low = last_within h (stripe_count n h.l0) n (valid_in_use h n (stripe_count n h.l0) some one most (omega arith)) in
+    fits h.l0 h.yd (stripe_count n h.l0) some (omega (arith, low, most))
+
+one_or_none : (m : ℕ) → m ≤ 1 → cond {A = ℕ} (nat_lt 0 m) 1 0 ≡ m
+one_or_none zero few = refl
+one_or_none (suc m) few = let t : nat_lt 0 (suc m) ≡ true = grind (arith, nat_tests) in ap (λ (b : Bool). cond {A = ℕ} b 1 0) t ∙ (let e : 1 ≡ suc m = omega (arith, few) in e)
+
+module _ (h : Fields) (ok : IsAccepted h) (old mid : Option (List ℕ)) (entities moves comments part_moves part_comments n : ℕ) (f : FindsGiven h old mid entities moves comments part_moves part_comments n) where
+  front_bytes : flat_map segment_bytes (f.segments ++ NewLength n ∷ []) ≡ flat_map segment_bytes f.segments ++ segment_bytes (NewLength n)
+  front_bytes = flat_map_push segment_bytes f.segments (NewLength n)
+
+  taken : Consumes old mid (flat_map stripe_bytes f.before.stripes ++ flat_map segment_bytes (f.segments ++ NewLength n ∷ []))
+  taken = subst (λ z. Consumes old mid (flat_map stripe_bytes f.before.stripes ++ z)) (sym front_bytes) (Consumes-more old f.mid mid (flat_map stripe_bytes f.before.stripes) (flat_map segment_bytes f.segments ++ segment_bytes (NewLength n)) f.before.taken f.taken)
+
+  behind_front : (rest : List ℕ) → (flat_map stripe_bytes f.before.stripes ++ flat_map segment_bytes (f.segments ++ NewLength n ∷ [])) ++ rest ≡ flat_map stripe_bytes f.before.stripes ++ (flat_map segment_bytes (f.segments ++ NewLength n ∷ []) ++ rest)
+  behind_front rest = append_assoc (flat_map stripe_bytes f.before.stripes) (flat_map segment_bytes (f.segments ++ NewLength n ∷ [])) rest
+
+  -- whatever is behind it
+  pub gives_height : (rest : List ℕ) → GivesHeight h (flat_map stripe_bytes f.before.stripes ++ (flat_map segment_bytes (f.segments ++ NewLength n ∷ []) ++ rest)) n
+  gives_height rest = record {
+    variable = f.legal.0;
+    stripes = f.before.stripes;
+    segments = f.segments;
+    rest = rest;
+    body_is = ap (λ z. flat_map stripe_bytes f.before.stripes ++ (z ++ rest)) front_bytes ∙ ap (λ z. flat_map stripe_bytes f.before.stripes ++ z) (append_assoc (flat_map segment_bytes f.segments) (segment_bytes (NewLength n)) rest);
+    each = f.before.each;
+    begun = f.begun;
+    first = lengths_append (all_segments f.before.stripes) f.segments ∙ ap (λ z. z ++ lengths f.segments) f.before.none ∙ f.none;
+    within = (let e = f.before.count_is in let w = f.within in omega (arith, e, w));
+    behind = λ e. f.behind (sym f.before.count_is ∙ e);
+    valid = subst (λ k. is_valid_length h k n ≡ true) (sym f.before.count_is) f.valid;
+  }
+
+  pub given_height : IfSome old (λ body. IsHeight h body n)
+  given_height = went old mid taken where
+    went : (old mid : Option (List ℕ)) → Consumes old mid (flat_map stripe_bytes f.before.stripes ++ flat_map segment_bytes (f.segments ++ NewLength n ∷ [])) → IfSome old (λ body. IsHeight h body n)
+    went None mid taken = tt
+    went (Some body) None taken = absurd taken
+    went (Some body) (Some rest) taken = inl (subst (λ z. GivesHeight h z n) (sym (taken ∙ behind_front rest)) (gives_height rest))
+
+  -- all its stripes were passed before it
+  pub whole_line : (count : ℕ) (line : List ℕ) → count ≡ stripe_count n h.l0 → count ≤ entities → line ≡ line_text (h.xd ∷ h.yd ∷ h.l0 ∷ h.mx ∷ h.options ∷ n ∷ count ∷ moves ∷ comments ∷ []) → IfSome old (BodyLine h line)
+  whole_line count line is few line_is = went old mid taken where
+    same : count ≡ length f.before.stripes
+    same = let fit = entities_fit h entities n ok.stripe_from f.valid in let e = f.before.count_is in omega (arith, fit, is, few, e)
+
+    went : (old mid : Option (List ℕ)) → Consumes old mid (flat_map stripe_bytes f.before.stripes ++ flat_map segment_bytes (f.segments ++ NewLength n ∷ [])) → IfSome old (BodyLine h line)
+    went None mid taken = tt
+    went (Some body) None taken = absurd taken
+    went (Some body) (Some rest) taken = record {
+      height = n;
+      height_is = inl (subst (λ z. GivesHeight h z n) (sym (taken ∙ behind_front rest)) (gives_height rest));
+      parts = record {
+        stripes = f.before.stripes;
+        rest = flat_map segment_bytes (f.segments ++ NewLength n ∷ []) ++ rest;
+        body_is = taken ∙ behind_front rest;
+        count = sym same ∙ is;
+        each = f.before.each;
+        gives = gives_none n 0 (all_segments f.before.stripes) (omega arith) f.before.none;
+      };
+      line_is = line_is ∙ same_line h n count moves comments (length f.before.stripes) (sum_by moves_in f.before.stripes) (min (sum_by comments_in f.before.stripes) (2 ^ 64 - 1)) same f.before.moves_are f.before.comments_are;
+    }
+
+  begun : IsBegun h (f.segments ++ NewLength n ∷ []) []
+  begun = record {
+    legal = All-push (IsLegal h) f.segments (NewLength n) f.begun.legal f.legal;
+    one_move = (let c = count_push is_move f.segments (NewLength n) in let one = f.begun.one_move in omega (arith, c, one));
+    bytes = tt;
+  }
+
+  all_lengths : lengths (all_segments f.before.stripes ++ (f.segments ++ NewLength n ∷ [])) ≡ n ∷ []
+  all_lengths =
+      lengths_append (all_segments f.before.stripes) (f.segments ++ NewLength n ∷ []) ∙ ap (λ z. z ++ lengths (f.segments ++ NewLength n ∷ [])) f.before.none
+      ∙ lengths_append f.segments (NewLength n ∷ []) ∙ ap (λ z. z ++ n ∷ []) f.none
+
+  gives : GiveOnly n 0 (all_segments f.before.stripes ++ (f.segments ++ NewLength n ∷ []))
+  gives = record {
+    one = (let e = ap length all_lengths in omega (arith, e));
+    this = subst (AllByRecursion (λ m. m ≡ n)) (sym all_lengths) (refl, tt);
+  }
+
+  given_is : cond true 1 0 ≡ length (lengths (all_segments f.before.stripes ++ (f.segments ++ NewLength n ∷ [])))
+  given_is = sym (ap length all_lengths)
+
+  moved_is : part_moves ≤ 1 → cond {A = ℕ} (nat_lt 0 part_moves) 1 0 ≡ count_by is_move (f.segments ++ NewLength n ∷ [])
+  moved_is few = let c = count_push is_move f.segments (NewLength n) in let e = one_or_none part_moves few in let p = f.part_moves_are in omega (arith, c, e, p)
+
+  -- the rest of its stripes was passed behind it
+  module _ (few : part_moves ≤ 1) (new : Option (List ℕ)) where
+    pub joined_line : (count more_moves more_comments all_moves some_comments all_comments : ℕ) (line : List ℕ) → count ≡ stripe_count n h.l0 → entities < count → SkipsStripes h (nat_lt 0 part_moves) (count - entities) mid new more_moves more_comments →
+        all_moves ≡ (moves + part_moves) + more_moves → some_comments ≡ min (comments + part_comments) (2 ^ 64 - 1) → all_comments ≡ min (some_comments + more_comments) (2 ^ 64 - 1) →
+        line ≡ line_text (h.xd ∷ h.yd ∷ h.l0 ∷ h.mx ∷ h.options ∷ n ∷ count ∷ all_moves ∷ all_comments ∷ []) → IfSome old (BodyLine h line)
+    joined_line count more_moves more_comments all_moves some_comments all_comments line is less s moves_told some_told all_told line_is = by s.stripes refl where
+      by : (ts : List Stripe) → s.stripes ≡ ts → IfSome old (BodyLine h line)
+      by [] e = absurd (let many = s.count_is in let z = ap length e in omega (arith, many, z, less))
+      by (t ∷ ts) e = went old mid new taken (subst (λ z. Consumes mid new (flat_map stripe_bytes z)) e s.taken) where
+        many : length f.before.stripes + length (t ∷ ts) ≡ count
+        many = let a = f.before.count_is in let b = s.count_is in let z = ap length e in omega (arith, a, b, z, less)
+
+        part_comments_are : part_comments ≡ min (count_by is_comment f.segments) (2 ^ 64 - 1)
+        part_comments_are = f.part_comments_are (let up = fewer_stripes h n ok.stripe_from f.legal.1 f.legal.2 in omega (arith, up, is, less))
+
+        moves_are : all_moves ≡ sum_by moves_in (f.before.stripes ++ joined_to (f.segments ++ NewLength n ∷ []) t ∷ ts)
+        moves_are =
+            let a = joined_sum is_move f.before.stripes (f.segments ++ NewLength n ∷ []) t ts in
+            let b = count_push is_move f.segments (NewLength n) in
+            let m : more_moves ≡ sum_by moves_in (t ∷ ts) = s.moves_are ∙ ap (sum_by moves_in) e in
+            let x = f.before.moves_are in let y = f.part_moves_are in
+            omega (arith, a, b, m, x, y, moves_told)
+
+        comments_are : all_comments ≡ min (sum_by comments_in (f.before.stripes ++ joined_to (f.segments ++ NewLength n ∷ []) t ∷ ts)) (2 ^ 64 - 1)
+        comments_are =
+            let a = joined_sum is_comment f.before.stripes (f.segments ++ NewLength n ∷ []) t ts in
+            let b = count_push is_comment f.segments (NewLength n) in
+            let m : more_comments ≡ min (sum_by comments_in (t ∷ ts)) (2 ^ 64 - 1) = s.comments_are ∙ ap (λ z. min (sum_by comments_in z) (2 ^ 64 - 1)) e in
+            let x = f.before.comments_are in
+            omega (arith, a, b, m, x, part_comments_are, some_told, all_told)
+
+        went : (old mid new : Option (List ℕ)) → Consumes old mid (flat_map stripe_bytes f.before.stripes ++ flat_map segment_bytes (f.segments ++ NewLength n ∷ [])) → Consumes mid new (flat_map stripe_bytes (t ∷ ts)) → IfSome old (BodyLine h line)
+        went None mid new a b = tt
+        went (Some body) None new a b = absurd a
+        went (Some body) (Some rest) None a b = absurd b
+        went (Some body) (Some rest) (Some left) a b =
+            let body_is : body ≡ flat_map stripe_bytes f.before.stripes ++ (flat_map segment_bytes (f.segments ++ NewLength n ∷ []) ++ (flat_map stripe_bytes (t ∷ ts) ++ left)) =
+            a ∙ ap (λ z. (flat_map stripe_bytes f.before.stripes ++ flat_map segment_bytes (f.segments ++ NewLength n ∷ [])) ++ z) b ∙ behind_front (flat_map stripe_bytes (t ∷ ts) ++ left) in
+            let p = parts_behind h n f.before.stripes (f.segments ++ NewLength n ∷ []) f.before.each begun gives true (nat_lt 0 part_moves) given_is (moved_is few) t ts left
+            (subst (AllByRecursion (λ (s : Stripe). IsBegun h s.segments s.code)) e s.each) (subst (IsAlone (nat_lt 0 part_moves)) e s.alone) (subst (λ z. lengths (all_segments z) ≡ []) e s.none) (many ∙ is) in
+            record {
+              height = n;
+              height_is = inl (subst (λ z. GivesHeight h z n) (sym body_is) (gives_height (flat_map stripe_bytes (t ∷ ts) ++ left)));
+              parts = record { stripes = f.before.stripes ++ joined_to (f.segments ++ NewLength n ∷ []) t ∷ ts; rest = left; body_is = body_is ∙ p.body_is; count = p.count; each = p.each; gives = p.gives };
+              line_is = line_is ∙ same_line h n count all_moves all_comments (length (f.before.stripes ++ joined_to (f.segments ++ NewLength n ∷ []) t ∷ ts)) (sum_by moves_in (f.before.stripes ++ joined_to (f.segments ++ NewLength n ∷ []) t ∷ ts))
+                  (min (sum_by comments_in (f.before.stripes ++ joined_to (f.segments ++ NewLength n ∷ []) t ∷ ts)) (2 ^ 64 - 1)) (is ∙ sym p.count) moves_are comments_are;
+            }
+
+    broken : (count : ℕ) (tail : List ℕ) (fault : Fault) → count ≡ stripe_count n h.l0 → SkipsFault h entities count true (nat_lt 0 part_moves) tail fault →
+        BodyRefused h fault (flat_map stripe_bytes f.before.stripes ++ (flat_map segment_bytes (f.segments ++ NewLength n ∷ []) ++ tail))
+    broken count tail fault is q = record {
+      height = n;
+      height_is = inl (gives_height tail);
+      broken = broken_behind h n f.before.stripes (f.segments ++ NewLength n ∷ []) f.before.each begun gives true (nat_lt 0 part_moves) given_is (moved_is few) entities (stripe_count n h.l0) tail fault (sym f.before.count_is)
+          (subst (λ k. SkipsFault h entities k true (nat_lt 0 part_moves) tail fault) is q);
+    }
+
+    pub joined_refused : (count : ℕ) (fault : Fault) → count ≡ stripe_count n h.l0 → Ends Truncated mid new (SkipsFault h entities count true (nat_lt 0 part_moves)) fault → fault ≢ Read → IfSome old (BodyRefused h fault)
+    joined_refused count fault is e other = went old mid taken (skipped_whole h entities count true (nat_lt 0 part_moves) mid new fault e other) where
+      went : (old mid : Option (List ℕ)) → Consumes old mid (flat_map stripe_bytes f.before.stripes ++ flat_map segment_bytes (f.segments ++ NewLength n ∷ [])) → IfSome mid (λ body. SkipsFault h entities count true (nat_lt 0 part_moves) body fault) → IfSome old (BodyRefused h fault)
+      went None mid a q = tt
+      went (Some body) None a q = absurd a
+      went (Some body) (Some rest) a q = subst (BodyRefused h fault) (sym (a ∙ behind_front rest)) (broken count rest fault is q)
+
+    pub joined_unread : (count : ℕ) (fault : Fault) → count ≡ stripe_count n h.l0 → Ends Truncated mid new (SkipsFault h entities count true (nat_lt 0 part_moves)) fault → fault ≡ Read → (given : List ℕ) × Consumes old new given × BodyUnfinished h given
+    joined_unread count fault is e read = (
+      (flat_map stripe_bytes f.before.stripes ++ flat_map segment_bytes (f.segments ++ NewLength n ∷ [])) ++ e.given,
+      Consumes-more old mid new (flat_map stripe_bytes f.before.stripes ++ flat_map segment_bytes (f.segments ++ NewLength n ∷ [])) e.given taken e.taken,
+      inl (subst (BodyRefused h Truncated) (sym (behind_front e.given)) (broken count e.given Truncated is (subst (λ x. SkipsFault h entities count true (nat_lt 0 part_moves) e.given (counted_as Truncated x)) read e.has_fault))),
+    )

@@ -1,0 +1,80 @@
+use Rattle.std.proofs.Common.{rules, cond, ◌∙◌, ap, subst, arith}
+use Rattle.std.specs.Io.KnownBytes.{prepend_known}
+use Rattle.t85_core.specs.Steps.Segments.{spot_at, code_bytes}
+use Rattle.t85_core.specs.Steps.Entity.{entity_known}
+use Rattle.t85_core.specs.Options.{fields_of}
+use Rattle.t85_core.specs.Steps.DecodeStripes.{StripeRead, StripeCut, DecodeStripeStepUnwritten, StripeUnwritten}
+use Rattle.t85_core.proofs.Bytes.Ends.{exit, on_ok, if_err}
+use Rattle.t85_core.specs.Failures.{CountsWrite}
+use Rattle.t85_core.specs.declared.fault.Fault.TheVariants.{Truncated}
+use Rattle.t85_core.proofs.Grammar.Faults.{stripe_faults, uncounted, unwritten}
+use Rattle.t85_core.proofs.Walks.InfoEnds.{exit_all}
+use Rattle.t85_core.proofs.Walks.StripeBegins.{move_within}
+use Rattle.t85_core.proofs.Decodings.StripePut.{head_begins, stripe_head, cut_unset}
+use Rattle.t85_core.proofs.Walks.Passed.{Consumes-none}
+use Rattle.t85_core.proofs.decoding.decode_stripe.Goals as goal
+
+pub returns-in_err-head-clause-err : goal.returns-in_err-head-clause-err
+returns-in_err-head-clause-err g c =
+    exit _ _ c.from_residual.ensures.1 (λ _ c' is. stripe_head (fields_of c.args.header.now) (spot_at c.args.place) c' _ _ c.args.rows _ _ c.args.header.now.some_width c.in_err-head.ensures.err)
+
+pub decode_code-requires-clause-to : goal.decode_code-requires-clause-to
+decode_code-requires-clause-to g c = move_within c.args.header.now.in_range c.in_ok-head.ensures.ok
+
+pub returns-clause-ok : goal.returns-clause-ok
+returns-clause-ok g c =
+    let known = ap g.S.ByteSource.known (search rules) in
+    let entity = c.new-entity.ensures in
+    let begun = ap (λ x. entity_known x (g.S.ByteSource.known c.new-entity.result.stream.now)) entity.first ∙ ap (λ m. prepend_known (code_bytes c.in_ok-head.head.code) (g.S.ByteSource.known m.now)) entity.lent in
+    on_ok c.decode_code.result (λ none read c' is.
+    subst (λ k. StripeRead (fields_of c.args.header.now) (spot_at c.args.place) (cond c.in_ok-head.head.given 1 0) c' (g.S.ByteSource.known c.args.stream.now) k c.args.rows c.decode_code.new.carried (g.P.ByteTarget.text c.args.target.now) (g.P.ByteTarget.text c.decode_code.new.target))
+    (ap (λ x. entity_known x (g.S.ByteSource.known c.decode_code.new.entity.stream.now)) none ∙ known)
+    (read _ _ _ c' _ _ (head_begins c.in_ok-head.ensures.ok c' c.shape.result c.args.carried.now _ (record { width_is = c.shape.ensures.width; mode_is = c.shape.ensures.mode }) is begun entity.first entity.marker entity.fault)))
+    c.decode_code.ensures.behind c.decode_code.ensures.ok
+
+pub returns-in_err-head-clause-unwritten : goal.returns-in_err-head-clause-unwritten
+returns-in_err-head-clause-unwritten g c =
+    exit (λ _. DecodeStripeStepUnwritten (fields_of c.args.header.now) _ _ _ _ _ _ _) _ c.from_residual.ensures.1 (λ c' is.
+    cut_unset _ _ _ _ _ _ _ _ _ _ _ (stripe_head (fields_of c.args.header.now) (spot_at c.args.place) c' _ _ c.args.rows _ _ c.args.header.now.some_width c.in_err-head.ensures.err) (Consumes-none (g.S.ByteSource.known c.read_head.new.stream)))
+
+pub returns-clause-unwritten : goal.returns-clause-unwritten
+returns-clause-unwritten g c =
+    let known = ap g.S.ByteSource.known (search rules) in
+    let entity = c.new-entity.ensures in
+    let begun = ap (λ x. entity_known x (g.S.ByteSource.known c.new-entity.result.stream.now)) entity.first ∙ ap (λ m. prepend_known (code_bytes c.in_ok-head.head.code) (g.S.ByteSource.known m.now)) entity.lent in
+    if_err c.decode_code.result (λ f none cut c' is.
+    subst (λ k. StripeUnwritten (fields_of c.args.header.now) (spot_at c.args.place) c' (g.S.ByteSource.known c.args.stream.now) k c.args.rows (g.P.ByteTarget.text c.args.target.now) (g.P.ByteTarget.text c.decode_code.new.target))
+    known
+    (cut _ _ _ c' _ _ (head_begins c.in_ok-head.ensures.ok c' c.shape.result c.args.carried.now _ (record { width_is = c.shape.ensures.width; mode_is = c.shape.ensures.mode }) is begun entity.first entity.marker entity.fault)))
+    c.decode_code.ensures.cut_behind c.decode_code.ensures.unwritten
+
+pub returns-clause-err : goal.returns-clause-err
+returns-clause-err g c =
+    let known = ap g.S.ByteSource.known (search rules) in
+    let entity = c.new-entity.ensures in
+    let begun = ap (λ x. entity_known x (g.S.ByteSource.known c.new-entity.result.stream.now)) entity.first ∙ ap (λ m. prepend_known (code_bytes c.in_ok-head.head.code) (g.S.ByteSource.known m.now)) entity.lent in
+    if_err c.decode_code.result (λ f none cut written c' is.
+    subst (λ k. StripeCut (fields_of c.args.header.now) (spot_at c.args.place) c' (g.S.ByteSource.known c.args.stream.now) k c.args.rows (g.P.ByteTarget.text c.args.target.now) (g.P.ByteTarget.text c.decode_code.new.target) f)
+    (ap (λ x. entity_known x (g.S.ByteSource.known c.decode_code.new.entity.stream.now)) (none written) ∙ known)
+    (cut written _ _ _ c' _ _ (head_begins c.in_ok-head.ensures.ok c' c.shape.result c.args.carried.now _ (record { width_is = c.shape.ensures.width; mode_is = c.shape.ensures.mode }) is begun entity.first entity.marker entity.fault)))
+    c.decode_code.ensures.cut_behind c.decode_code.ensures.err
+
+pub returns-in_err-head-clause-writes : goal.returns-in_err-head-clause-writes
+returns-in_err-head-clause-writes g c =
+    let e = c.in_err-head.ensures.err in
+    let none = unwritten _ (uncounted Truncated _ (stripe_faults e.has_fault.0)) in
+    exit_all (CountsWrite _ _) c.from_residual.result c.from_residual.ensures.1 (omega (arith, none))
+
+pub decode_code-requires-clause-begun : goal.decode_code-requires-clause-begun
+decode_code-requires-clause-begun g c =
+    let entity = c.new-entity.ensures in
+    let begun = ap (λ x. entity_known x (g.S.ByteSource.known c.new-entity.result.stream.now)) entity.first ∙ ap (λ m. prepend_known (code_bytes c.in_ok-head.head.code) (g.S.ByteSource.known m.now)) entity.lent in
+    record {
+      h = fields_of c.args.header.now;
+      spot = spot_at c.args.place;
+      heights = cond c.in_ok-head.head.given 1 0;
+      c = c.requires.carried.0;
+      segments = _;
+      known = _;
+      begins = head_begins c.in_ok-head.ensures.ok c.requires.carried.0 c.shape.result c.args.carried.now _ (record { width_is = c.shape.ensures.width; mode_is = c.shape.ensures.mode }) c.requires.carried.1 begun entity.first entity.marker entity.fault;
+    }

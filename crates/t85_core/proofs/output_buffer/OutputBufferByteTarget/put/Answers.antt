@@ -1,0 +1,61 @@
+use Rattle.std.proofs.Common.{◌≡◌, ◌≤◌, ◌-◌, length, take, drop, sym, refl, ◌∙◌, take-append-drop, length-drop, length-take, arith}
+use Rattle.std.proofs.lemmas.List.{take_rest}
+use Rattle.std.proofs.Math.Seq.{take-add}
+use Rattle.std.specs.Prelude.{Result, Ok, Err, OnErr}
+use Rattle.std.specs.Io.KnownBytes.{Keeps, append_known}
+use Rattle.t85_core.specs.Steps.Buffers.{held_of, known_length}
+use Rattle.t85_core.proofs.Bytes.Streams.{Appends-more, Appends-keeps}
+use Rattle.t85_core.proofs.Bytes.Held.{Keeps-same}
+use Rattle.t85_core.proofs.output_buffer.OutputBufferByteTarget.put.Goals as goal
+use Rattle.t85_core.proofs.output_buffer.OutputBufferByteTarget.put.Goals.{then-self-eq-SIZE+in_ok-write_held, else-self-eq-SIZE}
+
+where_told : {T E : Type 0} (r : Result T E) (P : Type 0) → P → OnErr r P
+where_told (Ok x) P p = tt
+where_told (Err e) P p = p
+
+pub returns-in_err-write_held-clause-cut : goal.returns-in_err-write_held-clause-cut
+returns-in_err-write_held-clause-cut g c = where_told c.from_residual.result _ (record {
+  front = take c.loop-taken.taken c.args.bytes.now;
+  rest = drop c.loop-taken.taken c.args.bytes.now;
+  text_is = sym (take-append-drop c.loop-taken.taken c.args.bytes.now);
+  appends = Appends-keeps _ _ _ _ c.loop-taken.invariant.text c.write_held.ensures.text;
+})
+
+pub loop-taken-preserved : goal.loop-taken-preserved
+loop-taken-preserved g c =
+    let old = c.loop-taken.self in
+    let new = c.if-self-eq-SIZE.self in
+    let kept : Keeps (append_known (g.W.Output.contents old.output.now) (held_of old.bytes old.at old.end)) (append_known (g.W.Output.contents new.output.now) (held_of new.bytes new.at new.end)) =
+    elim c.if-self-eq-SIZE.branch [
+      | then-self-eq-SIZE+in_ok-write_held w ↦ rw w.self-is w.write_held.ensures.text
+      | else-self-eq-SIZE w ↦ rw w.self-is (Keeps-same _)
+    ] in
+    let grows : known_length (g.W.Output.contents old.output.now) ≤ known_length (g.W.Output.contents new.output.now) =
+    elim c.if-self-eq-SIZE.branch [
+      | then-self-eq-SIZE+in_ok-write_held w ↦ rw w.self-is w.write_held.ensures.grows
+      | else-self-eq-SIZE w ↦ rw w.self-is (omega arith)
+    ] in
+    let unfailed : g.W.Output.failures new.output.now ≡ g.W.Output.failures old.output.now =
+    elim c.if-self-eq-SIZE.branch [
+      | then-self-eq-SIZE+in_ok-write_held w ↦ rw w.self-is w.in_ok-write_held.ensures.counts
+      | else-self-eq-SIZE w ↦ rw w.self-is refl
+    ] in
+    let same_writer : new.output.ghost_name ≡ old.output.ghost_name =
+    elim c.if-self-eq-SIZE.branch [
+      | then-self-eq-SIZE+in_ok-write_held w ↦ rw w.self-is w.write_held.ensures.same_writer
+      | else-self-eq-SIZE w ↦ rw w.self-is refl
+    ] in
+    let no_flush : g.W.Output.flushes new.output.now ≡ g.W.Output.flushes old.output.now =
+    elim c.if-self-eq-SIZE.branch [
+      | then-self-eq-SIZE+in_ok-write_held w ↦ rw w.self-is w.write_held.ensures.no_flush
+      | else-self-eq-SIZE w ↦ rw w.self-is refl
+    ] in
+    let more = rw take_rest at c.fill-taken.ensures.text in
+    record {
+      within = omega (arith, c.fill-taken.ensures.bound, length-drop c.loop-taken.taken c.args.bytes.now, length-take (length c.args.bytes.now - c.loop-taken.taken) (drop c.loop-taken.taken c.args.bytes.now), c.loop-taken.invariant.within);
+      text = rw take-add (Appends-more _ _ _ _ _ (Appends-keeps _ _ _ _ c.loop-taken.invariant.text kept) more);
+      grows = rw c.fill-taken.ensures.lent (let before = c.loop-taken.invariant.grows in omega (arith, grows, before));
+      unfailed = rw c.fill-taken.ensures.lent (unfailed ∙ c.loop-taken.invariant.unfailed);
+      same_writer = rw c.fill-taken.ensures.lent (same_writer ∙ c.loop-taken.invariant.same_writer);
+      no_flush = rw c.fill-taken.ensures.lent (no_flush ∙ c.loop-taken.invariant.no_flush);
+    }

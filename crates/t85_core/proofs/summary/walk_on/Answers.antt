@@ -1,0 +1,29 @@
+use Rattle.std.proofs.Common.{refl}
+use Rattle.t85_core.specs.Options.{fields_of}
+use Rattle.t85_core.proofs.Bytes.Ends.{exit, exit_of}
+use Rattle.t85_core.proofs.Walks.Found.{skips_faults, sought_whole}
+use Rattle.t85_core.proofs.Walks.HeightFound.{accepted}
+use Rattle.t85_core.proofs.Walks.Summed.{whole_line, joined_line, joined_refused, joined_unread}
+use Rattle.t85_core.proofs.summary.walk_on.Goals as goal
+
+pub returns-then-reached-count-clause-ok : goal.returns-then-reached-count-clause-ok
+returns-then-reached-count-clause-ok g c = λ known f.
+    whole_line (fields_of c.args.header.now) (accepted c.args.header.now) known _ _ _ _ _ _ _ f c.div_ceil-count.result _ c.div_ceil-count.ensures c.if-reached-count.true c.line_of.ensures
+
+pub returns-in_err-more-clause-err : goal.returns-in_err-more-clause-err
+returns-in_err-more-clause-err g c =
+    exit _ _ c.from_residual.ensures.1 (λ n known f.
+    joined_refused (fields_of c.args.header.now) (accepted c.args.header.now) known _ _ _ _ _ _ _ f c.requires.part _ c.div_ceil-count.result _ c.div_ceil-count.ensures c.in_err-more.ensures.err n)
+
+pub returns-in_err-more-clause-unread : goal.returns-in_err-more-clause-unread
+returns-in_err-more-clause-unread g c is =
+    exit_of c.from_residual.result c.from_residual.ensures.1 (λ same known f.
+    joined_unread (fields_of c.args.header.now) (accepted c.args.header.now) known _ _ _ _ _ _ _ f c.requires.part _ c.div_ceil-count.result _ c.div_ceil-count.ensures c.in_err-more.ensures.err same) is
+
+pub returns-in_err-more-clause-among : goal.returns-in_err-more-clause-among
+returns-in_err-more-clause-among g c = exit _ _ c.from_residual.ensures.1 (skips_faults (fields_of c.args.header.now) _ _ _ _ c.in_err-more.ensures.err)
+
+pub returns-clause-ok : goal.returns-clause-ok
+returns-clause-ok g c = λ known f.
+    joined_line (fields_of c.args.header.now) (accepted c.args.header.now) known _ _ _ _ _ _ _ f c.requires.part _ c.div_ceil-count.result _ _ _ _ _ _ c.div_ceil-count.ensures c.if-reached-count.false
+    (sought_whole (fields_of c.args.header.now) _ _ _ _ _ _ _ _ _ _ _ c.in_ok-more.ensures.ok) refl c.saturating_add.ensures c.saturating_add-2.ensures c.line_of-2.ensures

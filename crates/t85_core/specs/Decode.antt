@@ -1,0 +1,63 @@
+-- What `decode` and `find_height` leave of their input and output.
+use Rattle.std.specs.Prelude.{ℕ, ◌≡◌, ◌≢◌, Bool, List, ◌++◌, Option, IfSome, Result, OnOk, IfErr, IsErrOf, ◌+◌, ◌≤◌, false, IfOk}
+use Rattle.std.specs.Io.KnownBytes.{Appends, Consumes, Keeps}
+use Rattle.pbm_core.specs.Device.{AppendsBeginning}
+use Rattle.raster_core.specs.Raster.{Raster}
+use Rattle.t85_core.specs.declared.fault.Fault.{Fault}
+use Rattle.t85_core.specs.declared.fault.Fault.TheVariants.{Truncated, Read, Write}
+use Rattle.t85_core.specs.Header.{Fields, is_variable}
+use Rattle.t85_core.specs.Denotes.{DenotesAt}
+use Rattle.t85_core.specs.Fixed.{Fixes}
+use Rattle.t85_core.specs.Outcome.{IsOutcome, pbm_rows, pbm_text}
+use Rattle.t85_core.specs.Info.{IsBodyFault}
+use Rattle.t85_core.specs.Failures.{CountsBoth, CountsWrite, CountsRead}
+use Rattle.t85_core.specs.Height.{IsHeight, IsOpen}
+
+-- The image of the one raster that a body denotes was written.
+pub record WritesRaster (h : Fields) (height : ℕ) (body : List ℕ) (old new : Option (List ℕ)) : Type 0 where
+  pub raster : Raster
+  pub denotes : DenotesAt h height body raster
+  pub only : (other : Raster) → DenotesAt h height body other → other ≡ raster
+  pub appends : Appends old new (pbm_text raster)
+
+-- The header and the rows that a broken body fixes were written, and it fixes no other fault or rows.
+pub record WritesRows (h : Fields) (height : ℕ) (body : List ℕ) (fault : Fault) (old new : Option (List ℕ)) : Type 0 where
+  pub rows : List (List Bool)
+  pub fixes : Fixes h height body fault rows
+  pub only : (other : Fault) (others : List (List Bool)) → Fixes h height body other others → (other ≡ fault) × (others ≡ rows)
+  pub appends : Appends old new (pbm_rows h.xd height rows)
+
+-- What was written is a beginning of what is to be written for each body that begins with what was taken, however it goes on.
+pub record WritesImageFront (h : Fields) (height : ℕ) (in_old in_new out_old out_new : Option (List ℕ)) : Type 0 where
+  pub given : List ℕ
+  pub taken : Consumes in_old in_new given
+  pub appends : (rest : List ℕ) (fault : Option Fault) (text : List ℕ) → IsOutcome h height (given ++ rest) fault text → AppendsBeginning out_old out_new text
+
+-- What `decode` leaves for a header and a height. Of each device are given the known bytes and the count of failures,
+-- before the call and after it.
+pub record Decode (h : Fields) (height : ℕ) (in_old in_new : Option (List ℕ)) (reads_old reads_new : ℕ)
+    (out_old out_new : Option (List ℕ)) (writes_old writes_new : ℕ) (answer : Result (Unit {0}) Fault) : Type 0 where
+  pub whole : OnOk answer (IfSome in_old (λ body. WritesRaster h height body out_old out_new))
+  pub broken : IfErr answer (λ f. f ≢ Read → f ≢ Write → IfSome in_old (λ body. WritesRows h height body f out_old out_new))
+  -- a read failed, and what came up to there breaks at its end
+  pub unread : IsErrOf answer Read → (given : List ℕ) × Consumes in_old in_new given × WritesRows h height given Truncated out_old out_new
+  -- whatever the answer: where a write failed, too, and a read before it
+  pub front : WritesImageFront h height in_old in_new out_old out_new
+  pub among : IfErr answer (λ f. f ≢ Write → IsBodyFault f)
+  pub reads : CountsBoth reads_old reads_new answer
+  pub writes : CountsWrite writes_old writes_new answer
+
+-- What `find_height` leaves of the input that stands behind this header.
+pub record FindHeight (h : Fields) (in_old in_new : Option (List ℕ)) (reads_old reads_new : ℕ) (answer : Result ℕ Fault) : Type 0 where
+  -- the height of the body
+  pub found : IfOk answer (λ height. IfSome in_old (λ body. IsHeight h body height))
+  -- it may be decoded at, whatever the bytes are
+  pub from : IfOk answer (λ height. 1 ≤ height)
+  pub to : IfOk answer (λ height. height ≤ h.yd)
+  pub fixed : IfOk answer (λ height. is_variable h ≡ false → height ≡ h.yd)
+  -- nothing else is told than that a read failed, where what came up to there doesn't decide the height
+  pub among : IfErr answer (λ f. f ≡ Read)
+  pub unread : IsErrOf answer Read → (given : List ℕ) × Consumes in_old in_new given × IsOpen h given
+  pub counts : CountsRead reads_old reads_new answer
+  -- where the height doesn't change nothing is read
+  pub idle : is_variable h ≡ false → Keeps in_old in_new

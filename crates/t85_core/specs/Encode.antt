@@ -1,0 +1,94 @@
+-- What `encode` leaves of its input and output.
+use Rattle.std.specs.Prelude.{ℕ, ◌+◌, ◌≡◌, Bool, List, ◌++◌, length, Option, ◌/◌, ◌≢◌, ◌≤◌, ◌<◌, ⊤, true, take, IfSome, Result, OnOk, IfErr, IsErrOf, false}
+use Rattle.t85_core.specs.Jbg.{Settings, is_low, jbg, jbg_up_to}
+use Rattle.std.specs.Io.KnownBytes.{Appends, Consumes, Keeps}
+use Rattle.pbm_core.specs.declared.form.Form.{Form}
+use Rattle.pbm_core.specs.Image.{HoldsRows, RowFault, HasRowFault}
+use Rattle.pbm_core.specs.declared.fault.PbmFault.{PbmFault}
+use Rattle.pbm_core.specs.declared.fault.PbmFault.TheVariants as pbm
+use Rattle.raster_core.specs.Raster.{Raster, IsRaster, height}
+use Rattle.t85_core.specs.declared.fault.Fault.{Fault}
+use Rattle.t85_core.specs.declared.fault.Fault.TheVariants.{Write, AnnouncedLow, Pbm}
+use Rattle.t85_core.specs.Denotes.{Denotes}
+use Rattle.t85_core.specs.Failures.{CountsBoth, CountsWrite}
+
+-- a beginning of bytes
+pub record IsBeginning (front bytes : List ℕ) : Type 0 where
+  pub rest : List ℕ
+  pub bytes_are : bytes ≡ front ++ rest
+
+-- rows of this width as a raster
+abbrev pub raster_of : ℕ → List (List Bool) → Raster
+raster_of width rows = record { width = width; rows = rows }
+
+-- the faults of rows that are missing, and of a failed write
+abbrev pub IsEncodeFault : Fault → Type 0
+IsEncodeFault (Pbm pbm.Truncated) = ⊤
+IsEncodeFault (Pbm pbm.Read) = ⊤
+IsEncodeFault (Pbm pbm.BadDigit) = ⊤
+IsEncodeFault Write = ⊤
+IsEncodeFault fault = ⊥
+
+-- a raster of this size whose first rows are these
+pub record BeginsWith (width height' : ℕ) (rows : List (List Bool)) (raster : Raster) : Type 0 where
+  pub proper : IsRaster raster
+  pub width_is : raster.width ≡ width
+  pub height_is : height raster ≡ height'
+  pub first : take (length rows) raster.rows ≡ rows
+
+-- the whole code of these rows was written, and it denotes them
+pub record WritesCode (s : Settings) (form : Form) (width height' : ℕ) (body : List ℕ) (old new : Option (List ℕ)) : Type 0 where
+  pub rows : List (List Bool)
+  pub rest : List ℕ
+  pub holds : HoldsRows form body width rows rest
+  pub many : length rows ≡ height'
+  pub appends : Appends old new (jbg s (raster_of width rows))
+  pub denotes : Denotes (jbg s (raster_of width rows)) (raster_of width rows)
+
+-- The text holds the header, the comment and each stripe whose rows all came, and is a beginning of the whole.
+pub record HoldsStripes (s : Settings) (raster : Raster) (count : ℕ) (text : List ℕ) : Type 0 where
+  pub holds : IsBeginning (jbg_up_to s raster (count / s.stripe_rows)) text
+  pub begins : IsBeginning text (jbg s raster)
+
+-- The rows have this fault: the input ended, could not be read, or has a byte that is no digit. What stands written is a
+-- beginning of the code of each raster that begins with the rows that came.
+pub record WritesCodeBegun (s : Settings) (form : Form) (width height' : ℕ) (body : List ℕ) (fault : PbmFault) (old new : Option (List ℕ)) : Type 0 where
+  pub rows : List (List Bool)
+  pub rest : List ℕ
+  pub holds : HoldsRows form body width rows rest
+  pub few : length rows < height'
+  pub part : HasRowFault form width rest fault
+  pub text : List ℕ
+  pub begun : (raster : Raster) → BeginsWith width height' rows raster → HoldsStripes s raster (length rows) text
+  pub appends : Appends old new text
+
+-- What was written is a beginning of the code of each raster that begins with the rows that stand in these bytes. What
+-- is behind them ends within a row.
+pub record WritesCodeFront (s : Settings) (form : Form) (width height' : ℕ) (body : List ℕ) (old new : Option (List ℕ)) : Type 0 where
+  pub rows : List (List Bool)
+  pub rest : List ℕ
+  pub holds : HoldsRows form body width rows rest
+  pub few : length rows ≤ height'
+  pub fault : PbmFault
+  pub part : RowFault form width rest fault
+  pub text : List ℕ
+  pub begins : (raster : Raster) → BeginsWith width height' rows raster → IsBeginning text (jbg s raster)
+  pub appends : Appends old new text
+
+-- What `encode` leaves for these settings and an image of this size. Of each device are given the known bytes and the
+-- count of failures, before the call and after it.
+pub record Encode (s : Settings) (form : Form) (width height' : ℕ) (in_old in_new : Option (List ℕ)) (reads_old reads_new : ℕ)
+    (out_old out_new : Option (List ℕ)) (writes_old writes_new : ℕ) (answer : Result (Unit {0}) Fault) : Type 0 where
+  -- an announced height that is too low is told before all else, with nothing read and nothing written
+  pub low : IsErrOf answer AnnouncedLow → (is_low s height' ≡ true) × Keeps in_old in_new × Keeps out_old out_new
+  pub not_low : OnOk answer (is_low s height' ≡ false)
+  pub told_if_low : IfErr answer (λ f. f ≢ AnnouncedLow → is_low s height' ≡ false)
+  pub whole : OnOk answer (IfSome in_old (λ body. WritesCode s form width height' body out_old out_new))
+  pub short : (fault : PbmFault) → fault ≢ pbm.Read → IsErrOf answer (Pbm fault) → IfSome in_old (λ body. WritesCodeBegun s form width height' body fault out_old out_new)
+  -- a read failed, and what came up to there ends within the rows
+  pub unread : IsErrOf answer (Pbm pbm.Read) → (given : List ℕ) × Consumes in_old in_new given × WritesCodeBegun s form width height' given pbm.Truncated out_old out_new
+  -- whatever the answer, of just the bytes that were taken: where a write failed, too, and a read before it
+  pub front : (given : List ℕ) × Consumes in_old in_new given × WritesCodeFront s form width height' given out_old out_new
+  pub among : IfErr answer (λ f. f ≢ AnnouncedLow → IsEncodeFault f)
+  pub reads : CountsBoth reads_old reads_new answer
+  pub writes : CountsWrite writes_old writes_new answer

@@ -1,0 +1,100 @@
+-- The laws of streams, in which height' is the height in use: from 1 to the header's.
+pub mod Worked
+use Rattle.std.specs.Prelude.{ℕ, ◌≡◌, ◌≤◌, ◌⊎◌, Bool, List, ◌∷◌, ◌++◌, length, take, Option}
+use Rattle.qm_core.specs.Code.{IsBytes}
+use Rattle.raster_core.specs.Raster.{Raster, IsRaster, height}
+use Rattle.t85_core.specs.declared.fault.Fault.{Fault}
+use Rattle.t85_core.specs.Header.{Fields, IsAccepted}
+use Rattle.t85_core.specs.Grammar.{Segment, Stripe, Parts}
+use Rattle.t85_core.specs.Refusal.{BodyFault}
+use Rattle.t85_core.specs.Height.{IsHeight}
+use Rattle.t85_core.specs.Denotes.{DenotesAt, Denotes}
+use Rattle.t85_core.specs.Fixed.{Fixes, AreDecided, begun_stripes}
+use Rattle.t85_core.specs.Outcome.{IsOutcome}
+use Rattle.t85_core.specs.Jbg.{Settings, AreSettings, IsAnnounced, jbg}
+
+-- an accepted header, and a height in use
+pub record IsInUse (h : Fields) (height' : ℕ) : Type 0 where
+  pub accepted : IsAccepted h
+  pub from : 1 ≤ height'
+  pub to : height' ≤ h.yd
+
+-- a body denotes one raster at most
+abbrev pub OneRaster : Type 0
+OneRaster =
+    (h : Fields) (height' : ℕ) (body : List ℕ) (one other : Raster) → IsInUse h height' →
+    DenotesAt h height' body one → DenotesAt h height' body other → other ≡ one
+
+-- a body that has its parts denotes a raster
+abbrev pub SomeRaster : Type 0
+SomeRaster =
+    (h : Fields) (height' : ℕ) (body : List ℕ) → IsInUse h height' → Parts h height' body →
+    (raster : Raster) × DenotesAt h height' body raster
+
+-- a stream denotes one raster at most
+abbrev pub OneRasterOfStream : Type 0
+OneRasterOfStream = (bytes : List ℕ) (one other : Raster) → Denotes bytes one → Denotes bytes other → other ≡ one
+
+-- a body that has its parts has no fault
+abbrev pub WholeOrBroken : Type 0
+WholeOrBroken =
+    (h : Fields) (height' : ℕ) (body : List ℕ) (fault : Fault) → IsInUse h height' →
+    Parts h height' body → BodyFault h height' body fault → ⊥
+
+-- a body of bytes has its parts or a fault
+abbrev pub PartsOrFault : Type 0
+PartsOrFault =
+    (h : Fields) (height' : ℕ) (body : List ℕ) → IsBytes body →
+    Parts h height' body ⊎ ((fault : Fault) × BodyFault h height' body fault)
+
+-- a body with a fault fixes rows: there is a longest list that is decided
+abbrev pub SomeFixed : Type 0
+SomeFixed =
+    (h : Fields) (height' : ℕ) (body : List ℕ) (fault : Fault) → IsInUse h height' →
+    BodyFault h height' body fault → (rows : List (List Bool)) × Fixes h height' body fault rows
+
+-- a body fixes one fault at most, and one list of rows
+abbrev pub OneFixed : Type 0
+OneFixed =
+    (h : Fields) (height' : ℕ) (body : List ℕ) (fault other : Fault) (rows others : List (List Bool)) → IsInUse h height' →
+    Fixes h height' body fault rows → Fixes h height' body other others → (fault ≡ other) × (rows ≡ others)
+
+-- Rows that are decided are the first rows of each raster that the stream may still come to denote.
+abbrev pub DecidedStays : Type 0
+DecidedStays =
+    (h : Fields) (height' : ℕ) (stripes : List Stripe) (segments : List Segment) (code more : List ℕ) (reset : Bool) (later : List Stripe)
+    (flags : List Bool) (rows : List (List Bool)) (body : List ℕ) (raster : Raster) → IsInUse h height' → IsBytes code → IsBytes more →
+    AreDecided h height' (begun_stripes stripes segments code) (length stripes) code flags rows →
+    (denotes : DenotesAt h height' body raster) →
+    denotes.parts.stripes ≡ stripes ++ record { segments = segments; code = code ++ more; reset = reset } ∷ later →
+    take (length rows) raster.rows ≡ rows
+
+-- a body has an outcome, and no other
+pub record HasOutcome (h : Fields) (height' : ℕ) (body : List ℕ) : Type 0 where
+  pub fault : Option Fault
+  pub text : List ℕ
+  pub is : IsOutcome h height' body fault text
+  pub only : (other : Option Fault) (other_text : List ℕ) → IsOutcome h height' body other other_text → (other ≡ fault) × (other_text ≡ text)
+
+-- For each body of bytes there is one answer and one text: its raster's, or a fault and the rows that are fixed.
+abbrev pub OneOutcome : Type 0
+OneOutcome = (h : Fields) (height' : ℕ) (body : List ℕ) → IsInUse h height' → IsBytes body → HasOutcome h height' body
+
+-- the stream that is written for a raster denotes it
+abbrev pub CodeDenotes : Type 0
+CodeDenotes =
+    (s : Settings) (raster : Raster) → AreSettings s → IsRaster raster → IsAnnounced s (height raster) →
+    Denotes (jbg s raster) raster
+
+-- a body has one height at most
+abbrev pub OneHeight : Type 0
+OneHeight =
+    (h : Fields) (body : List ℕ) (one other : ℕ) → IsAccepted h → IsHeight h body one → IsHeight h body other → other ≡ one
+
+-- a body of bytes has a height
+abbrev pub SomeHeight : Type 0
+SomeHeight = (h : Fields) (body : List ℕ) → IsAccepted h → IsBytes body → (height' : ℕ) × IsHeight h body height'
+
+-- it is in use, from 1 to the header's
+abbrev pub HeightWithin : Type 0
+HeightWithin = (h : Fields) (body : List ℕ) (height' : ℕ) → IsAccepted h → IsHeight h body height' → IsInUse h height'

@@ -1,0 +1,195 @@
+-- What a walk passes that looks for a height, and goes on behind one.
+use Rattle.std.specs.Prelude.{ℕ, ◌+◌, ◌-◌, ◌≡◌, ◌≤◌, ◌<◌, ◌^◌, ◌⊎◌, ⊤, Bool, true, false, not, List, [], ◌∷◌, ◌++◌, Option, Some, None, IfSome, length, min, sum_by, count_by, flat_map, if◌then◌else◌, IsTrue}
+use Rattle.std.specs.List.{AllByRecursion}
+use Rattle.std.specs.Io.KnownBytes.{Consumes}
+use Rattle.qm_core.specs.Code.{stuffed}
+use Rattle.t85_core.specs.declared.fault.Fault.{Fault}
+use Rattle.t85_core.specs.declared.fault.Fault.TheVariants.{Truncated}
+use Rattle.t85_core.specs.Header.{Fields}
+use Rattle.t85_core.specs.Grammar.{Segment, NewLength, Comment, segment_bytes, is_move, is_comment, lengths, is_nil, Stripe, stripe_bytes, all_segments, stripe_count, moves_in, comments_in, is_valid_length, IsLegal, IsBegun, AreStripes, Parts}
+use Rattle.t85_core.specs.Refusal.{rest_fault, BodyFault}
+use Rattle.t85_core.specs.declared.segments.Code.{Code}
+use Rattle.t85_core.specs.declared.segments.Code.TheVariants as code
+use Rattle.t85_core.specs.Steps.Segments.{PassesCode, CodeFault}
+use Rattle.t85_core.specs.Info.{line_text, numbers_of}
+use Rattle.t85_core.specs.Height.{IsHeight, IsOpen}
+
+-- The fault of a rest behind so many entities, whatever the height in use is.
+abbrev pub FaultAnyHeight : Fields → ℕ → Bool → ℕ → Bool → List ℕ → Fault → Type 0
+FaultAnyHeight h entities given moves in_code rest fault =
+    (height : ℕ) → rest_fault h (record { height = height; entities = entities; heights = if given then 1 else 0 }) moves in_code rest ≡ Some fault
+
+-- The code begins so, and is passed with its end marker.
+abbrev pub PassesRest : Code → Option (List ℕ) → Option (List ℕ) → Type 0
+PassesRest (code.Byte b) old new = (reset : Bool) × PassesCode old new reset
+PassesRest (code.Marker reset) old new = new ≡ old
+
+-- it breaks before its end marker
+abbrev pub RestBreaks : Code → List ℕ → Fault → Type 0
+RestBreaks (code.Byte b) given fault = CodeFault given fault
+RestBreaks (code.Marker reset) given fault = ⊥
+
+-- A whole stripe, in which no height is given; of it, or of what is left of it behind a move, how many moves and comments
+-- it has.
+pub record SkipsStripe (h : Fields) (moved : Bool) (old new : Option (List ℕ)) (moves comments : ℕ) : Type 0 where
+  pub stripe : Stripe
+  pub whole : IsBegun h stripe.segments stripe.code
+  pub alone : (if moved then 1 else 0) + count_by is_move stripe.segments ≤ 1
+  pub none : lengths stripe.segments ≡ []
+  pub moves_are : moves ≡ moves_in stripe
+  pub comments_are : comments ≡ min (comments_in stripe) (2 ^ 64 - 1)
+  pub taken : Consumes old new (stripe_bytes stripe)
+
+-- Segments of a stripe, and behind them the first valid height.
+pub record SkipsTo (h : Fields) (entities : ℕ) (given moved : Bool) (old new : Option (List ℕ)) (moves comments height : ℕ) : Type 0 where
+  pub segments : List Segment
+  pub begun : IsBegun h segments []
+  pub alone : (if moved then 1 else 0) + count_by is_move segments ≤ 1
+  pub none : lengths segments ≡ []
+  pub ungiven : given ≡ false
+  pub legal : IsLegal h (NewLength height)
+  pub valid : is_valid_length h entities height ≡ true
+  pub moves_are : moves ≡ count_by is_move segments
+  pub comments_are : comments ≡ min (count_by is_comment segments) (2 ^ 64 - 1)
+  pub taken : Consumes old new (flat_map segment_bytes segments ++ segment_bytes (NewLength height))
+
+-- the one or the other
+abbrev pub Skips : Fields → ℕ → Bool → Bool → Option (List ℕ) → Option (List ℕ) → ℕ → ℕ → Option ℕ → Type 0
+Skips h entities given moved old new moves comments None = SkipsStripe h moved old new moves comments
+Skips h entities given moved old new moves comments (Some height) = SkipsTo h entities given moved old new moves comments height
+
+-- A stripe that breaks before a height is given in it.
+pub record SkipFault (h : Fields) (entities : ℕ) (given moved : Bool) (bytes : List ℕ) (fault : Fault) : Type 0 where
+  pub segments : List Segment
+  pub code : List ℕ
+  pub rest : List ℕ
+  pub bytes_are : bytes ≡ flat_map segment_bytes segments ++ (stuffed code ++ rest)
+  pub begun : IsBegun h segments code
+  pub alone : (if moved then 1 else 0) + count_by is_move segments ≤ 1
+  pub none : lengths segments ≡ []
+  pub rest_has : FaultAnyHeight h entities given ((if moved then 1 else 0) + count_by is_move segments) (not (is_nil code)) rest fault
+
+-- whether a move stands before what is next: none behind a whole stripe
+abbrev pub moved_behind : Bool → List Stripe → Bool
+moved_behind moved [] = moved
+moved_behind moved (s ∷ stripes) = false
+
+-- the first stripe has no move where one stands before it
+abbrev pub IsAlone : Bool → List Stripe → Type 0
+IsAlone moved [] = ⊤
+IsAlone moved (s ∷ stripes) = (if moved then 1 else 0) + count_by is_move s.segments ≤ 1
+
+-- So many whole stripes, in which no height is given.
+pub record SkipsStripes (h : Fields) (moved : Bool) (count : ℕ) (old new : Option (List ℕ)) (moves comments : ℕ) : Type 0 where
+  pub stripes : List Stripe
+  pub count_is : length stripes ≡ count
+  pub each : AreStripes h stripes
+  pub alone : IsAlone moved stripes
+  pub none : lengths (all_segments stripes) ≡ []
+  pub moves_are : moves ≡ sum_by moves_in stripes
+  pub comments_are : comments ≡ min (sum_by comments_in stripes) (2 ^ 64 - 1)
+  pub taken : Consumes old new (flat_map stripe_bytes stripes)
+
+-- stripes, and behind them segments and the first valid height
+pub record SkipsStripesTo (h : Fields) (from : ℕ) (given moved : Bool) (old new : Option (List ℕ)) (entities moves comments part_moves part_comments height : ℕ) : Type 0 where
+  pub mid : Option (List ℕ)
+  pub count : ℕ
+  pub entities_are : entities ≡ from + count
+  pub before : SkipsStripes h moved count old mid moves comments
+  pub part : SkipsTo h entities given (moved_behind moved before.stripes) mid new part_moves part_comments height
+
+-- stripes, and behind them one that breaks before a height is given
+pub record SkipsFault (h : Fields) (from count : ℕ) (given moved : Bool) (bytes : List ℕ) (fault : Fault) : Type 0 where
+  pub stripes : List Stripe
+  pub tail : List ℕ
+  pub bytes_are : bytes ≡ flat_map stripe_bytes stripes ++ tail
+  pub fewer : from + length stripes < count
+  pub each : AreStripes h stripes
+  pub alone : IsAlone moved stripes
+  pub none : lengths (all_segments stripes) ≡ []
+  pub tail_has : SkipFault h (from + length stripes) given (moved_behind moved stripes) tail fault
+
+-- all stripes, or some and a height behind them
+abbrev pub Sought : Fields → ℕ → ℕ → Bool → Bool → Option (List ℕ) → Option (List ℕ) → ℕ → ℕ → ℕ → ℕ → ℕ → Option ℕ → Type 0
+Sought h from count given moved old new entities moves comments part_moves part_comments None =
+    (entities ≡ count) × (part_moves ≡ 0) × SkipsStripes h moved (count - from) old new moves comments
+Sought h from count given moved old new entities moves comments part_moves part_comments (Some height) =
+    (entities < count) × SkipsStripesTo h from given moved old new entities moves comments part_moves part_comments height
+
+-- behind the last stripe: comments
+pub record Comments (h : Fields) (segments : List Segment) : Type 0 where
+  pub comments : AllByRecursion (λ s. IsTrue (is_comment s)) segments
+  pub legal : AllByRecursion (IsLegal h) segments
+
+-- and a valid height
+pub record LooksTo (h : Fields) (entities : ℕ) (old new : Option (List ℕ)) (height : ℕ) : Type 0 where
+  pub segments : List Segment
+  pub are : Comments h segments
+  pub legal : IsLegal h (NewLength height)
+  pub valid : is_valid_length h entities height ≡ true
+  pub taken : Consumes old new (flat_map segment_bytes segments ++ segment_bytes (NewLength height))
+
+-- and what is neither a comment nor a valid height
+pub record LookEnds (h : Fields) (entities : ℕ) (rest : List ℕ) : Type 0 where
+  pub segments : List Segment
+  pub last : List ℕ
+  pub are : Comments h segments
+  pub no_height : (n : ℕ) (more : List ℕ) → is_valid_length h entities n ≡ true → last ≡ segment_bytes (NewLength n) ++ more → ⊥
+  pub no_comment : (text more : List ℕ) → length text < 2 ^ 32 → last ≡ segment_bytes (Comment text) ++ more → ⊥
+  pub rest_is : rest ≡ flat_map segment_bytes segments ++ last
+
+-- or the bytes end, or a read failed, before that is known
+pub record LookOpen (h : Fields) (entities : ℕ) (given : List ℕ) : Type 0 where
+  pub segments : List Segment
+  pub rest : List ℕ
+  pub are : Comments h segments
+  pub given_is : given ≡ flat_map segment_bytes segments ++ rest
+  pub cut : FaultAnyHeight h entities false 1 false rest Truncated
+
+-- The height that the body gives was found.
+pub record FindsGiven (h : Fields) (old new : Option (List ℕ)) (entities moves comments part_moves part_comments height : ℕ) : Type 0 where
+  pub mid : Option (List ℕ)
+  pub before : SkipsStripes h false entities old mid moves comments
+  pub segments : List Segment
+  pub begun : IsBegun h segments []
+  pub none : lengths segments ≡ []
+  pub legal : IsLegal h (NewLength height)
+  pub valid : is_valid_length h entities height ≡ true
+  pub within : entities ≤ stripe_count h.yd h.l0
+  pub behind : entities ≡ stripe_count h.yd h.l0 → AllByRecursion (λ s. IsTrue (is_comment s)) segments
+  pub part_moves_are : part_moves ≡ count_by is_move segments
+  pub part_comments_are : entities < stripe_count h.yd h.l0 → part_comments ≡ min (count_by is_comment segments) (2 ^ 64 - 1)
+  pub taken : Consumes mid new (flat_map segment_bytes segments ++ segment_bytes (NewLength height))
+
+-- All stripes that the header's height makes were passed, and the body gives no height.
+pub record FindsNone (h : Fields) (old new : Option (List ℕ)) (entities moves comments : ℕ) : Type 0 where
+  pub mid : Option (List ℕ)
+  pub before : SkipsStripes h false entities old mid moves comments
+  pub all : entities ≡ stripe_count h.yd h.l0
+  pub height_is : IfSome old (λ body. IsHeight h body h.yd)
+
+-- the one or the other
+abbrev pub Finds : Fields → Option (List ℕ) → Option (List ℕ) → ℕ → ℕ → ℕ → ℕ → ℕ → Option ℕ → Type 0
+Finds h old new entities moves comments part_moves part_comments None = FindsNone h old new entities moves comments
+Finds h old new entities moves comments part_moves part_comments (Some height) = FindsGiven h old new entities moves comments part_moves part_comments height
+
+-- a read failed before it was known whether the body gives a height: in the stripes, or behind the last of them
+abbrev pub FindsOpen : Fields → List ℕ → Type 0
+FindsOpen h given = SkipsFault h 0 (stripe_count h.yd h.l0) false false given Truncated ⊎ IsOpen h given
+
+-- The line of a body at its height.
+pub record BodyLine (h : Fields) (line body : List ℕ) : Type 0 where
+  pub height : ℕ
+  pub height_is : IsHeight h body height
+  pub parts : Parts h height body
+  pub line_is : line ≡ line_text (numbers_of h height parts.stripes)
+
+-- a body that hasn't its parts at its height
+pub record BodyRefused (h : Fields) (fault : Fault) (body : List ℕ) : Type 0 where
+  pub height : ℕ
+  pub height_is : IsHeight h body height
+  pub broken : BodyFault h height body fault
+
+-- a body that ends too early at its height, or before that is known
+abbrev pub BodyUnfinished : Fields → List ℕ → Type 0
+BodyUnfinished h given = BodyRefused h Truncated given ⊎ IsOpen h given

@@ -1,0 +1,89 @@
+-- What is carried from row to row, and from stripe to stripe.
+use Rattle.std.specs.Prelude.{ℕ, ◌+◌, ◌-◌, ◌≡◌, Bool, true, false, List, [], ◌∷◌, ◌++◌, length, min, ◌==◌, if◌then◌else◌, Option, Some, None}
+use Rattle.qm_core.specs.Place.{State, Estimate, start, fresh, after}
+use Rattle.qm_core.specs.Code.{Lies}
+use Rattle.raster_core.specs.Raster.{white_row}
+use Rattle.raster_core.specs.Lines.{Lines, Mode, row_events, IsLegalFlag}
+use Rattle.t85_core.specs.Header.{Fields}
+use Rattle.t85_core.specs.Grammar.{Stripe, IsBegun}
+use Rattle.t85_core.specs.Coding.{mode_of, move_of}
+
+-- RowStart two rows: the coder's state, the adaptive pixel's offset, whether the row before was typical, and the two
+-- rows above the next one.
+pub record RowStart : Type 0 where
+  pub state : State
+  pub offset : ℕ
+  pub previous : Bool
+  pub above : List Bool
+  pub second : List Bool
+
+-- a move takes effect at its row of the stripe
+abbrev pub offset_at : Option (ℕ × ℕ) → ℕ → ℕ → ℕ
+offset_at None r offset = offset
+offset_at (Some move) r offset = if move.0 == r then move.1 else offset
+
+-- the next row with those above it
+abbrev pub lines_with : RowStart → List Bool → Lines
+lines_with b row = record { row = row; above = b.above; second = b.second }
+
+-- after row r of a stripe
+abbrev pub after_row : Mode → Option (ℕ × ℕ) → ℕ → RowStart → List Bool → Bool → RowStart
+after_row mode move r b row flag = record {
+  state = after b.state (row_events mode (lines_with b row) (offset_at move r b.offset) b.previous flag);
+  offset = offset_at move r b.offset;
+  previous = flag;
+  above = row;
+  second = b.above;
+}
+
+-- a row of this width with a legal flag
+pub record IsNextRow (width : ℕ) (mode : Mode) (b : RowStart) (row : List Bool) (flag : Bool) : Type 0 where
+  pub wide : length row ≡ width
+  pub legal : IsLegalFlag mode (lines_with b row) flag
+
+-- rows of a stripe, from row r on
+abbrev pub Run : ℕ → Mode → Option (ℕ × ℕ) → ℕ → RowStart → List (List Bool) → List Bool → RowStart → Type 0
+Run width mode move r b [] [] last = b ≡ last
+Run width mode move r b [] (flag ∷ flags) last = ⊥
+Run width mode move r b (row ∷ rows) [] last = ⊥
+Run width mode move r b (row ∷ rows) (flag ∷ flags) last =
+    IsNextRow width mode b row flag × Run width mode move (r + 1) (after_row mode move r b row flag) rows flags last
+
+-- between two stripes: what the contexts have learned, and the rest of what is carried
+pub record StripeStart : Type 0 where
+  pub learned : List Estimate
+  pub offset : ℕ
+  pub previous : Bool
+  pub above : List Bool
+  pub second : List Bool
+
+-- at the top of the image, and after a reset
+abbrev pub image_start : ℕ → StripeStart
+image_start width = record { learned = fresh; offset = 0; previous = false; above = white_row width; second = white_row width }
+
+-- a stripe begins its code anew
+abbrev pub first_row_start : StripeStart → RowStart
+first_row_start c = record { state = record { place = start; learned = c.learned }; offset = c.offset; previous = c.previous; above = c.above; second = c.second }
+
+-- a stripe ends in SDRST, or in SDNORM
+abbrev pub next_stripe_start : ℕ → Bool → RowStart → StripeStart
+next_stripe_start width true b = image_start width
+next_stripe_start width false b = record { learned = b.state.learned; offset = b.offset; previous = b.previous; above = b.above; second = b.second }
+
+-- A whole stripe of so many rows: its code lies where its rows lead.
+pub record StripeRun (h : Fields) (count : ℕ) (c : StripeStart) (s : Stripe) (rows : List (List Bool)) (flags : List Bool) (next : StripeStart) : Type 0 where
+  pub whole : IsBegun h s.segments s.code
+  pub last : RowStart
+  pub run : Run h.xd (mode_of h.options) (move_of s.segments) 0 (first_row_start c) rows flags last
+  pub many : length rows ≡ count
+  pub lies : Lies s.code last.state.place
+  pub next_is : next ≡ next_stripe_start h.xd s.reset last
+
+-- Stripes one after another, where so many rows are still to come.
+abbrev pub StripesRun : Fields → ℕ → StripeStart → List Stripe → List (List Bool) → List Bool → StripeStart → Type 0
+StripesRun h left c [] rows flags next = (rows ≡ []) × (flags ≡ []) × (c ≡ next)
+StripesRun h left c (s ∷ stripes) rows flags next =
+    (first : List (List Bool)) × (rest : List (List Bool)) × (first_flags : List Bool) × (rest_flags : List Bool) × (mid : StripeStart)
+    × (rows ≡ first ++ rest) × (flags ≡ first_flags ++ rest_flags)
+    × StripeRun h (min left h.l0) c s first first_flags mid
+    × StripesRun h (left - h.l0) mid stripes rest rest_flags next

@@ -1,0 +1,66 @@
+-- The stream of a raster as an encoder sees it, carried from row to row and from stripe to stripe.
+use Rattle.std.specs.Prelude.{ℕ, ◌+◌, ◌≡◌, Bool, List, [], ◌∷◌, ◌++◌, length, Option, option_map}
+use Rattle.qm_core.specs.Code.{code_of, stuffed}
+use Rattle.raster_core.specs.Lines.{Lines, Mode, may_be_typical}
+use Rattle.raster_core.specs.Offset.{chosen_offset}
+use Rattle.t85_core.specs.Grammar.{Stripe, stripe_bytes}
+use Rattle.t85_core.specs.Coding.{mode_of}
+use Rattle.t85_core.specs.Steps.State.{RowStart, StripeStart, first_row_start, image_start, lines_with, after_row, next_stripe_start}
+use Rattle.t85_core.specs.Jbg.{Settings, move_segments}
+use Rattle.t85_core.specs.Encode.{IsBeginning}
+
+-- the next row is typical wherever it may be
+abbrev pub next_flag : Mode → RowStart → List Bool → Bool
+next_flag mode b row = may_be_typical mode (lines_with b row)
+
+-- after these rows of a stripe, from row r on
+abbrev pub after_rows : Mode → Option (ℕ × ℕ) → ℕ → RowStart → List (List Bool) → RowStart
+after_rows mode move r b [] = b
+after_rows mode move r b (row ∷ rows) = after_rows mode move (r + 1) (after_row mode move r b row (next_flag mode b row)) rows
+
+-- each of them with the two rows above it
+abbrev pub lines_down : List Bool → List Bool → List (List Bool) → List Lines
+lines_down above second [] = []
+lines_down above second (row ∷ rows) = record { row = row; above = above; second = second } ∷ lines_down row above rows
+
+-- What goes from stripe to stripe: what is carried, and the rows of the stripe before, which choose the next offset.
+pub record EncoderStart : Type 0 where
+  pub carry : StripeStart
+  pub counted : List Lines
+
+-- at the top of the image
+abbrev pub first_encoder_start : ℕ → EncoderStart
+first_encoder_start width = record { carry = image_start width; counted = [] }
+
+-- the move before the next stripe
+abbrev pub next_move : Settings → ℕ → EncoderStart → Option (ℕ × ℕ)
+next_move s width at = option_map (λ t. (0, t)) (chosen_offset (mode_of s.options).two_line s.most_offset width at.counted at.carry.offset)
+
+-- after these rows of it
+abbrev pub row_start_in : Settings → ℕ → EncoderStart → List (List Bool) → RowStart
+row_start_in s width at rows = after_rows (mode_of s.options) (next_move s width at) 0 (first_row_start at.carry) rows
+
+-- it is written so, where these are its rows
+abbrev pub next_stripe : Settings → ℕ → EncoderStart → List (List Bool) → Stripe
+next_stripe s width at rows = record {
+  segments = move_segments (next_move s width at);
+  code = code_of (row_start_in s width at rows).state.place;
+  reset = s.reset;
+}
+
+-- and this goes on to the stripe behind it
+abbrev pub next_encoder_start : Settings → ℕ → EncoderStart → List (List Bool) → EncoderStart
+next_encoder_start s width at rows = record {
+  carry = next_stripe_start width s.reset (row_start_in s width at rows);
+  counted = lines_down at.carry.above at.carry.second rows;
+}
+
+-- The bytes are a beginning of the code of each stripe of so many rows that begins with these.
+abbrev pub BeginsCode : Mode → Option (ℕ × ℕ) → StripeStart → ℕ → List (List Bool) → List ℕ → Type 0
+BeginsCode mode move c count rows bytes =
+    (later : List (List Bool)) → length rows + length later ≡ count → IsBeginning bytes (stuffed (code_of (after_rows mode move 0 (first_row_start c) (rows ++ later)).state.place))
+
+-- The same of a stripe with its segments and its end marker.
+abbrev pub BeginsStripe : Settings → ℕ → EncoderStart → ℕ → List (List Bool) → List ℕ → Type 0
+BeginsStripe s width at count rows bytes =
+    (later : List (List Bool)) → length rows + length later ≡ count → IsBeginning bytes (stripe_bytes (next_stripe s width at (rows ++ later)))

@@ -1,0 +1,73 @@
+-- What `to_jbg` leaves of its input and output.
+use Rattle.std.specs.Prelude.{ℕ, ◌≡◌, ◌≢◌, ◌⊎◌, Bool, true, List, [], Option, IfSome, Result, OnOk, IfErr, IsErrOf, false}
+use Rattle.std.specs.Io.KnownBytes.{Appends, Consumes, Keeps}
+use Rattle.pbm_core.specs.declared.form.Form.{Form}
+use Rattle.pbm_core.specs.Image.{IsPbm}
+use Rattle.pbm_core.specs.Outcome.{HasHeader, HasFault}
+use Rattle.pbm_core.specs.Refusal.{HeaderFault}
+use Rattle.pbm_core.specs.declared.fault.PbmFault.{PbmFault}
+use Rattle.pbm_core.specs.declared.fault.PbmFault.TheVariants as pbm
+use Rattle.raster_core.specs.Raster.{Raster, IsRaster}
+use Rattle.t85_core.specs.declared.fault.Fault.{Fault}
+use Rattle.t85_core.specs.declared.fault.Fault.TheVariants.{Write, OutOfMemory, AnnouncedLow, Pbm}
+use Rattle.t85_core.specs.Denotes.{Denotes}
+use Rattle.t85_core.specs.Jbg.{Settings, is_low, jbg}
+use Rattle.t85_core.specs.Failures.{CountsBoth, CountsWrite}
+use Rattle.t85_core.specs.Encode.{WritesCodeBegun, WritesCodeFront}
+
+-- The code of the raster of a PBM was written, and it denotes that raster.
+pub record WritesStream (s : Settings) (bytes : List ℕ) (old new : Option (List ℕ)) : Type 0 where
+  pub raster : Raster
+  pub rest : List ℕ
+  pub is : IsPbm bytes raster.width raster.rows rest
+  pub proper : IsRaster raster
+  pub appends : Appends old new (jbg s raster)
+  pub denotes : Denotes (jbg s raster) raster
+
+-- A header that is accepted, and behind it rows that have this fault.
+pub record WritesStreamBegun (s : Settings) (bytes : List ℕ) (fault : PbmFault) (old new : Option (List ℕ)) : Type 0 where
+  pub form : Form
+  pub width : ℕ
+  pub height' : ℕ
+  pub body : List ℕ
+  pub header : HasHeader bytes form width height' body
+  pub writes : WritesCodeBegun s form width height' body fault old new
+
+-- A header that is accepted, and behind it rows of which a beginning was written.
+pub record WritesStreamFront (s : Settings) (bytes : List ℕ) (old new : Option (List ℕ)) : Type 0 where
+  pub form : Form
+  pub width : ℕ
+  pub height' : ℕ
+  pub body : List ℕ
+  pub header : HasHeader bytes form width height' body
+  pub writes : WritesCodeFront s form width height' body old new
+
+-- a header that is accepted, and nothing behind it; whether the announced height is too low
+pub record HasSize (s : Settings) (low : Bool) (bytes : List ℕ) : Type 0 where
+  pub form : Form
+  pub width : ℕ
+  pub height' : ℕ
+  pub header : HasHeader bytes form width height' []
+  pub low_is : is_low s height' ≡ low
+
+-- What was written where a PBM is refused: nothing for its header, and a beginning where rows are missing.
+abbrev pub RefusesPbm : Settings → List ℕ → PbmFault → Option (List ℕ) → Option (List ℕ) → Type 0
+RefusesPbm s bytes fault old new = (HasFault bytes fault × Keeps old new) ⊎ WritesStreamBegun s bytes fault old new
+
+-- What `to_jbg` leaves.
+pub record ToJbg (s : Settings) (in_old in_new : Option (List ℕ)) (reads_old reads_new : ℕ)
+    (out_old out_new : Option (List ℕ)) (writes_old writes_new : ℕ) (flushed : Bool) (answer : Result (Unit {0}) Fault) : Type 0 where
+  pub whole : OnOk answer (IfSome in_old (λ bytes. WritesStream s bytes out_old out_new))
+  pub flushed_last : OnOk answer (flushed ≡ true)
+  pub refused : (fault : PbmFault) → fault ≢ pbm.Read → IsErrOf answer (Pbm fault) → IfSome in_old (λ bytes. RefusesPbm s bytes fault out_old out_new)
+  -- these come behind a header that is accepted, with nothing more read and nothing written
+  pub low : IsErrOf answer AnnouncedLow → Keeps out_old out_new × (given : List ℕ) × Consumes in_old in_new given × HasSize s true given
+  pub no_memory : IsErrOf answer OutOfMemory → Keeps out_old out_new × (given : List ℕ) × Consumes in_old in_new given × HasSize s false given
+  -- a read failed, and what came up to there is no whole image
+  pub unread : IsErrOf answer (Pbm pbm.Read) → (given : List ℕ) × Consumes in_old in_new given
+      × ((HeaderFault given pbm.Truncated × Keeps out_old out_new) ⊎ WritesStreamBegun s given pbm.Truncated out_old out_new)
+  -- a write failed, or the flush: of just the bytes that were taken
+  pub cut : IsErrOf answer Write → (given : List ℕ) × Consumes in_old in_new given × WritesStreamFront s given out_old out_new
+  pub among : IfErr answer (λ f. f ≢ AnnouncedLow → f ≢ OutOfMemory → f ≢ Write → (fault : PbmFault) × (f ≡ Pbm fault))
+  pub reads : CountsBoth reads_old reads_new answer
+  pub writes : CountsWrite writes_old writes_new answer

@@ -1,0 +1,167 @@
+//! A data entity as a source of code bytes.
+
+ghost use Rattle.std.specs.Prelude.{◌≡◌, ◌<◌, ◌-◌, ◌^◌, ℕ, Bool, None, Some, IfSome, IfOk, IfErr, OnErr, IsErrOf};
+ghost use Rattle.t85_core.specs.declared.fault.Fault.TheVariants.{Truncated, Read};
+ghost use Rattle.t85_core.specs.declared.segments.Code.TheVariants as code;
+ghost use Rattle.t85_core.specs.Steps.Entity.{EntityGives, entity_known, BreaksIn, Finishes};
+ghost use Rattle.t85_core.specs.Steps.Segments.{IsByteOrMarker, CodeFault, PassesCode};
+ghost use Rattle.t85_core.specs.Failures.{CountsRead, Ends};
+
+use crate::fault::Fault;
+use crate::input_buffer::ByteSource;
+use crate::segments::{Code, next_code, skip_code};
+use qm_core::{CodeBytes, Pulled};
+
+/// The code of a data entity, unstuffed, and then its end marker.
+#[derive(Drop)]
+pub struct EntityReader<'a, S: ByteSource> {
+    stream: &'a mut S,
+    /// What was read ahead to see where the code begins.
+    first: Option<Code>,
+    /// Whether the end marker resets, once it was read.
+    marker: Option<bool>,
+    /// Why the code has broken.
+    fault: Option<Fault>,
+    failures: u64,
+    ghost small: { (b : ℕ) → first ≡ Some (code.Byte b) → b < 256 },
+    ghost behind: { (r : Bool) → marker ≡ Some r → first ≡ None },
+    ghost can_read: { fault ≡ None → S.failures stream.now < 2 ^ 64 - 1 },
+}
+
+impl<'a, S: ByteSource> EntityReader<'a, S> {
+    /// The code that begins so.
+    pub fn new(stream: &'a mut S, first: Code) -> EntityReader<'a, S>
+        requires readable { S.failures stream.old < 2 ^ 64 - 1 }
+        requires code { IsByteOrMarker first }
+        ensures lent { result.stream ≡ stream.entry }
+        ensures first { result.first ≡ Some first }
+        ensures marker { result.marker ≡ None }
+        ensures fault { result.fault ≡ None }
+        ensures failures { result.failures ≡ 0 }
+    {
+        EntityReader {
+            stream,
+            first: Some(first),
+            marker: None,
+            fault: None,
+            failures: 0,
+        }
+    }
+}
+
+impl<S: ByteSource> EntityReader<'_, S> {
+    /// Why the code has broken.
+    pub fn fault(&self) -> Fault
+        ensures { IfSome self.now.fault (λ f. result ≡ f) }
+    {
+        self.fault.unwrap_or(Fault::Truncated)
+    }
+
+    /// Skips what is left of the code, and answers whether its end marker resets.
+    pub fn finish(&mut self) -> Result<bool, Fault>
+        requires { self.old.fault ≡ None }
+        ensures ok { IfOk result (λ reset. Finishes
+            (entity_known self.old.first (S.known self.old.stream.now))
+            (entity_known self.new.first (S.known self.new.stream.now)) self.old.marker reset) }
+        ensures err { IfErr result (Ends Truncated
+            (entity_known self.old.first (S.known self.old.stream.now))
+            (entity_known self.new.first (S.known self.new.stream.now)) (BreaksIn self.old.first)) }
+        ensures behind { self.new.first ≡ None }
+        ensures open { OnErr result (self.old.marker ≡ None) }
+        ensures drained { IsErrOf result Read → entity_known self.new.first
+            (S.known self.new.stream.now) ≡ S.beyond self.new.stream.now }
+        ensures counts { CountsRead (S.failures self.old.stream.now)
+            (S.failures self.new.stream.now) result }
+        ensures same_source { self.new.stream.ghost_name ≡ self.old.stream.ghost_name }
+        ensures same_input { S.source self.new.stream.now ≡ S.source self.old.stream.now }
+        ensures failures { self.new.failures ≡ self.old.failures }
+    {
+        if let Some(reset) = self.marker {
+            return Ok(reset);
+        }
+        match self.first.take() {
+            Some(Code::Marker(reset)) => Ok(reset),
+            Some(Code::Byte(_)) => self.skip(),
+            None => self.skip(),
+        }
+    }
+
+    /// Skips what is left of a code of which nothing is read ahead.
+    fn skip(&mut self) -> Result<bool, Fault>
+        requires { self.old.fault ≡ None }
+        ensures ok { IfOk result (PassesCode (S.known self.old.stream.now)
+            (S.known self.new.stream.now)) }
+        ensures err { IfErr result (Ends Truncated (S.known self.old.stream.now)
+            (S.known self.new.stream.now) CodeFault) }
+        ensures drained { IsErrOf result Read → S.known self.new.stream.now ≡ S.beyond
+            self.new.stream.now }
+        ensures counts { CountsRead (S.failures self.old.stream.now)
+            (S.failures self.new.stream.now) result }
+        ensures same_source { self.new.stream.ghost_name ≡ self.old.stream.ghost_name }
+        ensures same_input { S.source self.new.stream.now ≡ S.source self.old.stream.now }
+        ensures first { self.new.first ≡ self.old.first }
+        ensures failures { self.new.failures ≡ self.old.failures }
+    {
+        let rest = skip_code(self.stream);
+        self.fault = rest.err();
+        rest
+    }
+}
+
+impl<S: ByteSource> CodeBytes for EntityReader<'_, S> {
+    ghost gives = { λ s answer t. EntityGives
+        (record {
+          known = entity_known s.first (S.known s.stream.now);
+          beyond = S.beyond
+              s.stream.now;
+          reads = S.failures s.stream.now;
+          source = s.stream.ghost_name;
+          input =
+              S.source s.stream.now;
+          first = s.first;
+          marker = s.marker;
+          fault = s.fault;
+        })
+        answer
+        (record {
+          known = entity_known t.first (S.known t.stream.now);
+          beyond = S.beyond
+              t.stream.now;
+          reads = S.failures t.stream.now;
+          source = t.stream.ghost_name;
+          input =
+              S.source t.stream.now;
+          first = t.first;
+          marker = t.marker;
+          fault = t.fault;
+        }) };
+
+    ghost failed = { λ s. s.failures };
+
+    fn pull(&mut self) -> Pulled {
+        if self.fault.is_some() {
+            self.failures += 1;
+            return Pulled::Fault;
+        }
+        let next = match self.first.take() {
+            Some(code) => Ok(code),
+            None => next_code(self.stream),
+        };
+        match next {
+            Ok(Code::Byte(byte)) => Pulled::Byte(byte),
+            Ok(Code::Marker(reset)) => {
+                self.marker = Some(reset);
+                Pulled::End
+            }
+            Err(fault) => {
+                self.fault = Some(fault);
+                self.failures += 1;
+                Pulled::Fault
+            }
+        }
+    }
+
+    fn failures(&self) -> u64 {
+        self.failures
+    }
+}

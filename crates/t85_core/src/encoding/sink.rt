@@ -1,0 +1,69 @@
+//! The code of a stripe on its way to the target.
+
+ghost use Rattle.std.specs.Prelude.{◌≡◌};
+ghost use Rattle.t85_core.specs.Steps.Buffers.{TakesByte, RefusesByte};
+
+use crate::output_buffer::ByteTarget;
+use qm_core::{CodeSink, SinkFault};
+
+/// A target as a sink of code bytes.
+#[derive(Drop)]
+pub struct EntitySink<'a, P: ByteTarget> {
+    target: &'a mut P,
+}
+
+impl<'a, P: ByteTarget> EntitySink<'a, P> {
+    pub fn new(target: &'a mut P) -> EntitySink<'a, P>
+        ensures lent { result.target ≡ target.entry }
+    {
+        EntitySink { target }
+    }
+}
+
+impl<P: ByteTarget> CodeSink for EntitySink<'_, P> {
+    ghost took = { λ s byte t. TakesByte
+        (record {
+          target = s.target.ghost_name;
+          writer = P.writer s.target.now;
+          written = P.written
+              s.target.now;
+          text = P.text s.target.now;
+        })
+        byte
+        (record {
+          target = t.target.ghost_name;
+          writer = P.writer t.target.now;
+          written = P.written
+              t.target.now;
+          text = P.text t.target.now;
+        }) };
+
+    ghost refused = { λ s t. RefusesByte
+        (record {
+          target = s.target.ghost_name;
+          writer = P.writer s.target.now;
+          written = P.written
+              s.target.now;
+          text = P.text s.target.now;
+        })
+        (record {
+          target = t.target.ghost_name;
+          writer = P.writer t.target.now;
+          written = P.written
+              t.target.now;
+          text = P.text t.target.now;
+        }) };
+
+    ghost failed = { λ s. P.failures s.target.now };
+
+    fn push(&mut self, byte: u8) -> Result<(), SinkFault> {
+        match self.target.push(byte) {
+            Ok(()) => Ok(()),
+            Err(_) => Err(SinkFault),
+        }
+    }
+
+    fn failures(&self) -> u64 {
+        self.target.failures()
+    }
+}

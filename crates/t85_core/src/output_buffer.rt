@@ -1,0 +1,209 @@
+//! An output's bytes, held back in a fixed array and handed on together.
+
+ghost use Rattle.std.specs.Prelude.{◌≡◌, ◌≤◌, ◌<◌, ◌-◌, ◌^◌, ◌∷◌, [], ℕ, List, Option, length, take, OnOk, OnErr, IfErr};
+ghost use Rattle.std.specs.Io.KnownBytes.{Appends, Keeps, append_known};
+ghost use Rattle.pbm_core.specs.Device.{AppendsBeginning, CountsFailure};
+ghost use Rattle.t85_core.specs.declared.fault.Fault.TheVariants.{Write};
+ghost use Rattle.t85_core.specs.Steps.Buffers.{Writer, held_of, known_length};
+ghost use Rattle.t85_core.specs.Failures.{CountsWrite};
+
+use crate::fault::Fault;
+use pbm_core::{DeviceFailed, Output};
+
+const SIZE: usize = 4096;
+
+/// Where the bytes of an image or of a stream go.
+pub trait ByteTarget {
+    /// The bytes that it has taken, behind those that stood there, where the writer tells them.
+    ghost text: { Self → Option (List ℕ) };
+
+    /// The bytes of these that the writer has still to take.
+    ghost held: { Self → List ℕ };
+
+    /// How many bytes the writer has taken, where it tells them.
+    ghost written: { Self → ℕ };
+
+    /// How often the writer has failed.
+    ghost failures: { Self → ℕ };
+
+    /// Which writer it has, and how often that was asked to flush.
+    ghost writer: { Self → Writer };
+
+    /// Takes bytes.
+    fn put(&mut self, bytes: &[u8]) -> Result<(), Fault>
+        requires { failures self.old < 2 ^ 64 - 1 }
+        ensures ok { OnOk result (Appends (text self.old) (text self.new) bytes.now) }
+        ensures err { IfErr result (λ f. f ≡ Write) }
+        ensures cut { OnErr result (AppendsBeginning (text self.old) (text self.new) bytes.now) }
+        ensures grows { written self.old ≤ written self.new }
+        ensures counts { CountsWrite (failures self.old) (failures self.new) result }
+        ensures same_writer { writer self.new ≡ writer self.old };
+
+    /// Takes a byte, or fails and leaves it out.
+    fn push(&mut self, byte: u8) -> Result<(), Fault>
+        requires { failures self.old < 2 ^ 64 - 1 }
+        ensures ok { OnOk result (Appends (text self.old) (text self.new) (byte ∷ [])) }
+        ensures err { IfErr result (λ f. f ≡ Write) }
+        ensures kept { OnErr result (Keeps (text self.old) (text self.new)) }
+        ensures grows { written self.old ≤ written self.new }
+        ensures counts { CountsWrite (failures self.old) (failures self.new) result }
+        ensures same_writer { writer self.new ≡ writer self.old };
+
+    /// Sends on what it holds.
+    fn write_held(&mut self) -> Result<(), Fault>
+        requires { failures self.old < 2 ^ 64 - 1 }
+        ensures text { Keeps (text self.old) (text self.new) }
+        ensures sent { OnOk result (held self.new ≡ []) }
+        ensures grows { written self.old ≤ written self.new }
+        ensures err { IfErr result (λ f. f ≡ Write) }
+        ensures counts { CountsWrite (failures self.old) (failures self.new) result }
+        ensures same_writer { writer self.new ≡ writer self.old };
+
+    /// How often the writer has failed.
+    fn failures(&self) -> u64
+        ensures { result ≡ failures self.now };
+}
+
+/// Bytes are handed on where the array is full, and by `write_held`.
+#[derive(Drop)]
+pub struct OutputBuffer<'a, W: Output> {
+    output: &'a mut W,
+    bytes: [u8; 4096],
+    at: usize,
+    end: usize,
+    ghost ordered: { at ≤ end },
+    ghost within: { end ≤ 4096 },
+}
+
+impl<'a, W: Output> OutputBuffer<'a, W> {
+    pub fn new(output: &'a mut W) -> OutputBuffer<'a, W>
+        ensures empty { result.at ≡ result.end }
+        ensures lent { result.output ≡ output.entry }
+    {
+        OutputBuffer {
+            output,
+            bytes: [0; SIZE],
+            at: 0,
+            end: 0,
+        }
+    }
+}
+
+impl<W: Output> OutputBuffer<'_, W> {
+    /// Hands on what is held.
+    pub fn write_held(&mut self) -> Result<(), Fault>
+        requires { W.failures self.old.output.now < 2 ^ 64 - 1 }
+        ensures text { Keeps (append_known (W.contents self.old.output.now)
+            (held_of self.old.bytes self.old.at self.old.end))
+            (append_known (W.contents self.new.output.now)
+            (held_of self.new.bytes self.new.at self.new.end)) }
+        ensures empty { OnOk result ((self.new.at ≡ 0) × (self.new.end ≡ 0)) }
+        ensures grows { known_length (W.contents self.old.output.now) ≤ known_length
+            (W.contents self.new.output.now) }
+        ensures err { IfErr result (λ f. f ≡ Write) }
+        ensures counts { CountsWrite (W.failures self.old.output.now)
+            (W.failures self.new.output.now) result }
+        ensures same_writer { self.new.output.ghost_name ≡ self.old.output.ghost_name }
+        ensures no_flush { W.flushes self.new.output.now ≡ W.flushes self.old.output.now }
+    {
+        match write_part(self.output, &self.bytes, self.at, self.end) {
+            Ok(()) => {
+                self.at = 0;
+                self.end = 0;
+                Ok(())
+            }
+            Err(at) => {
+                self.at = at;
+                Err(Fault::Write)
+            }
+        }
+    }
+}
+
+/// Writes the bytes from one place up to another. Where a write fails the answer is the place of the first byte that
+/// isn't written.
+fn write_part<W: Output>(output: &mut W, bytes: &[u8], at: usize, end: usize) -> Result<(), usize>
+    requires ordered { at ≤ end }
+    requires within { end ≤ length bytes.now }
+    requires countable { W.failures output.old < 2 ^ 64 - 1 }
+    ensures ok { OnOk result (Appends (W.contents output.old) (W.contents output.new)
+        (held_of bytes.now at end)) }
+    ensures err { IfErr result (λ place. Keeps
+        (append_known (W.contents output.old) (held_of bytes.now at end))
+        (append_known (W.contents output.new) (held_of bytes.now place end))) }
+    ensures bound { IfErr result (λ place. place ≤ end) }
+    ensures grows { known_length (W.contents output.old) ≤ known_length (W.contents output.new) }
+    ensures no_flush { W.flushes output.new ≡ W.flushes output.old }
+    ensures counts { CountsFailure (W.failures output.old) (W.failures output.new) result }
+{
+    let mut place = at;
+    while place < end {
+        match output.write(&bytes[place..end]) {
+            Ok(count) => place += count,
+            Err(DeviceFailed) => return Err(place),
+        }
+    }
+    Ok(())
+}
+
+impl<W: Output> OutputBuffer<'_, W> {
+    /// Takes the first bytes, as many as there is room for.
+    fn fill(&mut self, bytes: &[u8]) -> usize
+        ensures bound { result ≤ length bytes.now }
+        ensures takes { 0 < length bytes.now → self.old.end < 4096 → 0 < result }
+        ensures text { Appends (append_known (W.contents self.old.output.now)
+            (held_of self.old.bytes self.old.at self.old.end))
+            (append_known (W.contents self.new.output.now)
+            (held_of self.new.bytes self.new.at self.new.end)) (take result bytes.now) }
+        ensures lent { self.new.output ≡ self.old.output }
+    {
+        let count = (SIZE - self.end).min(bytes.len());
+        let end = self.end + count;
+        self.bytes[self.end..end].copy_from_slice(&bytes[..count]);
+        self.end = end;
+        count
+    }
+}
+
+impl<W: Output> ByteTarget for OutputBuffer<'_, W> {
+    ghost text = { λ s. append_known (W.contents s.output.now) (held_of s.bytes s.at s.end) };
+
+    ghost held = { λ s. held_of s.bytes s.at s.end };
+
+    ghost written = { λ s. known_length (W.contents s.output.now) };
+
+    ghost failures = { λ s. W.failures s.output.now };
+
+    ghost writer = { λ s. record {
+      reference = s.output.ghost_name;
+      flushes = W.flushes s.output.now;
+    } };
+
+    fn put(&mut self, bytes: &[u8]) -> Result<(), Fault> {
+        let mut taken = 0;
+        while taken < bytes.len() {
+            if self.end == SIZE {
+                self.write_held()?;
+            }
+            taken += self.fill(&bytes[taken..]);
+        }
+        Ok(())
+    }
+
+    fn push(&mut self, byte: u8) -> Result<(), Fault> {
+        if self.end == SIZE {
+            self.write_held()?;
+        }
+        self.bytes[self.end] = byte;
+        self.end += 1;
+        Ok(())
+    }
+
+    fn write_held(&mut self) -> Result<(), Fault> {
+        self.write_held()
+    }
+
+    fn failures(&self) -> u64 {
+        self.output.failures()
+    }
+}

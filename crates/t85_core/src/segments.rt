@@ -1,0 +1,365 @@
+//! The walk over the segments of a stripe, and over the bytes of its code.
+
+ghost use Rattle.std.specs.Prelude.{◌≡◌, ◌≤◌, ◌-◌, ◌^◌, ◌<◌, ◌++◌, ◌∷◌, [], List, ℕ, length, OnOk, IfOk, IfErr, IsErrOf, Some, false, true};
+ghost use Rattle.std.specs.Io.KnownBytes.{Consumes};
+ghost use Rattle.byteorder.specs.Endian.{big_bytes};
+ghost use Rattle.t85_core.specs.declared.fault.Fault.TheVariants.{Truncated, Read};
+ghost use Rattle.t85_core.specs.Options.{fields_of};
+ghost use Rattle.t85_core.specs.Failures.{CountsRead, Ends};
+ghost use Rattle.t85_core.specs.Refusal.{move_fault, comment_fault};
+ghost use Rattle.t85_core.specs.Grammar.{NewLength, is_valid_length, IsLegal};
+ghost use Rattle.t85_core.specs.Steps.Segments.{spot_at, code_bytes, IsByteOrMarker, LengthFault, PieceFault, Passes, PassesSegments, SegmentsFault, PassesHead, HeadFault, PassesCode, RestFault, CodeFault};
+
+use crate::fault::Fault;
+use crate::header::Header;
+use crate::input_buffer::{ByteSource, ESCAPE};
+use byteorder::{BigEndian, ByteOrder};
+
+/// Where a stripe stands, or what is next in it: the height in use, how many data entities came before it, and whether
+/// a height did.
+#[derive(Clone, Copy)]
+pub struct Place {
+    pub height: u32,
+    pub entities: u32,
+    pub given: bool,
+}
+
+/// A move of the adaptive template pixel: at a row of the stripe, to an offset.
+#[derive(Clone, Copy)]
+pub struct Move {
+    pub row: u32,
+    pub offset: u8,
+}
+
+/// What a code goes on with.
+#[derive(Clone, Copy)]
+pub enum Code {
+    Byte(u8),
+    /// An end marker, and whether it resets.
+    Marker(bool),
+}
+
+/// What stands at one place before a code.
+#[derive(Clone, Copy)]
+pub enum Piece {
+    /// A height is given, which is valid.
+    NewLength(u32),
+    Move(Move),
+    Comment,
+    /// The code begins.
+    Code(Code),
+}
+
+/// The segments of a stripe, and what its code begins with.
+#[derive(Clone, Copy)]
+pub struct Head {
+    pub at: Option<Move>,
+    /// Whether a height came in it, or before.
+    pub given: bool,
+    /// Counted up to 2^64 - 1.
+    pub comments: u64,
+    pub code: Code,
+}
+
+/// What stands behind the segments that were read.
+#[derive(Clone, Copy)]
+pub enum Next {
+    /// A valid height, which isn't the one in use.
+    Height(u32),
+    /// The code begins.
+    Code(Code),
+}
+
+/// Segments that were read, and what stands behind them.
+#[derive(Clone, Copy)]
+pub struct Segments {
+    pub at: Option<Move>,
+    /// Whether the height in use was given in them, or before.
+    pub given: bool,
+    /// Counted up to 2^64 - 1.
+    pub comments: u64,
+    pub next: Next,
+}
+
+const STUFF: u8 = 0;
+
+pub const SDNORM: u8 = 2;
+
+pub const SDRST: u8 = 3;
+
+const ABORT: u8 = 4;
+
+pub const NEWLEN: u8 = 5;
+
+pub const ATMOVE: u8 = 6;
+
+pub const COMMENT: u8 = 7;
+
+/// Reads the segments of a stripe, and what its code begins with.
+pub fn read_head<S: ByteSource>(
+    header: &Header,
+    place: Place,
+    stream: &mut S,
+) -> Result<Head, Fault>
+    requires stream { S.failures stream.old < 2 ^ 64 - 1 }
+    ensures ok { IfOk result (PassesHead (fields_of header.now) (spot_at place) (S.known stream.old)
+        (S.known stream.new)) }
+    ensures err { IfErr result (Ends Truncated (S.known stream.old) (S.known stream.new)
+        (HeadFault (fields_of header.now) (spot_at place))) }
+    ensures drained { IsErrOf result Read → S.known stream.new ≡ S.beyond stream.new }
+    ensures same_source { S.source stream.new ≡ S.source stream.old }
+    ensures counts { CountsRead (S.failures stream.old) (S.failures stream.new) result }
+{
+    let segments = read_segments(header, place, false, stream)?;
+    match segments.next {
+        Next::Height(_) => Err(Fault::Changed),
+        Next::Code(code) => Ok(Head {
+            at: segments.at,
+            given: segments.given,
+            comments: segments.comments,
+            code,
+        }),
+    }
+}
+
+/// Reads segments that stand in one stripe, up to a height that isn't in use or to the code. Whether a move of the
+/// stripe stands before them is `moved_before`.
+pub fn read_segments<S: ByteSource>(
+    header: &Header,
+    place: Place,
+    moved_before: bool,
+    stream: &mut S,
+) -> Result<Segments, Fault>
+    requires stream { S.failures stream.old < 2 ^ 64 - 1 }
+    ensures ok { IfOk result (PassesSegments (fields_of header.now) place moved_before
+        (S.known stream.old) (S.known stream.new)) }
+    ensures err { IfErr result (Ends Truncated (S.known stream.old) (S.known stream.new)
+        (SegmentsFault (fields_of header.now) place moved_before)) }
+    ensures drained { IsErrOf result Read → S.known stream.new ≡ S.beyond stream.new }
+    ensures same_source { S.source stream.new ≡ S.source stream.old }
+    ensures counts { CountsRead (S.failures stream.old) (S.failures stream.new) result }
+{
+    let mut at = None;
+    let mut moved = moved_before;
+    let mut given = place.given;
+    let mut comments = 0u64;
+    'pieces: loop {
+        let here = Place { given, ..place };
+        match next_piece(header, here, moved, stream)? {
+            Piece::NewLength(height) => {
+                if height != place.height {
+                    let next = Next::Height(height);
+                    return Ok(Segments {
+                        at,
+                        given,
+                        comments,
+                        next,
+                    });
+                }
+                given = true;
+            }
+            Piece::Move(to) => {
+                at = Some(to);
+                moved = true;
+            }
+            Piece::Comment => comments = comments.saturating_add(1),
+            Piece::Code(code) => {
+                let next = Next::Code(code);
+                return Ok(Segments {
+                    at,
+                    given,
+                    comments,
+                    next,
+                });
+            }
+        }
+    }
+}
+
+/// Skips what is left of a code that has begun, and its end marker. Answers whether that resets.
+pub fn skip_code<S: ByteSource>(stream: &mut S) -> Result<bool, Fault>
+    requires stream { S.failures stream.old < 2 ^ 64 - 1 }
+    ensures ok { IfOk result (PassesCode (S.known stream.old) (S.known stream.new)) }
+    ensures err { IfErr result (Ends Truncated (S.known stream.old) (S.known stream.new)
+        CodeFault) }
+    ensures drained { IsErrOf result Read → S.known stream.new ≡ S.beyond stream.new }
+    ensures same_source { S.source stream.new ≡ S.source stream.old }
+    ensures counts { CountsRead (S.failures stream.old) (S.failures stream.new) result }
+{
+    'code: loop {
+        stream.skip_plain();
+        match next_code(stream)? {
+            Code::Byte(_) => {}
+            Code::Marker(reset) => return Ok(reset),
+        }
+    }
+}
+
+/// Reads a byte of a code that has begun, or its end marker.
+pub fn next_code<S: ByteSource>(stream: &mut S) -> Result<Code, Fault>
+    requires stream { S.failures stream.old < 2 ^ 64 - 1 }
+    ensures ok { IfOk result (λ code. IsByteOrMarker code ×
+        Consumes (S.known stream.old) (S.known stream.new) (code_bytes code)) }
+    ensures err { IfErr result (Ends Truncated (S.known stream.old) (S.known stream.new)
+        RestFault) }
+    ensures drained { IsErrOf result Read → S.known stream.new ≡ S.beyond stream.new }
+    ensures same_source { S.source stream.new ≡ S.source stream.old }
+    ensures counts { CountsRead (S.failures stream.old) (S.failures stream.new) result }
+    ensures lowers { OnOk result (S.left stream.new < S.left stream.old) }
+    ensures no_more { S.left stream.new ≤ S.left stream.old }
+{
+    let first = stream.next()?;
+    if first != ESCAPE {
+        return Ok(Code::Byte(first));
+    }
+    let escape = stream.next()?;
+    match escape {
+        STUFF => Ok(Code::Byte(ESCAPE)),
+        SDNORM => Ok(Code::Marker(false)),
+        SDRST => Ok(Code::Marker(true)),
+        ABORT => Err(Fault::Aborted),
+        _ => Err(Fault::BadEscape),
+    }
+}
+
+/// Reads a segment, or what the code begins with.
+pub fn next_piece<S: ByteSource>(
+    header: &Header,
+    place: Place,
+    moved: bool,
+    stream: &mut S,
+) -> Result<Piece, Fault>
+    requires stream { S.failures stream.old < 2 ^ 64 - 1 }
+    ensures ok { IfOk result (Passes (fields_of header.now) place moved (S.known stream.old)
+        (S.known stream.new)) }
+    ensures err { IfErr result (Ends Truncated (S.known stream.old) (S.known stream.new)
+        (PieceFault (fields_of header.now) place moved)) }
+    ensures drained { IsErrOf result Read → S.known stream.new ≡ S.beyond stream.new }
+    ensures same_source { S.source stream.new ≡ S.source stream.old }
+    ensures counts { CountsRead (S.failures stream.old) (S.failures stream.new) result }
+    ensures lowers { OnOk result (S.left stream.new < S.left stream.old) }
+{
+    let first = stream.next()?;
+    if first != ESCAPE {
+        return Ok(Piece::Code(Code::Byte(first)));
+    }
+    let escape = stream.next()?;
+    match escape {
+        STUFF => Ok(Piece::Code(Code::Byte(ESCAPE))),
+        SDNORM => Ok(Piece::Code(Code::Marker(false))),
+        SDRST => Ok(Piece::Code(Code::Marker(true))),
+        ABORT => Err(Fault::Aborted),
+        NEWLEN => {
+            let height = read_length(header, place, stream)?;
+            Ok(Piece::NewLength(height))
+        }
+        ATMOVE => {
+            if moved {
+                return Err(Fault::SecondMove);
+            }
+            let to = read_move(header, stream)?;
+            Ok(Piece::Move(to))
+        }
+        COMMENT => {
+            skip_comment(stream)?;
+            Ok(Piece::Comment)
+        }
+        _ => Err(Fault::BadEscape),
+    }
+}
+
+/// Reads what follows the two bytes of a NEWLEN, and judges it: it is valid where it stands, and no other came before.
+fn read_length<S: ByteSource>(header: &Header, place: Place, stream: &mut S) -> Result<u32, Fault>
+    requires stream { S.failures stream.old < 2 ^ 64 - 1 }
+    ensures ok { IfOk result (λ height. (place.given ≡ false) ×
+        (is_valid_length (fields_of header.now) place.entities height ≡ true)
+        × IsLegal (fields_of header.now) (NewLength height) ×
+        Consumes (S.known stream.old) (S.known stream.new) (big_bytes 4 height)) }
+    ensures err { IfErr result (Ends Truncated (S.known stream.old) (S.known stream.new)
+        (LengthFault (fields_of header.now) place)) }
+    ensures drained { IsErrOf result Read → S.known stream.new ≡ S.beyond stream.new }
+    ensures same_source { S.source stream.new ≡ S.source stream.old }
+    ensures counts { CountsRead (S.failures stream.old) (S.failures stream.new) result }
+    ensures no_more { S.left stream.new ≤ S.left stream.old }
+{
+    if !header.is_variable() {
+        return Err(Fault::LengthRefused);
+    }
+    if place.given {
+        return Err(Fault::SecondLength);
+    }
+    let height = number(stream)?;
+    if !is_valid(header, place.entities, height) {
+        return Err(Fault::LengthRefused);
+    }
+    Ok(height)
+}
+
+/// Whether a height may be given behind so many data entities.
+fn is_valid(header: &Header, entities: u32, height: u32) -> bool
+    ensures { result ≡ is_valid_length (fields_of header.now) entities height }
+{
+    1 <= height
+        && height <= header.yd
+        && u64::from(entities.saturating_sub(1)) * u64::from(header.l0) < u64::from(height)
+}
+
+/// Reads what follows the two bytes of an ATMOVE, and judges it.
+fn read_move<S: ByteSource>(header: &Header, stream: &mut S) -> Result<Move, Fault>
+    requires stream { S.failures stream.old < 2 ^ 64 - 1 }
+    ensures ok { IfOk result (λ to. (to.row < header.now.l0) × (to.offset ≤ header.now.mx)
+        × Consumes (S.known stream.old) (S.known stream.new)
+        (big_bytes 4 to.row ++ to.offset ∷ 0 ∷ [])) }
+    ensures err { IfErr result (Ends Truncated (S.known stream.old) (S.known stream.new)
+        (λ given fault. move_fault (fields_of header.now) 0 given ≡ Some fault)) }
+    ensures drained { IsErrOf result Read → S.known stream.new ≡ S.beyond stream.new }
+    ensures same_source { S.source stream.new ≡ S.source stream.old }
+    ensures counts { CountsRead (S.failures stream.old) (S.failures stream.new) result }
+    ensures no_more { S.left stream.new ≤ S.left stream.old }
+{
+    let row = number(stream)?;
+    let offset = stream.next()?;
+    let last = stream.next()?;
+    if row >= header.l0 || offset > header.mx || last != 0 {
+        return Err(Fault::MoveRefused);
+    }
+    Ok(Move { row, offset })
+}
+
+/// Skips what follows the two bytes of a COMMENT.
+fn skip_comment<S: ByteSource>(stream: &mut S) -> Result<(), Fault>
+    requires stream { S.failures stream.old < 2 ^ 64 - 1 }
+    ensures ok { OnOk result ((text : List ℕ) × (length text < 2 ^ 32)
+        × Consumes (S.known stream.old) (S.known stream.new) (big_bytes 4 (length text) ++ text)) }
+    ensures err { IfErr result (Ends Truncated (S.known stream.old) (S.known stream.new)
+        (λ given fault. comment_fault given ≡ Some fault)) }
+    ensures drained { IsErrOf result Read → S.known stream.new ≡ S.beyond stream.new }
+    ensures same_source { S.source stream.new ≡ S.source stream.old }
+    ensures counts { CountsRead (S.failures stream.old) (S.failures stream.new) result }
+    ensures no_more { S.left stream.new ≤ S.left stream.old }
+{
+    let len = number(stream)?;
+    'text: for _ in 0..len {
+        stream.next()?;
+    }
+    Ok(())
+}
+
+/// The next number of four bytes.
+fn number<S: ByteSource>(stream: &mut S) -> Result<u32, Fault>
+    requires stream { S.failures stream.old < 2 ^ 64 - 1 }
+    ensures ok { IfOk result (λ n. Consumes (S.known stream.old) (S.known stream.new)
+        (big_bytes 4 n)) }
+    ensures err { IfErr result (Ends Truncated (S.known stream.old) (S.known stream.new)
+        (λ given fault. (length given < 4) × (fault ≡ Truncated))) }
+    ensures drained { IsErrOf result Read → S.known stream.new ≡ S.beyond stream.new }
+    ensures same_source { S.source stream.new ≡ S.source stream.old }
+    ensures counts { CountsRead (S.failures stream.old) (S.failures stream.new) result }
+    ensures no_more { S.left stream.new ≤ S.left stream.old }
+{
+    let a = stream.next()?;
+    let b = stream.next()?;
+    let c = stream.next()?;
+    let d = stream.next()?;
+    Ok(BigEndian::read_u32(&[a, b, c, d]))
+}

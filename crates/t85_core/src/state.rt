@@ -1,0 +1,55 @@
+//! What both directions carry from row to row and from stripe to stripe.
+
+ghost use Rattle.std.specs.Prelude.{◌≡◌, ◌<◌, ◌-◌, if◌then◌else◌};
+ghost use Rattle.raster_core.specs.Window.{width_of};
+ghost use Rattle.t85_core.specs.Steps.State.{RowStart, first_row_start, next_stripe_start};
+ghost use Rattle.t85_core.specs.Steps.DecodeRows.{IsCarried, IsFirst};
+
+use qm_core::Learned;
+use raster_core::{Kept, Window};
+
+/// What is carried from row to row and from stripe to stripe.
+#[derive(Drop)]
+pub struct CodingState<'a, 'b> {
+    pub window: &'a mut Window<'b>,
+    pub kept: Kept,
+    pub learned: Learned,
+}
+
+const START: Kept = Kept {
+    offset: 0,
+    previous_typical: false,
+};
+
+impl<'a, 'b> CodingState<'a, 'b> {
+    /// At the top of an image. The window is made white.
+    pub fn first(window: &'a mut Window<'b>) -> CodingState<'a, 'b>
+        ensures first { IsFirst result }
+        ensures width { width_of result.window.now ≡ width_of window.old }
+        ensures offset { result.kept.offset ≡ 0 }
+    {
+        window.clear();
+        CodingState {
+            window,
+            kept: START,
+            learned: Learned::new(),
+        }
+    }
+}
+
+impl CodingState<'_, '_> {
+    /// Goes on behind an end marker. All stays, or is as at the top of an image where the marker resets.
+    pub fn end_stripe(&mut self, reset: bool)
+        ensures next { (last : RowStart) → IsCarried last self.old →
+            IsCarried (first_row_start (next_stripe_start (width_of self.old.window.now) reset
+            last)) self.new }
+        ensures width { width_of self.new.window.now ≡ width_of self.old.window.now }
+        ensures offset { self.new.kept.offset ≡ if reset then 0 else self.old.kept.offset }
+    {
+        if reset {
+            self.window.clear();
+            self.kept = START;
+            self.learned = Learned::new();
+        }
+    }
+}
