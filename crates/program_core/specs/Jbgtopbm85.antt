@@ -1,5 +1,6 @@
 -- The command of `jbgtopbm85`, as clap's contracts see one, what the words say by it, and what `run` does for a job.
 use Rattle.std.specs.Prelude.{◌≡◌, ◌-◌, ◌^◌, ℕ, Bool, true, false, List, Option, Result, Some, codes, option_map, string_bytes, unwrap_or}
+use Rattle.pbm_core.specs.Device.{Change}
 use Rattle.clap.specs.Words.{App, Kinds, Row, fault_of, Rule, Text, first_of, matches_of, new_app, new_rule, with_rule}
 use Rattle.clap.specs.declared.builder.ArgAction.TheVariants.{SetTrue}
 use Rattle.t85_core.specs.declared.fault.Fault.{Fault}
@@ -42,9 +43,8 @@ limit_of job = unwrap_or job.max_rows (2 ^ 32 - 1)
 
 -- What a job asks of the engine, with or without `--info`, under this limit of the rows. Of the second reading are given
 -- whether there is one, what it means that it is untouched, its known bytes and its count of failures.
-abbrev pub Does : Bool → ℕ → Option (List ℕ) → Option (List ℕ) → ℕ → ℕ → Bool → Type 0 → Option (List ℕ) → Option (List ℕ) → ℕ → ℕ
-    → Option (List ℕ) → Option (List ℕ) → ℕ → ℕ → Bool → Result (Unit {0}) Fault → Type 0
-Does true limit in_old in_new reads_old reads_new twice untouched again_old again_new again_reads_old again_reads_new out_old out_new writes_old writes_new flushed outcome =
-    Info in_old in_new reads_old reads_new out_old out_new writes_old writes_new flushed outcome × untouched
-Does false limit in_old in_new reads_old reads_new twice untouched again_old again_new again_reads_old again_reads_new out_old out_new writes_old writes_new flushed outcome =
-    ToPbm limit in_old in_new reads_old reads_new twice untouched again_old again_new again_reads_old again_reads_new out_old out_new writes_old writes_new flushed outcome
+abbrev pub Does : Bool → ℕ → Change → Bool → Type 0 → Change → Change → Bool → Result (Unit {0}) Fault → Type 0
+Does true limit input twice untouched again output flushed outcome =
+    Info input output flushed outcome × untouched
+Does false limit input twice untouched again output flushed outcome =
+    ToPbm limit input twice untouched again output flushed outcome

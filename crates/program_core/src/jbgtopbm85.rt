@@ -6,6 +6,7 @@ ghost use Rattle.t85_core.specs.ToPbm.{again_known, again_failures};
 ghost use Rattle.std.specs.Io.KnownBytes.{Keeps};
 ghost use Rattle.t85_core.specs.declared.fault.Fault.{Fault};
 ghost use Rattle.std.specs.Process.{exit_status as exit_code_status};
+ghost use Rattle.pbm_core.specs.Device.{change};
 ghost use Rattle.program_core.specs.Run.{names_file, reads_file, writes_file, exit_status};
 ghost use Rattle.program_core.specs.Jbgtopbm85.{Does, limit_of};
 ghost use Rattle.t85_core.specs.Failures.{FlushesOnce};
@@ -78,15 +79,10 @@ pub fn run<R: Input, Second: Input, W: Output, M: Output>(
     // The engine's outcome is passed on.
     ensures outcome { (outcome : Result (Unit {0}) Fault) × (result ≡ exit_status outcome) ×
         Does job.now.info (limit_of job.now)
-        (R.remaining input.old) (R.remaining input.new) (R.failures input.old)
-        (R.failures input.new)
+        (change R.remaining R.failures input.old input.new)
         (is_some again.old) (again.new ≡ again.old)
-        (again_known (λ reading. Second.remaining reading) again.old)
-        (again_known (λ reading. Second.remaining reading) again.new)
-        (again_failures (λ reading. Second.failures reading) again.old)
-        (again_failures (λ reading. Second.failures reading) again.new)
-        (W.contents output.old) (W.contents output.new) (W.failures output.old)
-        (W.failures output.new) (W.flushed output.new) outcome
+        (change (again_known Second.remaining) (again_failures Second.failures) again.old again.new)
+        (change W.contents W.failures output.old output.new) (W.flushed output.new) outcome
         × FlushesOnce (W.flushes output.old) (W.flushes output.new) outcome }
 
     // A message is tried once, and only after a fault.
@@ -110,15 +106,10 @@ fn work_on<R: Input, Second: Input, W: Output>(
     requires again { IfSome again.old (λ reading. Second.failures reading < 2 ^ 64 - 1) }
     requires output { W.failures output.old < 2 ^ 64 - 1 }
     ensures does { Does job.now.info (limit_of job.now)
-        (R.remaining input.old) (R.remaining input.new) (R.failures input.old)
-        (R.failures input.new)
+        (change R.remaining R.failures input.old input.new)
         (is_some again.old) (again.new ≡ again.old)
-        (again_known (λ reading. Second.remaining reading) again.old)
-        (again_known (λ reading. Second.remaining reading) again.new)
-        (again_failures (λ reading. Second.failures reading) again.old)
-        (again_failures (λ reading. Second.failures reading) again.new)
-        (W.contents output.old) (W.contents output.new) (W.failures output.old)
-        (W.failures output.new) (W.flushed output.new) result }
+        (change (again_known Second.remaining) (again_failures Second.failures) again.old again.new)
+        (change W.contents W.failures output.old output.new) (W.flushed output.new) result }
     ensures flushes { FlushesOnce (W.flushes output.old) (W.flushes output.new) result }
 {
     if job.info {

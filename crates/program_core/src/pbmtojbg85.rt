@@ -6,6 +6,7 @@ ghost use Rattle.t85_core.specs.ToJbg.{ToJbg};
 ghost use Rattle.t85_core.specs.Failures.{FlushesOnce};
 ghost use Rattle.t85_core.specs.declared.fault.Fault.{Fault};
 ghost use Rattle.std.specs.Process.{exit_status as exit_code_status};
+ghost use Rattle.pbm_core.specs.Device.{change};
 ghost use Rattle.program_core.specs.Run.{names_file, reads_file, writes_file, exit_status};
 ghost use Rattle.program_core.specs.Pbmtojbg85.{settings_asked};
 
@@ -55,10 +56,8 @@ pub fn run<R: Input, W: Output, M: Output>(
     // The engine's outcome is passed on.
     ensures outcome { (outcome : Result (Unit {0}) Fault) × (result ≡ exit_status outcome) ×
         ToJbg (settings_asked job.now)
-        (R.remaining input.old) (R.remaining input.new) (R.failures input.old)
-        (R.failures input.new)
-        (W.contents output.old) (W.contents output.new) (W.failures output.old)
-        (W.failures output.new) (W.flushed output.new) outcome
+        (change R.remaining R.failures input.old input.new)
+        (change W.contents W.failures output.old output.new) (W.flushed output.new) outcome
         × FlushesOnce (W.flushes output.old) (W.flushes output.new) outcome }
 
     // A message is tried once, and only after a fault.

@@ -1,7 +1,7 @@
 -- What `decode` and `find_height` leave of their input and output.
 use Rattle.std.specs.Prelude.{ℕ, ◌≡◌, ◌≢◌, Bool, List, ◌++◌, Option, IfSome, Result, OnOk, IfErr, IsErrOf, ◌+◌, ◌≤◌, false, IfOk}
 use Rattle.std.specs.Io.KnownBytes.{Appends, Consumes, Keeps}
-use Rattle.pbm_core.specs.Device.{AppendsBeginning}
+use Rattle.pbm_core.specs.Device.{AppendsBeginning, Change}
 use Rattle.raster_core.specs.Raster.{Raster}
 use Rattle.t85_core.specs.declared.fault.Fault.{Fault}
 use Rattle.t85_core.specs.declared.fault.Fault.TheVariants.{Truncated, Read, Write}
@@ -35,29 +35,28 @@ pub record WritesImageFront (h : Fields) (height : ℕ) (in_old in_new out_old o
 
 -- What `decode` leaves for a header and a height. Of each device are given the known bytes and the count of failures,
 -- before the call and after it.
-pub record Decode (h : Fields) (height : ℕ) (in_old in_new : Option (List ℕ)) (reads_old reads_new : ℕ)
-    (out_old out_new : Option (List ℕ)) (writes_old writes_new : ℕ) (answer : Result (Unit {0}) Fault) : Type 0 where
-  pub whole : OnOk answer (IfSome in_old (λ body. WritesRaster h height body out_old out_new))
-  pub broken : IfErr answer (λ f. f ≢ Read → f ≢ Write → IfSome in_old (λ body. WritesRows h height body f out_old out_new))
+pub record Decode (h : Fields) (height : ℕ) (input output : Change) (answer : Result (Unit {0}) Fault) : Type 0 where
+  pub whole : OnOk answer (IfSome input.old.bytes (λ body. WritesRaster h height body output.old.bytes output.new.bytes))
+  pub broken : IfErr answer (λ f. f ≢ Read → f ≢ Write → IfSome input.old.bytes (λ body. WritesRows h height body f output.old.bytes output.new.bytes))
   -- a read failed, and what came up to there breaks at its end
-  pub unread : IsErrOf answer Read → (given : List ℕ) × Consumes in_old in_new given × WritesRows h height given Truncated out_old out_new
+  pub unread : IsErrOf answer Read → (given : List ℕ) × Consumes input.old.bytes input.new.bytes given × WritesRows h height given Truncated output.old.bytes output.new.bytes
   -- whatever the answer: where a write failed, too, and a read before it
-  pub front : WritesImageFront h height in_old in_new out_old out_new
+  pub front : WritesImageFront h height input.old.bytes input.new.bytes output.old.bytes output.new.bytes
   pub among : IfErr answer (λ f. f ≢ Write → IsBodyFault f)
-  pub reads : CountsBoth reads_old reads_new answer
-  pub writes : CountsWrite writes_old writes_new answer
+  pub reads : CountsBoth input.old.failures input.new.failures answer
+  pub writes : CountsWrite output.old.failures output.new.failures answer
 
 -- What `find_height` leaves of the input that stands behind this header.
-pub record FindHeight (h : Fields) (in_old in_new : Option (List ℕ)) (reads_old reads_new : ℕ) (answer : Result ℕ Fault) : Type 0 where
+pub record FindHeight (h : Fields) (input : Change) (answer : Result ℕ Fault) : Type 0 where
   -- the height of the body
-  pub found : IfOk answer (λ height. IfSome in_old (λ body. IsHeight h body height))
+  pub found : IfOk answer (λ height. IfSome input.old.bytes (λ body. IsHeight h body height))
   -- it may be decoded at, whatever the bytes are
   pub from : IfOk answer (λ height. 1 ≤ height)
   pub to : IfOk answer (λ height. height ≤ h.yd)
   pub fixed : IfOk answer (λ height. is_variable h ≡ false → height ≡ h.yd)
   -- nothing else is told than that a read failed, where what came up to there doesn't decide the height
   pub among : IfErr answer (λ f. f ≡ Read)
-  pub unread : IsErrOf answer Read → (given : List ℕ) × Consumes in_old in_new given × IsOpen h given
-  pub counts : CountsRead reads_old reads_new answer
+  pub unread : IsErrOf answer Read → (given : List ℕ) × Consumes input.old.bytes input.new.bytes given × IsOpen h given
+  pub counts : CountsRead input.old.failures input.new.failures answer
   -- where the height doesn't change nothing is read
-  pub idle : is_variable h ≡ false → Keeps in_old in_new
+  pub idle : is_variable h ≡ false → Keeps input.old.bytes input.new.bytes

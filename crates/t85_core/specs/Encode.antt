@@ -2,6 +2,7 @@
 use Rattle.std.specs.Prelude.{ℕ, ◌+◌, ◌≡◌, Bool, List, ◌++◌, length, Option, ◌/◌, ◌≢◌, ◌≤◌, ◌<◌, ⊤, true, take, IfSome, Result, OnOk, IfErr, IsErrOf, false}
 use Rattle.t85_core.specs.Jbg.{Settings, is_low, jbg, jbg_up_to}
 use Rattle.std.specs.Io.KnownBytes.{Appends, Consumes, Keeps}
+use Rattle.pbm_core.specs.Device.{Change}
 use Rattle.pbm_core.specs.declared.form.Form.{Form}
 use Rattle.pbm_core.specs.Image.{HoldsRows, RowFault, HasRowFault}
 use Rattle.pbm_core.specs.declared.fault.PbmFault.{PbmFault}
@@ -77,18 +78,17 @@ pub record WritesCodeFront (s : Settings) (form : Form) (width height' : ℕ) (b
 
 -- What `encode` leaves for these settings and an image of this size. Of each device are given the known bytes and the
 -- count of failures, before the call and after it.
-pub record Encode (s : Settings) (form : Form) (width height' : ℕ) (in_old in_new : Option (List ℕ)) (reads_old reads_new : ℕ)
-    (out_old out_new : Option (List ℕ)) (writes_old writes_new : ℕ) (answer : Result (Unit {0}) Fault) : Type 0 where
+pub record Encode (s : Settings) (form : Form) (width height' : ℕ) (input output : Change) (answer : Result (Unit {0}) Fault) : Type 0 where
   -- an announced height that is too low is told before all else, with nothing read and nothing written
-  pub low : IsErrOf answer AnnouncedLow → (is_low s height' ≡ true) × Keeps in_old in_new × Keeps out_old out_new
+  pub low : IsErrOf answer AnnouncedLow → (is_low s height' ≡ true) × Keeps input.old.bytes input.new.bytes × Keeps output.old.bytes output.new.bytes
   pub not_low : OnOk answer (is_low s height' ≡ false)
   pub told_if_low : IfErr answer (λ f. f ≢ AnnouncedLow → is_low s height' ≡ false)
-  pub whole : OnOk answer (IfSome in_old (λ body. WritesCode s form width height' body out_old out_new))
-  pub short : (fault : PbmFault) → fault ≢ pbm.Read → IsErrOf answer (Pbm fault) → IfSome in_old (λ body. WritesCodeBegun s form width height' body fault out_old out_new)
+  pub whole : OnOk answer (IfSome input.old.bytes (λ body. WritesCode s form width height' body output.old.bytes output.new.bytes))
+  pub short : (fault : PbmFault) → fault ≢ pbm.Read → IsErrOf answer (Pbm fault) → IfSome input.old.bytes (λ body. WritesCodeBegun s form width height' body fault output.old.bytes output.new.bytes)
   -- a read failed, and what came up to there ends within the rows
-  pub unread : IsErrOf answer (Pbm pbm.Read) → (given : List ℕ) × Consumes in_old in_new given × WritesCodeBegun s form width height' given pbm.Truncated out_old out_new
+  pub unread : IsErrOf answer (Pbm pbm.Read) → (given : List ℕ) × Consumes input.old.bytes input.new.bytes given × WritesCodeBegun s form width height' given pbm.Truncated output.old.bytes output.new.bytes
   -- whatever the answer, of just the bytes that were taken: where a write failed, too, and a read before it
-  pub front : (given : List ℕ) × Consumes in_old in_new given × WritesCodeFront s form width height' given out_old out_new
+  pub front : (given : List ℕ) × Consumes input.old.bytes input.new.bytes given × WritesCodeFront s form width height' given output.old.bytes output.new.bytes
   pub among : IfErr answer (λ f. f ≢ AnnouncedLow → IsEncodeFault f)
-  pub reads : CountsBoth reads_old reads_new answer
-  pub writes : CountsWrite writes_old writes_new answer
+  pub reads : CountsBoth input.old.failures input.new.failures answer
+  pub writes : CountsWrite output.old.failures output.new.failures answer

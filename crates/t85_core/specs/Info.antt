@@ -2,7 +2,7 @@
 use Rattle.std.specs.Prelude.{ℕ, List, [], ◌∷◌, ◌++◌, ◌≡◌, ◌≢◌, ◌⊎◌, ◌-◌, ◌^◌, ⊤, Bool, true, length, drop, sum_by, min, Option, IfSome, Result, OnOk, IfErr, IsErrOf}
 use Rattle.std.specs.Fmt.{decimal}
 use Rattle.std.specs.Io.KnownBytes.{Consumes, Appends, Keeps}
-use Rattle.pbm_core.specs.Device.{AppendsBeginning}
+use Rattle.pbm_core.specs.Device.{AppendsBeginning, Change}
 use Rattle.t85_core.specs.declared.fault.Fault.{Fault}
 use Rattle.t85_core.specs.declared.fault.Fault.TheVariants.{ShortHeader, Truncated, Changed, SecondLength, LengthRefused, SecondMove, MoveRefused, Aborted, BadEscape, Read, Write, OutOfMemory, OptionBits, StripeZero, MoveLarge, AnnouncedLow, TooManyRows, VariableHeight, CommentLong, Pbm}
 use Rattle.t85_core.specs.Header.{Fields, HeaderOf}
@@ -70,19 +70,17 @@ IsBodyFault _ = ⊥
 
 -- What `info` leaves of its input and its output. Of each are given the known bytes and the count of failures, before
 -- the call and after it, and of the output whether it was flushed last.
-pub record Info (in_old in_new : Option (List ℕ)) (reads_old reads_new : ℕ)
-    (out_old out_new : Option (List ℕ)) (writes_old writes_new : ℕ) (flushed : Bool)
-    (answer : Result (Unit {0}) Fault) : Type 0 where
+pub record Info (input output : Change) (flushed : Bool) (answer : Result (Unit {0}) Fault) : Type 0 where
   -- a stream that has its parts gives the line
-  pub line : OnOk answer (IfSome in_old (λ bytes. (text : List ℕ) × HasLine bytes text × Appends out_old out_new text))
+  pub line : OnOk answer (IfSome input.old.bytes (λ bytes. (text : List ℕ) × HasLine bytes text × Appends output.old.bytes output.new.bytes text))
   pub flushed_last : OnOk answer (flushed ≡ true)
   -- each other gives its fault, and nothing is written
-  pub refused : IfErr answer (λ f. f ≢ Read → f ≢ Write → IfSome in_old (λ bytes. StreamFault bytes f))
-  pub unwritten : IfErr answer (λ f. f ≢ Write → Keeps out_old out_new)
+  pub refused : IfErr answer (λ f. f ≢ Read → f ≢ Write → IfSome input.old.bytes (λ bytes. StreamFault bytes f))
+  pub unwritten : IfErr answer (λ f. f ≢ Write → Keeps output.old.bytes output.new.bytes)
   pub among : IfErr answer (λ f. f ≢ Write → IsWalkFault f)
   -- a read failed, and what was read up to there is no whole stream
-  pub unread : IsErrOf answer Read → (given : List ℕ) × Consumes in_old in_new given × IsUnfinished given
+  pub unread : IsErrOf answer Read → (given : List ℕ) × Consumes input.old.bytes input.new.bytes given × IsUnfinished given
   -- a write failed, and what went out is a beginning of the line
-  pub cut : IsErrOf answer Write → IfSome in_old (λ bytes. (text : List ℕ) × HasLine bytes text × AppendsBeginning out_old out_new text)
-  pub reads : CountsRead reads_old reads_new answer
-  pub writes : CountsWrite writes_old writes_new answer
+  pub cut : IsErrOf answer Write → IfSome input.old.bytes (λ bytes. (text : List ℕ) × HasLine bytes text × AppendsBeginning output.old.bytes output.new.bytes text)
+  pub reads : CountsRead input.old.failures input.new.failures answer
+  pub writes : CountsWrite output.old.failures output.new.failures answer

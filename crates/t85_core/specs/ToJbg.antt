@@ -1,6 +1,7 @@
 -- What `to_jbg` leaves of its input and output.
 use Rattle.std.specs.Prelude.{ℕ, ◌≡◌, ◌≢◌, ◌⊎◌, Bool, true, List, [], Option, IfSome, Result, OnOk, IfErr, IsErrOf, false}
 use Rattle.std.specs.Io.KnownBytes.{Appends, Consumes, Keeps}
+use Rattle.pbm_core.specs.Device.{Change}
 use Rattle.pbm_core.specs.declared.form.Form.{Form}
 use Rattle.pbm_core.specs.Image.{IsPbm}
 use Rattle.pbm_core.specs.Outcome.{HasHeader, HasFault}
@@ -55,19 +56,18 @@ abbrev pub RefusesPbm : Settings → List ℕ → PbmFault → Option (List ℕ)
 RefusesPbm s bytes fault old new = (HasFault bytes fault × Keeps old new) ⊎ WritesStreamBegun s bytes fault old new
 
 -- What `to_jbg` leaves.
-pub record ToJbg (s : Settings) (in_old in_new : Option (List ℕ)) (reads_old reads_new : ℕ)
-    (out_old out_new : Option (List ℕ)) (writes_old writes_new : ℕ) (flushed : Bool) (answer : Result (Unit {0}) Fault) : Type 0 where
-  pub whole : OnOk answer (IfSome in_old (λ bytes. WritesStream s bytes out_old out_new))
+pub record ToJbg (s : Settings) (input output : Change) (flushed : Bool) (answer : Result (Unit {0}) Fault) : Type 0 where
+  pub whole : OnOk answer (IfSome input.old.bytes (λ bytes. WritesStream s bytes output.old.bytes output.new.bytes))
   pub flushed_last : OnOk answer (flushed ≡ true)
-  pub refused : (fault : PbmFault) → fault ≢ pbm.Read → IsErrOf answer (Pbm fault) → IfSome in_old (λ bytes. RefusesPbm s bytes fault out_old out_new)
+  pub refused : (fault : PbmFault) → fault ≢ pbm.Read → IsErrOf answer (Pbm fault) → IfSome input.old.bytes (λ bytes. RefusesPbm s bytes fault output.old.bytes output.new.bytes)
   -- these come behind a header that is accepted, with nothing more read and nothing written
-  pub low : IsErrOf answer AnnouncedLow → Keeps out_old out_new × (given : List ℕ) × Consumes in_old in_new given × HasSize s true given
-  pub no_memory : IsErrOf answer OutOfMemory → Keeps out_old out_new × (given : List ℕ) × Consumes in_old in_new given × HasSize s false given
+  pub low : IsErrOf answer AnnouncedLow → Keeps output.old.bytes output.new.bytes × (given : List ℕ) × Consumes input.old.bytes input.new.bytes given × HasSize s true given
+  pub no_memory : IsErrOf answer OutOfMemory → Keeps output.old.bytes output.new.bytes × (given : List ℕ) × Consumes input.old.bytes input.new.bytes given × HasSize s false given
   -- a read failed, and what came up to there is no whole image
-  pub unread : IsErrOf answer (Pbm pbm.Read) → (given : List ℕ) × Consumes in_old in_new given
-      × ((HeaderFault given pbm.Truncated × Keeps out_old out_new) ⊎ WritesStreamBegun s given pbm.Truncated out_old out_new)
+  pub unread : IsErrOf answer (Pbm pbm.Read) → (given : List ℕ) × Consumes input.old.bytes input.new.bytes given
+      × ((HeaderFault given pbm.Truncated × Keeps output.old.bytes output.new.bytes) ⊎ WritesStreamBegun s given pbm.Truncated output.old.bytes output.new.bytes)
   -- a write failed, or the flush: of just the bytes that were taken
-  pub cut : IsErrOf answer Write → (given : List ℕ) × Consumes in_old in_new given × WritesStreamFront s given out_old out_new
+  pub cut : IsErrOf answer Write → (given : List ℕ) × Consumes input.old.bytes input.new.bytes given × WritesStreamFront s given output.old.bytes output.new.bytes
   pub among : IfErr answer (λ f. f ≢ AnnouncedLow → f ≢ OutOfMemory → f ≢ Write → (fault : PbmFault) × (f ≡ Pbm fault))
-  pub reads : CountsBoth reads_old reads_new answer
-  pub writes : CountsWrite writes_old writes_new answer
+  pub reads : CountsBoth input.old.failures input.new.failures answer
+  pub writes : CountsWrite output.old.failures output.new.failures answer

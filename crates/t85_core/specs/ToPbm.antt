@@ -1,6 +1,7 @@
 -- What `to_pbm` leaves. A stream whose height may change is read twice, first for its height and then for its rows.
 use Rattle.std.specs.Prelude.{ℕ, ◌+◌, ◌≡◌, ◌≢◌, ◌≤◌, ◌<◌, ◌⊎◌, Bool, true, false, ◌&&◌, ◌==◌, List, length, Option, Some, None, IfSome, Result, Ok, Err, OnOk, IfErr, IsErrOf}
 use Rattle.std.specs.Io.KnownBytes.{Appends, Consumes, Keeps}
+use Rattle.pbm_core.specs.Device.{Change, known_from}
 use Rattle.raster_core.specs.Raster.{Raster}
 use Rattle.t85_core.specs.declared.fault.Fault.{Fault}
 use Rattle.t85_core.specs.declared.fault.Fault.TheVariants.{ShortHeader, Truncated, Changed, Read, Write, OutOfMemory, TooManyRows, VariableHeight}
@@ -19,33 +20,32 @@ pub record TakesHeader (h : Fields) (old new : Option (List ℕ)) : Type 0 where
   pub header_of : HeaderOf given h
 
 -- A header was refused, or a read of it failed: no more than twenty bytes were taken.
-pub record HeaderEnds (old new : Option (List ℕ)) (reads_old reads_new : ℕ) (fault : Fault) : Type 0 where
-  pub ends : Ends ShortHeader old new (λ given f. (length given ≤ 20) × (header_fault given ≡ Some f)) fault
-  pub counts : reads_new ≡ reads_old + failed_reads fault
+pub record HeaderEnds (input : Change) (fault : Fault) : Type 0 where
+  pub ends : Ends ShortHeader input.old.bytes input.new.bytes (λ given f. (length given ≤ 20) × (header_fault given ≡ Some f)) fault
+  pub counts : input.new.failures ≡ input.old.failures + failed_reads fault
 
 -- what an output shows to which nothing was written
-pub record Unwritten (old new : Option (List ℕ)) (writes_old writes_new : ℕ) : Type 0 where
-  pub kept : Keeps old new
-  pub unfailed : writes_new ≡ writes_old
+pub record Unwritten (output : Change) : Type 0 where
+  pub kept : Keeps output.old.bytes output.new.bytes
+  pub unfailed : output.new.failures ≡ output.old.failures
 
 -- What writing the image of a body leaves, at this height and within a limit of rows. An image above the limit and want
 -- of memory are told before anything is read or written.
-pub record ToPbmAt (h : Fields) (height limit : ℕ) (in_old in_new : Option (List ℕ)) (reads_old reads_new : ℕ)
-    (out_old out_new : Option (List ℕ)) (writes_old writes_new : ℕ) (flushed : Bool) (answer : Result (Unit {0}) Fault) : Type 0 where
-  pub whole : OnOk answer (IfSome in_old (λ body. WritesRaster h height body out_old out_new))
+pub record ToPbmAt (h : Fields) (height limit : ℕ) (input output : Change) (flushed : Bool) (answer : Result (Unit {0}) Fault) : Type 0 where
+  pub whole : OnOk answer (IfSome input.old.bytes (λ body. WritesRaster h height body output.old.bytes output.new.bytes))
   pub flushed_last : OnOk answer (flushed ≡ true)
   pub within : OnOk answer (height ≤ limit)
   pub not_high : IfErr answer (λ f. f ≢ TooManyRows → height ≤ limit)
-  pub too_high : IsErrOf answer TooManyRows → (limit < height) × Keeps in_old in_new × Keeps out_old out_new
-  pub no_memory : IsErrOf answer OutOfMemory → Keeps in_old in_new × Keeps out_old out_new
-  pub broken : IfErr answer (λ f. f ≢ Read → f ≢ Write → f ≢ TooManyRows → f ≢ OutOfMemory → IfSome in_old (λ body. WritesRows h height body f out_old out_new))
+  pub too_high : IsErrOf answer TooManyRows → (limit < height) × Keeps input.old.bytes input.new.bytes × Keeps output.old.bytes output.new.bytes
+  pub no_memory : IsErrOf answer OutOfMemory → Keeps input.old.bytes input.new.bytes × Keeps output.old.bytes output.new.bytes
+  pub broken : IfErr answer (λ f. f ≢ Read → f ≢ Write → f ≢ TooManyRows → f ≢ OutOfMemory → IfSome input.old.bytes (λ body. WritesRows h height body f output.old.bytes output.new.bytes))
   -- a read failed, and what came up to there breaks at its end
-  pub unread : IsErrOf answer Read → (given : List ℕ) × Consumes in_old in_new given × WritesRows h height given Truncated out_old out_new
+  pub unread : IsErrOf answer Read → (given : List ℕ) × Consumes input.old.bytes input.new.bytes given × WritesRows h height given Truncated output.old.bytes output.new.bytes
   -- whatever the answer: where a write failed, too, and a read before it
-  pub front : WritesImageFront h height in_old in_new out_old out_new
+  pub front : WritesImageFront h height input.old.bytes input.new.bytes output.old.bytes output.new.bytes
   pub among : IfErr answer (λ f. f ≢ Write → f ≢ TooManyRows → f ≢ OutOfMemory → IsBodyFault f)
-  pub reads : CountsBoth reads_old reads_new answer
-  pub writes : CountsWrite writes_old writes_new answer
+  pub reads : CountsBoth input.old.failures input.new.failures answer
+  pub writes : CountsWrite output.old.failures output.new.failures answer
 
 -- the bytes of a second reading, where there is one
 abbrev pub again_known : {R : Type 0} → (R → Option (List ℕ)) → Option R → Option (List ℕ)
@@ -58,36 +58,36 @@ again_failures failures None = 0
 again_failures failures (Some reading) = failures reading
 
 -- The header is refused, or can't be read: this is told, and nothing is written.
-pub record RefusesHeader (in_old in_new : Option (List ℕ)) (reads_old reads_new : ℕ) (out_old out_new : Option (List ℕ)) (writes_old writes_new : ℕ) (answer : Result (Unit {0}) Fault) : Type 0 where
+pub record RefusesHeader (input output : Change) (answer : Result (Unit {0}) Fault) : Type 0 where
   pub fault : Fault
   pub answer_is : answer ≡ Err fault
-  pub header : HeaderEnds in_old in_new reads_old reads_new fault
-  pub nothing : Unwritten out_old out_new writes_old writes_new
+  pub header : HeaderEnds input fault
+  pub nothing : Unwritten output
 
 -- The height is fixed: the body is decoded that stands behind the header.
-pub record ToPbmOnce (limit : ℕ) (in_old in_new : Option (List ℕ)) (reads_old reads_new : ℕ) (out_old out_new : Option (List ℕ)) (writes_old writes_new : ℕ) (flushed : Bool) (answer : Result (Unit {0}) Fault) : Type 0 where
+pub record ToPbmOnce (limit : ℕ) (input output : Change) (flushed : Bool) (answer : Result (Unit {0}) Fault) : Type 0 where
   pub header : Fields
   pub body : Option (List ℕ)
-  pub taken : TakesHeader header in_old body
+  pub taken : TakesHeader header input.old.bytes body
   pub fixed : is_variable header ≡ false
-  pub converts : ToPbmAt header header.yd limit body in_new reads_old reads_new out_old out_new writes_old writes_new flushed answer
+  pub converts : ToPbmAt header header.yd limit (known_from body input) output flushed answer
 
 -- The height may change and there is no second reading: this is told, with nothing read but the header.
-pub record WantsReading (in_old in_new : Option (List ℕ)) (reads_old reads_new : ℕ) (twice : Bool) (out_old out_new : Option (List ℕ)) (writes_old writes_new : ℕ) (answer : Result (Unit {0}) Fault) : Type 0 where
+pub record WantsReading (input : Change) (twice : Bool) (output : Change) (answer : Result (Unit {0}) Fault) : Type 0 where
   pub header : Fields
-  pub taken : TakesHeader header in_old in_new
+  pub taken : TakesHeader header input.old.bytes input.new.bytes
   pub variable : is_variable header ≡ true
   pub once : twice ≡ false
   pub answer_is : answer ≡ Err VariableHeight
-  pub unfailed : reads_new ≡ reads_old
-  pub nothing : Unwritten out_old out_new writes_old writes_new
+  pub unfailed : input.new.failures ≡ input.old.failures
+  pub nothing : Unwritten output
 
 -- a read of the first reading failed before the height was known
-pub record HeightUnread (header : Fields) (body in_new : Option (List ℕ)) (reads_old reads_new : ℕ) (untouched : Type 0) (out_old out_new : Option (List ℕ)) (writes_old writes_new : ℕ) (answer : Result (Unit {0}) Fault) : Type 0 where
-  pub finds : FindHeight header body in_new reads_old reads_new (Err Read)
+pub record HeightUnread (header : Fields) (input : Change) (untouched : Type 0) (output : Change) (answer : Result (Unit {0}) Fault) : Type 0 where
+  pub finds : FindHeight header input (Err Read)
   pub answer_is : answer ≡ Err Read
   pub again : untouched
-  pub nothing : Unwritten out_old out_new writes_old writes_new
+  pub nothing : Unwritten output
 
 -- what is told where the second reading's header is refused
 abbrev pub told_again : Fault → Fault
@@ -95,53 +95,52 @@ told_again Read = Read
 told_again fault = Changed
 
 -- the second reading has no header, or can't be read
-pub record AgainRefused (again_old again_new : Option (List ℕ)) (reads_old reads_new : ℕ) (out_old out_new : Option (List ℕ)) (writes_old writes_new : ℕ) (answer : Result (Unit {0}) Fault) : Type 0 where
+pub record AgainRefused (again output : Change) (answer : Result (Unit {0}) Fault) : Type 0 where
   pub fault : Fault
-  pub header : HeaderEnds again_old again_new reads_old reads_new fault
+  pub header : HeaderEnds again fault
   pub answer_is : answer ≡ Err (told_again fault)
-  pub nothing : Unwritten out_old out_new writes_old writes_new
+  pub nothing : Unwritten output
 
 -- whether two headers are the same
 abbrev pub is_same_header : Fields → Fields → Bool
 is_same_header a b = (a.xd == b.xd) && (a.yd == b.yd) && (a.l0 == b.l0) && (a.mx == b.mx) && (a.options == b.options)
 
 -- it has another header
-pub record AgainChanged (header : Fields) (again_old again_new : Option (List ℕ)) (reads_old reads_new : ℕ) (out_old out_new : Option (List ℕ)) (writes_old writes_new : ℕ) (answer : Result (Unit {0}) Fault) : Type 0 where
+pub record AgainChanged (header : Fields) (again output : Change) (answer : Result (Unit {0}) Fault) : Type 0 where
   pub other : Fields
-  pub taken : TakesHeader other again_old again_new
+  pub taken : TakesHeader other again.old.bytes again.new.bytes
   pub differs : other ≢ header
   pub answer_is : answer ≡ Err Changed
-  pub unfailed : reads_new ≡ reads_old
-  pub nothing : Unwritten out_old out_new writes_old writes_new
+  pub unfailed : again.new.failures ≡ again.old.failures
+  pub nothing : Unwritten output
 
 -- it has the same header, and its body is decoded at the first reading's height
-pub record AgainConverts (header : Fields) (height limit : ℕ) (again_old again_new : Option (List ℕ)) (reads_old reads_new : ℕ) (out_old out_new : Option (List ℕ)) (writes_old writes_new : ℕ) (flushed : Bool) (answer : Result (Unit {0}) Fault) : Type 0 where
+pub record AgainConverts (header : Fields) (height limit : ℕ) (again output : Change) (flushed : Bool) (answer : Result (Unit {0}) Fault) : Type 0 where
   pub body : Option (List ℕ)
-  pub taken : TakesHeader header again_old body
-  pub converts : ToPbmAt header height limit body again_new reads_old reads_new out_old out_new writes_old writes_new flushed answer
+  pub taken : TakesHeader header again.old.bytes body
+  pub converts : ToPbmAt header height limit (known_from body again) output flushed answer
 
 -- what becomes of the second reading
-abbrev pub ReadsAgain : Fields → ℕ → ℕ → Option (List ℕ) → Option (List ℕ) → ℕ → ℕ → Option (List ℕ) → Option (List ℕ) → ℕ → ℕ → Bool → Result (Unit {0}) Fault → Type 0
-ReadsAgain header height limit again_old again_new reads_old reads_new out_old out_new writes_old writes_new flushed answer =
-    AgainRefused again_old again_new reads_old reads_new out_old out_new writes_old writes_new answer
-    ⊎ AgainChanged header again_old again_new reads_old reads_new out_old out_new writes_old writes_new answer
-    ⊎ AgainConverts header height limit again_old again_new reads_old reads_new out_old out_new writes_old writes_new flushed answer
+abbrev pub ReadsAgain : Fields → ℕ → ℕ → Change → Change → Bool → Result (Unit {0}) Fault → Type 0
+ReadsAgain header height limit again output flushed answer =
+    AgainRefused again output answer
+    ⊎ AgainChanged header again output answer
+    ⊎ AgainConverts header height limit again output flushed answer
 
 -- The height is found in the first reading, which stands behind this header, and the image is decoded from the second.
-abbrev pub ToPbmBehind : Fields → ℕ → Option (List ℕ) → Option (List ℕ) → ℕ → ℕ → Type 0 → Option (List ℕ) → Option (List ℕ) → ℕ → ℕ → Option (List ℕ) → Option (List ℕ) → ℕ → ℕ → Bool → Result (Unit {0}) Fault → Type 0
-ToPbmBehind header limit body in_new reads_old reads_new untouched again_old again_new again_reads_old again_reads_new out_old out_new writes_old writes_new flushed answer =
-    HeightUnread header body in_new reads_old reads_new untouched out_old out_new writes_old writes_new answer
-    ⊎ ((height : ℕ) × FindHeight header body in_new reads_old reads_new (Ok height) × ReadsAgain header height limit again_old again_new again_reads_old again_reads_new out_old out_new writes_old writes_new flushed answer)
+abbrev pub ToPbmBehind : Fields → ℕ → Change → Type 0 → Change → Change → Bool → Result (Unit {0}) Fault → Type 0
+ToPbmBehind header limit input untouched again output flushed answer =
+    HeightUnread header input untouched output answer
+    ⊎ ((height : ℕ) × FindHeight header input (Ok height) × ReadsAgain header height limit again output flushed answer)
 
 -- so it is where the height may change and there is a second reading
-pub record ToPbmTwice (limit : ℕ) (in_old in_new : Option (List ℕ)) (reads_old reads_new : ℕ) (twice : Bool) (untouched : Type 0) (again_old again_new : Option (List ℕ)) (again_reads_old again_reads_new : ℕ)
-    (out_old out_new : Option (List ℕ)) (writes_old writes_new : ℕ) (flushed : Bool) (answer : Result (Unit {0}) Fault) : Type 0 where
+pub record ToPbmTwice (limit : ℕ) (input : Change) (twice : Bool) (untouched : Type 0) (again output : Change) (flushed : Bool) (answer : Result (Unit {0}) Fault) : Type 0 where
   pub header : Fields
   pub body : Option (List ℕ)
-  pub taken : TakesHeader header in_old body
+  pub taken : TakesHeader header input.old.bytes body
   pub variable : is_variable header ≡ true
   pub second : twice ≡ true
-  pub went : ToPbmBehind header limit body in_new reads_old reads_new untouched again_old again_new again_reads_old again_reads_new out_old out_new writes_old writes_new flushed answer
+  pub went : ToPbmBehind header limit (known_from body input) untouched again output flushed answer
 
 -- The image of the one raster that a stream denotes was written.
 pub record WritesDenoted (bytes : List ℕ) (old new : Option (List ℕ)) : Type 0 where
@@ -158,12 +157,10 @@ pub record IsFixed (bytes : List ℕ) : Type 0 where
 
 -- What `to_pbm` leaves. Of each reading are given the known bytes and the count of failures, before the call and after
 -- it; of the second also whether there is one, and what it means that it is untouched. It goes one of four ways.
-pub record ToPbm (limit : ℕ) (in_old in_new : Option (List ℕ)) (reads_old reads_new : ℕ)
-    (twice : Bool) (untouched : Type 0) (again_old again_new : Option (List ℕ)) (again_reads_old again_reads_new : ℕ)
-    (out_old out_new : Option (List ℕ)) (writes_old writes_new : ℕ) (flushed : Bool) (answer : Result (Unit {0}) Fault) : Type 0 where
-  pub went : (RefusesHeader in_old in_new reads_old reads_new out_old out_new writes_old writes_new answer × untouched)
-      ⊎ (ToPbmOnce limit in_old in_new reads_old reads_new out_old out_new writes_old writes_new flushed answer × untouched)
-      ⊎ (WantsReading in_old in_new reads_old reads_new twice out_old out_new writes_old writes_new answer × untouched)
-      ⊎ ToPbmTwice limit in_old in_new reads_old reads_new twice untouched again_old again_new again_reads_old again_reads_new out_old out_new writes_old writes_new flushed answer
+pub record ToPbm (limit : ℕ) (input : Change) (twice : Bool) (untouched : Type 0) (again output : Change) (flushed : Bool) (answer : Result (Unit {0}) Fault) : Type 0 where
+  pub went : (RefusesHeader input output answer × untouched)
+      ⊎ (ToPbmOnce limit input output flushed answer × untouched)
+      ⊎ (WantsReading input twice output answer × untouched)
+      ⊎ ToPbmTwice limit input twice untouched again output flushed answer
   -- of a stream of fixed height, or of two equal readings, it is the image of the raster that the stream denotes
-  pub denoted : OnOk answer (IfSome in_old (λ first. IsFixed first ⊎ (again_old ≡ Some first) → WritesDenoted first out_old out_new))
+  pub denoted : OnOk answer (IfSome input.old.bytes (λ first. IsFixed first ⊎ (again.old.bytes ≡ Some first) → WritesDenoted first output.old.bytes output.new.bytes))

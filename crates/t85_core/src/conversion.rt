@@ -1,6 +1,7 @@
 //! Whole files: the image of a stream, and the stream of an image.
 
 ghost use Rattle.std.specs.Prelude.{◌≡◌, ◌≤◌, ◌<◌, ◌-◌, ◌^◌, IfSome, is_some, true, if◌then◌else◌};
+ghost use Rattle.pbm_core.specs.Device.{change};
 ghost use Rattle.t85_core.specs.Options.{fields_of, settings_of};
 ghost use Rattle.t85_core.specs.Header.{is_variable};
 ghost use Rattle.t85_core.specs.Failures.{FlushesOnce};
@@ -36,15 +37,10 @@ pub fn to_pbm<R: Input, Second: Input, W: Output>(
     requires first { R.failures first.old < 2 ^ 64 - 1 }
     requires again { IfSome again.old (λ reading. Second.failures reading < 2 ^ 64 - 1) }
     requires output { W.failures output.old < 2 ^ 64 - 1 }
-    ensures outcome { ToPbm max_rows (R.remaining first.old) (R.remaining first.new)
-        (R.failures first.old) (R.failures first.new)
+    ensures outcome { ToPbm max_rows (change R.remaining R.failures first.old first.new)
         (is_some again.old) (again.new ≡ again.old)
-        (again_known (λ reading. Second.remaining reading) again.old)
-        (again_known (λ reading. Second.remaining reading) again.new)
-        (again_failures (λ reading. Second.failures reading) again.old)
-        (again_failures (λ reading. Second.failures reading) again.new)
-        (W.contents output.old) (W.contents output.new) (W.failures output.old)
-        (W.failures output.new) (W.flushed output.new) result }
+        (change (again_known Second.remaining) (again_failures Second.failures) again.old again.new)
+        (change W.contents W.failures output.old output.new) (W.flushed output.new) result }
     ensures flushes { FlushesOnce (W.flushes output.old) (W.flushes output.new) result }
 {
     // What the proof cites of the coder.
@@ -72,12 +68,10 @@ fn convert_again<R: Input, Second: Input, W: Output>(
     requires again { Second.failures again.old < 2 ^ 64 - 1 }
     requires output { W.failures output.old < 2 ^ 64 - 1 }
     requires variable { is_variable (fields_of header.now) ≡ true }
-    ensures outcome { ToPbmBehind (fields_of header.now) max_rows (R.remaining first.old)
-        (R.remaining first.new) (R.failures first.old) (R.failures first.new)
-        (again.new ≡ again.old) (Second.remaining again.old) (Second.remaining again.new)
-        (Second.failures again.old) (Second.failures again.new)
-        (W.contents output.old) (W.contents output.new) (W.failures output.old)
-        (W.failures output.new) (W.flushed output.new) result }
+    ensures outcome { ToPbmBehind (fields_of header.now) max_rows
+        (change R.remaining R.failures first.old first.new)
+        (again.new ≡ again.old) (change Second.remaining Second.failures again.old again.new)
+        (change W.contents W.failures output.old output.new) (W.flushed output.new) result }
     ensures flushes { FlushesOnce (W.flushes output.old) (W.flushes output.new) result }
 {
     let height = find_height(header, first)?;
@@ -119,10 +113,9 @@ fn convert<R: Input, W: Output>(
     requires output { W.failures output.old < 2 ^ 64 - 1 }
     requires from { 1 ≤ height }
     requires to { height ≤ header.now.yd }
-    ensures outcome { ToPbmAt (fields_of header.now) height max_rows (R.remaining input.old)
-        (R.remaining input.new) (R.failures input.old) (R.failures input.new)
-        (W.contents output.old) (W.contents output.new) (W.failures output.old)
-        (W.failures output.new) (W.flushed output.new) result }
+    ensures outcome { ToPbmAt (fields_of header.now) height max_rows
+        (change R.remaining R.failures input.old input.new)
+        (change W.contents W.failures output.old output.new) (W.flushed output.new) result }
     ensures flushes { FlushesOnce (W.flushes output.old) (W.flushes output.new) result }
 {
     if height > max_rows {
@@ -148,10 +141,9 @@ pub fn to_jbg<R: Input, W: Output>(
 ) -> Result<(), Fault>
     requires input { R.failures input.old < 2 ^ 64 - 1 }
     requires output { W.failures output.old < 2 ^ 64 - 1 }
-    ensures outcome { ToJbg (settings_of options.now) (R.remaining input.old)
-        (R.remaining input.new) (R.failures input.old) (R.failures input.new)
-        (W.contents output.old) (W.contents output.new) (W.failures output.old)
-        (W.failures output.new) (W.flushed output.new) result }
+    ensures outcome { ToJbg (settings_of options.now)
+        (change R.remaining R.failures input.old input.new)
+        (change W.contents W.failures output.old output.new) (W.flushed output.new) result }
     ensures flushes { FlushesOnce (W.flushes output.old) (W.flushes output.new) result }
 {
     // What the proof cites of headers.

@@ -5,6 +5,7 @@ ghost use Rattle.raster_core.specs.Window.{width_of};
 ghost use Rattle.t85_core.specs.Steps.State.{StripeStart, first_row_start};
 ghost use Rattle.t85_core.specs.Options.{fields_of};
 ghost use Rattle.std.specs.Io.KnownBytes.{append_known};
+ghost use Rattle.pbm_core.specs.Device.{change};
 ghost use Rattle.t85_core.specs.Decode.{Decode};
 ghost use Rattle.t85_core.specs.Steps.Buffers.{held_of, known_length};
 ghost use Rattle.t85_core.specs.Steps.DecodeRows.{pair_of, IsCarried, IsFirst};
@@ -44,10 +45,9 @@ pub fn decode<R: Input, W: Output>(
     requires width { width_of window.old ≡ header.now.xd }
     requires from { 1 ≤ height }
     requires to { height ≤ header.now.yd }
-    ensures outcome { Decode (fields_of header.now) height (R.remaining input.old)
-        (R.remaining input.new) (R.failures input.old) (R.failures input.new)
-        (W.contents output.old) (W.contents output.new) (W.failures output.old)
-        (W.failures output.new) result }
+    ensures outcome { Decode (fields_of header.now) height
+        (change R.remaining R.failures input.old input.new)
+        (change W.contents W.failures output.old output.new) result }
     ensures no_flush { W.flushes output.new ≡ W.flushes output.old }
 {
     // What the proof cites of the coder.

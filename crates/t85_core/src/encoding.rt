@@ -2,6 +2,7 @@
 
 ghost use Rattle.std.specs.Prelude.{◌≡◌, ◌≤◌, ◌<◌, ◌+◌, ◌-◌, ◌^◌, [], nat_lt, length, OnOk, IfErr, IfSome, IsErrOf, false, if◌then◌else◌, ◌++◌};
 ghost use Rattle.std.specs.Io.KnownBytes.{Appends, append_known};
+ghost use Rattle.pbm_core.specs.Device.{change};
 ghost use Rattle.pbm_core.specs.declared.fault.PbmFault.{PbmFault};
 ghost use Rattle.raster_core.specs.Tally.{is_two_line, most_of, row_count};
 ghost use Rattle.raster_core.specs.Window.{shape_mode, held, width_of};
@@ -49,10 +50,8 @@ pub fn encode<R: Input, W: Output>(
     requires output { W.failures output.old < 2 ^ 64 - 1 }
     requires width { width_of window.old ≡ size.width }
     ensures outcome { Encode (settings_of options.now) form size.width size.height
-        (R.remaining input.old) (R.remaining input.new) (R.failures input.old)
-        (R.failures input.new)
-        (W.contents output.old) (W.contents output.new) (W.failures output.old)
-        (W.failures output.new) result }
+        (change R.remaining R.failures input.old input.new)
+        (change W.contents W.failures output.old output.new) result }
     ensures no_flush { W.flushes output.new ≡ W.flushes output.old }
 {
     // What the proof cites.

@@ -2,12 +2,13 @@
 
 ghost use Rattle.std.specs.Prelude.{◌≡◌, ◌≢◌, ◌≤◌, ◌-◌, ◌^◌, ◌<◌, List, ℕ, OnOk, IfOk, IfErr, IfSome, IsErrOf, None, true, false};
 ghost use Rattle.std.specs.Io.KnownBytes.{Consumes};
+ghost use Rattle.pbm_core.specs.Device.{change};
 ghost use Rattle.t85_core.specs.declared.fault.Fault.TheVariants.{Truncated, Read};
 ghost use Rattle.t85_core.specs.Options.{fields_of};
 ghost use Rattle.t85_core.specs.Header.{is_variable};
 ghost use Rattle.t85_core.specs.Failures.{CountsRead, Ends};
 ghost use Rattle.t85_core.specs.Grammar.{stripe_count};
-ghost use Rattle.t85_core.specs.Decode.{FindHeight as HeightFound};
+ghost use Rattle.t85_core.specs.Decode.{FindHeight};
 ghost use Rattle.t85_core.specs.Info.{IsWalkFault};
 ghost use Rattle.t85_core.specs.Steps.HeightWalk.{Skips, SkipFault, Sought, SkipsFault, LooksTo, LookEnds, LookOpen, Finds, FindsOpen, PassesRest, RestBreaks};
 ghost use Rattle.t85_core.specs.Steps.Segments.{IsByteOrMarker};
@@ -48,8 +49,8 @@ pub struct Reached {
 /// comes, or the stream breaks before it, the height is the header's.
 pub fn find_height<R: Input>(header: &Header, input: &mut R) -> Result<u32, Fault>
     requires input { R.failures input.old < 2 ^ 64 - 1 }
-    ensures { HeightFound (fields_of header.now) (R.remaining input.old) (R.remaining input.new)
-        (R.failures input.old) (R.failures input.new) result }
+    ensures { FindHeight (fields_of header.now) (change R.remaining R.failures input.old input.new)
+        result }
 {
     if !header.is_variable() {
         return Ok(header.yd);

@@ -2,6 +2,7 @@
 
 ghost use Rattle.std.specs.Prelude.{◌≡◌, ◌≢◌, ◌≤◌, ◌-◌, ◌^◌, ◌<◌, ◌∷◌, [], List, ℕ, Option, IfOk, IfErr, IfSome, IsErrOf, Some};
 ghost use Rattle.std.specs.Io.KnownBytes.{Consumes};
+ghost use Rattle.pbm_core.specs.Device.{change};
 ghost use Rattle.t85_core.specs.declared.fault.Fault.TheVariants.{Read};
 ghost use Rattle.t85_core.specs.Options.{fields_of};
 ghost use Rattle.t85_core.specs.Info.{Info, IsWalkFault, line_text};
@@ -20,10 +21,8 @@ use pbm_core::{Input, Output};
 pub fn info<R: Input, W: Output>(input: &mut R, output: &mut W) -> Result<(), Fault>
     requires input { R.failures input.old < 2 ^ 64 - 1 }
     requires output { W.failures output.old < 2 ^ 64 - 1 }
-    ensures outcome { Info (R.remaining input.old) (R.remaining input.new) (R.failures input.old)
-        (R.failures input.new)
-        (W.contents output.old) (W.contents output.new) (W.failures output.old)
-        (W.failures output.new) (W.flushed output.new) result }
+    ensures outcome { Info (change R.remaining R.failures input.old input.new)
+        (change W.contents W.failures output.old output.new) (W.flushed output.new) result }
     ensures flushes { FlushesOnce (W.flushes output.old) (W.flushes output.new) result }
 {
     let header = Header::read(input)?;

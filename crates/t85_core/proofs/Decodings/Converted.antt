@@ -3,6 +3,7 @@ use Rattle.std.proofs.Common.{◌≡◌, ◌≢◌, ◌≤◌, ◌<◌, ◌+◌,
 use Rattle.std.specs.Prelude.{OnOk, is_some}
 use Rattle.std.specs.Io.KnownBytes.{Consumes, Keeps}
 use Rattle.std.proofs.lemmas.Bool.Decides.{nat_tests}
+use Rattle.pbm_core.specs.Device.{between}
 use Rattle.t85_core.specs.declared.fault.Fault.{Fault}
 use Rattle.t85_core.specs.declared.fault.Fault.TheVariants.{Write, OutOfMemory, TooManyRows}
 use Rattle.t85_core.specs.Header.{Fields, HeaderOf, is_variable}
@@ -32,7 +33,7 @@ module _ (h : Fields) (height limit : ℕ) (known : Option (List ℕ)) (reads : 
   front_none = record { given = []; taken = Consumes-none known; appends = λ rest fault text o. record { front = []; rest = text; text_is = refl; appends = appends_nothing out } }
 
   -- the image has too many rows
-  pub at_high : limit < height → ToPbmAt h height limit known known reads reads out out writes writes flushed (Err TooManyRows)
+  pub at_high : limit < height → ToPbmAt h height limit (between known known reads reads) (between out out writes writes) flushed (Err TooManyRows)
   at_high high = record {
     whole = tt;
     flushed_last = tt;
@@ -50,7 +51,7 @@ module _ (h : Fields) (height limit : ℕ) (known : Option (List ℕ)) (reads : 
 
 module _ (h : Fields) (height limit : ℕ) (in_old in_new : Option (List ℕ)) (reads_old reads_new : ℕ) (out_old out_new : Option (List ℕ)) (writes_old writes_new : ℕ) (flushed : Bool) (fits : height ≤ limit) where
   -- the body breaks, or a device fails
-  pub at_broken : (f : Fault) → Decode h height in_old in_new reads_old reads_new out_old out_new writes_old writes_new (Err f) → ToPbmAt h height limit in_old in_new reads_old reads_new out_old out_new writes_old writes_new flushed (Err f)
+  pub at_broken : (f : Fault) → Decode h height (between in_old in_new reads_old reads_new) (between out_old out_new writes_old writes_new) (Err f) → ToPbmAt h height limit (between in_old in_new reads_old reads_new) (between out_old out_new writes_old writes_new) flushed (Err f)
   at_broken f d = record {
     whole = tt;
     flushed_last = tt;
@@ -74,8 +75,8 @@ module _ (h : Fields) (height limit : ℕ) (in_old in_new : Option (List ℕ)) (
   }
 
   -- the flush failed behind all that was written
-  pub at_unflushed : (out_last : Option (List ℕ)) (writes_last : ℕ) → Decode h height in_old in_new reads_old reads_new out_old out_new writes_old writes_new (Ok tt) → Keeps out_new out_last → writes_last ≡ writes_new + 1 →
-      ToPbmAt h height limit in_old in_new reads_old reads_new out_old out_last writes_old writes_last flushed (Err Write)
+  pub at_unflushed : (out_last : Option (List ℕ)) (writes_last : ℕ) → Decode h height (between in_old in_new reads_old reads_new) (between out_old out_new writes_old writes_new) (Ok tt) → Keeps out_new out_last → writes_last ≡ writes_new + 1 →
+      ToPbmAt h height limit (between in_old in_new reads_old reads_new) (between out_old out_last writes_old writes_last) flushed (Err Write)
   at_unflushed out_last writes_last d keeps more = record {
     whole = tt;
     flushed_last = tt;
@@ -92,8 +93,8 @@ module _ (h : Fields) (height limit : ℕ) (in_old in_new : Option (List ℕ)) (
   }
 
   -- the image was written, and flushed
-  pub at_whole : (out_last : Option (List ℕ)) (writes_last : ℕ) → Decode h height in_old in_new reads_old reads_new out_old out_new writes_old writes_new (Ok tt) → Keeps out_new out_last → flushed ≡ true → writes_last ≡ writes_new →
-      ToPbmAt h height limit in_old in_new reads_old reads_new out_old out_last writes_old writes_last flushed (Ok tt)
+  pub at_whole : (out_last : Option (List ℕ)) (writes_last : ℕ) → Decode h height (between in_old in_new reads_old reads_new) (between out_old out_new writes_old writes_new) (Ok tt) → Keeps out_new out_last → flushed ≡ true → writes_last ≡ writes_new →
+      ToPbmAt h height limit (between in_old in_new reads_old reads_new) (between out_old out_last writes_old writes_last) flushed (Ok tt)
   at_whole out_last writes_last d keeps last same = record {
     whole = whole in_old d.whole;
     flushed_last = last;
@@ -167,7 +168,7 @@ none_on P (Ok u) is = absurd (let bot : ⊥ = cc in bot)
 none_on P (Err f) is = tt
 
 module _ (q : CoderLaws) (in_old : Option (List ℕ)) (again_old : Option (List ℕ)) (out_old out_new : Option (List ℕ)) where
-  pub denoted_once : (limit : ℕ) (in_new : Option (List ℕ)) (reads_old reads_new writes_old writes_new : ℕ) (flushed : Bool) (r : Result (Unit {0}) Fault) → ToPbmOnce limit in_old in_new reads_old reads_new out_old out_new writes_old writes_new flushed r →
+  pub denoted_once : (limit : ℕ) (in_new : Option (List ℕ)) (reads_old reads_new writes_old writes_new : ℕ) (flushed : Bool) (r : Result (Unit {0}) Fault) → ToPbmOnce limit (between in_old in_new reads_old reads_new) (between out_old out_new writes_old writes_new) flushed r →
       OnOk r (IfSome in_old (λ first. IsFixed first ⊎ (again_old ≡ Some first) → WritesDenoted first out_old out_new))
   denoted_once limit in_new reads_old reads_new writes_old writes_new flushed (Err f) p = tt
   denoted_once limit in_new reads_old reads_new writes_old writes_new flushed (Ok u) p = went in_old p.body p.taken.taken p.converts.whole where
@@ -179,7 +180,7 @@ module _ (q : CoderLaws) (in_old : Option (List ℕ)) (again_old : Option (List 
 
   -- behind the same bytes
   pub denoted_twice : (h : Fields) (height limit : ℕ) (mid in_new again_new : Option (List ℕ)) (first_old first_new reads_old reads_new writes_old writes_new : ℕ) (flushed : Bool) (r : Result (Unit {0}) Fault) → is_variable h ≡ true → TakesHeader h in_old mid →
-      FindHeight h mid in_new first_old first_new (Ok height) → AgainConverts h height limit again_old again_new reads_old reads_new out_old out_new writes_old writes_new flushed r →
+      FindHeight h (between mid in_new first_old first_new) (Ok height) → AgainConverts h height limit (between again_old again_new reads_old reads_new) (between out_old out_new writes_old writes_new) flushed r →
       OnOk r (IfSome in_old (λ first. IsFixed first ⊎ (again_old ≡ Some first) → WritesDenoted first out_old out_new))
   denoted_twice h height limit mid in_new again_new first_old first_new reads_old reads_new writes_old writes_new flushed (Err f) variable t found p = tt
   denoted_twice h height limit mid in_new again_new first_old first_new reads_old reads_new writes_old writes_new flushed (Ok u) variable t found p = went in_old mid t.taken found.found where
@@ -203,7 +204,7 @@ module _ (q : CoderLaws) (in_old : Option (List ℕ)) (again_old : Option (List 
 
   -- whichever way the second reading goes
   pub denoted_behind : (h : Fields) (limit : ℕ) (mid in_new again_new : Option (List ℕ)) (first_old first_new reads_old reads_new writes_old writes_new : ℕ) (untouched : Type 0) (flushed : Bool) (r : Result (Unit {0}) Fault) → is_variable h ≡ true → TakesHeader h in_old mid →
-      ToPbmBehind h limit mid in_new first_old first_new untouched again_old again_new reads_old reads_new out_old out_new writes_old writes_new flushed r →
+      ToPbmBehind h limit (between mid in_new first_old first_new) untouched (between again_old again_new reads_old reads_new) (between out_old out_new writes_old writes_new) flushed r →
       OnOk r (IfSome in_old (λ first. IsFixed first ⊎ (again_old ≡ Some first) → WritesDenoted first out_old out_new))
   denoted_behind h limit mid in_new again_new first_old first_new reads_old reads_new writes_old writes_new untouched flushed r variable t (inl p) = none_on _ r p.answer_is
   denoted_behind h limit mid in_new again_new first_old first_new reads_old reads_new writes_old writes_new untouched flushed r variable t (inr (height, found, inl p)) = none_on _ r p.answer_is
@@ -214,29 +215,29 @@ module _ (q : CoderLaws) (in_old : Option (List ℕ)) (again_old : Option (List 
 -- ---- the height is fixed
 
 pub goes_once : CoderLaws → (h : Fields) (limit : ℕ) (in_old mid in_new : Option (List ℕ)) (first_old first_new : ℕ) (twice : Bool) (untouched : Type 0) (again_old : Option (List ℕ)) (again_reads : ℕ) (out_old out_new : Option (List ℕ)) (writes_old writes_new : ℕ) (flushed : Bool) (r : Result (Unit {0}) Fault) →
-    TakesHeader h in_old mid → is_variable h ≡ false → ToPbmAt h h.yd limit mid in_new first_old first_new out_old out_new writes_old writes_new flushed r → untouched →
-    ToPbm limit in_old in_new first_old first_new twice untouched again_old again_old again_reads again_reads out_old out_new writes_old writes_new flushed r
+    TakesHeader h in_old mid → is_variable h ≡ false → ToPbmAt h h.yd limit (between mid in_new first_old first_new) (between out_old out_new writes_old writes_new) flushed r → untouched →
+    ToPbm limit (between in_old in_new first_old first_new) twice untouched (between again_old again_old again_reads again_reads) (between out_old out_new writes_old writes_new) flushed r
 goes_once q h limit in_old mid in_new first_old first_new twice untouched again_old again_reads out_old out_new writes_old writes_new flushed r taken fixed converts same = record {
   went = inr (inl (once, same));
   denoted = denoted_once q in_old again_old out_old out_new limit in_new first_old first_new writes_old writes_new flushed r once;
 } where
-  once : ToPbmOnce limit in_old in_new first_old first_new out_old out_new writes_old writes_new flushed r
+  once : ToPbmOnce limit (between in_old in_new first_old first_new) (between out_old out_new writes_old writes_new) flushed r
   once = record { header = h; body = mid; taken = taken; fixed = fixed; converts = converts }
 
 -- ---- the second reading is there
 
 untouched_some : {T : Type 0} (h : Fields) (limit : ℕ) (mid in_new : Option (List ℕ)) (first_old first_new : ℕ) (old new : T) (again_old again_new : Option (List ℕ)) (reads_old reads_new : ℕ) (out_old out_new : Option (List ℕ)) (writes_old writes_new : ℕ) (flushed : Bool) (r : Result (Unit {0}) Fault) →
-    ToPbmBehind h limit mid in_new first_old first_new (new ≡ old) again_old again_new reads_old reads_new out_old out_new writes_old writes_new flushed r →
-    ToPbmBehind h limit mid in_new first_old first_new (Some new ≡ Some old) again_old again_new reads_old reads_new out_old out_new writes_old writes_new flushed r
+    ToPbmBehind h limit (between mid in_new first_old first_new) (new ≡ old) (between again_old again_new reads_old reads_new) (between out_old out_new writes_old writes_new) flushed r →
+    ToPbmBehind h limit (between mid in_new first_old first_new) (Some new ≡ Some old) (between again_old again_new reads_old reads_new) (between out_old out_new writes_old writes_new) flushed r
 untouched_some h limit mid in_new first_old first_new old new again_old again_new reads_old reads_new out_old out_new writes_old writes_new flushed r (inl p) = inl (record { finds = p.finds; answer_is = p.answer_is; again = ap Some p.again; nothing = p.nothing })
 untouched_some h limit mid in_new first_old first_new old new again_old again_new reads_old reads_new out_old out_new writes_old writes_new flushed r (inr p) = inr p
 
 pub goes_twice : {T : Type 0} (q : CoderLaws) (remaining : T → Option (List ℕ)) (failures : T → ℕ) (h : Fields) (limit : ℕ) (in_old mid in_new : Option (List ℕ)) (first_old first_new : ℕ) (old new : T) (out_old out_new : Option (List ℕ)) (writes_old writes_new : ℕ) (flushed : Bool) (r : Result (Unit {0}) Fault) →
     TakesHeader h in_old mid → is_variable h ≡ true →
-    ToPbmBehind h limit mid in_new first_old first_new (new ≡ old) (remaining old) (remaining new) (failures old) (failures new) out_old out_new writes_old writes_new flushed r → (o : Option T) → o ≡ Some old →
-    ToPbm limit in_old in_new first_old first_new (is_some o) (Some new ≡ o) (again_known remaining o) (remaining new) (again_failures failures o) (failures new) out_old out_new writes_old writes_new flushed r
+    ToPbmBehind h limit (between mid in_new first_old first_new) (new ≡ old) (between (remaining old) (remaining new) (failures old) (failures new)) (between out_old out_new writes_old writes_new) flushed r → (o : Option T) → o ≡ Some old →
+    ToPbm limit (between in_old in_new first_old first_new) (is_some o) (Some new ≡ o) (between (again_known remaining o) (remaining new) (again_failures failures o) (failures new)) (between out_old out_new writes_old writes_new) flushed r
 goes_twice {T} q remaining failures h limit in_old mid in_new first_old first_new old new out_old out_new writes_old writes_new flushed r taken variable went o is =
-    subst (λ (z : Option T). ToPbm limit in_old in_new first_old first_new (is_some z) (Some new ≡ z) (again_known remaining z) (remaining new) (again_failures failures z) (failures new) out_old out_new writes_old writes_new flushed r) (sym is)
+    subst (λ (z : Option T). ToPbm limit (between in_old in_new first_old first_new) (is_some z) (Some new ≡ z) (between (again_known remaining z) (remaining new) (again_failures failures z) (failures new)) (between out_old out_new writes_old writes_new) flushed r) (sym is)
     (record {
       went = inr (inr (inr (record {
         header = h;

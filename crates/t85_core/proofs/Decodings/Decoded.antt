@@ -2,7 +2,7 @@
 use Rattle.std.proofs.Common.{◌≡◌, ◌≢◌, ◌<◌, ◌^◌, ◌≤◌, ◌+◌, ◌⊎◌, inl, inr, ℕ, Bool, List, [], ◌++◌, not, count_by, Option, None, Some, Result, Ok, Err, refl, sym, ap, ◌∙◌, subst, append_assoc, append-nil, arith}
 use Rattle.std.specs.Prelude.{IfSome, OnOk, IfErr, IsErrOf, flat_map}
 use Rattle.std.specs.Io.KnownBytes.{Appends, Consumes, prepend_known, append_known}
-use Rattle.pbm_core.specs.Device.{AppendsBeginning}
+use Rattle.pbm_core.specs.Device.{AppendsBeginning, between}
 use Rattle.pbm_core.specs.Pbm.{header_text}
 use Rattle.qm_core.specs.Code.{stuffed}
 use Rattle.raster_core.specs.Raster.{Raster}
@@ -127,7 +127,7 @@ module _ (q : CoderLaws) (h : Fields) (height : ℕ) (use_ : IsInUse h height) (
       OnOk r (ImageRead h height in_old known out_mid out_new) → IfErr r (λ f. f ≢ Write → ImageCut h height in_old known out_mid out_new f) → (IsErrOf r Read → known ≡ in_new) →
       CountsBoth reads_old reads_new r → CountsWrite writes_old writes_new r →
       known_length out_mid ≤ known_length out_new → ImageUnwritten h height in_old (prepend_known in_held in_new) out_mid (append_known out_new out_held) →
-      Decode h height in_old in_new reads_old reads_new out_old out_new writes_old writes_new r
+      Decode h height (between in_old in_new reads_old reads_new) (between out_old out_new writes_old writes_new) r
   decoded in_held out_held known in_new reads_old reads_new writes_old writes_new (Ok u) ok err drained reads writes grows begun = record {
     whole = raster_known in_old known ok;
     broken = tt;
@@ -161,7 +161,7 @@ front_of_header h height known out_old out_new p = record {
   all rest (Some fault) text o = subst (AppendsBeginning out_old out_new) (sym o.2) (beginning_longer out_old out_new (header_text h.xd height) (flat_map packed_row o.0) p)
 
 pub decodes_unheaded : (h : Fields) (height : ℕ) (known : Option (List ℕ)) (reads writes writes_new : ℕ) (out_old out_new : Option (List ℕ)) → AppendsBeginning out_old out_new (header_text h.xd height) → writes_new ≡ writes + 1 →
-    Decode h height known known reads reads out_old out_new writes writes_new (Err Write)
+    Decode h height (between known known reads reads) (between out_old out_new writes writes_new) (Err Write)
 decodes_unheaded h height known reads writes writes_new out_old out_new p counted = record {
   whole = tt;
   broken = λ _ n. absurd (n refl);
@@ -175,8 +175,8 @@ decodes_unheaded h height known reads writes writes_new out_old out_new p counte
 -- the devices as they are when their loans end
 pub decodes_at : {R W : Type 0} (remaining : R → Option (List ℕ)) (reads : R → ℕ) (contents : W → Option (List ℕ)) (writes : W → ℕ) (h : Fields) (height : ℕ) (first : R) (start : W) (input input' : R) (output output' : W) (r : Result (Unit {0}) Fault) →
     input ≡ input' → output ≡ output' →
-    Decode h height (remaining first) (remaining input) (reads first) (reads input) (contents start) (contents output) (writes start) (writes output) r →
-    Decode h height (remaining first) (remaining input') (reads first) (reads input') (contents start) (contents output') (writes start) (writes output') r
+    Decode h height (between (remaining first) (remaining input) (reads first) (reads input)) (between (contents start) (contents output) (writes start) (writes output)) r →
+    Decode h height (between (remaining first) (remaining input') (reads first) (reads input')) (between (contents start) (contents output') (writes start) (writes output')) r
 decodes_at remaining reads contents writes h height first start input input' output output' r i o d =
-    subst (λ x. Decode h height (remaining first) (remaining x) (reads first) (reads x) (contents start) (contents output') (writes start) (writes output') r) i
-    (subst (λ x. Decode h height (remaining first) (remaining input) (reads first) (reads input) (contents start) (contents x) (writes start) (writes x) r) o d)
+    subst (λ x. Decode h height (between (remaining first) (remaining x) (reads first) (reads x)) (between (contents start) (contents output') (writes start) (writes output')) r) i
+    (subst (λ x. Decode h height (between (remaining first) (remaining input) (reads first) (reads input)) (between (contents start) (contents x) (writes start) (writes x)) r) o d)

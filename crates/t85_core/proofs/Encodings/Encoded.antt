@@ -4,6 +4,7 @@ use Rattle.std.proofs.lemmas.Bool.Decides.{nat_tests}
 use Rattle.std.specs.Prelude.{IfSome, OnOk, IfErr, IsErrOf, unwrap_or}
 use Rattle.std.specs.Option.{option_map_or}
 use Rattle.std.specs.Io.KnownBytes.{Consumes, IsAtEnd, append_known}
+use Rattle.pbm_core.specs.Device.{between}
 use Rattle.pbm_core.specs.declared.fault.PbmFault.{PbmFault}
 use Rattle.pbm_core.specs.declared.fault.PbmFault.TheVariants as pbm
 use Rattle.pbm_core.specs.declared.form.Form.{Form}
@@ -167,7 +168,7 @@ module _ (s : Settings) (form : Form) (width height' : ℕ) (in_old in_new out_o
       ((fault : PbmFault) → IsErrOf r (Pbm fault) → ImageShort s form width height' (λ raster n. jbg_up_to s raster n) (λ raster. jbg s raster) in_old in_new out_old out_new fault) →
       IfErr r IsEncodeFault → CountsBoth reads_old reads_new r → CountsWrite writes_old writes_new r →
       known_length out_old ≤ known_length out_new → ImageFront form width height' (λ raster. jbg s raster) in_old in_new out_old (append_known out_new held) →
-      Encode s form width height' in_old in_new reads_old reads_new out_old out_new writes_old writes_new r
+      Encode s form width height' (between in_old in_new reads_old reads_new) (between out_old out_new writes_old writes_new) r
   encoded held law are low size reads_old reads_new writes_old writes_new r ok short among reads writes grows begun = record {
     low = λ e. absurd (none_low r among e);
     not_low = always r low;
@@ -184,15 +185,15 @@ module _ (s : Settings) (form : Form) (width height' : ℕ) (in_old in_new out_o
 -- the output as it is before it is lent and when its loan ends
 pub encodes_at : {W : Type 0} (contents : W → Option (List ℕ)) (failures : W → ℕ) (s : Settings) (form : Form) (width height' : ℕ) (in_old in_new : Option (List ℕ)) (reads_old reads_new : ℕ)
     (before : Option (List ℕ)) (count : ℕ) (start output output' : W) (r : Result (Unit {0}) Fault) → before ≡ contents start → count ≡ failures start → output ≡ output' →
-    Encode s form width height' in_old in_new reads_old reads_new before (contents output) count (failures output) r →
-    Encode s form width height' in_old in_new reads_old reads_new (contents start) (contents output') (failures start) (failures output') r
+    Encode s form width height' (between in_old in_new reads_old reads_new) (between before (contents output) count (failures output)) r →
+    Encode s form width height' (between in_old in_new reads_old reads_new) (between (contents start) (contents output') (failures start) (failures output')) r
 encodes_at contents failures s form width height' in_old in_new reads_old reads_new before count start output output' r text n same e =
-    subst (λ x. Encode s form width height' in_old in_new reads_old reads_new (contents start) (contents x) (failures start) (failures x) r) same
-    (subst (λ z. Encode s form width height' in_old in_new reads_old reads_new z (contents output) (failures start) (failures output) r) text
-    (subst (λ z. Encode s form width height' in_old in_new reads_old reads_new before (contents output) z (failures output) r) n e))
+    subst (λ x. Encode s form width height' (between in_old in_new reads_old reads_new) (between (contents start) (contents x) (failures start) (failures x)) r) same
+    (subst (λ z. Encode s form width height' (between in_old in_new reads_old reads_new) (between z (contents output) (failures start) (failures output)) r) text
+    (subst (λ z. Encode s form width height' (between in_old in_new reads_old reads_new) (between before (contents output) z (failures output)) r) n e))
 
 -- an announced height that is too low is told at once
-pub told_low : (s : Settings) (form : Form) (width height' : ℕ) (known text : Option (List ℕ)) (reads writes : ℕ) → 1 ≤ width → is_low s height' ≡ true → Encode s form width height' known known reads reads text text writes writes (Err AnnouncedLow)
+pub told_low : (s : Settings) (form : Form) (width height' : ℕ) (known text : Option (List ℕ)) (reads writes : ℕ) → 1 ≤ width → is_low s height' ≡ true → Encode s form width height' (between known known reads reads) (between text text writes writes) (Err AnnouncedLow)
 told_low s form width height' known text reads writes some is = record {
   low = λ _. (is, Keeps-same known, Keeps-same text);
   not_low = tt;

@@ -2,6 +2,7 @@
 use Rattle.std.proofs.Common.{◌≡◌, ◌≢◌, ◌≤◌, ◌+◌, ◌⊎◌, inl, inr, ℕ, Bool, true, false, List, [], ◌++◌, Option, None, Some, Err, refl, subst, append-nil, arith}
 use Rattle.std.specs.Prelude.{IfSome}
 use Rattle.std.specs.Io.KnownBytes.{Consumes}
+use Rattle.pbm_core.specs.Device.{between}
 use Rattle.pbm_core.specs.Outcome.{HasHeader, HasFault, LeavesRest, WrittenIsRead}
 use Rattle.pbm_core.specs.Pbm.{letters_of, header_text}
 use Rattle.pbm_core.specs.Refusal.{HeaderFault}
@@ -99,7 +100,7 @@ takes_header (Some bytes) (Some rest) size form law fits leaves = record {
 module _ (s : Settings) (in_old in_new : Option (List ℕ)) (reads_old reads_new : ℕ) (out : Option (List ℕ)) (writes : ℕ) (flushed : Bool) where
   -- the header was refused
   pub refused_header : (fault : PbmFault) → (fault ≢ pbm.Read → IfSome in_old (λ bytes. HasFault bytes fault)) → PbmEnds in_old in_new HeaderFault fault → CountsPbm {T = Size × Form} reads_old reads_new (Err fault) →
-      ToJbg s in_old in_new reads_old reads_new out out writes writes flushed (Err (Pbm fault))
+      ToJbg s (between in_old in_new reads_old reads_new) (between out out writes writes) flushed (Err (Pbm fault))
   refused_header fault has ends counted = record {
     whole = tt;
     flushed_last = tt;
@@ -121,7 +122,7 @@ module _ (s : Settings) (in_old in_new : Option (List ℕ)) (reads_old reads_new
     size_alone low is = (t.front, t.taken, record { form = form; width = width; height' = height'; header = subst (λ z. HasHeader z form width height' []) (append-nil t.front) (t.header []); low_is = is })
 
     -- the announced height is too low
-    pub too_low : is_low s height' ≡ true → reads_new ≡ reads_old → ToJbg s in_old in_new reads_old reads_new out out writes writes flushed (Err AnnouncedLow)
+    pub too_low : is_low s height' ≡ true → reads_new ≡ reads_old → ToJbg s (between in_old in_new reads_old reads_new) (between out out writes writes) flushed (Err AnnouncedLow)
     too_low is counted = record {
       whole = tt;
       flushed_last = tt;
@@ -136,7 +137,7 @@ module _ (s : Settings) (in_old in_new : Option (List ℕ)) (reads_old reads_new
     }
 
     -- the window's memory was refused
-    pub no_room : is_low s height' ≡ false → reads_new ≡ reads_old → ToJbg s in_old in_new reads_old reads_new out out writes writes flushed (Err OutOfMemory)
+    pub no_room : is_low s height' ≡ false → reads_new ≡ reads_old → ToJbg s (between in_old in_new reads_old reads_new) (between out out writes writes) flushed (Err OutOfMemory)
     no_room is counted = record {
       whole = tt;
       flushed_last = tt;

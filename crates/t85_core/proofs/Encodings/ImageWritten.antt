@@ -2,6 +2,7 @@
 use Rattle.std.proofs.Common.{◌≡◌, ◌+◌, inl, inr, ℕ, Bool, true, false, ap, List, ◌++◌, length, Option, None, Some, Ok, Err, refl, sym, ◌∙◌, subst, arith}
 use Rattle.std.specs.Prelude.{IfSome}
 use Rattle.std.specs.Io.KnownBytes.{Consumes, Keeps}
+use Rattle.pbm_core.specs.Device.{between}
 use Rattle.pbm_core.specs.Outcome.{HasHeader}
 use Rattle.pbm_core.specs.declared.fault.PbmFault.{PbmFault}
 use Rattle.pbm_core.specs.declared.fault.PbmFault.TheVariants as pbm
@@ -34,8 +35,8 @@ module _ (s : Settings) (in_old mid in_new : Option (List ℕ)) (reads_old reads
     },
   )
 
-  pub image_unflushed : (flushed : Bool) (out_last : Option (List ℕ)) (writes_last : ℕ) → Encode s form width height' mid in_new reads_mid reads_new out_old out_new writes_old writes_new (Ok tt) → Keeps out_new out_last → writes_last ≡ writes_new + 1 →
-      ToJbg s in_old in_new reads_old reads_new out_old out_last writes_old writes_last flushed (Err Write)
+  pub image_unflushed : (flushed : Bool) (out_last : Option (List ℕ)) (writes_last : ℕ) → Encode s form width height' (between mid in_new reads_mid reads_new) (between out_old out_new writes_old writes_new) (Ok tt) → Keeps out_new out_last → writes_last ≡ writes_new + 1 →
+      ToJbg s (between in_old in_new reads_old reads_new) (between out_old out_last writes_old writes_last) flushed (Err Write)
   image_unflushed flushed out_last writes_last e keeps more = record {
     whole = tt;
     flushed_last = tt;
@@ -50,8 +51,8 @@ module _ (s : Settings) (in_old mid in_new : Option (List ℕ)) (reads_old reads
   }
 
   -- rows are missing, or a device failed
-  pub image_broken : is_low s height' ≡ false → (flushed : Bool) (f : Fault) → Encode s form width height' mid in_new reads_mid reads_new out_old out_new writes_old writes_new (Err f) →
-      ToJbg s in_old in_new reads_old reads_new out_old out_new writes_old writes_new flushed (Err f)
+  pub image_broken : is_low s height' ≡ false → (flushed : Bool) (f : Fault) → Encode s form width height' (between mid in_new reads_mid reads_new) (between out_old out_new writes_old writes_new) (Err f) →
+      ToJbg s (between in_old in_new reads_old reads_new) (between out_old out_new writes_old writes_new) flushed (Err f)
   image_broken fits flushed f e = record {
     whole = tt;
     flushed_last = tt;
@@ -80,8 +81,8 @@ module _ (s : Settings) (in_old mid in_new : Option (List ℕ)) (reads_old reads
     refused (Some bytes) (Some body) fault taken w = inr (subst (λ z. WritesStreamBegun s z fault out_old out_new) (sym taken) (some fault body w))
 
   -- the stream was written, and flushed
-  pub image_whole : (flushed : Bool) (out_last : Option (List ℕ)) (writes_last : ℕ) → Encode s form width height' mid in_new reads_mid reads_new out_old out_new writes_old writes_new (Ok tt) → Keeps out_new out_last → flushed ≡ true → writes_last ≡ writes_new →
-      ToJbg s in_old in_new reads_old reads_new out_old out_last writes_old writes_last flushed (Ok tt)
+  pub image_whole : (flushed : Bool) (out_last : Option (List ℕ)) (writes_last : ℕ) → Encode s form width height' (between mid in_new reads_mid reads_new) (between out_old out_new writes_old writes_new) (Ok tt) → Keeps out_new out_last → flushed ≡ true → writes_last ≡ writes_new →
+      ToJbg s (between in_old in_new reads_old reads_new) (between out_old out_last writes_old writes_last) flushed (Ok tt)
   image_whole flushed out_last writes_last e keeps last same = record {
     whole = whole in_old mid t.taken e.whole;
     flushed_last = last;

@@ -1,6 +1,7 @@
 -- What `find_height` leaves, whichever way it ends.
 use Rattle.std.proofs.Common.{◌≡◌, ◌≢◌, inr, ◌+◌, ℕ, true, false, List, Option, None, Some, IfSome, Ok, Err, refl, sym, ◌∙◌, subst, arith, true≢false}
 use Rattle.std.specs.Io.KnownBytes.{Consumes, Keeps}
+use Rattle.pbm_core.specs.Device.{between}
 use Rattle.t85_core.specs.declared.fault.Fault.{Fault}
 use Rattle.t85_core.specs.declared.fault.Fault.TheVariants.{Truncated, Read}
 use Rattle.t85_core.specs.Header.{Fields, IsAccepted, is_variable}
@@ -16,7 +17,7 @@ use Rattle.t85_core.proofs.Walks.Looked.{no_failed_read}
 use Rattle.t85_core.proofs.Walks.Summed.{given_height}
 
 -- the header's height is that of the body
-pub headers_height : (h : Fields) → IsAccepted h → (old new : Option (List ℕ)) (reads_old reads_new : ℕ) → IfSome old (λ body. IsHeight h body h.yd) → reads_new ≡ reads_old → (is_variable h ≡ false → Keeps old new) → FindHeight h old new reads_old reads_new (Ok h.yd)
+pub headers_height : (h : Fields) → IsAccepted h → (old new : Option (List ℕ)) (reads_old reads_new : ℕ) → IfSome old (λ body. IsHeight h body h.yd) → reads_new ≡ reads_old → (is_variable h ≡ false → Keeps old new) → FindHeight h (between old new reads_old reads_new) (Ok h.yd)
 headers_height h ok old new reads_old reads_new is counted idle = record {
   found = is;
   from = ok.height_from;
@@ -33,7 +34,7 @@ pub changes : (h : Fields) {P : Type 0} → is_variable h ≡ true → is_variab
 changes h variable fixed = absurd (true≢false (sym variable ∙ fixed))
 
 -- it doesn't change
-pub fixed_height : (h : Fields) → IsAccepted h → (known : Option (List ℕ)) (reads : ℕ) → is_variable h ≡ false → FindHeight h known known reads reads (Ok h.yd)
+pub fixed_height : (h : Fields) → IsAccepted h → (known : Option (List ℕ)) (reads : ℕ) → is_variable h ≡ false → FindHeight h (between known known reads reads) (Ok h.yd)
 fixed_height h ok known reads fixed = headers_height h ok known known reads reads (went known) refl (λ _. Keeps-same known) where
   went : (old : Option (List ℕ)) → IfSome old (λ body. IsHeight h body h.yd)
   went None = tt
@@ -41,7 +42,7 @@ fixed_height h ok known reads fixed = headers_height h ok known known reads read
 
 -- it was given
 pub height_given : (h : Fields) → IsAccepted h → (old mid new : Option (List ℕ)) (reads_old reads_new entities moves comments part_moves part_comments n : ℕ) → FindsGiven h old mid entities moves comments part_moves part_comments n → reads_new ≡ reads_old →
-    FindHeight h old new reads_old reads_new (Ok n)
+    FindHeight h (between old new reads_old reads_new) (Ok n)
 height_given h ok old mid new reads_old reads_new entities moves comments part_moves part_comments n f counted = record {
   found = given_height h ok old mid entities moves comments part_moves part_comments n f;
   from = f.legal.1;
@@ -55,14 +56,14 @@ height_given h ok old mid new reads_old reads_new entities moves comments part_m
 
 -- the stream breaks before it is given
 pub height_broken : (h : Fields) → IsAccepted h → (old mid new : Option (List ℕ)) (reads_old reads_new : ℕ) (f : Fault) → Ends Truncated old mid (SkipsFault h 0 (stripe_count h.yd h.l0) false false) f → f ≢ Read → reads_new ≡ reads_old + failed_reads f → is_variable h ≡ true →
-    FindHeight h old new reads_old reads_new (Ok h.yd)
+    FindHeight h (between old new reads_old reads_new) (Ok h.yd)
 height_broken h ok old mid new reads_old reads_new f e other counted variable =
     headers_height h ok old new reads_old reads_new (skipped_height h ok old mid f e other)
     (let none = no_failed_read f (skips_faults h 0 (stripe_count h.yd h.l0) false false e) other in omega (arith, none, counted)) (changes h variable)
 
 -- a read failed
 pub height_unread : (h : Fields) → IsAccepted h → (old mid new : Option (List ℕ)) (reads_old reads_new : ℕ) (f : Fault) → is_variable h ≡ true → f ≡ Read → (given : List ℕ) × Consumes old mid given × FindsOpen h given → mid ≡ new → reads_new ≡ reads_old + failed_reads f →
-    FindHeight h old new reads_old reads_new (Err Read)
+    FindHeight h (between old new reads_old reads_new) (Err Read)
 height_unread h ok old mid new reads_old reads_new f variable read (given, taken, o) same counted = record {
   found = tt;
   from = tt;

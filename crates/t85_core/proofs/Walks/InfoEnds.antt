@@ -3,7 +3,7 @@ use Rattle.std.proofs.Common.{◌≡◌, ◌≢◌, inl, inr, ◌≤◌, ◌+◌
 use Rattle.std.specs.Prelude.{IfSome, OnOk, IfErr}
 use Rattle.std.specs.Io.KnownBytes.{Consumes, Appends}
 use Rattle.std.specs.Result.{IsErrAnd}
-use Rattle.pbm_core.specs.Device.{AppendsBeginning}
+use Rattle.pbm_core.specs.Device.{AppendsBeginning, between}
 use Rattle.t85_core.specs.declared.fault.Fault.{Fault}
 use Rattle.t85_core.specs.declared.fault.Fault.TheVariants.{ShortHeader, Truncated, Read, Write}
 use Rattle.t85_core.specs.Header.{Fields, HeaderOf, header_fault}
@@ -67,7 +67,7 @@ known_line (Some bytes) (Some body) given h line long taken is l =
 
 module _ (in_old in_new : Option (List ℕ)) (reads_old reads_new : ℕ) (out : Option (List ℕ)) (writes : ℕ) (flushed : Bool) where
   -- the header was refused
-  pub told_header : (f : Fault) → Ends ShortHeader in_old in_new (λ given fault. (length given ≤ 20) × (header_fault given ≡ Some fault)) f → reads_new ≡ reads_old + failed_reads f → Info in_old in_new reads_old reads_new out out writes writes flushed (Err f)
+  pub told_header : (f : Fault) → Ends ShortHeader in_old in_new (λ given fault. (length given ≤ 20) × (header_fault given ≡ Some fault)) f → reads_new ≡ reads_old + failed_reads f → Info (between in_old in_new reads_old reads_new) (between out out writes writes) flushed (Err f)
   told_header f e counted =
       let may = uncounted ShortHeader f (header_faults e.given (counted_as ShortHeader f) e.has_fault.1) in
       record {
@@ -84,7 +84,7 @@ module _ (in_old in_new : Option (List ℕ)) (reads_old reads_new : ℕ) (out : 
 
   -- the body was refused, behind a header that was accepted
   pub told_body : (mid : Option (List ℕ)) (given : List ℕ) (h : Fields) (f : Fault) → length given ≡ 20 → Consumes in_old mid given → HeaderOf given h → IsWalkFault f → (f ≢ Read → IfSome mid (BodyRefused h f))
-      → (known : Option (List ℕ)) → (f ≡ Read → (body : List ℕ) × Consumes mid known body × BodyUnfinished h body) → (f ≡ Read → known ≡ in_new) → reads_new ≡ reads_old + failed_reads f → Info in_old in_new reads_old reads_new out out writes writes flushed (Err f)
+      → (known : Option (List ℕ)) → (f ≡ Read → (body : List ℕ) × Consumes mid known body × BodyUnfinished h body) → (f ≡ Read → known ≡ in_new) → reads_new ≡ reads_old + failed_reads f → Info (between in_old in_new reads_old reads_new) (between out out writes writes) flushed (Err f)
   told_body mid given h f long taken is may refused known unread drained reads = record {
     line = tt;
     flushed_last = tt;
@@ -100,7 +100,7 @@ module _ (in_old in_new : Option (List ℕ)) (reads_old reads_new : ℕ) (out : 
 -- the line was to be written
 pub told_line : (in_old in_new : Option (List ℕ)) (reads_old reads_new : ℕ) (out_old out_new : Option (List ℕ)) (writes_old writes_new : ℕ) (flushed : Bool) (r : Result (Unit {0}) Fault) (text : List ℕ) → IfSome in_old (λ bytes. HasLine bytes text)
     → OnOk r (Appends out_old out_new text) → IfErr r (λ f. f ≡ Write) → IfErr r (λ _. AppendsBeginning out_old out_new text) → OnOk r (flushed ≡ true) → reads_new ≡ reads_old → CountsWrite writes_old writes_new r
-    → Info in_old in_new reads_old reads_new out_old out_new writes_old writes_new flushed r
+    → Info (between in_old in_new reads_old reads_new) (between out_old out_new writes_old writes_new) flushed r
 told_line in_old in_new reads_old reads_new out_old out_new writes_old writes_new flushed (Ok u) text known ok err cut last reads writes = record {
   line = shown in_old known;
   flushed_last = last;

@@ -21,7 +21,7 @@ returns-in_default-clause-outcome g c =
 pub returns-in_err-encode-clause-outcome : goal.returns-in_err-encode-clause-outcome
 returns-in_err-encode-clause-outcome g c =
     let size = c.in-Ok.header.0 in
-    exit_all (ToJbg _ _ _ _ _ _ _ _ _ _) c.from_residual.result c.from_residual.ensures.1
+    exit_all (ToJbg _ _ _ _) c.from_residual.result c.from_residual.ensures.1
     (image_broken _ _ _ _ _ _ _ _ _ _ _ c.in-Ok.header.1 size.width size.height (takes_header _ _ size c.in-Ok.header.1 c.headers.ensures.written_is_read (search rules) c.in-Ok.ensures.accepted) c.in-Ok.ensures.counts (sym c.is_low.ensures ∙ c.if-is_low.false) _ _ c.in_err-encode.ensures.outcome)
 
 pub returns-in-Ok-flush-clause-outcome : goal.returns-in-Ok-flush-clause-outcome

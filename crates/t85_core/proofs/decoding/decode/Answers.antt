@@ -1,6 +1,7 @@
 use Rattle.std.proofs.Common.{rules, ◌≢◌, ◌≤◌, ◌∙◌, ap, subst}
 use Rattle.std.specs.Prelude.{OnOk, IfErr}
 use Rattle.std.specs.Io.KnownBytes.{prepend_known, append_known}
+use Rattle.pbm_core.specs.Device.{between}
 use Rattle.t85_core.specs.Options.{fields_of}
 use Rattle.t85_core.specs.Decode.{Decode}
 use Rattle.t85_core.specs.Steps.DecodeStripes.{ImageRead, ImageCut, ImageUnwritten}
@@ -45,7 +46,7 @@ returns-clause-outcome g c =
     subst (λ z. ImageUnwritten h height z after text_before (append_known text_after out_held)) known
     (subst (λ z. ImageUnwritten h height known_before after z (append_known text_after out_held)) text c.decode_buffered.ensures.begun) in
     let grows : known_length text_before ≤ known_length text_after = subst (λ z. known_length z ≤ known_length text_after) (ap (λ m. g.W.Output.contents m.now) c.new-buffer.ensures.lent) c.decode_buffered.ensures.grows in
-    let done : Decode h height (g.R.Input.remaining c.args.input.now) (g.R.Input.remaining input) (g.R.Input.failures c.args.input.now) (g.R.Input.failures input)
-    (g.W.Output.contents c.args.output.now) text_after (g.W.Output.failures c.args.output.now) (g.W.Output.failures output) r =
+    let done : Decode h height (between (g.R.Input.remaining c.args.input.now) (g.R.Input.remaining input) (g.R.Input.failures c.args.input.now) (g.R.Input.failures input))
+    (between (g.W.Output.contents c.args.output.now) text_after (g.W.Output.failures c.args.output.now) (g.W.Output.failures output)) r =
     decoded c.coder_laws.ensures h height (in_use c.args.header.now height c.requires.from c.requires.to) _ _ _ _ c.in-Ok.ensures.ok in_held out_held after _ _ _ _ _ r ok err (λ read. c.decode_buffered.ensures.drained read) reads writes grows begun in
     decodes_at g.R.Input.remaining g.R.Input.failures g.W.Output.contents g.W.Output.failures h height c.args.input.now c.args.output.now input _ output _ r (search rules) (search rules) done

@@ -7,7 +7,7 @@ use Rattle.t85_core.proofs.summary.info.Goals as goal
 
 pub returns-in_err-header-clause-outcome : goal.returns-in_err-header-clause-outcome
 returns-in_err-header-clause-outcome g c =
-    exit_all (Info _ _ _ _ _ _ _ _ _) c.from_residual.result c.from_residual.ensures.1
+    exit_all (Info _ _ _) c.from_residual.result c.from_residual.ensures.1
     (told_header _ _ _ _ _ _ _ _ c.in_err-header.ensures.refused c.in_err-header.ensures.counts)
 
 pub returns-in_err-line-clause-outcome : goal.returns-in_err-line-clause-outcome
@@ -15,7 +15,7 @@ returns-in_err-line-clause-outcome g c =
     let header = c.in_ok-header.ensures.accepted in
     let stream = c.new-stream.result in
     let start = known_unheld stream.bytes stream.at stream.end (g.R.Input.remaining stream.input.now) c.new-stream.ensures.empty ∙ ap (λ m. g.R.Input.remaining m.now) c.new-stream.ensures.lent in
-    exit_all (Info _ _ _ _ _ _ _ _ _) c.from_residual-in_err-line.result c.from_residual-in_err-line.ensures.1
+    exit_all (Info _ _ _) c.from_residual-in_err-line.result c.from_residual-in_err-line.ensures.1
     (told_body _ _ _ _ _ _ _ _ header.0 (fields_of c.in_ok-header.header) _ header.1 header.2 header.3 c.in_err-line.ensures.among
     (rw start at c.in_err-line.ensures.err) _
     (λ read. (rw start at c.in_err-line.ensures.unread) (ap Err read))
