@@ -67,7 +67,7 @@ fn read<R: Input, const N: usize>(
     (answer, buf, input.failures(), input.left())
 }
 
-/// How many reads give what these rows tell, from the first on.
+/// How many reads give what these rows report, from the first on.
 fn reads<R: Input, const N: usize>(
     input: &mut R,
     buf: [u8; N],

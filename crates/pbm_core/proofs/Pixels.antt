@@ -41,7 +41,7 @@ pixels_then whole left rest many n pixels p fits e =
       (let l = length-append p.given given in let w = p.whole in let r = q.1 in omega arith),
     )) e
 
--- pixels, and then those behind them
+-- pixels, and then those after them
 pub pixels_join : (a b c : Option (List ℕ)) (whole left rest : ℕ) (pixels more : List Bool) → PassesPixels a b whole left pixels → PassesPixels b c left rest more → PassesPixels a c whole rest (pixels ++ more)
 pixels_join a b c whole left rest pixels more p q = record {
   given = p.given ++ q.given;

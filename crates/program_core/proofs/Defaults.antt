@@ -220,7 +220,7 @@ module _ (c : Command) (m : ArgMatches) (p : IsParsedFrom c m) (is : app_of c �
       let none : NamesNoGroup c = λ j d lt. is_nil _ (both _ _ (both _ _ (both _ _ (simple d j lt)).1).1).0 in
       (p.from.same_groups none).1 ∙ is_nil _ (both _ _ h).0
 
-  -- an option of the encode_command with a default has a number
+  -- an option of the command with a default has a number
   pub default_given : k < length rules → ((d : Rule) → slice_index_or rules k d ≡ number_rule id letter (t ∷ []))
       → lone_at (λ (r : Rule). bytes_eq r.id id) rules k ≡ true → (id ≡ [] → ⊥) → ((id ≡ codes "help") ⊎ (id ≡ codes "version") → ⊥)
       → is_some (option_and_then decimal (one_text (found_of m) id)) ≡ true

@@ -1,4 +1,4 @@
--- What a message holds once a text was put behind it.
+-- What a message holds once a text was put after it.
 use Rattle.std.proofs.Common.{◌≡◌, ◌≤◌, ◌+◌, ◌-◌, ◌++◌, ◌∙◌, ℕ, List, length, min, take, ap, sym, arith}
 use Rattle.std.proofs.lemmas.List.{length-take, length-take-le, take_min}
 use Rattle.std.proofs.lemmas.Slice.{take-put_mid}

@@ -1,4 +1,4 @@
--- The command of `jbgtopbm85`, as clap's contracts see one, what the words say by it, and what `run` does for a job.
+-- The command of `jbgtopbm85`, as clap's contracts see one, what the arguments say by it, and what `run` does for a job.
 use Rattle.std.specs.Prelude.{◌≡◌, ◌-◌, ◌^◌, ℕ, Bool, true, false, List, Option, Result, Some, codes, option_map, string_bytes, unwrap_or}
 use Rattle.pbm_core.specs.Device.{Change}
 use Rattle.clap.specs.Words.{App, Kinds, Row, fault_of, Rule, Text, first_of, matches_of, new_app, new_rule, with_rule}
@@ -22,7 +22,7 @@ max_rows_rule = long_number_rule (codes "max-rows") (codes "max-rows")
 abbrev pub decode_command : App
 decode_command = with_rule (with_rule (with_rule (with_rule (new_app (codes "jbgtopbm85")) info_rule) max_rows_rule) (new_rule (codes "input"))) (new_rule (codes "output"))
 
--- the matches that clap's walk over the words gives the decode_command
+-- the matches that clap's walk over the arguments gives the command
 unfoldable pub decode_matches : List Text → List Row
 decode_matches words = matches_of decode_command words
 
@@ -33,7 +33,7 @@ pub record IsDecodeJobOf (rows : List Row) (job : Job) : Type 0 where
   pub input : option_map string_bytes job.input ≡ first_of (codes "input") rows
   pub output : option_map string_bytes job.output ≡ first_of (codes "output") rows
 
--- the kinds of refusal that clap's walk over the words gives the decode_command, none where it takes them
+-- the kinds of refusal that clap's walk over the arguments gives the command, none where it takes them
 unfoldable pub decode_refusals : List Text → Kinds
 decode_refusals words = fault_of decode_command words
 

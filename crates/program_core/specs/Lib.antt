@@ -1,4 +1,4 @@
--- What words say to a command, and what a run does.
+-- What arguments say to a command, and what a run does.
 pub mod Line
 pub mod Options
 pub mod Jbgtopbm85

@@ -1,4 +1,4 @@
--- What words say to a command, as clap's contracts see one.
+-- What arguments say to a command, as clap's contracts see one.
 use Rattle.std.specs.Prelude.{◌≡◌, ◌≢◌, ⊤, ℕ, Bool, List, false, codes}
 use Rattle.std.specs.Option.{option_map_or}
 use Rattle.std.specs.Str.{bytes_eq}
@@ -13,7 +13,7 @@ use Rattle.program_core.specs.declared.line_fault.LineFault.TheVariants as line_
 abbrev pub flag_in : Text → List Row → Bool
 flag_in id rows = option_map_or (λ text. bytes_eq text (codes "true")) (one_of id rows) false
 
--- the status that a fault of the words ends the program with
+-- the status that a fault of the arguments ends the program with
 abbrev pub status_of : LineFault → ℕ
 status_of (line_fault.Help text) = 0
 status_of (line_fault.Usage text) = 2
@@ -32,7 +32,7 @@ Tells k (line_fault.Help text) = k ≡ kind.DisplayHelp
 Tells k (line_fault.Usage text) = (k ≢ kind.DisplayHelp) × (k ≢ kind.OutOfMemory)
 Tells k (line_fault.Fault f) = f ≡ fault.OutOfMemory
 
--- help where that is among the refusals, a mistake where another is, or want of memory
+-- help where that is among the refusals, a mistake where another is, or lack of memory
 abbrev pub IsRefusal : Kinds → LineFault → Type 0
 IsRefusal kinds (line_fault.Help text) = IsAmong kind.DisplayHelp kinds
 IsRefusal kinds (line_fault.Usage text) = (k : ErrorKind) × IsAmong k kinds × (k ≢ kind.DisplayHelp)

@@ -1,4 +1,4 @@
--- The command of `pbmtojbg85`, what the words say by it, and what a job asks of the engine.
+-- The command of `pbmtojbg85`, what the arguments say by it, and what a job asks of the engine.
 use Rattle.std.specs.Prelude.{◌≡◌, ◌⊎◌, ℕ, List, [], ◌∷◌, Some, is_some, true, codes, option_map, string_bytes}
 use Rattle.clap.specs.Words.{App, Kinds, Row, fault_of, Text, first_of, matches_of, new_app, new_rule, with_rule}
 use Rattle.t85_core.specs.Jbg.{Settings}
@@ -24,11 +24,11 @@ encode_command = with_rule (with_rule (with_rule (with_rule (with_rule (with_rul
     (new_rule (codes "input")))
     (new_rule (codes "output"))
 
--- the matches that clap's walk over the words gives the encode_command
+-- the matches that clap's walk over the arguments gives the command
 unfoldable pub encode_matches : List Text → List Row
 encode_matches words = matches_of encode_command words
 
--- the kinds of refusal that clap's walk over the words gives the encode_command, none where it takes them
+-- the kinds of refusal that clap's walk over the arguments gives the command, none where it takes them
 unfoldable pub encode_refusals : List Text → Kinds
 encode_refusals words = fault_of encode_command words
 
@@ -53,13 +53,13 @@ pub record RefusesOptions (rows : List Row) (f : Fault) : Type 0 where
   pub has_m : number_in (codes "move") rows ≡ Some m
   pub refused : refusal_of p s m (first_of (codes "comment") rows) ≡ Some f
 
--- want of memory, or values that are refused as options
+-- lack of memory, or values that are refused as options
 abbrev pub IsOptionFault : List Row → LineFault → Type 0
 IsOptionFault rows (line_fault.Help text) = ⊥
 IsOptionFault rows (line_fault.Usage text) = ⊥
 IsOptionFault rows (line_fault.Fault f) = (f ≡ fault.OutOfMemory) ⊎ RefusesOptions rows f
 
--- the encode_refusals of the words, or of the options that they give
+-- the refusals of the arguments, or of the options that they give
 abbrev pub IsFaultOf : List Text → LineFault → Type 0
 IsFaultOf words fault = IsRefusal (encode_refusals words) fault ⊎ IsOptionFault (encode_matches words) fault
 

@@ -36,7 +36,7 @@ pub struct Files {
     pub output: Writable,
 }
 
-/// Opens the job's input, and then creates or empties its output; where one can't be, that was told, and the program
+/// Opens the job's input, and then creates or empties its output; where one can't be, that was reported, and the program
 /// ends.
 pub fn open(rt: &HostRuntime, job: &Job) -> Result<Files, ExitCode>
     ensures input { IfOk result (λ files. reads_file files.input ≡ names_file
@@ -61,7 +61,7 @@ pub fn open(rt: &HostRuntime, job: &Job) -> Result<Files, ExitCode>
     })
 }
 
-/// Does the job, tells a fault to `messages`, and gives the exit status: 0, or 1 after a fault. `again` has the same
+/// Does the job, reports a fault to `messages`, and gives the exit status: 0, or 1 after a fault. `again` has the same
 /// bytes as the input, from their beginning: it is wanted where the height of the image may change in the stream.
 pub fn run<R: Input, Second: Input, W: Output, M: Output>(
     alloc: Global,

@@ -1,4 +1,4 @@
-//! Why the words of a command line ask for nothing.
+//! Why the arguments of a command line ask for nothing.
 
 ghost use Rattle.std.specs.Prelude.{◌≡◌};
 ghost use Rattle.clap.specs.Words.{kind_of};
@@ -10,18 +10,18 @@ use clap::error::ErrorKind;
 use std::alloc::{AllocError, Global};
 use t85_core::Fault;
 
-/// Why the words give no job.
+/// Why the arguments give no job.
 #[derive(Debug, Drop)]
 pub enum LineFault {
     /// The text of the help.
     Help(String),
-    /// The text on a mistake in the words.
+    /// The text on a mistake in the arguments.
     Usage(String),
     Fault(Fault),
 }
 
 impl LineFault {
-    /// The exit status: 0 for help, 1 for want of memory, 2 for a mistake.
+    /// The exit status: 0 for help, 1 for lack of memory, 2 for a mistake.
     pub fn status(&self) -> u8
         ensures { result ≡ status_of self.now }
     {

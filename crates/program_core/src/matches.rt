@@ -11,7 +11,7 @@ use std::alloc::{AllocError, Global};
 use std::convert::AsStr;
 use std::str::FromStr;
 
-/// The matches of the words, of which the first is the program's name.
+/// The matches of the arguments, of which the first is the program's name.
 pub(crate) fn matches_of<'a, S: AsStr>(
     alloc: Global,
     command: Command<'a>,
@@ -31,7 +31,7 @@ pub(crate) fn matches_of<'a, S: AsStr>(
     }
 }
 
-/// The text that the words give.
+/// The text that the arguments give.
 pub(crate) fn text(
     alloc: Global,
     matches: &ArgMatches<'_>,
@@ -46,14 +46,14 @@ pub(crate) fn text(
     }
 }
 
-/// The number that the words give an option, if they give one.
+/// The number that the arguments give an option, if they give one.
 pub(crate) fn number(matches: &ArgMatches<'_>, id: &str) -> Option<u32>
     ensures { result ≡ number_in id.now (rows_of (found_of matches.now)) }
 {
     matches.get_one(id)
 }
 
-/// Whether the words set a flag.
+/// Whether the arguments set a flag.
 pub(crate) fn flag(matches: &ArgMatches<'_>, id: &str) -> bool
     ensures { result ≡ flag_in id.now (rows_of (found_of matches.now)) }
 {

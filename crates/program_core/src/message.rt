@@ -51,7 +51,7 @@ impl fmt::Write for Message {
     }
 }
 
-/// Tells a fault to `messages`, and gives the exit status: 0, or 1 after a fault.
+/// Reports a fault to `messages`, and gives the exit status: 0, or 1 after a fault.
 pub(crate) fn report<M: Output>(program: &str, outcome: Result<(), Fault>, messages: &mut M) -> u8
     requires { M.failures messages.old < 2 ^ 64 - 1 }
     ensures status { result ≡ exit_status outcome }

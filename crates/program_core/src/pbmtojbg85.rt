@@ -28,7 +28,7 @@ pub use work::Job;
 /// The program's name.
 pub const NAME: &str = "pbmtojbg85";
 
-/// Opens the job's input, and then creates or empties its output; where one can't be, that was told, and the program
+/// Opens the job's input, and then creates or empties its output; where one can't be, that was reported, and the program
 /// ends.
 pub fn open(rt: &HostRuntime, job: &Job) -> Result<(Readable, Writable), ExitCode>
     ensures chosen { IfOk result (λ files.
@@ -41,7 +41,7 @@ pub fn open(rt: &HostRuntime, job: &Job) -> Result<(Readable, Writable), ExitCod
     Ok((input, output))
 }
 
-/// Does the job, tells a fault to `messages`, and gives the exit status: 0, or 1 after a fault.
+/// Does the job, reports a fault to `messages`, and gives the exit status: 0, or 1 after a fault.
 pub fn run<R: Input, W: Output, M: Output>(
     alloc: Global,
     job: &Job,

@@ -11,7 +11,7 @@ use std::io;
 use std::process::ExitCode;
 use t85_core::Fault;
 
-/// Tells why a program ends.
+/// Reports why a program ends.
 fn complain(rt: &HostRuntime, program: &str, text: &str, status: u8) -> ExitCode
     ensures { exit_status result ≡ status }
 {
@@ -19,7 +19,7 @@ fn complain(rt: &HostRuntime, program: &str, text: &str, status: u8) -> ExitCode
     ExitCode::from(status)
 }
 
-/// Shows why the words give no job. Help goes to standard output; where that fails, it is a fault.
+/// Shows why the arguments give no job. Help goes to standard output; where that fails, it is a fault.
 pub fn refuse(rt: &HostRuntime, program: &str, fault: LineFault) -> ExitCode
     ensures { (exit_status result ≡ status_of fault) ⊎ (IsHelp fault × (exit_status result ≡ 1)) }
 {
@@ -40,7 +40,7 @@ pub fn refuse(rt: &HostRuntime, program: &str, fault: LineFault) -> ExitCode
     ExitCode::from(status)
 }
 
-/// The words of the command line; where there are none to be had, that was told, and the program ends.
+/// The arguments of the command line; where there are none to be had, that was reported, and the program ends.
 pub fn words_of(rt: &HostRuntime, program: &str) -> Result<Vec<String>, ExitCode>
     ensures { IfErr result (λ e. (exit_status e ≡ 1) ⊎ (exit_status e ≡ 2)) }
 {
@@ -67,7 +67,7 @@ pub fn end(status: u8) -> ExitCode
     ExitCode::from(status)
 }
 
-/// Opens an input; where it can't be, that was told, and the program ends.
+/// Opens an input; where it can't be, that was reported, and the program ends.
 pub(crate) fn open_input(
     rt: &HostRuntime,
     program: &str,
@@ -83,7 +83,7 @@ pub(crate) fn open_input(
     }
 }
 
-/// Creates or empties an output; where it can't be, that was told, and the program ends.
+/// Creates or empties an output; where it can't be, that was reported, and the program ends.
 pub(crate) fn create_output(
     rt: &HostRuntime,
     program: &str,

@@ -130,7 +130,7 @@ fn draw(count: u32) -> u32 {
     sum
 }
 
-/// Codes pixels, and tells whether the sink took all bytes.
+/// Codes pixels, and reports whether the sink took all bytes.
 fn encode(count: u32, sink: &mut MemorySink) -> bool
     requires { sink.old.failed + 1 < 2 ^ 64 }
 {

@@ -143,7 +143,7 @@ impl Decoder {
         }
     }
 
-    /// Puts a byte behind the bits that are there.
+    /// Puts a byte after the bits that are there.
     fn take(&mut self, byte: u8)
         requires few { self.old.bits < 16 }
         requires going { self.old.heard ≢ Stopped }

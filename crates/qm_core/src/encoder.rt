@@ -33,7 +33,7 @@ pub struct Encoder {
     span: u32,
     /// The bits of `low`, the last seven aside.
     bits: u32,
-    /// The bytes before, as far as they are not handed on.
+    /// The bytes before, as far as they are not written.
     tail: Tail,
     events: u64,
     failed: bool,

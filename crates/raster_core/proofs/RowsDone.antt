@@ -26,7 +26,7 @@ use Rattle.raster_core.proofs.Before.{before_none}
 
 -- ---- two rows of which one stops short
 
--- Either one row goes on behind the other, or they part somewhere.
+-- Either one row goes on after the other, or they part somewhere.
 data Parting (xs ys : List Bool) : Type 0 where
   goes_on : (y : Bool) (rest : List Bool) → ys ≡ xs ++ y ∷ rest → Parting xs ys
   parts : (common : List Bool) (x y : Bool) (r s : List Bool) → x ≢ y → xs ≡ common ++ x ∷ r → ys ≡ common ++ y ∷ s → Parting xs ys

@@ -33,7 +33,7 @@ word_lt p f (suc n) =
     let d : 2 ^ suc n ≡ 2 ^ n * 2 = pow_two n in
     omega (arith, h, b, d)
 
--- two words one behind the other
+-- two words one after the other
 pub word_cat : (p : ℕ → Bool) (f m n : ℕ) → word p f (m + n) ≡ word p f m * 2 ^ n + word p (f + m) n
 unfolding word
 word_cat p f m zero = ap (word p f) (add-zero m) ∙ grind arith

@@ -7,7 +7,7 @@ use Rattle.raster_core.specs.Lines.{Lines, numbers_from, binary}
 abbrev pub row_bytes : ℕ → ℕ
 row_bytes width = div_ceil width 8
 
--- a row in bytes, its first pixel highest, and white behind its last
+-- a row in bytes, its first pixel highest, and white after its last
 abbrev pub packed_row : List Bool → List ℕ
 packed_row row = map (λ k. binary (map (pixel_at row) (numbers_from (8 * k) 8))) (numbers_from 0 (row_bytes (length row)))
 

@@ -13,7 +13,7 @@ width_of w = w.width
 abbrev pub held : Window → Held
 held w = record { width = w.width; current = w.current.now; above = w.above.now; second = w.second.now }
 
--- a row down, the current row is above, and the row that was second above is to be written anew
+-- a row down, the current row is above, and the row that was second above is to be written again
 abbrev pub turned : Held → Held
 turned w = record { width = w.width; current = w.second; above = w.current; second = w.above }
 

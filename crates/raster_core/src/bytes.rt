@@ -2,7 +2,7 @@
 
 ghost use Rattle.std.specs.Prelude.{◌≡◌, ◌<◌, slice_index};
 
-/// A byte of a row, and 0 behind its last.
+/// A byte of a row, and 0 after its last.
 #[inline(always)]
 pub(crate) fn byte_at(row: &[u8], i: usize) -> u32
     ensures byte { result ≡ slice_index row.now i }

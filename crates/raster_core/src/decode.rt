@@ -20,7 +20,7 @@ use crate::window::Window;
 use qm_core::{CodeBytes, Decoder, Learned, Stop, laws};
 
 /// Decodes n pixels of a byte. The registers `second_bytes` and `above_bytes` have the byte before,
-/// the byte and the one behind it of the two rows above, `before` and the result the last pixels of
+/// the byte and the one after it of the two rows above, `before` and the result the last pixels of
 /// the row.
 #[inline(always)]
 fn decode_byte<S: CodeBytes, const TWO_LINE: bool, const MOVED: bool>(

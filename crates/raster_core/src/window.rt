@@ -66,7 +66,7 @@ impl<'a> Window<'a> {
     }
 
     /// Goes a row down: the new rows 0, 1, 2 are the old rows 2, 0, 1. So the current row has to be
-    /// written anew.
+    /// written again.
     pub fn turn(&mut self)
         ensures { held self.new ≡ turned (held self.old) }
     {

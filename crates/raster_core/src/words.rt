@@ -6,7 +6,7 @@ ghost use Rattle.raster_core.specs.Machine.Words.{word, led, is_within, agreed_f
 
 use crate::bytes::byte_at;
 
-/// The word at `place` of a row that has two white words in front. Behind its bytes the row is
+/// The word at `place` of a row that has two white words in front. After its bytes the row is
 /// white.
 pub(crate) fn word_at(row: &[u8], place: usize) -> u64
     requires { place < 2 ^ 32 }

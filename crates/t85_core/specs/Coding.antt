@@ -80,7 +80,7 @@ events_of_row c y = row_events c.mode (lines_of c y) (offset_of c y) (previous_o
 abbrev pub events_of : Coding → ℕ → List Event
 events_of c i = flat_map (events_of_row c) (rows_of c i)
 
--- each stripe begins a code anew
+-- each stripe begins a code again
 abbrev pub begun : List Estimate → State
 begun learned = record { place = start; learned = learned }
 

@@ -46,7 +46,7 @@ pub record Decode (h : Fields) (height : ℕ) (input output : Change) (answer : 
   pub reads : CountsBoth input.old.failures input.new.failures answer
   pub writes : CountsWrite output.old.failures output.new.failures answer
 
--- What `find_height` leaves of the input that stands behind this header.
+-- What `find_height` leaves of the input that stands after this header.
 pub record FindHeight (h : Fields) (input : Change) (answer : Result ℕ Fault) : Type 0 where
   -- the height of the body
   pub found : IfOk answer (λ height. IfSome input.old.bytes (λ body. IsHeight h body height))
@@ -54,7 +54,7 @@ pub record FindHeight (h : Fields) (input : Change) (answer : Result ℕ Fault) 
   pub from : IfOk answer (λ height. 1 ≤ height)
   pub to : IfOk answer (λ height. height ≤ h.yd)
   pub fixed : IfOk answer (λ height. is_variable h ≡ false → height ≡ h.yd)
-  -- nothing else is told than that a read failed, where what came up to there doesn't decide the height
+  -- nothing else is reported than that a read failed, where what came up to there doesn't decide the height
   pub among : IfErr answer (λ f. f ≡ Read)
   pub unread : IsErrOf answer Read → (given : List ℕ) × Consumes input.old.bytes input.new.bytes given × IsOpen h given
   pub counts : CountsRead input.old.failures input.new.failures answer

@@ -51,7 +51,7 @@ pub record HoldsStripes (s : Settings) (raster : Raster) (count : ℕ) (text : L
   pub holds : IsBeginning (jbg_up_to s raster (count / s.stripe_rows)) text
   pub begins : IsBeginning text (jbg s raster)
 
--- The rows have this fault: the input ended, could not be read, or has a byte that is no digit. What stands written is a
+-- The rows have this fault: the input ended, could not be read, or has a byte that is no digit. What is written is a
 -- beginning of the code of each raster that begins with the rows that came.
 pub record WritesCodeBegun (s : Settings) (form : Form) (width height' : ℕ) (body : List ℕ) (fault : PbmFault) (old new : Option (List ℕ)) : Type 0 where
   pub rows : List (List Bool)
@@ -64,7 +64,7 @@ pub record WritesCodeBegun (s : Settings) (form : Form) (width height' : ℕ) (b
   pub appends : Appends old new text
 
 -- What was written is a beginning of the code of each raster that begins with the rows that stand in these bytes. What
--- is behind them ends within a row.
+-- is after them ends within a row.
 pub record WritesCodeFront (s : Settings) (form : Form) (width height' : ℕ) (body : List ℕ) (old new : Option (List ℕ)) : Type 0 where
   pub rows : List (List Bool)
   pub rest : List ℕ
@@ -79,7 +79,7 @@ pub record WritesCodeFront (s : Settings) (form : Form) (width height' : ℕ) (b
 -- What `encode` leaves for these settings and an image of this size. Of each device are given the known bytes and the
 -- count of failures, before the call and after it.
 pub record Encode (s : Settings) (form : Form) (width height' : ℕ) (input output : Change) (answer : Result (Unit {0}) Fault) : Type 0 where
-  -- an announced height that is too low is told before all else, with nothing read and nothing written
+  -- an announced height that is too low is reported before all else, with nothing read and nothing written
   pub low : IsErrOf answer AnnouncedLow → (is_low s height' ≡ true) × Keeps input.old.bytes input.new.bytes × Keeps output.old.bytes output.new.bytes
   pub not_low : OnOk answer (is_low s height' ≡ false)
   pub told_if_low : IfErr answer (λ f. f ≢ AnnouncedLow → is_low s height' ≡ false)

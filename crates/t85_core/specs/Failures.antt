@@ -6,13 +6,13 @@ use Rattle.pbm_core.specs.declared.fault.PbmFault.TheVariants as pbm
 use Rattle.t85_core.specs.declared.fault.Fault.{Fault}
 use Rattle.t85_core.specs.declared.fault.Fault.TheVariants.{Read, Write, Pbm}
 
--- how many failed reads a fault tells
+-- how many failed reads a fault reports
 abbrev pub failed_reads : Fault → ℕ
 failed_reads Read = 1
 failed_reads (Pbm pbm.Read) = 1
 failed_reads _ = 0
 
--- how many failed writes a fault tells
+-- how many failed writes a fault reports
 abbrev pub failed_writes : Fault → ℕ
 failed_writes Write = 1
 failed_writes _ = 0
@@ -44,7 +44,7 @@ pub record FlushesOnce (old new : ℕ) (answer : Result (Unit {0}) Fault) : Type
   pub once_at_most : OnErr answer ((new ≡ old) ⊎ (new ≡ one_more_flush old))
   pub not_after_a_fault : IfErr answer (λ f. f ≢ Write → new ≡ old)
 
--- the fault that is told of what came: a failed read counts as the end of the input
+-- the fault that is reported of what came: a failed read counts as the end of the input
 abbrev pub counted_as : Fault → Fault → Fault
 counted_as ending Read = ending
 counted_as ending fault = fault

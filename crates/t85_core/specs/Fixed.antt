@@ -31,7 +31,7 @@ abbrev pub IsLongest : Fields → ℕ → List Stripe → ℕ → List ℕ → L
 IsLongest h height stripes n code rows =
     (flags : List Bool) (row : List Bool) → AreDecided h height stripes n code flags (rows ++ row ∷ []) → ⊥
 
--- Behind whole stripes, one that begins with these segments and this code and then breaks fixes these rows: the longest
+-- After whole stripes, one that begins with these segments and this code and then breaks fixes these rows: the longest
 -- list that is decided.
 pub record FixesRows (h : Fields) (height : ℕ) (stripes : List Stripe) (segments : List Segment) (code : List ℕ) (rows : List (List Bool)) : Type 0 where
   pub flags : List Bool

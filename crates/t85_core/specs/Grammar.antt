@@ -81,12 +81,12 @@ AreStripes h stripes = AllByRecursion (λ s. IsBegun h s.segments s.code) stripe
 abbrev pub all_segments : List Stripe → List Segment
 all_segments stripes = flat_map (λ s. s.segments) stripes
 
--- A height that may be given behind so many data entities: not above the header's, and the last of these entities has a
+-- A height that may be given after so many data entities: not above the header's, and the last of these entities has a
 -- row of the image.
 abbrev pub is_valid_length : Fields → ℕ → ℕ → Bool
 is_valid_length h entities height = nat_le 1 height && nat_le height h.yd && nat_lt ((entities - 1) * h.l0) height
 
--- Behind so many heights the segments give no height but this one, and there is one at most in all.
+-- After so many heights the segments give no height but this one, and there is one at most in all.
 pub record GiveOnly (height heights : ℕ) (segments : List Segment) : Type 0 where
   pub one : heights + length (lengths segments) ≤ 1
   pub this : AllByRecursion (λ n. n ≡ height) (lengths segments)

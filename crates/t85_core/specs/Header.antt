@@ -52,7 +52,7 @@ pub record HeaderOf (bytes : List ℕ) (h : Fields) : Type 0 where
 abbrev pub Refusal : Type 0
 Refusal = (List ℕ → Bool) × Fault
 
--- What refuses twenty bytes, in the order in which it is told. The last test is that the options DPON and DPPRIV are
+-- What refuses twenty bytes, in the order in which it is reported. The last test is that the options DPON and DPPRIV are
 -- set and DPLAST is clear.
 abbrev pub refusals : List Refusal
 refusals =

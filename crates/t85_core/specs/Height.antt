@@ -8,7 +8,7 @@ use Rattle.t85_core.specs.Header.{Fields, HeaderOf, header_fault, is_variable}
 use Rattle.t85_core.specs.Grammar.{Segment, NewLength, segment_bytes, is_move, is_comment, lengths, Stripe, stripe_bytes, all_segments, stripe_count, is_nil, is_valid_length, IsBegun, AreStripes}
 use Rattle.t85_core.specs.Refusal.{rest_fault, BodyFault}
 
--- A valid height is given behind whole stripes and legal segments, and is the first that is given. Behind the last
+-- A valid height is given after whole stripes and legal segments, and is the first that is given. After the last
 -- stripe that the header's height makes only comments are looked at.
 pub record GivesHeight (h : Fields) (body : List ℕ) (height : ℕ) : Type 0 where
   pub variable : IsTrue (is_variable h)
@@ -28,7 +28,7 @@ abbrev pub IsHeight : Fields → List ℕ → ℕ → Type 0
 IsHeight h body height = GivesHeight h body height ⊎ ((height ≡ h.yd) × ((other : ℕ) → GivesHeight h body other → ⊥))
 
 -- The bytes end before it is known whether they give a height: within one of the stripes that the header's height
--- makes, or behind these within a comment or a height. There a move isn't looked at, as in a stripe that had one.
+-- makes, or after these within a comment or a height. There a move isn't looked at, as in a stripe that had one.
 pub record IsOpen (h : Fields) (body : List ℕ) : Type 0 where
   pub variable : IsTrue (is_variable h)
   pub stripes : List Stripe

@@ -115,7 +115,7 @@ stripes_of s raster = stripes_up_to s raster (stripe_count (height raster) s.str
 abbrev pub jbg_up_to : Settings → Raster → ℕ → List ℕ
 jbg_up_to s raster n = head_of s raster.width (height raster) ++ stripes_up_to s raster n
 
--- what stands behind the last stripe: the height and an empty data entity, where a greater height was announced
+-- what stands after the last stripe: the height and an empty data entity, where a greater height was announced
 abbrev pub ending : Settings → ℕ → List ℕ
 ending s height' = if nat_lt height' (unwrap_or s.announced height') then segment_bytes (NewLength height') ++ marker_bytes s.reset else []
 

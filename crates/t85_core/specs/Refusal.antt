@@ -13,15 +13,15 @@ pub record Spot : Type 0 where
   pub entities : ℕ
   pub heights : ℕ
 
--- behind these segments
+-- after these segments
 abbrev pub spot_behind : Spot → List Segment → Spot
 spot_behind spot segments = record { height = spot.height; entities = spot.entities; heights = spot.heights + length (lengths segments) }
 
--- behind these stripes
+-- after these stripes
 abbrev pub spot_after : ℕ → List Stripe → Spot
 spot_after height stripes = record { height = height; entities = length stripes; heights = length (lengths (all_segments stripes)) }
 
--- the fault of what stands behind FF 05; none behind a whole valid height, which is that in use
+-- the fault of what stands after FF 05; none after a whole valid height, which is that in use
 abbrev pub length_fault : Fields → Spot → List ℕ → Option Fault
 length_fault h spot bytes =
     if not (is_variable h) then Some LengthRefused
@@ -35,21 +35,21 @@ length_fault h spot bytes =
 abbrev pub is_legal_move : Fields → List ℕ → Bool
 is_legal_move h bytes = nat_lt (big_number 4 bytes) h.l0 && nat_le (slice_index bytes 4) h.mx && (slice_index bytes 5 == 0)
 
--- the fault of what stands behind FF 06; none behind a whole legal move
+-- the fault of what stands after FF 06; none after a whole legal move
 abbrev pub move_fault : Fields → ℕ → List ℕ → Option Fault
 move_fault h moves bytes =
     if not (moves == 0) then Some SecondMove
     else if nat_lt (length bytes) 6 then Some Truncated
     else if is_legal_move h bytes then None else Some MoveRefused
 
--- the fault of what stands behind FF 07; none behind a whole comment
+-- the fault of what stands after FF 07; none after a whole comment
 abbrev pub comment_fault : List ℕ → Option Fault
 comment_fault bytes =
     if nat_lt (length bytes) 4 then Some Truncated
     else if nat_lt (length bytes) (4 + big_number 4 bytes) then Some Truncated else None
 
--- The fault of what stands behind FF and this byte, in a stripe that has had so many moves, before its code or in it;
--- none behind a code byte FF, an end marker or a whole legal segment.
+-- The fault of what stands after FF and this byte, in a stripe that has had so many moves, before its code or in it;
+-- none after a code byte FF, an end marker or a whole legal segment.
 abbrev pub escape_fault : Fields → Spot → ℕ → Bool → ℕ → List ℕ → Option Fault
 escape_fault h spot moves in_code escape bytes =
     if (escape == 0) || (escape == 2) || (escape == 3) then None

@@ -25,7 +25,7 @@ pub record WritesStream (s : Settings) (bytes : List ℕ) (old new : Option (Lis
   pub appends : Appends old new (jbg s raster)
   pub denotes : Denotes (jbg s raster) raster
 
--- A header that is accepted, and behind it rows that have this fault.
+-- A header that is accepted, and after it rows that have this fault.
 pub record WritesStreamBegun (s : Settings) (bytes : List ℕ) (fault : PbmFault) (old new : Option (List ℕ)) : Type 0 where
   pub form : Form
   pub width : ℕ
@@ -34,7 +34,7 @@ pub record WritesStreamBegun (s : Settings) (bytes : List ℕ) (fault : PbmFault
   pub header : HasHeader bytes form width height' body
   pub writes : WritesCodeBegun s form width height' body fault old new
 
--- A header that is accepted, and behind it rows of which a beginning was written.
+-- A header that is accepted, and after it rows of which a beginning was written.
 pub record WritesStreamFront (s : Settings) (bytes : List ℕ) (old new : Option (List ℕ)) : Type 0 where
   pub form : Form
   pub width : ℕ
@@ -43,7 +43,7 @@ pub record WritesStreamFront (s : Settings) (bytes : List ℕ) (old new : Option
   pub header : HasHeader bytes form width height' body
   pub writes : WritesCodeFront s form width height' body old new
 
--- a header that is accepted, and nothing behind it; whether the announced height is too low
+-- a header that is accepted, and nothing after it; whether the announced height is too low
 pub record HasSize (s : Settings) (low : Bool) (bytes : List ℕ) : Type 0 where
   pub form : Form
   pub width : ℕ
@@ -60,7 +60,7 @@ pub record ToJbg (s : Settings) (input output : Change) (flushed : Bool) (answer
   pub whole : OnOk answer (IfSome input.old.bytes (λ bytes. WritesStream s bytes output.old.bytes output.new.bytes))
   pub flushed_last : OnOk answer (flushed ≡ true)
   pub refused : (fault : PbmFault) → fault ≢ pbm.Read → IsErrOf answer (Pbm fault) → IfSome input.old.bytes (λ bytes. RefusesPbm s bytes fault output.old.bytes output.new.bytes)
-  -- these come behind a header that is accepted, with nothing more read and nothing written
+  -- these come after a header that is accepted, with nothing more read and nothing written
   pub low : IsErrOf answer AnnouncedLow → Keeps output.old.bytes output.new.bytes × (given : List ℕ) × Consumes input.old.bytes input.new.bytes given × HasSize s true given
   pub no_memory : IsErrOf answer OutOfMemory → Keeps output.old.bytes output.new.bytes × (given : List ℕ) × Consumes input.old.bytes input.new.bytes given × HasSize s false given
   -- a read failed, and what came up to there is no whole image

@@ -57,14 +57,14 @@ abbrev pub again_failures : {R : Type 0} → (R → ℕ) → Option R → ℕ
 again_failures failures None = 0
 again_failures failures (Some reading) = failures reading
 
--- The header is refused, or can't be read: this is told, and nothing is written.
+-- The header is refused, or can't be read: this is reported, and nothing is written.
 pub record RefusesHeader (input output : Change) (answer : Result (Unit {0}) Fault) : Type 0 where
   pub fault : Fault
   pub answer_is : answer ≡ Err fault
   pub header : HeaderEnds input fault
   pub nothing : Unwritten output
 
--- The height is fixed: the body is decoded that stands behind the header.
+-- The height is fixed: the body is decoded that stands after the header.
 pub record ToPbmOnce (limit : ℕ) (input output : Change) (flushed : Bool) (answer : Result (Unit {0}) Fault) : Type 0 where
   pub header : Fields
   pub body : Option (List ℕ)
@@ -72,7 +72,7 @@ pub record ToPbmOnce (limit : ℕ) (input output : Change) (flushed : Bool) (ans
   pub fixed : is_variable header ≡ false
   pub converts : ToPbmAt header header.yd limit (known_from body input) output flushed answer
 
--- The height may change and there is no second reading: this is told, with nothing read but the header.
+-- The height may change and there is no second reading: this is reported, with nothing read but the header.
 pub record WantsReading (input : Change) (twice : Bool) (output : Change) (answer : Result (Unit {0}) Fault) : Type 0 where
   pub header : Fields
   pub taken : TakesHeader header input.old.bytes input.new.bytes
@@ -89,7 +89,7 @@ pub record HeightUnread (header : Fields) (input : Change) (untouched : Type 0) 
   pub again : untouched
   pub nothing : Unwritten output
 
--- what is told where the second reading's header is refused
+-- what is reported where the second reading's header is refused
 abbrev pub told_again : Fault → Fault
 told_again Read = Read
 told_again fault = Changed
@@ -127,7 +127,7 @@ ReadsAgain header height limit again output flushed answer =
     ⊎ AgainChanged header again output answer
     ⊎ AgainConverts header height limit again output flushed answer
 
--- The height is found in the first reading, which stands behind this header, and the image is decoded from the second.
+-- The height is found in the first reading, which stands after this header, and the image is decoded from the second.
 abbrev pub ToPbmBehind : Fields → ℕ → Change → Type 0 → Change → Change → Bool → Result (Unit {0}) Fault → Type 0
 ToPbmBehind header limit input untouched again output flushed answer =
     HeightUnread header input untouched output answer

@@ -55,7 +55,7 @@ pub fn to_pbm<R: Input, Second: Input, W: Output>(
     }
 }
 
-/// Writes the image of a stream whose height may change. The first reading stands behind the header.
+/// Writes the image of a stream whose height may change. The first reading stands after the header.
 fn convert_again<R: Input, Second: Input, W: Output>(
     alloc: Global,
     header: &Header,
@@ -100,7 +100,7 @@ fn is_same(one: &Header, other: &Header) -> bool
         && one.options == other.options
 }
 
-/// Writes the image of a body at a height. The input stands behind the header.
+/// Writes the image of a body at a height. The input stands after the header.
 fn convert<R: Input, W: Output>(
     alloc: Global,
     header: &Header,

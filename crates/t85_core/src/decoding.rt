@@ -30,9 +30,9 @@ use crate::state::CodingState;
 use pbm_core::{Input, Output, Size, WriteFault, write_header};
 use raster_core::{Shape, Window};
 
-/// Writes the image that a stream denotes. The input stands behind the header.
+/// Writes the image that a stream denotes. The input stands after the header.
 ///
-/// After a fault of the stream the rows stand written that what came before it fixes.
+/// After a fault of the stream the rows are written that what came before it fixes.
 pub fn decode<R: Input, W: Output>(
     header: &Header,
     height: u32,
@@ -66,7 +66,7 @@ pub fn decode<R: Input, W: Output>(
     decode_buffered(header, height, &mut carried, &mut stream, &mut buffer)
 }
 
-/// Sets the rows of an image out, and hands on what is held, but after a failed write.
+/// Writes the rows of an image, and writes what is held, except after a failed write.
 fn decode_buffered<S: ByteSource, W: Output>(
     header: &Header,
     height: u32,
@@ -121,7 +121,7 @@ fn decode_buffered<S: ByteSource, W: Output>(
     }
 }
 
-/// Sets the rows of an image out.
+/// Writes the rows of an image.
 fn decode_image<S: ByteSource, P: ByteTarget>(
     header: &Header,
     height: u32,
@@ -166,7 +166,7 @@ fn decode_image<S: ByteSource, P: ByteTarget>(
     Ok(())
 }
 
-/// Sets the rows of a stripe out, and notes whether a height was given in it or before.
+/// Writes the rows of a stripe, and notes whether a height was given in it or before.
 fn decode_stripe<S: ByteSource, P: ByteTarget>(
     header: &Header,
     place: Place,
@@ -206,7 +206,7 @@ fn decode_stripe<S: ByteSource, P: ByteTarget>(
     decode_code(header.shape(), head.at, rows, carried, &mut entity, target)
 }
 
-/// Sets the rows of a stripe out whose code begins.
+/// Writes the rows of a stripe whose code begins.
 fn decode_code<S: ByteSource, P: ByteTarget>(
     shape: Shape,
     at: Option<Move>,

@@ -34,10 +34,10 @@ use crate::state::CodingState;
 use pbm_core::{Form, Input, Output, Size};
 use raster_core::{Shape, Tally, Window};
 
-/// Writes the stream of an image of this size. The input stands behind the header of the image.
+/// Writes the stream of an image of this size. The input stands after the header of the image.
 ///
-/// Where rows are missing, what stands written is a beginning of the stream of each image that begins with the rows
-/// that came, with each stripe whose rows all came. Each row is read when it is wanted, and nothing behind it.
+/// Where rows are missing, what is written is a beginning of the stream of each image that begins with the rows
+/// that came, with each stripe whose rows all came. Each row is read when it is wanted, and nothing after it.
 pub fn encode<R: Input, W: Output>(
     size: Size,
     form: Form,
@@ -64,7 +64,7 @@ pub fn encode<R: Input, W: Output>(
     encode_buffered(size, form, options, &mut carried, input, &mut buffer)
 }
 
-/// Sets the stream out, and hands on what is held, but after a failed write.
+/// Writes the stream, and writes what is held, except after a failed write.
 fn encode_buffered<R: Input, W: Output>(
     size: Size,
     form: Form,
@@ -121,7 +121,7 @@ fn encode_buffered<R: Input, W: Output>(
     }
 }
 
-/// Sets the stream out.
+/// Writes the stream.
 fn encode_image<R: Input, P: ByteTarget>(
     size: Size,
     form: Form,
@@ -161,7 +161,7 @@ fn encode_image<R: Input, P: ByteTarget>(
     encode_body(size, form, header.shape(), options, carried, source, target)
 }
 
-/// Sets the stripes out, and what stands behind them.
+/// Writes the stripes, and what stands after them.
 fn encode_body<R: Input, P: ByteTarget>(
     size: Size,
     form: Form,
@@ -202,7 +202,7 @@ fn encode_body<R: Input, P: ByteTarget>(
     write_ending(size.height, options, target)
 }
 
-/// Sets the stripes out.
+/// Writes the stripes.
 fn encode_stripes<R: Input, P: ByteTarget>(
     size: Size,
     form: Form,
@@ -265,7 +265,7 @@ fn has_candidates(shape: Shape, most: u8) -> bool
     most >= if shape.two_line { 5 } else { 3 }
 }
 
-/// Sets a stripe out. The offset of the adaptive pixel is the one that would have served the stripe before best, where
+/// Writes a stripe. The offset of the adaptive pixel is the one that would have served the stripe before best, where
 /// that is worth a move; what would have served this one best is counted where a stripe follows.
 fn encode_stripe<R: Input, P: ByteTarget>(
     size: Size,
@@ -317,7 +317,7 @@ fn encode_stripe<R: Input, P: ByteTarget>(
     )
 }
 
-/// Sets the code of a stripe out, ends it, and sends on what is held.
+/// Writes the code of a stripe, ends it, and writes what is held.
 fn encode_entity<R: Input, P: ByteTarget>(
     size: Size,
     form: Form,
@@ -371,7 +371,7 @@ fn encode_entity<R: Input, P: ByteTarget>(
     target.write_held()
 }
 
-/// Sets the code of a stripe out.
+/// Writes the code of a stripe.
 fn encode_code<R: Input, P: ByteTarget>(
     size: Size,
     form: Form,

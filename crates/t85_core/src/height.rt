@@ -1,4 +1,4 @@
-//! The height of a stream, which may be given behind its stripes.
+//! The height of a stream, which may be given after its stripes.
 
 ghost use Rattle.std.specs.Prelude.{◌≡◌, ◌≢◌, ◌≤◌, ◌-◌, ◌^◌, ◌<◌, List, ℕ, OnOk, IfOk, IfErr, IfSome, IsErrOf, None, true, false};
 ghost use Rattle.std.specs.Io.KnownBytes.{Consumes};
@@ -19,21 +19,21 @@ use crate::input_buffer::{ByteSource, InputBuffer};
 use crate::segments::{Code, Next, Piece, Place, next_piece, read_segments, skip_code};
 use pbm_core::Input;
 
-/// How many moves and comments were passed. Comments are counted up to 2^64 - 1.
+/// How many moves and comments were skipped. Comments are counted up to 2^64 - 1.
 #[derive(Clone, Copy)]
 pub struct Passed {
     pub moves: u64,
     pub comments: u64,
 }
 
-/// What was passed of a stripe: all of it, or its segments up to a height.
+/// What was skipped of a stripe: all of it, or its segments up to a height.
 #[derive(Clone, Copy)]
 struct Skipped {
     passed: Passed,
     height: Option<u32>,
 }
 
-/// What was passed of a stream: so many data entities with what stands before them, and, where a height came, the
+/// What was skipped of a stream: so many data entities with what stands before them, and, where a height came, the
 /// segments before that.
 #[derive(Clone, Copy)]
 pub struct Reached {
@@ -43,7 +43,7 @@ pub struct Reached {
     pub height: Option<u32>,
 }
 
-/// Finds the height of the image. The input stands behind the header.
+/// Finds the height of the image. The input stands after the header.
 ///
 /// Where the header says that the height may change, the segments are read up to the first valid height; where none
 /// comes, or the stream breaks before it, the height is the header's.
@@ -68,8 +68,8 @@ pub fn find_height<R: Input>(header: &Header, input: &mut R) -> Result<u32, Faul
     }
 }
 
-/// Passes the stripes that the header's height makes, up to the first height that is given in them or, where the height
-/// may change, behind them.
+/// Skips the stripes that the header's height makes, up to the first height that is given in them or, where the height
+/// may change, after them.
 pub fn find<S: ByteSource>(header: &Header, stream: &mut S) -> Result<Reached, Fault>
     requires stream { S.failures stream.old < 2 ^ 64 - 1 }
     ensures ok { IfOk result (λ r. Finds (fields_of header.now) (S.known stream.old)
@@ -107,7 +107,7 @@ pub fn find<S: ByteSource>(header: &Header, stream: &mut S) -> Result<Reached, F
     }
 }
 
-/// Passes comments behind the last stripe that the header's height makes, and a height where one stands behind them.
+/// Skips comments after the last stripe that the header's height makes, and a height where one stands after them.
 fn look<S: ByteSource>(header: &Header, entities: u32, stream: &mut S) -> Result<Option<u32>, Fault>
     requires stream { S.failures stream.old < 2 ^ 64 - 1 }
     requires variable { is_variable (fields_of header.now) ≡ true }
@@ -144,7 +144,7 @@ fn look<S: ByteSource>(header: &Header, entities: u32, stream: &mut S) -> Result
     }
 }
 
-/// Passes stripes from the one number `from` up to `count` in all, or up to a height. Whether one was given before them
+/// Skips stripes from the one number `from` up to `count` in all, or up to a height. Whether one was given before them
 /// is `given`, and whether a move stands before what is left of the first is `moved_before`.
 pub fn skip_stripes<S: ByteSource>(
     header: &Header,
@@ -202,7 +202,7 @@ pub fn skip_stripes<S: ByteSource>(
     })
 }
 
-/// Passes what is left of a stripe, or of its segments up to a height, behind so many data entities.
+/// Skips what is left of a stripe, or of its segments up to a height, after so many data entities.
 fn skip_stripe<S: ByteSource>(
     header: &Header,
     entities: u32,
@@ -246,7 +246,7 @@ fn skip_stripe<S: ByteSource>(
     }
 }
 
-/// Passes what is left of a data entity that begins so.
+/// Skips what is left of a data entity that begins so.
 fn skip_rest<S: ByteSource>(first: Code, stream: &mut S) -> Result<(), Fault>
     requires stream { S.failures stream.old < 2 ^ 64 - 1 }
     requires first { IsByteOrMarker first }

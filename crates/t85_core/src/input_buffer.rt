@@ -16,7 +16,7 @@ const SIZE: usize = 4096;
 
 /// The bytes of a stream, in their order.
 pub trait ByteSource {
-    /// The bytes still to come, where the reader tells them.
+    /// The bytes still to come, where the reader reports them.
     ghost known: { Self → Option (List ℕ) };
 
     /// Those of them that the reader has still to give.
@@ -43,7 +43,7 @@ pub trait ByteSource {
         ensures no_more { left self.new ≤ left self.old }
         ensures same_source { source self.new ≡ source self.old };
 
-    /// Passes bytes other than FF, as many as are held before the next one.
+    /// Skips bytes other than FF, as many as are held before the next one.
     fn skip_plain(&mut self)
         ensures passed { (code : List ℕ) × ArePlain code ×
             Consumes (known self.old) (known self.new) code }

@@ -12,7 +12,7 @@ use crate::fault::Fault;
 use pbm_core::{Output, write_bytes};
 use std::marker::Model;
 
-/// A line while it is made: room for nine numbers of twenty digits, each with a byte behind it.
+/// A line while it is made: room for nine numbers of twenty digits, each with a byte after it.
 #[derive(Drop)]
 pub struct Line {
     bytes: [u8; 192],

@@ -1,4 +1,4 @@
-//! An output's bytes, held back in a fixed array and handed on together.
+//! An output's bytes, held back in a fixed array and written together.
 
 ghost use Rattle.std.specs.Prelude.{◌≡◌, ◌≤◌, ◌<◌, ◌-◌, ◌^◌, ◌∷◌, [], ℕ, List, Option, length, take, OnOk, OnErr, IfErr};
 ghost use Rattle.std.specs.Io.KnownBytes.{Appends, Keeps, append_known};
@@ -14,13 +14,13 @@ const SIZE: usize = 4096;
 
 /// Where the bytes of an image or of a stream go.
 pub trait ByteTarget {
-    /// The bytes that it has taken, behind those that stood there, where the writer tells them.
+    /// The bytes that it has taken, after those that stood there, where the writer reports them.
     ghost text: { Self → Option (List ℕ) };
 
     /// The bytes of these that the writer has still to take.
     ghost held: { Self → List ℕ };
 
-    /// How many bytes the writer has taken, where it tells them.
+    /// How many bytes the writer has taken, where it reports them.
     ghost written: { Self → ℕ };
 
     /// How often the writer has failed.
@@ -49,7 +49,7 @@ pub trait ByteTarget {
         ensures counts { CountsWrite (failures self.old) (failures self.new) result }
         ensures same_writer { writer self.new ≡ writer self.old };
 
-    /// Sends on what it holds.
+    /// Writes what it holds.
     fn write_held(&mut self) -> Result<(), Fault>
         requires { failures self.old < 2 ^ 64 - 1 }
         ensures text { Keeps (text self.old) (text self.new) }
@@ -64,7 +64,7 @@ pub trait ByteTarget {
         ensures { result ≡ failures self.now };
 }
 
-/// Bytes are handed on where the array is full, and by `write_held`.
+/// Bytes are written where the array is full, and by `write_held`.
 #[derive(Drop)]
 pub struct OutputBuffer<'a, W: Output> {
     output: &'a mut W,
@@ -90,7 +90,7 @@ impl<'a, W: Output> OutputBuffer<'a, W> {
 }
 
 impl<W: Output> OutputBuffer<'_, W> {
-    /// Hands on what is held.
+    /// Writes what is held.
     pub fn write_held(&mut self) -> Result<(), Fault>
         requires { W.failures self.old.output.now < 2 ^ 64 - 1 }
         ensures text { Keeps (append_known (W.contents self.old.output.now)

@@ -61,7 +61,7 @@ pub struct Head {
     pub code: Code,
 }
 
-/// What stands behind the segments that were read.
+/// What stands after the segments that were read.
 #[derive(Clone, Copy)]
 pub enum Next {
     /// A valid height, which isn't the one in use.
@@ -70,7 +70,7 @@ pub enum Next {
     Code(Code),
 }
 
-/// Segments that were read, and what stands behind them.
+/// Segments that were read, and what stands after them.
 #[derive(Clone, Copy)]
 pub struct Segments {
     pub at: Option<Move>,
@@ -295,7 +295,7 @@ fn read_length<S: ByteSource>(header: &Header, place: Place, stream: &mut S) -> 
     Ok(height)
 }
 
-/// Whether a height may be given behind so many data entities.
+/// Whether a height may be given after so many data entities.
 fn is_valid(header: &Header, entities: u32, height: u32) -> bool
     ensures { result ≡ is_valid_length (fields_of header.now) entities height }
 {

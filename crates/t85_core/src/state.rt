@@ -38,7 +38,7 @@ impl<'a, 'b> CodingState<'a, 'b> {
 }
 
 impl CodingState<'_, '_> {
-    /// Goes on behind an end marker. All stays, or is as at the top of an image where the marker resets.
+    /// Goes on after an end marker. All stays, or is as at the top of an image where the marker resets.
     pub fn end_stripe(&mut self, reset: bool)
         ensures next { (last : RowStart) → IsCarried last self.old →
             IsCarried (first_row_start (next_stripe_start (width_of self.old.window.now) reset

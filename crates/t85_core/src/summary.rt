@@ -31,7 +31,7 @@ pub fn info<R: Input, W: Output>(input: &mut R, output: &mut W) -> Result<(), Fa
     line.put(output)
 }
 
-/// The line of a stream that stands behind this header.
+/// The line of a stream that stands after this header.
 fn summary<S: ByteSource>(header: &Header, stream: &mut S) -> Result<Line, Fault>
     requires stream { S.failures stream.old < 2 ^ 64 - 1 }
     ensures ok { IfOk result (λ line. IfSome (S.known stream.old)
@@ -53,7 +53,7 @@ fn summary<S: ByteSource>(header: &Header, stream: &mut S) -> Result<Line, Fault
     }
 }
 
-/// Passes what is left of the stripes that a height makes, where it was given before the last of them.
+/// Skips what is left of the stripes that a height makes, where it was given before the last of them.
 fn walk_on<S: ByteSource>(
     header: &Header,
     height: u32,
@@ -98,7 +98,7 @@ fn walk_on<S: ByteSource>(
     Ok(line_of(header, height, count, passed))
 }
 
-/// The line of a header, of a height and so many data entities, and of what was passed in them.
+/// The line of a header, of a height and so many data entities, and of what was skipped in them.
 fn line_of(header: &Header, height: u32, entities: u32, passed: Passed) -> Line
     ensures { let h = header.now in result ≡ line_text
         (h.xd ∷ h.yd ∷ h.l0 ∷ h.mx ∷ h.options ∷ height ∷ entities ∷ passed.moves ∷ passed.comments

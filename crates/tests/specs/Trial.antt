@@ -14,7 +14,7 @@ paired [] = []
 paired (d ∷ []) = []
 paired (h ∷ l ∷ ds) = (h * 16 + l) ∷ paired ds
 
--- how a run ends that tells just the text of this fault, or nothing where there is none
+-- how a run ends that reports just the text of this fault, or nothing where there is none
 abbrev pub HasTold : List ℕ → Option (List ℕ) → ℕ → List ℕ → Type 0
 HasTold program None status messages = (status ≡ 0) × (messages ≡ [])
 HasTold program (Some text) status messages = (status ≡ 1) × (messages ≡ program ++ (codes ": " ++ (text ++ codes "\n")))

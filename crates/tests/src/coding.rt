@@ -166,7 +166,7 @@ fn streams_give_their_images(rt: HostRuntime) -> Result<(), Fail> {
     Ok(())
 }
 
-/// Bits behind the last pixel of a row stay out of the code, and comments of the header are passed.
+/// Bits after the last pixel of a row stay out of the code, and comments of the header are skipped.
 static PADDED: Run<'static> = Run {
     words: &["pbmtojbg85", "-p", "0"],
     input: Raw(b"P4\n#x\n3 2\n\x1F\x1F"),

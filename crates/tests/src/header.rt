@@ -120,7 +120,7 @@ fn pbm_faults_have_numbers_and_texts(rt: HostRuntime) -> Result<(), Fail> {
     Ok(())
 }
 
-/// The width, the height, the stripe length, the range and the options that a header tells, and the
+/// The width, the height, the stripe length, the range and the options of a header, and the
 /// bytes that it is written as.
 fn read_and_written(bytes: &[u8]) -> Result<((u32, u32, u32, u8, u8), [u8; 20]), Fault> {
     let header = Header::read(&mut Pieces::new(bytes, 3, None))?;
@@ -163,7 +163,7 @@ fn headers_are_refused_in_order(rt: HostRuntime) {
     }
 }
 
-/// What `info` answers, and whether it tells this line.
+/// What `info` answers, and whether it reports this line.
 fn tells(stream: &[u8], line: &[u8]) -> (Result<(), Fault>, bool) {
     let mut input = Pieces::new(stream, 4096, None);
     let mut held = [0; 64];

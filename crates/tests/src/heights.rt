@@ -15,7 +15,7 @@ struct Twice {
 }
 
 static TWICE: [Twice; 9] = [
-    // The new height stands behind the last stripe that it leaves.
+    // The new height stands after the last stripe that it leaves.
     Twice {
         run: Run {
             words: &["jbgtopbm85"],
@@ -37,7 +37,7 @@ static TWICE: [Twice; 9] = [
         },
         again: 23,
     },
-    // One above the header's height ends the look behind the last stripe.
+    // One above the header's height ends the look after the last stripe.
     Twice {
         run: Run {
             words: &["jbgtopbm85"],
@@ -296,7 +296,7 @@ fn decodes(alloc: Global, bytes: &[u8], height: u32) -> Result<(Result<(), Fault
     Ok((answer, output.written().len()))
 }
 
-/// A new height of 3 in front of the first stripe, where 5 rows are decoded.
+/// A new height of 3 before the first stripe, where 5 rows are decoded.
 const OTHER: [u8; 26] = [
     0, 0, 1, 0, 0, 0, 0, 1, 0, 0, 0, 5, 0, 0, 0, 128, 0, 0, 0, 32, 0xFF, 5, 0, 0, 0, 3,
 ];

@@ -19,7 +19,7 @@ static STREAMS: [Run<'static>; 20] = [
         output: Raw(b"1 9 1 0 32 2 2 0 0\n"),
         fault: None,
     },
-    // A comment behind the last data entity that the height leaves.
+    // A comment after the last data entity that the height leaves.
     Run {
         words: &["jbgtopbm85", "--info"],
         input: Hex(
@@ -187,7 +187,7 @@ fn passes_a_long_comment(rt: HostRuntime) -> Result<(), Fail> {
     Ok(())
 }
 
-/// What is told of two stripes where the read of this number fails: where reads are large, one is for the header and
+/// What is reported of two stripes where the read of this number fails: where reads are large, one is for the header and
 /// one for what follows.
 static AHEAD: [(u64, &[u8], Option<&str>); 3] = [
     (1, b"", Some("input cannot be read")),
@@ -224,7 +224,7 @@ fn reads_ahead(rt: HostRuntime) -> Result<(), Fail> {
     Ok(())
 }
 
-/// Whether a run tells a fault by its status alone, where the second piece of the message can't be written.
+/// Whether a run reports a fault by its status alone, where the second piece of the message can't be written.
 fn loses(alloc: Global) -> Result<bool, LineFault> {
     let job = job(alloc, &["jbgtopbm85", "--info"])?;
     let mut input = Pieces::new(b"", 1, None);

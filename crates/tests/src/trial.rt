@@ -56,7 +56,7 @@ impl Program {
         }
     }
 
-    /// What is told of an input that ends too early.
+    /// What is reported of an input that ends too early.
     fn early_end(&self) -> &'static str {
         match self {
             Program::Encoder(_) => "PBM ends too early",
@@ -100,7 +100,7 @@ pub const SMOOTH: Devices = Devices {
 /// Single bytes.
 const BYTEWISE: Devices = Devices { most: 1, ..SMOOTH };
 
-/// The bytes that a text has as upper-case hexadecimal digits. Its other characters are passed.
+/// The bytes that a text has as upper-case hexadecimal digits. Its other characters are skipped.
 fn bytes_of(alloc: Global, hex: &str) -> Result<Vec<u8>, AllocError>
     ensures { IfOk result (λ v. v.items ≡ paired (filter_map hex_digit hex.now)) }
 {
@@ -123,7 +123,7 @@ fn bytes_of(alloc: Global, hex: &str) -> Result<Vec<u8>, AllocError>
     Ok(bytes)
 }
 
-/// Whether a run of this program has told just the text of this fault, or nothing where there is none.
+/// Whether a run of this program has reported just the text of this fault, or nothing where there is none.
 fn has_told(
     alloc: Global,
     ran: &Ran,
@@ -217,7 +217,7 @@ pub struct Run<'a> {
     /// How many bytes are asked for, one at a time; the end of the input is asked for too.
     pub reads: u64,
     pub output: Bytes<'a>,
-    /// The text of the fault that is told.
+    /// The text of the fault that is reported.
     pub fault: Option<&'a str>,
 }
 
@@ -247,13 +247,13 @@ impl<'a> Run<'a> {
 pub enum Trial {
     /// Reads and writes of each size.
     Sizes,
-    /// Bytes behind the last that is asked for.
+    /// Bytes after the last that is asked for.
     Rest,
     /// Each failing read, and that one more is never asked for.
     Reads,
     /// Each failing write, and that one more is never asked for.
     Writes,
-    /// A failing flush, which is asked for behind a whole output alone.
+    /// A failing flush, which is asked for after a whole output alone.
     Flush,
 }
 
@@ -290,7 +290,7 @@ impl<'a> Case<'a> {
         run_on(alloc, &self.program, bytes, devices, room)
     }
 
-    /// Whether a run on these bytes writes just so many of the output, and tells just the text of this fault, or nothing
+    /// Whether a run on these bytes writes just so many of the output, and reports just the text of this fault, or nothing
     /// where there is none.
     fn leaves(
         &self,
@@ -310,7 +310,7 @@ impl<'a> Case<'a> {
         )
     }
 
-    /// The same, whatever the size of reads and writes. Where a fault is told a flush would fail: none may be asked for.
+    /// The same, whatever the size of reads and writes. Where a fault is reported a flush would fail: none may be asked for.
     fn leaves_at_each_size(
         &self,
         alloc: Global,
@@ -331,7 +331,7 @@ impl<'a> Case<'a> {
         Ok(true)
     }
 
-    /// Whether a run over these devices leaves the whole output, and tells this fault.
+    /// Whether a run over these devices leaves the whole output, and reports this fault.
     fn ends(
         &self,
         alloc: Global,
@@ -341,7 +341,7 @@ impl<'a> Case<'a> {
         self.leaves(alloc, &self.input, devices, self.output.len(), fault)
     }
 
-    /// Whether the failing read after so many bytes is told, with a beginning of the output written.
+    /// Whether the failing read after so many bytes is reported, with a beginning of the output written.
     fn tells_read(&self, alloc: Global, came: u64) -> Result<bool, AllocError> {
         let devices = Devices {
             failing_read: Some(came.saturating_add(1)),
@@ -376,7 +376,7 @@ impl<'a> Case<'a> {
         }
     }
 
-    /// Whether the failing read of the second reading after so many bytes is told, with a beginning of the output written.
+    /// Whether the failing read of the second reading after so many bytes is reported, with a beginning of the output written.
     fn tells_second_read(&self, alloc: Global, came: u64) -> Result<bool, AllocError> {
         let devices = Devices {
             failing_again: Some(came.saturating_add(1)),
@@ -391,7 +391,7 @@ impl<'a> Case<'a> {
         )
     }
 
-    /// Whether each of so many reads of the second reading is told where it fails, and no more are asked for.
+    /// Whether each of so many reads of the second reading is reported where it fails, and no more are asked for.
     fn is_read_again(&self, alloc: Global, reads: u64) -> Result<bool, AllocError> {
         for came in 0..reads {
             if !self.tells_second_read(alloc, came)? {
@@ -440,7 +440,7 @@ impl<'a> Case<'a> {
         has_told(alloc, &ran, self.program.name(), text)
     }
 
-    /// Whether bytes behind the last that is asked for change nothing.
+    /// Whether bytes after the last that is asked for change nothing.
     fn leaves_the_rest(&self, alloc: Global) -> Result<bool, AllocError> {
         let mut bytes = self.input.as_slice().to_vec(alloc)?;
         bytes.extend_from_slice(b"P4\n1 1\n\xFF")?;
@@ -500,7 +500,7 @@ impl<'a> Case<'a> {
     }
 
     /// Whether just so many bytes of the output stand where the input ends, or can't be read, after so many bytes, and
-    /// this is told where it ends.
+    /// this is reported where it ends.
     fn is_cut(
         &self,
         alloc: Global,
@@ -527,7 +527,7 @@ pub fn stands(alloc: Global, run: Run<'_>, trial: Trial) -> Result<bool, LineFau
     Ok(held?)
 }
 
-/// Whether each of so many reads of the run's second reading is told where it fails, and no more are asked for.
+/// Whether each of so many reads of the run's second reading is reported where it fails, and no more are asked for.
 pub fn is_read_again(alloc: Global, run: Run<'_>, reads: u64) -> Result<bool, LineFault> {
     let held = Case::new(alloc, run)?.is_read_again(alloc, reads);
     Ok(held?)
@@ -562,12 +562,12 @@ pub fn all_stand(rt: &impl Abort, alloc: Global, runs: &[Run<'_>]) -> Result<(),
 /// A run whose input is cut short.
 pub struct Cut {
     pub run: Run<'static>,
-    /// From how many bytes on how many of the output stand, and what is told where the input ends there.
+    /// From how many bytes on how many of the output stand, and what is reported where the input ends there.
     pub stands: &'static [(usize, usize, &'static str)],
 }
 
 impl Cut {
-    /// How many bytes stand after so many, and what is told where the input ends there.
+    /// How many bytes stand after so many, and what is reported where the input ends there.
     fn standing(&self, came: usize) -> (usize, &'static str) {
         let mut standing = (0, "");
         for &(from, count, text) in self.stands {
@@ -578,7 +578,7 @@ impl Cut {
         standing
     }
 
-    /// After how many bytes something else stands first, or is told.
+    /// After how many bytes something else stands first, or is reported.
     fn first_failing_in(
         &self,
         alloc: Global,

@@ -88,7 +88,7 @@ impl Output for Counter<'_> {
     }
 }
 
-/// A run of the encoder, and what must stand written while its rows are read.
+/// A run of the encoder, and what has to be written while its rows are read.
 struct Watched {
     words: &'static [&'static str],
     image: Bytes<'static>,
@@ -120,7 +120,7 @@ static WATCHED: [Watched; 6] = [
         due: &[(8, 31)],
         whole: 34,
     },
-    // A header, F0 FF 02, and behind a move of eight bytes F8 FF 02.
+    // A header, F0 FF 02, and after a move of eight bytes F8 FF 02.
     Watched {
         words: &["pbmtojbg85", "-p", "0", "-s", "1", "-m", "3"],
         image: Image("8 2", "FF FF"),

@@ -73,7 +73,7 @@ fn job_of(alloc: Global, matches: &ArgMatches<'_>) -> Result<Job, AllocError>
     })
 }
 
-/// The job that the words ask for, of which the first is the program's name.
+/// The job that the arguments ask for, of which the first is the program's name.
 pub fn job<S: AsStr>(alloc: Global, words: &[S]) -> Result<Job, LineFault>
     ensures simple { is_simple the_command ≡ true }
     ensures values { IfOk result (IsDecodeJobOf (decode_matches (map S.text words.now))) }

@@ -1,6 +1,6 @@
-//! What the words ask for.
+//! What the arguments ask for.
 
-/// What the words ask for.
+/// What the arguments ask for.
 #[derive(Debug, Drop)]
 pub struct Job {
     /// Whether to write the line about the stream in place of its image.

@@ -101,7 +101,7 @@ fn job_of(alloc: Global, matches: &ArgMatches<'_>) -> Result<Job, LineFault>
     })
 }
 
-/// The job that the words ask for, of which the first is the program's name.
+/// The job that the arguments ask for, of which the first is the program's name.
 pub fn job<S: AsStr>(alloc: Global, words: &[S]) -> Result<Job, LineFault>
     ensures simple { is_simple the_command ≡ true }
     ensures values { IfOk result (IsEncodeJobOf (encode_matches (map S.text words.now))) }

@@ -1,9 +1,9 @@
-//! What the words ask for.
+//! What the arguments ask for.
 
 ghost use Rattle.std.specs.Prelude.{◌≡◌, None, option_map, string_bytes};
 ghost use Rattle.t85_core.specs.Options.{refusal_of};
 
-/// What the words ask for, with options that are accepted.
+/// What the arguments ask for, with options that are accepted.
 #[derive(Debug, Drop)]
 pub struct Job {
     /// The options byte of the stream.

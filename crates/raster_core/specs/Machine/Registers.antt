@@ -23,8 +23,8 @@ abbrev pub past_bits : ℕ → ℕ
 past_bits zero = 64
 past_bits (suc t) = 128
 
--- The registers of a pixel at x. Of the row above they have the pixels up to the second one behind the pixel's byte, of
--- the row above that those up to the first one behind it, and both go along with the pixels of the byte by shifts to
+-- The registers of a pixel at x. Of the row above they have the pixels up to the second one after the pixel's byte, of
+-- the row above that those up to the first one after it, and both go along with the pixels of the byte by shifts to
 -- the left. Of the row itself they have the pixels before it.
 pub record AreAt (lines : Lines) (offset second above past x : ℕ) : Type 0 where
   -- how many pixels of the byte come after it

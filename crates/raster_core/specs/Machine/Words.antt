@@ -10,7 +10,7 @@ unfoldable pub word : (ℕ → Bool) → ℕ → ℕ → ℕ
 word p first zero = 0
 word p first (suc n) = word p first n * 2 + bit (p (first + n))
 
--- a row with 128 white pixels in front of it
+-- a row with 128 white pixels before it
 abbrev pub led : List Bool → ℕ → Bool
 led row i = if nat_lt i 128 then false else pixel_at row (i - 128)
 

@@ -7,7 +7,7 @@ use Rattle.t85_core.specs.declared.fault.Fault.TheVariants.{Truncated}
 use Rattle.t85_core.specs.Failures.{Ends, counted_as}
 use Rattle.t85_core.proofs.Bytes.Streams.{Consumes-more}
 
--- bytes that were passed before stand in front of what came
+-- bytes that were skipped before stand before what came
 pub Ends-after : {ending : Fault} {a b c : Option (List ℕ)} {P Q : List ℕ → Fault → Type 0} {f : Fault} (front : List ℕ) → Consumes a b front → ((given : List ℕ) (e : Fault) → P given e → Q (front ++ given) e) → Ends ending b c P f → Ends ending a c Q f
 Ends-after {ending} {a} {b} {c} {P} {Q} {f} front taken widen e = record {
   given = front ++ e.given;
@@ -16,7 +16,7 @@ Ends-after {ending} {a} {b} {c} {P} {Q} {f} front taken widen e = record {
   at_end = e.at_end;
 }
 
--- a fault that the bytes so far have, and that is told at once
+-- a fault that the bytes so far have, and that is reported at once
 pub Ends-at : {ending : Fault} {a b : Option (List ℕ)} {Q : List ℕ → Fault → Type 0} (f : Fault) (given : List ℕ) → Consumes a b given → counted_as ending f ≡ f → f ≢ ending → Q given f → Ends ending a b Q f
 Ends-at {ending} {a} {b} {Q} f given taken same other q = record {
   given = given;
@@ -25,7 +25,7 @@ Ends-at {ending} {a} {b} {Q} f given taken same other q = record {
   at_end = λ h. absurd (other h);
 }
 
--- the exit of a `?` that passes a fault on
+-- the exit of a `?` that gives a fault back
 pub exit : {T : Type 0} (P : Fault → Type 0) (r : Result T Fault) {e : Fault} → IsErrAnd r (λ y. y ≡ e) → P e → IfErr r P
 exit P (Ok x) a p = tt
 exit P (Err y) a p = subst P (sym a) p

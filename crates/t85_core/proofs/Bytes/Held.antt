@@ -1,4 +1,4 @@
--- Bytes that are held in front of those that an input has still to give.
+-- Bytes that are held before those that an input has still to give.
 use Rattle.std.proofs.Common.{◌≡◌, ◌≤◌, ◌<◌, ◌+◌, ◌-◌, ℕ, suc, List, [], ◌∷◌, ◌++◌, Option, None, Some, length, take, drop, get_or, refl, sym, ap, ◌∙◌, append_assoc, take-append-drop, add-one, subst, arith}
 use Rattle.std.specs.Io.KnownBytes.{Consumes, Keeps, prepend_known}
 use Rattle.std.proofs.lemmas.List.{drop-take, drop-drop}

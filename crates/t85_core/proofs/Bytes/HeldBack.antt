@@ -1,4 +1,4 @@
--- Bytes that are held behind those that an output has taken.
+-- Bytes that are held after those that an output has taken.
 use Rattle.std.proofs.Common.{◌≡◌, ◌≤◌, ◌+◌, ◌-◌, ℕ, List, [], ◌∷◌, ◌++◌, Option, None, Some, length, take, drop, refl, sym, ap, ◌∙◌, append_assoc, append-nil, length-append, length-take-le, arith}
 use Rattle.std.specs.Io.KnownBytes.{Appends, Keeps, append_known}
 use Rattle.std.proofs.lemmas.List.{drop-take, drop-append-le}
@@ -55,7 +55,7 @@ cut_front (x ∷ a) (y ∷ c) held front le e =
     let k = cut_front a c held front (omega (arith, le)) rest in
     (k.0, ap (λ z. z ∷ c) same ∙ ap (λ z. x ∷ z) k.1, k.2)
 
--- what was handed on of a beginning is a beginning
+-- what was written of a beginning is a beginning
 pub beginning_handed : (a c : Option (List ℕ)) (held text : List ℕ) → known_length a ≤ known_length c → AppendsBeginning a (append_known c held) text → AppendsBeginning a c text
 beginning_handed None c held text le p = record { front = p.front; rest = p.rest; text_is = p.text_is; appends = tt }
 beginning_handed (Some a) None held text le p = absurd p.appends
@@ -68,7 +68,7 @@ held_is bytes at end h =
     let e : end ≡ at + (end - at) = omega arith in
     sym (ap (λ k. drop at (take k bytes)) e ∙ drop-take at (end - at) bytes)
 
--- bytes that were put behind those that are held
+-- bytes that were put after those that are held
 pub held_grows : (bytes more : List ℕ) (at end k n : ℕ) → n ≡ end + length more → at ≤ end → end ≤ length bytes → held_of (put_mid end k bytes more) at n ≡ held_of bytes at end ++ more
 held_grows bytes more at end k n e h within =
     let long : length (take end bytes) ≡ end = length-take-le end bytes within in

@@ -169,6 +169,6 @@ refused_header old new f e other = went old (header_known old new f e other) whe
   went None h = tt
   went (Some bytes) h = inl h
 
--- what is behind the header's twenty bytes
+-- what is after the header's twenty bytes
 pub behind : (given more : List ℕ) → length given ≡ 20 → drop 20 (given ++ more) ≡ more
 behind given more e = drop_at given more 20 e

@@ -61,7 +61,7 @@ valid_parts h k n e = went (nat_le 1 n) (nat_le n h.yd) (nat_lt ((k - 1) * h.l0)
   went true false c p q e = absurd (true≢false (sym e))
   went false b c p q e = absurd (true≢false (sym e))
 
--- a height in use is valid behind as many entities as it makes, or fewer
+-- a height in use is valid after as many entities as it makes, or fewer
 pub valid_in_use : (h : Fields) (height k : ℕ) → 0 < h.l0 → 1 ≤ height → height ≤ h.yd → k ≤ stripe_count height h.l0 → is_valid_length h k height ≡ true
 valid_in_use h height k some one most few =
     let near : (k - 1) * h.l0 < height = below k few in

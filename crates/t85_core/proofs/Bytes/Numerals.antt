@@ -20,7 +20,7 @@ written n old new small (inr h) =
     let digit : n % 10 ≡ n = omega arith in
     ap (λ z. z ++ (48 + n % 10) ∷ []) h.1 ∙ ap (λ d. old ++ (48 + d) ∷ []) digit ∙ ap (λ z. old ++ z) (sym (decimal_digit n h.0))
 
--- a number of a line, and the byte behind it
+-- a number of a line, and the byte after it
 line_text_cons : (n : ℕ) (rest : List ℕ) (last : Bool) → ((length rest ≡ 0) × (last ≡ true)) ⊎ ((length rest ≢ 0) × (last ≡ false)) → line_text (n ∷ rest) ≡ decimal n ++ cond last 10 32 ∷ line_text rest
 line_text_cons n [] last (inl h) = ap (λ t. decimal n ++ cond t 10 32 ∷ []) (sym h.1)
 line_text_cons n [] last (inr h) = absurd (h.0 refl)

@@ -1,4 +1,4 @@
--- What a buffer holds back is handed on.
+-- What a buffer holds back is written.
 use Rattle.std.proofs.Common.{◌≡◌, ◌≢◌, ◌+◌, ◌⊎◌, inl, inr, ℕ, List, [], ◌++◌, Option, None, Some, Result, Ok, Err, refl, sym, ap, ◌∙◌, subst, append-nil, arith}
 use Rattle.std.specs.Prelude.{IfErr, flat_map}
 use Rattle.std.specs.Io.KnownBytes.{Consumes, Keeps, append_known}
@@ -48,7 +48,7 @@ begun_handed h height known known' text old new i k = record {
   appended = record { front = i.appended.front; rest = i.appended.rest; text_is = i.appended.text_is; appends = Appends-keeps text old new _ i.appended.appends k };
 }
 
--- an image that was set out begins with all of its rows
+-- an image that was written begins with all of its rows
 pub image_begun : CoderLaws → (h : Fields) (height : ℕ) → IsInUse h height → (known known' text text' : Option (List ℕ)) → ImageRead h height known known' text text' → ImageUnwritten h height known known' text text'
 image_begun q h height use_ known known' text text' i = record {
   given = i.given;
@@ -126,7 +126,7 @@ reads_few (Pbm pbm.TooTall) = inl refl
 reads_few (Pbm pbm.BadDigit) = inl refl
 reads_few (Pbm pbm.Truncated) = inl refl
 
--- whatever was told of the rows, a write failed after them
+-- whatever was reported of the rows, a write failed after them
 pub counts_written : (old new : ℕ) (fault last : Fault) → new ≡ old + failed_reads fault → last ≡ Write → CountsFault old new last
 counts_written old new fault last e is = subst (CountsFault old new) (sym is) (went (reads_few fault)) where
   went : (failed_reads fault ≡ 0) ⊎ (failed_reads fault ≡ 1) → (new ≡ old) ⊎ (new ≡ old + 1)

@@ -360,7 +360,7 @@ module _ (h : Fields) (height : ℕ) (ok : IsAccepted h) (stripes : List Stripe)
 abbrev pub front_of : {h : Fields} {count : ℕ} {c : StripeStart} {segments : List Segment} {code : List ℕ} {rows : List (List Bool)} {flags : List Bool} → BegunRun h count c segments code rows flags → FrontRun h count c segments code rows flags
 front_of b = record { last = b.last; run = b.run; few = b.few; lies = b.lies }
 
--- A body that breaks behind whole stripes fixes their rows, and the rows that were run through of the stripe that breaks.
+-- A body that breaks after whole stripes fixes their rows, and the rows that were run through of the stripe that breaks.
 pub carried_fixes : CoderLaws → (h : Fields) (height : ℕ) (body tail : List ℕ) (fault : Fault) (stripes : List Stripe) (broken : StripeFault h (spot_after height stripes) tail fault)
     (first more : List (List Bool)) (first_flags more_flags : List Bool) (mid : StripeStart) → IsAccepted h →
     body ≡ flat_map stripe_bytes stripes ++ tail → length stripes < stripe_count height h.l0 → GiveOnly height 0 (all_segments stripes) →

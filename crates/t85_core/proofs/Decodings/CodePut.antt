@@ -121,19 +121,19 @@ module _ {T : Type 0} (standing : T → EntityView) (failed : T → ℕ) (s t : 
         let r = rows h c segments begins.move_is begins.shape_is begins.is_carried in
         stripe_unset standing failed h spot heights c known segments s t begins.begun begins.passed begins.first begins.first_is begins.gives_in r.answers (parted r.answers r.closed r.gives begun) q count text text' r refl u ahead taken
 
--- what is told of a fault that the code broke with
+-- what is reported of a fault that the code broke with
 pub broke_fault : (s t : EntityView) (fault : Fault) → Broke s t → IfSome t.fault (λ f. fault ≡ f) →
     (fault ≡ Read → t.known ≡ t.beyond) × (t.reads ≡ s.reads + failed_reads fault) × (failed_writes fault ≡ 0)
 broke_fault s t fault b is =
     let same : fault ≡ b.why = subst (λ o. IfSome o (λ f. fault ≡ f)) b.fault is in
     subst (λ f. (f ≡ Read → t.known ≡ t.beyond) × (t.reads ≡ s.reads + failed_reads f) × (failed_writes f ≡ 0)) (sym same) (b.drained, b.reads, unwritten b.why b.among)
 
--- what stays behind an end marker, where the width goes by another name
+-- what stays after an end marker, where the width goes by another name
 pub kept_wide : (wide width : ℕ) (reset : Bool) (carried next : CodingState) → wide ≡ width → ((last : RowStart) → IsCarried last carried → IsCarried (first_row_start (next_stripe_start wide reset last)) next)
     → (last : RowStart) → IsCarried last carried → IsCarried (first_row_start (next_stripe_start width reset last)) next
 kept_wide wide width reset carried next e kept last is = subst (λ w. IsCarried (first_row_start (next_stripe_start w reset last)) next) e (kept last is)
 
--- a code that breaks behind the rows
+-- a code that breaks after the rows
 pub broken_among : (first : Option Code) (a b : Option (List ℕ)) (fault : Fault) → Ends Truncated a b (BreaksIn first) fault → IsWalkFault fault
 broken_among first a b fault e = uncounted Truncated fault (rest_faults some_fields some_spot 0 true e.has_fault.0.rest (counted_as Truncated fault) (e.has_fault.0.rest_has some_fields some_spot 0)) where
   some_fields : Fields

@@ -74,7 +74,7 @@ module _ (h : Fields) (height limit : ℕ) (in_old in_new : Option (List ℕ)) (
     appends = λ rest fault text o. (let p = w.appends rest fault text o in record { front = p.front; rest = p.rest; text_is = p.text_is; appends = Appends-keeps out_old out_new out_last p.front p.appends keeps });
   }
 
-  -- the flush failed behind all that was written
+  -- the flush failed after all that was written
   pub at_unflushed : (out_last : Option (List ℕ)) (writes_last : ℕ) → Decode h height (between in_old in_new reads_old reads_new) (between out_old out_new writes_old writes_new) (Ok tt) → Keeps out_new out_last → writes_last ≡ writes_new + 1 →
       ToPbmAt h height limit (between in_old in_new reads_old reads_new) (between out_old out_last writes_old writes_last) flushed (Err Write)
   at_unflushed out_last writes_last d keeps more = record {
@@ -178,7 +178,7 @@ module _ (q : CoderLaws) (in_old : Option (List ℕ)) (again_old : Option (List 
     went (Some bytes) (Some body) taken w = λ _. denoted q p.header p.header.yd bytes body out_old out_new (subst (λ z. HeaderOf z p.header) (sym taken) (HeaderOf-append p.taken.given body p.header p.taken.header_of))
         (inr (refl, λ n g. true≢false (sym g.variable ∙ p.fixed))) (ap (drop 20) taken ∙ behind p.taken.given body p.taken.long) w
 
-  -- behind the same bytes
+  -- after the same bytes
   pub denoted_twice : (h : Fields) (height limit : ℕ) (mid in_new again_new : Option (List ℕ)) (first_old first_new reads_old reads_new writes_old writes_new : ℕ) (flushed : Bool) (r : Result (Unit {0}) Fault) → is_variable h ≡ true → TakesHeader h in_old mid →
       FindHeight h (between mid in_new first_old first_new) (Ok height) → AgainConverts h height limit (between again_old again_new reads_old reads_new) (between out_old out_new writes_old writes_new) flushed r →
       OnOk r (IfSome in_old (λ first. IsFixed first ⊎ (again_old ≡ Some first) → WritesDenoted first out_old out_new))

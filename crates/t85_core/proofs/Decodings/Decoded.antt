@@ -1,4 +1,4 @@
--- From what decoding took and set out to what is said of the whole body.
+-- From what decoding took and wrote to what is said of the whole body.
 use Rattle.std.proofs.Common.{◌≡◌, ◌≢◌, ◌<◌, ◌^◌, ◌≤◌, ◌+◌, ◌⊎◌, inl, inr, ℕ, Bool, List, [], ◌++◌, not, count_by, Option, None, Some, Result, Ok, Err, refl, sym, ap, ◌∙◌, subst, append_assoc, append-nil, arith}
 use Rattle.std.specs.Prelude.{IfSome, OnOk, IfErr, IsErrOf, flat_map}
 use Rattle.std.specs.Io.KnownBytes.{Appends, Consumes, prepend_known, append_known}
@@ -110,7 +110,7 @@ module _ (q : CoderLaws) (h : Fields) (height : ℕ) (use_ : IsInUse h height) (
   cut_among : (bytes known : Option (List ℕ)) (fault : Fault) → ImageCut h height bytes known out_mid out_new fault → IsBodyFault fault
   cut_among bytes known fault i = uncounted_body Truncated fault (body_faults h height (stripe_count height h.l0) i.ends.given (counted_as Truncated fault) i.ends.has_fault.broken)
 
-  -- what stands written is a beginning of what was set out
+  -- what is written is a beginning of what was written
   front_written : (in_new : Option (List ℕ)) (in_held out_held : List ℕ) → known_length out_mid ≤ known_length out_new → ImageUnwritten h height in_old (prepend_known in_held in_new) out_mid (append_known out_new out_held) →
       WritesImageFront h height in_old in_new out_old out_new
   front_written in_new in_held out_held grows i = record {

@@ -60,7 +60,7 @@ module _ (q : CoderLaws) (h : Fields) (height : ℕ) (u : IsInUse h height) (str
   each : AreStripes h stripes
   each = stripes_whole h height (image_start h.xd) stripes first first_flags mid run
 
-  -- a stripe behind them, of which such segments and code came, whatever decides its rows
+  -- a stripe after them, of which such segments and code came, whatever decides its rows
   module _ (segments : List Segment) (code more : List ℕ) (rows : List (List Bool)) (flags : List Bool) (bytes : IsBytes code) (others : IsBytes more)
       (front : FrontRun h (min (height - length stripes * h.l0) h.l0) mid segments code rows flags)
       (decides : (RunEnough (length code) (mode_of h.options) (move_of segments) 0 (first_row_start mid) rows flags) ⊎ (more ≡ [])) where
@@ -229,7 +229,7 @@ module _ (q : CoderLaws) (h : Fields) (height : ℕ) (u : IsInUse h height) (str
           let m = matched t (flat_map stripe_bytes later ++ x.broken.tail) (all_right (λ (s : Stripe). IsBegun h s.segments s.code) stripes (t ∷ later) legal).0 (at ∙ append_assoc (stripe_bytes t) (flat_map stripe_bytes later) x.broken.tail) in
           in_rows m.segments m.code m.more rows m.flags m.bytes m.others m.front m.decides t.reset later body fault all x (stripe_at t later m x.broken.stripes e)
 
-  -- What came of the stripe behind them decides the first rows of what the body comes to.
+  -- What came of the stripe after them decides the first rows of what the body comes to.
   pub are_first : (given : List ℕ) (rows : List (List Bool)) (flags : List Bool) → StripeDecides h (spot_after height stripes) mid (min (height - length stripes * h.l0) h.l0) given rows flags → AreFirst h height (flat_map stripe_bytes stripes ++ given) (first ++ rows)
   are_first given rows flags d rest None text o =
       let t = text_first h.xd height (first ++ rows) o.0.rows (raster_first given rest rows flags d o.0 o.1) in
@@ -238,7 +238,7 @@ module _ (q : CoderLaws) (h : Fields) (height : ℕ) (u : IsInUse h height) (str
       let t = text_first h.xd height (first ++ rows) o.0 (rows_first given rest rows flags d fault o.0 o.1) in
       (t.0, o.2 ∙ t.1)
 
--- A raster that the body denotes, whatever stands behind it, is first.
+-- A raster that the body denotes, whatever stands after it, is first.
 pub whole_first : (q : CoderLaws) (h : Fields) (height : ℕ) → IsInUse h height → (given : List ℕ) (rows : List (List Bool)) →
     ((rest : List ℕ) → DenotesAt h height (given ++ rest) (record { width = h.xd; rows = rows })) → AreFirst h height given rows
 whole_first q h height u given rows denotes rest None text o =

@@ -79,7 +79,7 @@ module _ (h : Fields) (height : ℕ) (known known' known'' : Option (List ℕ)) 
     appended = subst (Appends text text'') (sym (flat_map-append packed_row r.rows s.rows)) (Appends-more text text' text'' (flat_map packed_row r.rows) (flat_map packed_row s.rows) r.appended s.appended);
   }
 
-  -- a stripe of which not all was set out
+  -- a stripe of which not all was written
   pub image_unset : CoderLaws → IsInUse h height → count < stripe_count height h.l0 → StripeUnwritten h (record { height = height; entities = count; heights = heights }) r.next known' known'' rows text' text'' → ImageUnwritten h height known known'' text text''
   image_unset q use_ fewer s = record {
     given = flat_map stripe_bytes r.stripes ++ s.given;

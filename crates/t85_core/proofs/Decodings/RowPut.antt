@@ -1,4 +1,4 @@
--- A row of a stripe is decoded and set out, or the source stops in it.
+-- A row of a stripe is decoded and written, or the source stops in it.
 use Rattle.std.proofs.Common.{◌≡◌, ℕ, ◌+◌, ◌≤◌, List, [], ◌∷◌, ◌++◌, length, refl, sym, ◌∙◌, ap, subst, arith, Option, None, Some, Result, Ok, Err, append-nil, length-append}
 use Rattle.std.specs.Prelude.{flat_map, IsErr}
 use Rattle.std.specs.Io.KnownBytes.{Appends, append_known}

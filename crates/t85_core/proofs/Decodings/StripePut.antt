@@ -1,4 +1,4 @@
--- A stripe is decoded and set out, or it breaks.
+-- A stripe is decoded and written, or it breaks.
 use Rattle.std.proofs.Common.{cond, ◌≡◌, ◌<◌, ◌≤◌, ◌⊎◌, inl, inr, ℕ, Bool, true, not, List, [], ◌∷◌, ◌++◌, length, count_by, Option, None, Some, refl, sym, ap, ◌∙◌, subst, append_assoc, append-nil, arith, length-append}
 use Rattle.std.specs.Prelude.{flat_map, option_map}
 use Rattle.std.specs.Io.KnownBytes.{Consumes, prepend_known}
@@ -38,7 +38,7 @@ use Rattle.t85_core.proofs.Decodings.RowPut.{appends_nothing}
 use Rattle.t85_core.proofs.Decodings.RowsSoFar.{rows_whole, rows_full}
 use Rattle.t85_core.proofs.Decodings.Entities.{LastIs, Parted, consumes_front}
 
--- the segments were passed, where what the code begins with was read ahead
+-- the segments were skipped, where what the code begins with was read ahead
 segments_taken : (old mid : Option (List ℕ)) (front back : List ℕ) → Consumes old mid (front ++ back) → Consumes old (prepend_known back mid) front
 segments_taken None mid front back p = tt
 segments_taken (Some old) None front back p = p
@@ -75,7 +75,7 @@ module _ {T : Type 0} (standing : T → EntityView) (failed : T → ℕ) (h : Fi
         append_assoc front (stuffed (bytes_of answers)) (stuffed code ++ marker_bytes reset)
         ∙ ap (λ z. front ++ z) (sym (append_assoc (stuffed (bytes_of answers)) (stuffed code) (marker_bytes reset)) ∙ ap (λ z. z ++ marker_bytes reset) (sym (stuffed_append (bytes_of answers) code)))
 
-    -- the rest of the code was passed, too
+    -- the rest of the code was skipped, too
     pub stripe_whole : CoderLaws → {pull : T → Pulled → T → Type 0} (shape : Shape) (count : ℕ) (carried carried' : CodingState) (d : Decoder) (text text' : Option (List ℕ)) (r : RowsRead pull s t h shape c segments count carried d text text') → r.answers ≡ answers →
         (u : Option (List ℕ)) (reset : Bool) → Finishes (standing t).known u (standing t).marker reset → IsCarried (first_row_start (next_stripe_start h.xd reset r.last)) carried' → StripeRead h spot heights c old u count carried' text text'
     stripe_whole q shape count carried carried' d text text' r same u reset finishes is = went (heard_of answers) refl part.last where
@@ -178,7 +178,7 @@ module _ {T : Type 0} (standing : T → EntityView) (failed : T → ℕ) (h : Fi
           (inr (g.reset, append_assoc front (stuffed (bytes_of answers)) (marker_bytes g.reset)))
       went Stopped e last = absurd (r.unstopped (ap heard_of same ∙ e))
 
-    -- the code breaks behind the stripe's rows
+    -- the code breaks after the stripe's rows
     pub stripe_rest : CoderLaws → {pull : T → Pulled → T → Type 0} (shape : Shape) (count : ℕ) (carried : CodingState) (d : Decoder) (text text' : Option (List ℕ)) (r : RowsRead pull s t h shape c segments count carried d text text') → r.answers ≡ answers →
         (u : Option (List ℕ)) (fault : Fault) → (standing t).marker ≡ None → Ends Truncated (standing t).known u (BreaksIn (standing t).first) fault → StripeCut h spot c old u count text text' fault
     stripe_rest q shape count carried d text text' r same u fault open_ ends = went (heard_of answers) refl part.last where
@@ -214,7 +214,7 @@ module _ {T : Type 0} (standing : T → EntityView) (failed : T → ℕ) (h : Fi
       went Ended e last = absurd (let both : None ≡ Some last.0.reset = sym open_ ∙ last.0.marker in let bot : ⊥ = cc in bot)
       went Stopped e last = absurd (r.unstopped (ap heard_of same ∙ e))
 
--- A stripe that breaks: all its rows that what came decides were set out.
+-- A stripe that breaks: all its rows that what came decides were written.
 pub cut_unset : (h : Fields) (spot : Spot) (c : StripeStart) (old mid new : Option (List ℕ)) (ahead : List ℕ) (count : ℕ) (text text' : Option (List ℕ)) (fault : Fault) → StripeCut h spot c old mid count text text' fault → Consumes mid new ahead →
     StripeUnwritten h spot c old new count text text'
 cut_unset h spot c old mid new ahead count text text' fault s further =
@@ -238,7 +238,7 @@ cut_unset h spot c old mid new ahead count text text' fault s further =
       appended = beginning_all text text' (flat_map packed_row s.rows) s.appended;
     }
 
--- behind what was read ahead of a code
+-- after what was read ahead of a code
 pub ahead_of : (first : Option Code) (known : Option (List ℕ)) → (ahead : List ℕ) × Consumes (entity_known first known) known ahead
 ahead_of None known = ([], Consumes-none known)
 ahead_of (Some c) known = (code_bytes c, consumes_front known (code_bytes c))

@@ -1,4 +1,4 @@
--- What a buffer holds back of a stream is handed on.
+-- What a buffer holds back of a stream is written.
 use Rattle.std.proofs.Common.{◌≡◌, ◌≢◌, ◌≤◌, ◌⊎◌, inl, inr, ℕ, List, [], take, Option, Err, refl, sym, ap, ◌∙◌, append-nil, arith}
 use Rattle.std.specs.Prelude.{IsErrOf}
 use Rattle.std.proofs.lemmas.Grind.{div_ceil_times}
@@ -102,7 +102,7 @@ module _ {form : Form} (width height' : ℕ) (whole : Raster → List ℕ) (know
     appended = i.appended;
   }
 
-  -- whatever was told
+  -- whatever was reported
   pub told_front : (s : Settings) (up_to : Raster → ℕ → List ℕ) (fault : Fault) → IsEncodeFault fault → fault ≢ Write →
       ((why : PbmFault) → IsErrOf {T = Unit {0}} {E = Fault} (Err fault) (Pbm why) → ImageShort s form width height' up_to whole known known' text text' why) → ImageFront form width height' whole known known' text text'
   told_front s up_to fault among other short = went (which fault among) where

@@ -1,4 +1,4 @@
--- From what encoding took and set out to what is said of the whole body.
+-- From what encoding took and wrote to what is said of the whole body.
 use Rattle.std.proofs.Common.{◌≡◌, ◌≤◌, ◌<◌, ◌^◌, ◌==◌, true, ℕ, List, [], ◌++◌, length, Option, None, Some, Result, refl, sym, ap, ◌∙◌, append_assoc, append-nil, subst, arith, Bor, option_map, ◌≢◌, nat_lt, false, Ok, Err}
 use Rattle.std.proofs.lemmas.Bool.Decides.{nat_tests}
 use Rattle.std.specs.Prelude.{IfSome, OnOk, IfErr, IsErrOf, unwrap_or}
@@ -79,7 +79,7 @@ fault_stays pbm.Read other = absurd (other refl)
 fault_stays fault other = refl
 
 module _ (s : Settings) (form : Form) (width height' : ℕ) (in_old in_new out_old out_new : Option (List ℕ)) where
-  -- all rows were read and set out
+  -- all rows were read and written
   code_whole : CodeDenotes → AreSettings s → is_low s height' ≡ false → IsSize width height' → ImageCoded form width height' (λ raster. jbg s raster) in_old in_new out_old out_new → IfSome in_old (λ body. WritesCode s form width height' body out_old out_new)
   code_whole law are low size i = went in_old in_new i.read.taken where
     proper : IsRaster (raster_of width i.rows)
@@ -143,7 +143,7 @@ module _ (s : Settings) (form : Form) (width height' : ℕ) (in_old in_new out_o
     subst (λ z. WritesCodeBegun s form width height' z pbm.Truncated out_old out_new) (append-nil (given pbm.Read i)) (begun pbm.Read i [] (λ _. refl)),
   )
 
-  -- what stands written is a beginning of what was set out
+  -- what is written is a beginning of what was written
   front_written : (held : List ℕ) → known_length out_old ≤ known_length out_new → ImageFront form width height' (λ raster. jbg s raster) in_old in_new out_old (append_known out_new held) →
       (given : List ℕ) × Consumes in_old in_new given × WritesCodeFront s form width height' given out_old out_new
   front_written held grows i =
@@ -192,7 +192,7 @@ encodes_at contents failures s form width height' in_old in_new reads_old reads_
     (subst (λ z. Encode s form width height' (between in_old in_new reads_old reads_new) (between z (contents output) (failures start) (failures output)) r) text
     (subst (λ z. Encode s form width height' (between in_old in_new reads_old reads_new) (between before (contents output) z (failures output)) r) n e))
 
--- an announced height that is too low is told at once
+-- an announced height that is too low is reported at once
 pub told_low : (s : Settings) (form : Form) (width height' : ℕ) (known text : Option (List ℕ)) (reads writes : ℕ) → 1 ≤ width → is_low s height' ≡ true → Encode s form width height' (between known known reads reads) (between text text writes writes) (Err AnnouncedLow)
 told_low s form width height' known text reads writes some is = record {
   low = λ _. (is, Keeps-same known, Keeps-same text);

@@ -121,7 +121,7 @@ move_chosen : (s : Settings) (raster : Raster) (i : ℕ) → move_before s (cut 
 move_chosen s raster zero = refl
 move_chosen s raster (suc i) = refl
 
--- what a stripe hands on of its offset
+-- what a stripe writes of its offset
 offset_ends : (s : Settings) (raster : Raster) (i : ℕ) (last : RowStart) → last.offset ≡ unwrap_or (choice_before s raster i) (offset_to s raster i) →
     (next_stripe_start raster.width s.reset last).offset ≡ current_offset s (cut s raster) i
 offset_ends s raster zero last h = went s.reset where

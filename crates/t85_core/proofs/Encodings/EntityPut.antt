@@ -21,7 +21,7 @@ use Rattle.t85_core.specs.Steps.EncodeStripes.{CodeOfRows, CodeOfRefused, Entity
 use Rattle.t85_core.proofs.Bytes.Streams.{Appends-more, Appends-keeps, beginning_all}
 use Rattle.t85_core.proofs.Encodings.RowCode.{moved_before}
 
--- behind a first row the move is made
+-- after a first row the move is made
 pub held_carried : (move : Option (ℕ × ℕ)) (r : ℕ) (b : RowStart) (carried : CodingState) → 1 ≤ r → IsHeld move r b carried → IsCarried b carried
 held_carried move zero b carried some h = absurd (omega (arith, some))
 held_carried move (suc r) b carried some h = record {
@@ -90,6 +90,6 @@ marker_refused shape reset count counted known known' carried mid tally text cod
           ∙ sym (append_assoc (stuffed (code_of (after_rows mode move 0 (first_row_start c) rows).state.place)) front rest);
     }
 
--- all was set out, but not handed on
+-- all is in the buffer, but not all of it was written
 pub marker_unsent : (coded marked text' : Option (List ℕ)) (reset : Bool) → Appends coded marked (marker_bytes reset) → Keeps marked text' → AppendsBeginning coded text' (marker_bytes reset)
 marker_unsent coded marked text' reset p k = beginning_all coded text' (marker_bytes reset) (Appends-keeps coded marked text' (marker_bytes reset) p k)

@@ -15,19 +15,19 @@ use Rattle.t85_core.specs.Jbg.{Settings, header_of, head_of, stripes_of, stripes
 use Rattle.t85_core.proofs.Encodings.RowsJoined.{reads_none}
 use Rattle.t85_core.proofs.Bytes.Streams.{Appends-more, beginning_longer, beginning_after}
 
--- a beginning of bytes is one behind the same front
+-- a beginning of bytes is one after the same front
 behind_front : (front a b : List ℕ) → IsBeginning a b → IsBeginning (front ++ a) (front ++ b)
 behind_front front a b i = record { rest = i.rest; bytes_are = ap (λ z. front ++ z) i.bytes_are ∙ sym (append_assoc front a i.rest) }
 
 abbrev comment_of : Option (List ℕ) → List ℕ
 comment_of comment = flat_map segment_bytes (map Comment (option_to_list comment))
 
--- the header was set out, and no comment is wanted
+-- the header was written, and no comment is wanted
 pub head_plain : (s : Settings) (width height' : ℕ) (a b : Option (List ℕ)) (bytes : List ℕ) → bytes ≡ header_bytes (header_of s width height') → s.comment ≡ None → Appends a b bytes → Appends a b (head_of s width height')
 head_plain s width height' a b bytes is none put =
     subst (λ z. Appends a b z) (is ∙ sym (append-nil (header_bytes (header_of s width height'))) ∙ ap (λ o. header_bytes (header_of s width height') ++ comment_of o) (sym none)) put
 
--- the header was set out, and the comment behind it
+-- the header was written, and the comment after it
 pub head_commented : (s : Settings) (width height' : ℕ) (a b c : Option (List ℕ)) (bytes text : List ℕ) → bytes ≡ header_bytes (header_of s width height') → s.comment ≡ Some text →
     Appends a b bytes → Appends b c (segment_bytes (Comment text)) → Appends a c (head_of s width height')
 head_commented s width height' a b c bytes text is some put more =
@@ -68,7 +68,7 @@ comment_cut s width height' a b c bytes text is some put more =
     (subst (λ z. AppendsBeginning b c z) (sym (append-nil (segment_bytes (Comment text))) ∙ ap comment_of (sym some)) more))
 
 module _ {form : Form} (s : Settings) (width height' : ℕ) (known known' text mid text' : Option (List ℕ)) (head : Appends text mid (head_of s width height')) where
-  -- all stripes were set out behind the head
+  -- all stripes were written after the head
   pub image_headed : ImageCoded form width height' (λ raster. stripes_of s raster ++ ending s (height raster)) known known' mid text' → ImageCoded form width height' (λ raster. jbg s raster) known known' text text'
   image_headed i = record {
     rows = i.rows;
@@ -113,7 +113,7 @@ module _ {form : Form} (s : Settings) (width height' : ℕ) (known known' text m
   }
 
 module _ {form : Form} (s : Settings) (width height' : ℕ) (known known' text mid text' : Option (List ℕ)) where
-  -- the ending was set out behind all stripes
+  -- the ending was written after all stripes
   pub image_ended : ImageCoded form width height' (λ raster. stripes_of s raster) known known' text mid → Appends mid text' (ending s height') → ImageCoded form width height' (λ raster. stripes_of s raster ++ ending s (height raster)) known known' text text'
   image_ended i last = record {
     rows = i.rows;

@@ -1,4 +1,4 @@
--- From a header and the rows behind it to what is said of a whole image that is encoded.
+-- From a header and the rows after it to what is said of a whole image that is encoded.
 use Rattle.std.proofs.Common.{◌≡◌, ◌≢◌, ◌≤◌, ◌+◌, ◌⊎◌, inl, inr, ℕ, Bool, true, false, List, [], ◌++◌, Option, None, Some, Err, refl, subst, append-nil, arith}
 use Rattle.std.specs.Prelude.{IfSome}
 use Rattle.std.specs.Io.KnownBytes.{Consumes}
@@ -31,7 +31,7 @@ among_faults f p no_memory written = went (which f p) where
   went (inl e) = absurd (written e)
   went (inr told) = told
 
--- the count of failed reads, as it was told of the header
+-- the count of failed reads, as it was reported of the header
 pub counts_told : (old new : ℕ) (fault : PbmFault) → CountsPbm {T = Size × Form} old new (Err fault) → new ≡ old + failed_reads (Pbm fault)
 counts_told old new pbm.Read e = e
 counts_told old new pbm.Truncated e = omega (arith, e)
@@ -42,7 +42,7 @@ counts_told old new pbm.TooWide e = omega (arith, e)
 counts_told old new pbm.TooTall e = omega (arith, e)
 counts_told old new pbm.BadDigit e = omega (arith, e)
 
--- A header was taken, and nothing behind it.
+-- A header was taken, and nothing after it.
 pub record TakesHeader (old new : Option (List ℕ)) (form : Form) (width height' : ℕ) : Type 0 where
   pub front : List ℕ
   pub taken : Consumes old new front

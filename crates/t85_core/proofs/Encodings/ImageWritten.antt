@@ -1,4 +1,4 @@
--- From a header and the rows behind it to what is said of a whole image that was written, or begun.
+-- From a header and the rows after it to what is said of a whole image that was written, or begun.
 use Rattle.std.proofs.Common.{◌≡◌, ◌+◌, inl, inr, ℕ, Bool, true, false, ap, List, ◌++◌, length, Option, None, Some, Ok, Err, refl, sym, ◌∙◌, subst, arith}
 use Rattle.std.specs.Prelude.{IfSome}
 use Rattle.std.specs.Io.KnownBytes.{Consumes, Keeps}
@@ -19,7 +19,7 @@ use Rattle.t85_core.proofs.Bytes.Streams.{Appends-keeps, Consumes-more}
 
 module _ (s : Settings) (in_old mid in_new : Option (List ℕ)) (reads_old reads_mid reads_new : ℕ) (out_old out_new : Option (List ℕ)) (writes_old writes_new : ℕ)
     (form : Form) (width height' : ℕ) (t : TakesHeader in_old mid form width height') (counted : reads_mid ≡ reads_old) where
-  -- a write failed, or the flush behind all that was written
+  -- a write failed, or the flush after all that was written
   cut_at : (out_last : Option (List ℕ)) → Keeps out_new out_last → (given : List ℕ) → Consumes mid in_new given → WritesCodeFront s form width height' given out_old out_new →
       (all : List ℕ) × Consumes in_old in_new all × WritesStreamFront s all out_old out_last
   cut_at out_last keeps given taken w = (

@@ -16,12 +16,12 @@ front_splits all front is =
     let long : length front ≤ length all = (let e : length front ≡ min (length front) (length all) = ap length (sym is) ∙ length-take (length front) all in omega (arith, e)) in
     (long, sym (split_at (length front) all long).0 ∙ ap (λ z. z ++ drop (length front) all) is)
 
--- Rows of an image behind its first n rows.
+-- Rows of an image after its first n rows.
 pub rows_continue : {X : Type 0} (d : X) (all first rows : List X) (n : ℕ) → take (length (first ++ rows)) all ≡ first ++ rows → length first ≡ n → Continues d all n rows
 rows_continue d all first rows n is many =
     part_continues d all first rows (drop (length (first ++ rows)) all) n ((front_splits all (first ++ rows) is).1 ∙ append_assoc first rows (drop (length (first ++ rows)) all)) many
 
--- a beginning of a stripe's rows, and those that come behind it
+-- a beginning of a stripe's rows, and those that come after it
 pub record RowsGoOn {X : Type 0} (d : X) (all : List X) (n l : ℕ) (part : List X) : Type 0 where
   pub later : List X
   pub many : length part + length later ≡ min l (length all - n)

@@ -1,4 +1,4 @@
--- A stripe is read and set out: its move, its code and its end marker.
+-- A stripe is read and written: its move, its code and its end marker.
 use Rattle.std.proofs.Common.{◌≡◌, ℕ, ◌-◌, ◌*◌, ◌/◌, ◌<◌, ◌≤◌, Bool, true, false, List, [], ◌∷◌, ◌++◌, length, refl, sym, ◌∙◌, ap, subst, arith, Option, None, Some, append_assoc, append-nil}
 use Rattle.std.specs.Prelude.{IsTrue, if◌then◌else◌, flat_map, option_map, option_and_then, nat_lt}
 use Rattle.std.specs.Io.KnownBytes.{Appends}
@@ -41,7 +41,7 @@ choice_is s width at tally offset chosen offset_is t choose =
     ∙ ap (λ o. chosen_offset (mode_of s.options).two_line s.most_offset width t.lines o) offset_is
     ∙ choice_among (mode_of s.options).two_line s.most_offset width at.carry.offset t.lines at.counted (candidates (mode_of s.options).two_line s.most_offset) refl t.lines_are
 
--- the move of the stripe is set out and made
+-- the move of the stripe is written and made
 pub record MoveMade (s : Settings) (width : ℕ) (at : EncoderStart) (text text' : Option (List ℕ)) (carried : CodingState) : Type 0 where
   pub held : IsHeld (next_move s width at) 0 (first_row_start at.carry) carried
   pub appended : Appends text text' (flat_map segment_bytes (move_segments (next_move s width at)))
@@ -98,7 +98,7 @@ module _ (s : Settings) (width : ℕ) (at : EncoderStart) (text text' : Option (
     appended = p.appends;
   }
 
--- the target took no more of the stripe behind its move
+-- the target took no more of the stripe after its move
 pub stripe_refused : {form : Form} (s : Settings) (width count : ℕ) (at : EncoderStart) (known known' text mid text' : Option (List ℕ)) (carried : CodingState)
     → MoveMade s width at text mid carried → EntityRefused s form width (next_move s width at) at.carry count known known' mid text' → StripeRefused s form width count at known known' text text'
 stripe_refused s width count at known known' text mid text' carried made e = record {

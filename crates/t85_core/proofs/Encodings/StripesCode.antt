@@ -1,4 +1,4 @@
--- The stripes of an image, read and set out one after another.
+-- The stripes of an image, read and written one after another.
 use Rattle.std.proofs.Common.{◌≡◌, ℕ, zero, suc, ◌+◌, ◌-◌, ◌*◌, ◌/◌, ◌<◌, ◌≤◌, ◌^◌, Bool, List, [], ◌++◌, length, take, refl, sym, ◌∙◌, ap, subst, arith, Option, append_assoc, append-nil, length-append}
 use Rattle.std.specs.Prelude.{IsTrue, min}
 use Rattle.std.specs.Io.KnownBytes.{Appends}
@@ -29,7 +29,7 @@ use Rattle.t85_core.proofs.Encodings.RowsJoined.{reads_none, reads_join}
 use Rattle.t85_core.proofs.Encodings.RowsOn.{RowsGoOn, rows_continue, rows_go_on}
 use Rattle.t85_core.proofs.Encodings.EncoderStarts.{CourseAt, course_begins, course_step, stripe_within, stripes_more}
 
--- so many stripes were read and set out
+-- so many stripes were read and written
 pub record StripesCoded (s : Settings) (form : Form) (width height' i : ℕ) (known known' text text' : Option (List ℕ)) (carried : CodingState) (tally : Tally) : Type 0 where
   pub rows : List (List Bool)
   pub many : length rows ≡ min (i * s.stripe_rows) height'
@@ -127,7 +127,7 @@ module _ {form : Form} (s : Settings) (width height' i : ℕ) (some : 1 ≤ s.st
             ∙ append_assoc (stripes_up_to s raster n) b.rest (stripe_bytes (coded_stripe (coding_of s raster) (n + m)));
       }
 
-  -- a beginning of stripe i, behind the stripes before it
+  -- a beginning of stripe i, after the stripes before it
   stripe_begins : (raster : Raster) (rows : List (List Bool)) (bytes : List ℕ) → BeginsWith width height' so.rows raster → RowsGoOn (white_row raster.width) raster.rows (i * l) l rows
       → ((later : List (List Bool)) → length rows + length later ≡ min l (height raster - i * l) → IsBeginning bytes (stripe_bytes (next_stripe s width so.at (rows ++ later))))
       → IsBeginning (so.bytes ++ bytes) (stripes_up_to s raster (i + 1))

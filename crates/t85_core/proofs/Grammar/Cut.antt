@@ -30,7 +30,7 @@ one_code (b ∷ c) (b' ∷ d) x y e p q =
     let rest = one_code c d x y first.1 p q in
     (ap (λ z. z ∷ c) first.0 ∙ ap (λ z. b' ∷ z) rest.0, rest.1)
 
--- the bytes of a segment behind its first two
+-- the bytes of a segment after its first two
 abbrev body_of : Segment → List ℕ
 body_of (NewLength height) = big_bytes 4 height
 body_of (Move row offset) = big_bytes 4 row ++ offset ∷ 0 ∷ []
@@ -70,7 +70,7 @@ no_segment_in_code b x y s e = went s (stuff_cases b) e where
   went (Move row offset) (inr p) e = let k : b ∷ x ≡ 255 ∷ 6 ∷ body_of (Move row offset) ++ y = ap (λ z. z ++ x) (sym p.1) ∙ e in p.0 (cc)
   went (Comment text) (inr p) e = let k : b ∷ x ≡ 255 ∷ 7 ∷ body_of (Comment text) ++ y = ap (λ z. z ++ x) (sym p.1) ∙ e in p.0 (cc)
 
--- No more pieces stand at the front of x, behind these segments and this code: no code byte, and no legal segment that
+-- No more pieces stand at the front of x, after these segments and this code: no code byte, and no legal segment that
 -- would fit there.
 pub record EndsPieces (h : Fields) (Fits : List Segment → Type 0) (segments : List Segment) (code x : List ℕ) : Type 0 where
   pub no_code : NoCode x
@@ -151,7 +151,7 @@ one_stripe h ok s t x y p q e =
     let make : List Segment × List ℕ × Bool → Stripe = λ u. record { segments = u.0; code = u.1; reset = u.2 } in
     (ap (λ z. make (z, s.code, s.reset)) cut.0 ∙ ap (λ z. make (t.segments, z, s.reset)) cut.1 ∙ ap (λ z. make (t.segments, t.code, z)) end.0, end.1)
 
--- as many whole stripes, and the same bytes behind them
+-- as many whole stripes, and the same bytes after them
 pub one_front : (h : Fields) → IsAccepted h → (ss ts : List Stripe) (x y : List ℕ) → AllByRecursion (IsStripe h) ss → AllByRecursion (IsStripe h) ts → length ss ≡ length ts → flat_map stripe_bytes ss ++ x ≡ flat_map stripe_bytes ts ++ y → (ss ≡ ts) × (x ≡ y)
 one_front h ok [] [] x y p q n e = (refl, e)
 one_front h ok [] (t ∷ ts) x y p q n e = absurd (omega (arith, n))
@@ -187,12 +187,12 @@ no_marker_fault : (h : Fields) (spot : Spot) (m : ℕ) (c reset : Bool) (x : Lis
 no_marker_fault h spot m c true x f k = none_some k
 no_marker_fault h spot m c false x f k = none_some k
 
--- a height that may be in use is valid behind so many data entities
+-- a height that may be in use is valid after so many data entities
 abbrev pub Suits : Fields → ℕ → ℕ → Type 0
 Suits h height k = 1 ≤ height → is_valid_length h k height ≡ true
 
 module _ (h : Fields) (ok : IsAccepted h) (height k n : ℕ) (suits : Suits h height k) where
-  -- segments that may stand in one stripe, behind n heights
+  -- segments that may stand in one stripe, after n heights
   pub record Fits (ss : List Segment) : Type 0 where
     pub one_move : count_by is_move ss ≤ 1
     pub gives : GiveOnly height n ss
@@ -266,12 +266,12 @@ one_stripe_fault h ok height k n suits x y f g p q e =
 
 -- ---- whole stripes, and one that isn't whole
 
--- what stripes stand behind: the entities and heights before them, and theirs
+-- what stripes stand after: the entities and heights before them, and theirs
 abbrev pub spot_on : ℕ → ℕ → ℕ → List Stripe → Spot
 spot_on height k n ss = spot_of height (k + length ss) (n + length (lengths (all_segments ss)))
 
 module _ (h : Fields) (ok : IsAccepted h) (height most : ℕ) (suits : (k : ℕ) → k ≤ most → Suits h height k) where
-  -- what is left behind the first of them stands where it stood
+  -- what is left after the first of them stands where it stood
   onward : (k n : ℕ) (s : Stripe) (ss : List Stripe) → spot_on height k n (s ∷ ss) ≡ spot_on height (suc k) (n + length (lengths s.segments)) ss
   onward k n s ss =
       let a : k + suc (length ss) ≡ suc k + length ss = omega arith in
@@ -356,7 +356,7 @@ module _ (h : Fields) (ok : IsAccepted h) (height most : ℕ) (suits : (k : ℕ)
 
 -- ---- a code that goes on
 
--- a beginning of a code is a beginning of the code that no code byte stands behind
+-- a beginning of a code is a beginning of the code that no code byte stands after
 code_front : (c d x y : List ℕ) → stuffed c ++ x ≡ stuffed d ++ y → NoCode y → (more : List ℕ) × (d ≡ c ++ more)
 code_front [] d x y e q = (d, refl)
 code_front (b ∷ c) [] x y e q = absurd (q b (stuffed c ++ x) (sym e ∙ stuffed_cons b c x))

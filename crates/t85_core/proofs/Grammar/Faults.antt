@@ -66,7 +66,7 @@ rest_may h spot moves in_code (b ∷ escape ∷ bytes) = either (b == 255) (esca
 pub header_faults : (bytes : List ℕ) (f : Fault) → header_fault bytes ≡ Some f → IsWalkFault f
 header_faults bytes f e = subst (λ o. MayRefuse o) e (header_may bytes)
 
--- what may be told of a body may be told of a walk
+-- what may be reported of a body may be reported of a walk
 pub walk_fault : (f : Fault) → IsBodyFault f → IsWalkFault f
 walk_fault Truncated p = tt
 walk_fault BadEscape p = tt

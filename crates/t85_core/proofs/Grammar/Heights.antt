@@ -56,7 +56,7 @@ module _ (h : Fields) (ok : IsAccepted h) (body : List ℕ) where
       subst (λ u. length_fault h (spot_of 0 k u) (big_bytes 4 n ++ rest) ≡ Some Changed) (sym none)
       (length_changed h 0 k variable n rest (omega (arith, w.1, ok.height_to)) valid (let other : n ≢ 0 = omega (arith, w.0) in other))
 
-  -- behind what comes before it, a valid height is a fault where 0 is in use
+  -- after what comes before it, a valid height is a fault where 0 is in use
   abbrev pub given_breaks : (n : ℕ) (g : GivesHeight h body n) → StripeFault h (spot_after 0 g.stripes) (flat_map segment_bytes g.segments ++ (segment_bytes (NewLength n) ++ g.rest)) Changed
   given_breaks n g = record {
     segments = g.segments;

@@ -45,7 +45,7 @@ module _ (h : Fields) (height : ℕ) where
     broken : (f : Fault) → StripeFault h (spot_of height k n) tail f → Parsed k n tail
 
   module _ (k n : ℕ) (tail : List ℕ) where
-    -- the fault of a rest behind these segments and this code
+    -- the fault of a rest after these segments and this code
     abbrev fault_of : List Segment → List ℕ → List ℕ → Option Fault
     fault_of segments code rest = rest_fault h (spot_of height k (n + length (lengths segments))) (count_by is_move segments) (not (is_nil code)) rest
 

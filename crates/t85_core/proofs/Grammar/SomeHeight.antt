@@ -58,9 +58,9 @@ module _ (h : Fields) (ok : IsAccepted h) where
     went (inr p) q = nowhere (λ n tail valid e. p (first_two n (big_bytes 4 n ++ tail) e).0)
     went (inl p) (inr q) = nowhere (λ n tail valid e. q (first_two n (big_bytes 4 n ++ tail) e).1)
 
-  -- ---- the look behind the last stripe
+  -- ---- the look after the last stripe
 
-  -- comments, and behind them a valid height, or what is neither
+  -- comments, and after them a valid height, or what is neither
   data Look (k : ℕ) (rest : List ℕ) : Type 0 where
     found : (cs : List Segment) (n : ℕ) (more : List ℕ) → AllByRecursion (λ s. IsTrue (is_comment s)) cs → AllByRecursion (IsLegal h) cs → is_valid_length h k n ≡ true →
         rest ≡ flat_map segment_bytes cs ++ (segment_bytes (NewLength n) ++ more) → Look k rest
@@ -169,7 +169,7 @@ module _ (h : Fields) (ok : IsAccepted h) where
   header_height : (body : List ℕ) → ((n : ℕ) → GivesHeight h body n → ⊥) → (n : ℕ) × IsHeight h body n
   header_height body never = (h.yd, inr (refl, never))
 
-  -- No height is given where the look behind the last stripe ended, and the header's is that of the image.
+  -- No height is given where the look after the last stripe ended, and the header's is that of the image.
   pub height_of_ended : (body : List ℕ) (ss : List Stripe) (rest : List ℕ) (cs : List Segment) (last : List ℕ) → length ss ≡ stripe_count h.yd h.l0 → AreStripes h ss → GiveOnly 0 0 (all_segments ss) → body ≡ flat_map stripe_bytes ss ++ rest →
       AllByRecursion (λ s. IsTrue (is_comment s)) cs → AllByRecursion (IsLegal h) cs →
       ((n : ℕ) (more : List ℕ) → is_valid_length h (length ss) n ≡ true → last ≡ segment_bytes (NewLength n) ++ more → ⊥) →

@@ -11,7 +11,7 @@ use Rattle.t85_core.proofs.Bytes.Elements.{get_left, get_here}
 use Rattle.t85_core.proofs.Theorems.OneRow.{AgreeBelow, lines, context_same, event}
 
 module _ (mode : Mode) (above second : List Bool) (offset : ℕ) (code : List ℕ) where
-  -- what a code has of a row, behind the pixels that are there
+  -- what a code has of a row, after the pixels that are there
   pub record Pixels (m : ℕ) (done : List Bool) (s : State) : Type 0 where
     pub rest : List Bool
     pub many : length rest ≡ m

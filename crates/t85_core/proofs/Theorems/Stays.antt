@@ -109,7 +109,7 @@ module _ (q : CoderLaws) (h : Fields) (height : ℕ) (ok : IsAccepted h) (stripe
   pub long_lying : (flags : List Bool) (rows : List (List Bool)) → AreDecided h height short n code flags rows → AreLying h long n flags rows
   long_lying flags rows d = record { wide = d.wide; from = d.from; to = (let to = d.to in omega (arith, to)); legal = long_legal flags rows d; lies = long_lies flags rows d }
 
-  -- ---- a whole raster, cut behind as many rows
+  -- ---- a whole raster, cut after as many rows
 
   module _ (reset : Bool) (later : List Stripe) where
     abbrev whole : List Stripe
@@ -250,7 +250,7 @@ lying_in_raster q h height stripes segments code more reset later flags rows bod
     (subst (λ s. EachLies (coding_in h s p.flags raster.rows) (map (λ (t : Stripe). t.code) s)) e p.lies) in
     sym (lying_first q h height ok stripes segments code more bytes others reset later flags p.flags rows (take (length rows) raster.rows) (drop (length rows) raster.rows) d cut.1 wide legal lies)
 
--- of rows that stripes behind it decide
+-- of rows that stripes after it decide
 pub lying_in_rows : (q : CoderLaws) (h : Fields) (height : ℕ) (stripes : List Stripe) (segments : List Segment) (code more : List ℕ) (reset : Bool) (later : List Stripe) (flags : List Bool) (rows : List (List Bool))
     (all : List Stripe) (segments' : List Segment) (code' : List ℕ) (flags' : List Bool) (rows' : List (List Bool)) →
     IsAccepted h → IsBytes code → IsBytes more → AreLying h (begun_stripes stripes segments (code ++ more)) (length stripes) flags rows →

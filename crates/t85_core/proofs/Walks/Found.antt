@@ -1,4 +1,4 @@
--- Whole stripes and segments that were passed, joined to what a walk passed behind them.
+-- Whole stripes and segments that were skipped, joined to what a walk passed after them.
 use Rattle.std.proofs.Common.{cond, ◌≡◌, ◌≢◌, ◌⊎◌, inl, inr, ◌<◌, ◌≤◌, ◌+◌, ◌-◌, ℕ, Bool, true, not, List, [], ◌∷◌, ◌++◌, Option, None, Some, count_by, length, sum_by, refl, sym, ap, ◌∙◌, subst, append_assoc, length-append, arith, true≢false}
 use Rattle.std.specs.Prelude.{flat_map}
 use Rattle.std.proofs.lemmas.Grind.{flat_map-append}
@@ -42,7 +42,7 @@ module _ (h : Fields) (height : ℕ) (ss : List Stripe) (front : List Segment) (
   pub moves_all : (more : List Segment) → count_by is_move (front ++ more) ≡ count_by is_move front + count_by is_move more
   moves_all more = sum_by-append (λ y. cond (is_move y) 1 0) front more
 
-  -- the first stripe with what was passed of it before
+  -- the first stripe with what was skipped of it before
   pub begun_joined : (segments : List Segment) (code : List ℕ) → IsBegun h segments code → cond moved 1 0 + count_by is_move segments ≤ 1 → IsBegun h (front ++ segments) code
   begun_joined segments code p few = record {
     legal = All-append (IsLegal h) front segments begun.legal p.legal;
@@ -77,7 +77,7 @@ module _ (h : Fields) (height : ℕ) (ss : List Stripe) (front : List Segment) (
       ∙ sym (append_assoc (flat_map stripe_bytes ss) (flat_map stripe_bytes (joined_to front t ∷ ts)) x)
       ∙ ap (λ z. z ++ x) (sym (flat_map-append stripe_bytes ss (joined_to front t ∷ ts)))
 
-  -- a stripe that breaks behind them
+  -- a stripe that breaks after them
   broken_in : (count : ℕ) (ts : List Stripe) (tail : List ℕ) (f : Fault) → length ss + length ts < count → AreStripes h ts → IsAlone moved ts → lengths (all_segments ts) ≡ [] →
       SkipFault h (length ss + length ts) given (moved_behind moved ts) tail f → StripesFault h height count (flat_map stripe_bytes ss ++ (flat_map segment_bytes front ++ (flat_map stripe_bytes ts ++ tail))) f
   broken_in count [] tail f fewer all alone none q = record {
@@ -134,7 +134,7 @@ module _ (h : Fields) (height : ℕ) (ss : List Stripe) (front : List Segment) (
       subst (λ z. StripesFault h height count (flat_map stripe_bytes ss ++ (flat_map segment_bytes front ++ z)) f) (sym q'.bytes_are)
       (broken_in count q'.stripes q'.tail f q'.fewer q'.each q'.alone q'.none q'.tail_has)
 
-  -- whole stripes behind them
+  -- whole stripes after them
   abbrev pub parts_behind : (t : Stripe) (ts : List Stripe) (rest : List ℕ) → AreStripes h (t ∷ ts) → IsAlone moved (t ∷ ts) → lengths (all_segments (t ∷ ts)) ≡ [] → length ss + length (t ∷ ts) ≡ stripe_count height h.l0 →
       Parts h height (flat_map stripe_bytes ss ++ (flat_map segment_bytes front ++ (flat_map stripe_bytes (t ∷ ts) ++ rest)))
   parts_behind t ts rest all alone none many = record {
@@ -203,7 +203,7 @@ skips_faults h from count given moved {f = f} e =
     uncounted Truncated f (rest_faults h (record { height = 0; entities = from + length q.stripes; heights = cond given 1 0 }) (cond (moved_behind moved q.stripes) 1 0 + count_by is_move q.tail_has.segments) (not (is_nil q.tail_has.code)) q.tail_has.rest
     (counted_as Truncated f) (q.tail_has.rest_has 0))
 
--- no height comes behind one
+-- no height comes after one
 pub sought_whole : (h : Fields) (from count : ℕ) (moved : Bool) (old new : Option (List ℕ)) (entities moves comments part_moves part_comments : ℕ) (o : Option ℕ) → Sought h from count true moved old new entities moves comments part_moves part_comments o →
     SkipsStripes h moved (count - from) old new moves comments
 sought_whole h from count moved old new entities moves comments part_moves part_comments None s = s.2

@@ -58,7 +58,7 @@ pub some_map : {P Q : List ℕ → Type 0} (o : Option (List ℕ)) → ((x : Lis
 some_map None k p = tt
 some_map (Some x) k p = k x p
 
--- what is behind the bytes that came belongs to the body, too
+-- what is after the bytes that came belongs to the body, too
 pub skipped_whole : (h : Fields) (from count : ℕ) (given moved : Bool) (old new : Option (List ℕ)) (f : Fault) → Ends Truncated old new (SkipsFault h from count given moved) f → f ≢ Read → IfSome old (λ body. SkipsFault h from count given moved body f)
 skipped_whole h from count given moved old new f e other = went old new e.taken e.at_end where
   went : (old new : Option (List ℕ)) → Consumes old new e.given → (f ≡ Truncated → IsAtEnd new) → IfSome old (λ body. SkipsFault h from count given moved body f)
@@ -194,7 +194,7 @@ module _ (h : Fields) (ok : IsAccepted h) where
       went None = tt
       went (Some body) = inr (refl, λ n g. true≢false (sym g.variable ∙ fixed))
 
-    -- no height is behind the stripes
+    -- no height is after the stripes
     found_none : IfSome mid (LookEnds h entities) → FindsNone h old mid entities moves comments
     found_none looked = record { mid = mid; before = before; all = many; height_is = went old mid before.taken looked } where
       went : (old mid : Option (List ℕ)) → Consumes old mid (flat_map stripe_bytes before.stripes) → IfSome mid (LookEnds h entities) → IfSome old (λ body. IsHeight h body h.yd)

@@ -82,7 +82,7 @@ module _ (in_old in_new : Option (List ℕ)) (reads_old reads_new : ℕ) (out : 
         writes = omega (arith, unwritten f may);
       }
 
-  -- the body was refused, behind a header that was accepted
+  -- the body was refused, after a header that was accepted
   pub told_body : (mid : Option (List ℕ)) (given : List ℕ) (h : Fields) (f : Fault) → length given ≡ 20 → Consumes in_old mid given → HeaderOf given h → IsWalkFault f → (f ≢ Read → IfSome mid (BodyRefused h f))
       → (known : Option (List ℕ)) → (f ≡ Read → (body : List ℕ) × Consumes mid known body × BodyUnfinished h body) → (f ≡ Read → known ≡ in_new) → reads_new ≡ reads_old + failed_reads f → Info (between in_old in_new reads_old reads_new) (between out out writes writes) flushed (Err f)
   told_body mid given h f long taken is may refused known unread drained reads = record {

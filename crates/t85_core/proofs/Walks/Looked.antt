@@ -1,4 +1,4 @@
--- The look behind the last stripe that the header's height makes.
+-- The look after the last stripe that the header's height makes.
 use Rattle.std.proofs.Common.{◌≡◌, ◌≢◌, ◌⊎◌, inl, inr, ◌<◌, ◌^◌, ℕ, true, false, List, [], ◌∷◌, ◌++◌, Option, None, Some, IfSome, refl, sym, ap, ◌∙◌, subst, append-nil, arith}
 use Rattle.std.specs.Prelude.{flat_map, IsTrue}
 use Rattle.std.specs.Io.KnownBytes.{Consumes, IsAtEnd}
@@ -32,7 +32,7 @@ pub record HasLooked (h : Fields) (old new : Option (List ℕ)) : Type 0 where
 pub looked_none : (h : Fields) (a : Option (List ℕ)) → HasLooked h a a
 looked_none h a = record { segments = []; are = record { comments = tt; legal = tt }; taken = Consumes-none a }
 
--- no failed read is told by another fault of a walk
+-- no failed read is reported by another fault of a walk
 pub no_failed_read : (f : Fault) → IsWalkFault f → f ≢ Read → failed_reads f ≡ 0
 no_failed_read Read p n = absurd (n refl)
 no_failed_read (Pbm f) p n = absurd p

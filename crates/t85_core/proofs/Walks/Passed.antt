@@ -1,4 +1,4 @@
--- What was passed of a stripe so far.
+-- What was skipped of a stripe so far.
 use Rattle.std.proofs.Common.{cond, ◌≡◌, ◌≢◌, ◌<◌, ◌≤◌, ◌+◌, ◌-◌, ◌^◌, ℕ, Bool, true, false, List, [], ◌∷◌, ◌++◌, Option, None, Some, count_by, length, sum_by, min, is_some, refl, sym, ap, ◌∙◌, subst, append_assoc, append-nil, arith}
 use Rattle.std.specs.Prelude.{flat_map, option_map}
 use Rattle.std.specs.List.{AllByRecursion}
@@ -141,7 +141,7 @@ module _ {h : Fields} {place : Place} {before : Bool} {a b c : Option (List ℕ)
         taken = subst (λ z. Consumes a c z) (sym (flat_map_push segment_bytes p.segments segment)) (Consumes-more a b c _ _ p.taken s.taken);
       }
 
-  -- what was passed, and what is next
+  -- what was skipped, and what is next
   pub segments_passed : (n : Next) → IsNextItem h place given n → Consumes b c (next_bytes n) → PassesSegments h place before a c (record { at = at; given = given; comments = comments; next = n })
   segments_passed n is taken = record {
     segments = p.segments;
@@ -156,7 +156,7 @@ module _ {h : Fields} {place : Place} {before : Bool} {a b c : Option (List ℕ)
     taken = Consumes-more a b c _ _ p.taken taken;
   }
 
-  -- what was passed, and a rest with a fault before the code
+  -- what was skipped, and a rest with a fault before the code
   pub cut_segments : {f : Fault} → Ends Truncated b c (PieceFault h (record { height = place.height; entities = place.entities; given = given }) moved) f → Ends Truncated a c (SegmentsFault h place before) f
   cut_segments e = Ends-after (flat_map segment_bytes p.segments) p.taken (λ bytes fault has. record {
     segments = p.segments;
@@ -169,7 +169,7 @@ module _ {h : Fields} {place : Place} {before : Bool} {a b c : Option (List ℕ)
         (subst (λ m. rest_fault h (record { height = n; entities = place.entities; heights = m }) (cond moved 1 0) false bytes ≡ Some fault) p.given_is (has n));
   }) e
 
--- a height behind segments isn't the one in use
+-- a height after segments isn't the one in use
 changed : (h : Fields) → h.yd < 2 ^ 32 → (height k m moves n : ℕ) → m ≡ 0 → is_valid_length h k n ≡ true → IsLegal h (NewLength n) → n ≢ height →
     rest_fault h (record { height = height; entities = k; heights = m }) moves false (segment_bytes (NewLength n)) ≡ Some Changed
 changed h small height k m moves n none valid legal other =
@@ -177,7 +177,7 @@ changed h small height k m moves n none valid legal other =
     (length_changed h height k legal.0 n [] (omega (arith, legal.2, small)) valid other)
 
 module _ {h : Fields} {place : Place} {a b : Option (List ℕ)} {s : Segments} where
-  -- behind them is another height
+  -- after them is another height
   pub head_changed : (n : ℕ) → h.yd < 2 ^ 32 → s.next ≡ next.Height n → PassesSegments h place false a b s → Ends Truncated a b (HeadFault h (spot_at place)) Changed
   head_changed n small is p =
       let next_is : IsNextItem h place s.given (next.Height n) = subst (IsNextItem h place s.given) is p.next_is in

@@ -7,7 +7,7 @@ use Rattle.t85_core.specs.declared.fault.Fault.TheVariants.{BadEscape}
 use Rattle.t85_core.specs.Refusal.{Spot, rest_fault}
 use Rattle.t85_core.proofs.Bytes.Streams.{Consumes-more}
 
--- FF and a byte were passed
+-- FF and a byte were skipped
 pub escape_taken : (a b c : Option (List ℕ)) (first escape : ℕ) → Consumes a b (first ∷ []) → first ≡ 255 → Consumes b c (escape ∷ []) → Consumes a c (255 ∷ escape ∷ [])
 escape_taken a b c first escape p e q = Consumes-more a b c (255 ∷ []) (escape ∷ []) (subst (λ x. Consumes a b (x ∷ [])) e p) q
 

@@ -1,4 +1,4 @@
--- What stands behind FF 06 and behind FF 07.
+-- What stands after FF 06 and after FF 07.
 use Rattle.std.proofs.Common.{cond, not, ◌&&◌, ◌≡◌, ◌≢◌, ◌<◌, ◌≤◌, ◌+◌, ◌^◌, ◌⊎◌, ℕ, true, false, List, [], ◌∷◌, ◌++◌, length, Some, None, nat_lt, nat_le, nat_eq, ap, ◌∙◌, length-append, arith, inl, inr}
 use Rattle.std.proofs.lemmas.Bool.Decides.{nat_tests}
 use Rattle.byteorder.specs.Endian.{big_bytes, big_number}
@@ -55,7 +55,7 @@ comment_whole text more small =
     ∙ ap (λ m. cond (nat_lt (length bytes) (4 + m)) (Some Truncated) None) (row_of (length text) (text ++ more) small)
     ∙ ap (λ b. cond b (Some Truncated) None) whole
 
--- behind so many entities, and no height
+-- after so many entities, and no height
 abbrev pub unnamed_spot : ℕ → ℕ → Spot
 unnamed_spot height k = record { height = height; entities = k; heights = 0 }
 

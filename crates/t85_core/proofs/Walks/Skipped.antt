@@ -1,4 +1,4 @@
--- What a walk passes that looks for a height, or goes on behind one.
+-- What a walk passes that looks for a height, or goes on after one.
 use Rattle.std.proofs.Common.{cond, ◌≡◌, ◌<◌, ◌≤◌, ◌+◌, ◌-◌, ◌^◌, ℕ, Bool, true, false, List, [], ◌∷◌, ◌++◌, Option, Some, count_by, length, min, is_some, refl, sym, ap, ◌∙◌, subst, append_assoc, arith}
 use Rattle.std.specs.Prelude.{flat_map}
 use mir.Val.{bool_byte}
@@ -39,7 +39,7 @@ module _ {h : Fields} {entities : ℕ} {given before : Bool} {a b : Option (List
   gives_nothing : lengths p.segments ≡ []
   gives_nothing = legal_give_none h p.segments p.begun.legal p.gives.this
 
-  -- the data entity was passed, too
+  -- the data entity was skipped, too
   pub stripe_skipped : {c : Option (List ℕ)} (first : Code) (moves : ℕ) → s.next ≡ next.Code first → PassesRest first b c → moves ≡ count_by is_move p.segments → SkipsStripe h before a c moves s.comments
   stripe_skipped {c} (code.Byte byte) moves is rest counted =
       let front : List ℕ = flat_map segment_bytes p.segments in
@@ -67,7 +67,7 @@ module _ {h : Fields} {entities : ℕ} {given before : Bool} {a b : Option (List
     taken = subst (λ z. Consumes a z (flat_map segment_bytes p.segments ++ marker_bytes reset)) (sym rest) (subst (λ n. Consumes a b (flat_map segment_bytes p.segments ++ next_bytes n)) is p.taken);
   }
 
-  -- a height is behind the segments
+  -- a height is after the segments
   pub skipped_to : (n moves : ℕ) → s.next ≡ next.Height n → moves ≡ count_by is_move p.segments → SkipsTo h entities given before a b moves s.comments n
   skipped_to n moves is counted =
       let next_is : IsNextItem h (record { height = 0; entities = entities; given = given }) s.given (next.Height n) = subst (IsNextItem h (record { height = 0; entities = entities; given = given }) s.given) is p.next_is in
@@ -162,7 +162,7 @@ module _ {h : Fields} {before : Bool} {count moves comments : ℕ} {moved : Bool
         moved_is = moved_push before p.so.stripes s.stripe;
       }
 
-  -- a height is behind them
+  -- a height is after them
   pub stripes_to : {given : Bool} {part_moves part_comments n : ℕ} (from entities : ℕ) → entities ≡ from + count → SkipsTo h entities given moved b c part_moves part_comments n → SkipsStripesTo h from given before a c entities moves comments part_moves part_comments n
   stripes_to {given} {part_moves} {part_comments} {n} from entities at s = record {
     mid = b;
@@ -172,7 +172,7 @@ module _ {h : Fields} {before : Bool} {count moves comments : ℕ} {moved : Bool
     part = subst (λ m. SkipsTo h entities given m b c part_moves part_comments n) p.moved_is s;
   }
 
-  -- and behind them one that breaks
+  -- and after them one that breaks
   pub cut_stripes : {given : Bool} {f : Fault} (from entities wanted : ℕ) → entities ≡ from + count → entities < wanted → Ends Truncated b c (SkipFault h entities given moved) f → Ends Truncated a c (SkipsFault h from wanted given before) f
   cut_stripes {given} from entities wanted at fewer e = Ends-after (flat_map stripe_bytes p.so.stripes) p.so.taken (λ bytes fault has. record {
     stripes = p.so.stripes;

@@ -93,7 +93,7 @@ module _ (h : Fields) (ok : IsAccepted h) (old mid : Option (List ℕ)) (entitie
   behind_front : (rest : List ℕ) → (flat_map stripe_bytes f.before.stripes ++ flat_map segment_bytes (f.segments ++ NewLength n ∷ [])) ++ rest ≡ flat_map stripe_bytes f.before.stripes ++ (flat_map segment_bytes (f.segments ++ NewLength n ∷ []) ++ rest)
   behind_front rest = append_assoc (flat_map stripe_bytes f.before.stripes) (flat_map segment_bytes (f.segments ++ NewLength n ∷ [])) rest
 
-  -- whatever is behind it
+  -- whatever is after it
   pub gives_height : (rest : List ℕ) → GivesHeight h (flat_map stripe_bytes f.before.stripes ++ (flat_map segment_bytes (f.segments ++ NewLength n ∷ []) ++ rest)) n
   gives_height rest = record {
     variable = f.legal.0;
@@ -116,7 +116,7 @@ module _ (h : Fields) (ok : IsAccepted h) (old mid : Option (List ℕ)) (entitie
     went (Some body) None taken = absurd taken
     went (Some body) (Some rest) taken = inl (subst (λ z. GivesHeight h z n) (sym (taken ∙ behind_front rest)) (gives_height rest))
 
-  -- all its stripes were passed before it
+  -- all its stripes were skipped before it
   pub whole_line : (count : ℕ) (line : List ℕ) → count ≡ stripe_count n h.l0 → count ≤ entities → line ≡ line_text (h.xd ∷ h.yd ∷ h.l0 ∷ h.mx ∷ h.options ∷ n ∷ count ∷ moves ∷ comments ∷ []) → IfSome old (BodyLine h line)
   whole_line count line is few line_is = went old mid taken where
     same : count ≡ length f.before.stripes
@@ -163,7 +163,7 @@ module _ (h : Fields) (ok : IsAccepted h) (old mid : Option (List ℕ)) (entitie
   moved_is : part_moves ≤ 1 → cond {A = ℕ} (nat_lt 0 part_moves) 1 0 ≡ count_by is_move (f.segments ++ NewLength n ∷ [])
   moved_is few = let c = count_push is_move f.segments (NewLength n) in let e = one_or_none part_moves few in let p = f.part_moves_are in omega (arith, c, e, p)
 
-  -- the rest of its stripes was passed behind it
+  -- the rest of its stripes was skipped after it
   module _ (few : part_moves ≤ 1) (new : Option (List ℕ)) where
     pub joined_line : (count more_moves more_comments all_moves some_comments all_comments : ℕ) (line : List ℕ) → count ≡ stripe_count n h.l0 → entities < count → SkipsStripes h (nat_lt 0 part_moves) (count - entities) mid new more_moves more_comments →
         all_moves ≡ (moves + part_moves) + more_moves → some_comments ≡ min (comments + part_comments) (2 ^ 64 - 1) → all_comments ≡ min (some_comments + more_comments) (2 ^ 64 - 1) →

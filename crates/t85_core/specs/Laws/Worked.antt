@@ -42,7 +42,7 @@ pub record WorkedStreams : Type 0 where
   -- no offset to choose from
   pub no_candidate : jbg (settings 0 1 2 None true None) (rows_as 8 ((true ∷ true ∷ true ∷ true ∷ true ∷ true ∷ true ∷ true ∷ []) ∷ (true ∷ true ∷ true ∷ true ∷ true ∷ true ∷ true ∷ true ∷ []) ∷ []))
       ≡ 0 ∷ 0 ∷ 1 ∷ 0 ∷ 0 ∷ 0 ∷ 0 ∷ 8 ∷ 0 ∷ 0 ∷ 0 ∷ 2 ∷ 0 ∷ 0 ∷ 0 ∷ 1 ∷ 2 ∷ 0 ∷ 0 ∷ 0 ∷ 240 ∷ 255 ∷ 3 ∷ 240 ∷ 255 ∷ 3 ∷ []
-  -- a black pixel, where a greater height was announced: the height stands behind it
+  -- a black pixel, where a greater height was announced: the height stands after it
   pub announced : jbg (settings 0 128 0 (Some 5) false None) (rows_as 1 ((true ∷ []) ∷ []))
       ≡ 0 ∷ 0 ∷ 1 ∷ 0 ∷ 0 ∷ 0 ∷ 0 ∷ 1 ∷ 0 ∷ 0 ∷ 0 ∷ 5 ∷ 0 ∷ 0 ∷ 0 ∷ 128 ∷ 0 ∷ 0 ∷ 0 ∷ 32 ∷ 192 ∷ 255 ∷ 2 ∷ 255 ∷ 5 ∷ 0 ∷ 0 ∷ 0 ∷ 1 ∷ 255 ∷ 2 ∷ []
   -- the same, where the stripe ends in a reset
@@ -70,11 +70,11 @@ abbrev pub length_to : ℕ → List ℕ
 length_to n = 255 ∷ 5 ∷ 0 ∷ 0 ∷ 0 ∷ n ∷ []
 
 pub record WorkedHeights : Type 0 where
-  -- a height of a row behind the stripe
+  -- a height of a row after the stripe
   pub given_behind : IsHeight (narrow 5 128) (black ++ length_to 1 ++ 255 ∷ 2 ∷ []) 1
   -- one above the header's ends the look
   pub above : IsHeight (narrow 5 128) (black ++ length_to 9 ++ 255 ∷ 2 ∷ []) 5
-  -- one behind the first of two stripes
+  -- one after the first of two stripes
   pub given_between : IsHeight (narrow 9 1) (black ++ length_to 2 ++ black) 2
   -- a second one is refused where it begins
   pub given_first : IsHeight (narrow 9 1) (length_to 2 ++ black ++ 255 ∷ 5 ∷ []) 2
@@ -93,9 +93,9 @@ pub record WorkedLines : Type 0 where
   pub two_stripes : HasLine (0 ∷ 0 ∷ 1 ∷ 0 ∷ 0 ∷ 0 ∷ 0 ∷ 1 ∷ 0 ∷ 0 ∷ 0 ∷ 2 ∷ 0 ∷ 0 ∷ 0 ∷ 1 ∷ 0 ∷ 0 ∷ 0 ∷ 8 ∷ 224 ∷ 255 ∷ 2 ∷ 224 ∷ 255 ∷ 2 ∷ []) (line_text (1 ∷ 2 ∷ 1 ∷ 0 ∷ 8 ∷ 2 ∷ 2 ∷ 0 ∷ 0 ∷ []))
   -- the second of them moves the adaptive pixel
   pub moved : HasLine (0 ∷ 0 ∷ 1 ∷ 0 ∷ 0 ∷ 0 ∷ 0 ∷ 8 ∷ 0 ∷ 0 ∷ 0 ∷ 2 ∷ 0 ∷ 0 ∷ 0 ∷ 1 ∷ 3 ∷ 0 ∷ 0 ∷ 0 ∷ 240 ∷ 255 ∷ 2 ∷ 255 ∷ 6 ∷ 0 ∷ 0 ∷ 0 ∷ 0 ∷ 3 ∷ 0 ∷ 248 ∷ 255 ∷ 2 ∷ []) (line_text (8 ∷ 2 ∷ 1 ∷ 3 ∷ 0 ∷ 2 ∷ 2 ∷ 1 ∷ 0 ∷ []))
-  -- a height behind the only stripe
+  -- a height after the only stripe
   pub given_behind : HasLine (0 ∷ 0 ∷ 1 ∷ 0 ∷ 0 ∷ 0 ∷ 0 ∷ 1 ∷ 0 ∷ 0 ∷ 0 ∷ 5 ∷ 0 ∷ 0 ∷ 0 ∷ 128 ∷ 0 ∷ 0 ∷ 0 ∷ 32 ∷ 192 ∷ 255 ∷ 2 ∷ 255 ∷ 5 ∷ 0 ∷ 0 ∷ 0 ∷ 1 ∷ 255 ∷ 2 ∷ []) (line_text (1 ∷ 5 ∷ 128 ∷ 0 ∷ 32 ∷ 1 ∷ 1 ∷ 0 ∷ 0 ∷ []))
   -- a height between two stripes
   pub given_between : HasLine (0 ∷ 0 ∷ 1 ∷ 0 ∷ 0 ∷ 0 ∷ 0 ∷ 1 ∷ 0 ∷ 0 ∷ 0 ∷ 9 ∷ 0 ∷ 0 ∷ 0 ∷ 1 ∷ 0 ∷ 0 ∷ 0 ∷ 32 ∷ 192 ∷ 255 ∷ 2 ∷ 255 ∷ 5 ∷ 0 ∷ 0 ∷ 0 ∷ 2 ∷ 192 ∷ 255 ∷ 2 ∷ []) (line_text (1 ∷ 9 ∷ 1 ∷ 0 ∷ 32 ∷ 2 ∷ 2 ∷ 0 ∷ 0 ∷ []))
-  -- a comment behind the last stripe isn't counted
+  -- a comment after the last stripe isn't counted
   pub comment_behind : HasLine (0 ∷ 0 ∷ 1 ∷ 0 ∷ 0 ∷ 0 ∷ 0 ∷ 1 ∷ 0 ∷ 0 ∷ 0 ∷ 9 ∷ 0 ∷ 0 ∷ 0 ∷ 1 ∷ 0 ∷ 0 ∷ 0 ∷ 32 ∷ 192 ∷ 255 ∷ 2 ∷ 192 ∷ 255 ∷ 2 ∷ 255 ∷ 7 ∷ 0 ∷ 0 ∷ 0 ∷ 0 ∷ 255 ∷ 5 ∷ 0 ∷ 0 ∷ 0 ∷ 2 ∷ 255 ∷ 2 ∷ []) (line_text (1 ∷ 9 ∷ 1 ∷ 0 ∷ 32 ∷ 2 ∷ 2 ∷ 0 ∷ 0 ∷ []))

@@ -40,7 +40,7 @@ pub record IsShapeOf (h : Fields) (shape : Shape) : Type 0 where
   pub width_is : shape.width ≡ h.xd
   pub mode_is : shape_mode shape ≡ mode_of h.options
 
--- What a decoder holds between two rows. The row that is to be written anew may hold any.
+-- What a decoder holds between two rows. The row that is to be written again may hold any.
 pub record IsCarried (b : RowStart) (carried : CodingState) : Type 0 where
   pub offset_is : carried.kept.offset ≡ b.offset
   pub previous_is : carried.kept.previous_typical ≡ b.previous
@@ -48,7 +48,7 @@ pub record IsCarried (b : RowStart) (carried : CodingState) : Type 0 where
   pub third : List Bool
   pub lines_are : HasLines (held carried.window.now) (record { row = b.above; above = b.second; second = third })
 
--- The first rows of a stripe with these segments: decoded from what the source answered, and set out.
+-- The first rows of a stripe with these segments: decoded from what the source answered, and written.
 pub record RowsRead {S : Type 0} (pull : S → Pulled → S → Type 0) (from to : S) (h : Fields) (shape : Shape) (c : StripeStart) (segments : List Segment) (count : ℕ)
     (carried : CodingState) (d : Decoder) (text text' : Option (List ℕ)) : Type 0 where
   pub answers : List Pulled
@@ -64,7 +64,7 @@ pub record RowsRead {S : Type 0} (pull : S → Pulled → S → Type 0) (from to
   pub is_carried : IsCarried last carried
   pub appended : Appends text text' (flat_map packed_row rows)
 
--- The source stopped: the bytes that came decide these rows of the stripe and no more, and they were set out.
+-- The source stopped: the bytes that came decide these rows of the stripe and no more, and they were written.
 pub record RowsCut {S : Type 0} (pull : S → Pulled → S → Type 0) (from to : S) (h : Fields) (c : StripeStart) (segments : List Segment) (count : ℕ)
     (text text' : Option (List ℕ)) : Type 0 where
   pub answers : List Pulled
@@ -78,7 +78,7 @@ pub record RowsCut {S : Type 0} (pull : S → Pulled → S → Type 0) (from to 
   pub appended : Appends text text' (flat_map packed_row rows)
 
 -- The target took no more, in a row that was decoded: until then the source had not stopped, and a beginning of the rows
--- was set out.
+-- was written.
 pub record RowsUnwritten {S : Type 0} (pull : S → Pulled → S → Type 0) (from to : S) (h : Fields) (c : StripeStart) (segments : List Segment) (count : ℕ)
     (text text' : Option (List ℕ)) : Type 0 where
   pub answers : List Pulled

@@ -28,7 +28,7 @@ pub record GivesIn (spot : Spot) (heights : ℕ) (segments : List Segment) : Typ
   pub gives : GiveOnly spot.height spot.heights segments
   pub heights_are : heights ≡ spot.heights + length (lengths segments)
 
--- A whole stripe was decoded and set out.
+-- A whole stripe was decoded and written.
 pub record StripeRead (h : Fields) (spot : Spot) (heights : ℕ) (c : StripeStart) (known known' : Option (List ℕ)) (count : ℕ) (carried : CodingState) (text text' : Option (List ℕ)) : Type 0 where
   pub stripe : Stripe
   pub taken : Consumes known known' (stripe_bytes stripe)
@@ -44,14 +44,14 @@ pub record StripeRead (h : Fields) (spot : Spot) (heights : ℕ) (c : StripeStar
 abbrev pub DecidesRows : Fields → Spot → StripeStart → ℕ → List (List Bool) → List Bool → List ℕ → Fault → Type 0
 DecidesRows h spot c count rows flags given fault = (broken : StripeFault h spot given fault) × BegunRun h count c broken.segments broken.code rows flags
 
--- A stripe that breaks: the rows that what came decides were set out.
+-- A stripe that breaks: the rows that what came decides were written.
 pub record StripeCut (h : Fields) (spot : Spot) (c : StripeStart) (known known' : Option (List ℕ)) (count : ℕ) (text text' : Option (List ℕ)) (fault : Fault) : Type 0 where
   pub rows : List (List Bool)
   pub flags : List Bool
   pub ends : Ends Truncated known known' (DecidesRows h spot c count rows flags) fault
   pub appended : Appends text text' (flat_map packed_row rows)
 
--- A stripe's segments were passed, its code begins, and this is carried to it.
+-- A stripe's segments were skipped, its code begins, and this is carried to it.
 pub record CodeBegins (h : Fields) (spot : Spot) (heights : ℕ) (c : StripeStart) (segments : List Segment) (known : Option (List ℕ)) (shape : Shape) (move : Option (ℕ × ℕ)) (carried : CodingState) (s : EntityView) : Type 0 where
   pub begun : IsBegun h segments []
   pub passed : Consumes known s.known (flat_map segment_bytes segments)
@@ -92,7 +92,7 @@ DecodeStripeStep h spot heights known known' count carried carried' text text' =
 abbrev pub DecodeStripeStepCut : Fields → Spot → Option (List ℕ) → Option (List ℕ) → ℕ → CodingState → Option (List ℕ) → Option (List ℕ) → Fault → Type 0
 DecodeStripeStepCut h spot known known' count carried text text' fault = (c : StripeStart) → IsCarried (first_row_start c) carried → StripeCut h spot c known known' count text text' fault
 
--- So many stripes were decoded and set out.
+-- So many stripes were decoded and written.
 pub record StripesRead (h : Fields) (height : ℕ) (known known' : Option (List ℕ)) (count heights : ℕ) (carried : CodingState) (text text' : Option (List ℕ)) : Type 0 where
   pub stripes : List Stripe
   pub many : length stripes ≡ count
@@ -105,7 +105,7 @@ pub record StripesRead (h : Fields) (height : ℕ) (known known' : Option (List 
   pub is_carried : IsCarried (first_row_start next) carried
   pub appended : Appends text text' (flat_map packed_row rows)
 
--- An image was decoded and set out, whatever stands behind it.
+-- An image was decoded and written, whatever stands after it.
 pub record ImageRead (h : Fields) (height : ℕ) (known known' text text' : Option (List ℕ)) : Type 0 where
   pub given : List ℕ
   pub taken : Consumes known known' given
@@ -113,7 +113,7 @@ pub record ImageRead (h : Fields) (height : ℕ) (known known' text text' : Opti
   pub denotes : (rest : List ℕ) → DenotesAt h height (given ++ rest) (record { width = h.xd; rows = rows })
   pub appended : Appends text text' (flat_map packed_row rows)
 
--- An image breaks: the rows that what came fixes were set out.
+-- An image breaks: the rows that what came fixes were written.
 pub record ImageCut (h : Fields) (height : ℕ) (known known' text text' : Option (List ℕ)) (fault : Fault) : Type 0 where
   pub rows : List (List Bool)
   pub ends : Ends Truncated known known' (λ given why. Fixes h height given why rows) fault
@@ -130,7 +130,7 @@ pub record StripeDecides (h : Fields) (spot : Spot) (c : StripeStart) (count : �
   pub decides : ((given ≡ flat_map segment_bytes segments ++ stuffed code) × RunEnough (length code) (mode_of h.options) (move_of segments) 0 (first_row_start c) rows flags)
       ⊎ ((reset : Bool) × (given ≡ stripe_bytes (record { segments = segments; code = code; reset = reset })))
 
--- A beginning of a stripe's rows was set out, of those that what came decides.
+-- A beginning of a stripe's rows was written, of those that what came decides.
 pub record StripeUnwritten (h : Fields) (spot : Spot) (c : StripeStart) (known known' : Option (List ℕ)) (count : ℕ) (text text' : Option (List ℕ)) : Type 0 where
   pub given : List ℕ
   pub ahead : List ℕ
@@ -156,7 +156,7 @@ AreFirst h height given rows =
     (rest : List ℕ) (fault : Option Fault) (text : List ℕ) → IsOutcome h height (given ++ rest) fault text →
     (behind : List ℕ) × (text ≡ pbm_rows h.xd height rows ++ behind)
 
--- A beginning of first rows of an image was set out, which are decided however the body goes on.
+-- A beginning of first rows of an image was written, which are decided however the body goes on.
 pub record ImageUnwritten (h : Fields) (height : ℕ) (known known' text text' : Option (List ℕ)) : Type 0 where
   pub given : List ℕ
   pub ahead : List ℕ

@@ -51,7 +51,7 @@ CodeOfRefused form IsTaken shape count known known' carried =
 abbrev pub SomeHeld : Shape → CodingState → Type 0
 SomeHeld shape carried = (s : Settings) × (move : Option (ℕ × ℕ)) × (c : StripeStart) × IsShape s shape.width shape × IsHeld move 0 (first_row_start c) carried
 
--- The same with the end marker behind it. What is carried goes on to the next stripe.
+-- The same with the end marker after it. What is carried goes on to the next stripe.
 pub record EntityWritten (s : Settings) (form : Form) (width : ℕ) (move : Option (ℕ × ℕ)) (c : StripeStart) (count : ℕ) (counted : Option ℕ)
     (known known' : Option (List ℕ)) (carried : CodingState) (tally : Tally) (text text' : Option (List ℕ)) : Type 0 where
   pub rows : List (List Bool)
@@ -66,7 +66,7 @@ EntityOfRows form shape reset count counted known known' carried carried' tally'
     (s : Settings) (move : Option (ℕ × ℕ)) (c : StripeStart) → IsShape s shape.width shape → s.reset ≡ reset → IsHeld move 0 (first_row_start c) carried →
     EntityWritten s form shape.width move c count counted known known' carried' tally' text text'
 
--- The rows of a stripe that were read: what was set out is a beginning of each code, with its end marker, that begins with them.
+-- The rows of a stripe that were read: what was written is a beginning of each code, with its end marker, that begins with them.
 pub record EntityRefused (s : Settings) (form : Form) (width : ℕ) (move : Option (ℕ × ℕ)) (c : StripeStart) (count : ℕ) (known known' text text' : Option (List ℕ)) : Type 0 where
   pub rows : List (List Bool)
   pub few : length rows ≤ count
@@ -94,7 +94,7 @@ pub record IsEncoderStart (s : Settings) (width : ℕ) (at : EncoderStart) (carr
   pub is_carried : IsCarried (first_row_start at.carry) carried
   pub is_tallied : IsTallied s width at tally
 
--- A stripe of these rows was read and set out. Where its rows were counted, or there is no offset to choose from, what
+-- A stripe of these rows was read and written. Where its rows were counted, or there is no offset to choose from, what
 -- the next one needs is held.
 pub record StripeCoded (s : Settings) (form : Form) (width count : ℕ) (is_counted : Bool) (at : EncoderStart) (known known' text text' : Option (List ℕ)) (carried : CodingState) (tally : Tally) : Type 0 where
   pub rows : List (List Bool)
@@ -103,7 +103,7 @@ pub record StripeCoded (s : Settings) (form : Form) (width count : ℕ) (is_coun
   pub appended : Appends text text' (stripe_bytes (next_stripe s width at rows))
   pub on_course : (0 < length (candidates (mode_of s.options).two_line s.most_offset) → IsTrue is_counted) → IsEncoderStart s width (next_encoder_start s width at rows) carried tally
 
--- Not all rows of a stripe came: what was set out is a beginning of each stripe that begins with those that did.
+-- Not all rows of a stripe came: what was written is a beginning of each stripe that begins with those that did.
 pub record StripeShort (s : Settings) (form : Form) (width count : ℕ) (at : EncoderStart) (known known' text text' : Option (List ℕ)) (fault : PbmFault) : Type 0 where
   pub rows : List (List Bool)
   pub few : length rows < count
@@ -114,7 +114,7 @@ pub record StripeShort (s : Settings) (form : Form) (width count : ℕ) (at : En
   pub begins : BeginsStripe s width at count rows bytes
   pub appended : Appends text text' bytes
 
--- The rows of a stripe that were read, and no more: what was set out is a beginning of each stripe that begins with them.
+-- The rows of a stripe that were read, and no more: what was written is a beginning of each stripe that begins with them.
 pub record StripeRefused (s : Settings) (form : Form) (width count : ℕ) (at : EncoderStart) (known known' text text' : Option (List ℕ)) : Type 0 where
   pub rows : List (List Bool)
   pub few : length rows ≤ count
@@ -143,14 +143,14 @@ EncodeStripeStepRefused form shape reset count known known' carried tally text t
     (s : Settings) (at : EncoderStart) → IsShape s shape.width shape → s.reset ≡ reset → IsEncoderStart s shape.width at carried tally →
     StripeRefused s form shape.width count at known known' text text'
 
--- All rows of an image were read, and this text of the raster that they are was set out.
+-- All rows of an image were read, and this text of the raster that they are was written.
 pub record ImageCoded (form : Form) (width height' : ℕ) (whole : Raster → List ℕ) (known known' text text' : Option (List ℕ)) : Type 0 where
   pub rows : List (List Bool)
   pub many : length rows ≡ height'
   pub read : ReadsRows form width known known' rows
   pub appended : Appends text text' (whole (raster_of width rows))
 
--- Not all rows came: of each image that begins with those that did, what was set out is a beginning of this text, and
+-- Not all rows came: of each image that begins with those that did, what was written is a beginning of this text, and
 -- holds the text of the stripes whose rows all came.
 pub record ImageShort (s : Settings) (form : Form) (width height' : ℕ) (up_to : Raster → ℕ → List ℕ) (whole : Raster → List ℕ) (known known' text text' : Option (List ℕ)) (fault : PbmFault) : Type 0 where
   pub rows : List (List Bool)
@@ -163,7 +163,7 @@ pub record ImageShort (s : Settings) (form : Form) (width height' : ℕ) (up_to 
   pub begins : (raster : Raster) → BeginsWith width height' rows raster → IsBeginning bytes (whole raster)
   pub appended : Appends text text' bytes
 
--- The rows of an image that were read, and no more: of each image that begins with them, what was set out is a beginning
+-- The rows of an image that were read, and no more: of each image that begins with them, what was written is a beginning
 -- of this text.
 pub record ImageRefused (form : Form) (width height' : ℕ) (whole : Raster → List ℕ) (known known' text text' : Option (List ℕ)) : Type 0 where
   pub rows : List (List Bool)
@@ -173,7 +173,7 @@ pub record ImageRefused (form : Form) (width height' : ℕ) (whole : Raster → 
   pub begins : (raster : Raster) → BeginsWith width height' rows raster → IsBeginning bytes (whole raster)
   pub appended : Appends text text' bytes
 
--- The same where bytes that end within a row may have been read behind them.
+-- The same where bytes that end within a row may have been read after them.
 pub record ImageFront (form : Form) (width height' : ℕ) (whole : Raster → List ℕ) (known known' text text' : Option (List ℕ)) : Type 0 where
   pub rows : List (List Bool)
   pub few : length rows ≤ height'

@@ -45,7 +45,7 @@ pub record GivesEnd (s t : EntityView) : Type 0 where
   pub fault : t.fault ≡ None
   pub behind : t.first ≡ None
 
--- the code broke, behind its first byte
+-- the code broke, after its first byte
 pub record GivesFault (s t : EntityView) : Type 0 where
   pub why : Fault
   pub fault : t.fault ≡ Some why
@@ -70,7 +70,7 @@ pub record EntityGives (s : EntityView) (answer : Pulled) (t : EntityView) : Typ
 abbrev pub BreaksIn : Option Code → List ℕ → Fault → Type 0
 BreaksIn first given fault = (broken : CodeFault given fault) × ((first ≡ None) ⊎ (1 ≤ length broken.code))
 
--- The rest of a code was passed, with its end marker where that was still to come.
+-- The rest of a code was skipped, with its end marker where that was still to come.
 abbrev pub Finishes : Option (List ℕ) → Option (List ℕ) → Option Bool → Bool → Type 0
 Finishes old new None reset = PassesCode old new reset
 Finishes old new (Some marker) reset = (reset ≡ marker) × (new ≡ old)

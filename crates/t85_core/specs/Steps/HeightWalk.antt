@@ -1,4 +1,4 @@
--- What a walk passes that looks for a height, and goes on behind one.
+-- What a walk passes that looks for a height, and goes on after one.
 use Rattle.std.specs.Prelude.{ℕ, ◌+◌, ◌-◌, ◌≡◌, ◌≤◌, ◌<◌, ◌^◌, ◌⊎◌, ⊤, Bool, true, false, not, List, [], ◌∷◌, ◌++◌, Option, Some, None, IfSome, length, min, sum_by, count_by, flat_map, if◌then◌else◌, IsTrue}
 use Rattle.std.specs.List.{AllByRecursion}
 use Rattle.std.specs.Io.KnownBytes.{Consumes}
@@ -14,12 +14,12 @@ use Rattle.t85_core.specs.Steps.Segments.{PassesCode, CodeFault}
 use Rattle.t85_core.specs.Info.{line_text, numbers_of}
 use Rattle.t85_core.specs.Height.{IsHeight, IsOpen}
 
--- The fault of a rest behind so many entities, whatever the height in use is.
+-- The fault of a rest after so many entities, whatever the height in use is.
 abbrev pub FaultAnyHeight : Fields → ℕ → Bool → ℕ → Bool → List ℕ → Fault → Type 0
 FaultAnyHeight h entities given moves in_code rest fault =
     (height : ℕ) → rest_fault h (record { height = height; entities = entities; heights = if given then 1 else 0 }) moves in_code rest ≡ Some fault
 
--- The code begins so, and is passed with its end marker.
+-- The code begins so, and is skipped with its end marker.
 abbrev pub PassesRest : Code → Option (List ℕ) → Option (List ℕ) → Type 0
 PassesRest (code.Byte b) old new = (reset : Bool) × PassesCode old new reset
 PassesRest (code.Marker reset) old new = new ≡ old
@@ -29,7 +29,7 @@ abbrev pub RestBreaks : Code → List ℕ → Fault → Type 0
 RestBreaks (code.Byte b) given fault = CodeFault given fault
 RestBreaks (code.Marker reset) given fault = ⊥
 
--- A whole stripe, in which no height is given; of it, or of what is left of it behind a move, how many moves and comments
+-- A whole stripe, in which no height is given; of it, or of what is left of it after a move, how many moves and comments
 -- it has.
 pub record SkipsStripe (h : Fields) (moved : Bool) (old new : Option (List ℕ)) (moves comments : ℕ) : Type 0 where
   pub stripe : Stripe
@@ -40,7 +40,7 @@ pub record SkipsStripe (h : Fields) (moved : Bool) (old new : Option (List ℕ))
   pub comments_are : comments ≡ min (comments_in stripe) (2 ^ 64 - 1)
   pub taken : Consumes old new (stripe_bytes stripe)
 
--- Segments of a stripe, and behind them the first valid height.
+-- Segments of a stripe, and after them the first valid height.
 pub record SkipsTo (h : Fields) (entities : ℕ) (given moved : Bool) (old new : Option (List ℕ)) (moves comments height : ℕ) : Type 0 where
   pub segments : List Segment
   pub begun : IsBegun h segments []
@@ -69,7 +69,7 @@ pub record SkipFault (h : Fields) (entities : ℕ) (given moved : Bool) (bytes :
   pub none : lengths segments ≡ []
   pub rest_has : FaultAnyHeight h entities given ((if moved then 1 else 0) + count_by is_move segments) (not (is_nil code)) rest fault
 
--- whether a move stands before what is next: none behind a whole stripe
+-- whether a move stands before what is next: none after a whole stripe
 abbrev pub moved_behind : Bool → List Stripe → Bool
 moved_behind moved [] = moved
 moved_behind moved (s ∷ stripes) = false
@@ -90,7 +90,7 @@ pub record SkipsStripes (h : Fields) (moved : Bool) (count : ℕ) (old new : Opt
   pub comments_are : comments ≡ min (sum_by comments_in stripes) (2 ^ 64 - 1)
   pub taken : Consumes old new (flat_map stripe_bytes stripes)
 
--- stripes, and behind them segments and the first valid height
+-- stripes, and after them segments and the first valid height
 pub record SkipsStripesTo (h : Fields) (from : ℕ) (given moved : Bool) (old new : Option (List ℕ)) (entities moves comments part_moves part_comments height : ℕ) : Type 0 where
   pub mid : Option (List ℕ)
   pub count : ℕ
@@ -98,7 +98,7 @@ pub record SkipsStripesTo (h : Fields) (from : ℕ) (given moved : Bool) (old ne
   pub before : SkipsStripes h moved count old mid moves comments
   pub part : SkipsTo h entities given (moved_behind moved before.stripes) mid new part_moves part_comments height
 
--- stripes, and behind them one that breaks before a height is given
+-- stripes, and after them one that breaks before a height is given
 pub record SkipsFault (h : Fields) (from count : ℕ) (given moved : Bool) (bytes : List ℕ) (fault : Fault) : Type 0 where
   pub stripes : List Stripe
   pub tail : List ℕ
@@ -109,14 +109,14 @@ pub record SkipsFault (h : Fields) (from count : ℕ) (given moved : Bool) (byte
   pub none : lengths (all_segments stripes) ≡ []
   pub tail_has : SkipFault h (from + length stripes) given (moved_behind moved stripes) tail fault
 
--- all stripes, or some and a height behind them
+-- all stripes, or some and a height after them
 abbrev pub Sought : Fields → ℕ → ℕ → Bool → Bool → Option (List ℕ) → Option (List ℕ) → ℕ → ℕ → ℕ → ℕ → ℕ → Option ℕ → Type 0
 Sought h from count given moved old new entities moves comments part_moves part_comments None =
     (entities ≡ count) × (part_moves ≡ 0) × SkipsStripes h moved (count - from) old new moves comments
 Sought h from count given moved old new entities moves comments part_moves part_comments (Some height) =
     (entities < count) × SkipsStripesTo h from given moved old new entities moves comments part_moves part_comments height
 
--- behind the last stripe: comments
+-- after the last stripe: comments
 pub record Comments (h : Fields) (segments : List Segment) : Type 0 where
   pub comments : AllByRecursion (λ s. IsTrue (is_comment s)) segments
   pub legal : AllByRecursion (IsLegal h) segments
@@ -161,7 +161,7 @@ pub record FindsGiven (h : Fields) (old new : Option (List ℕ)) (entities moves
   pub part_comments_are : entities < stripe_count h.yd h.l0 → part_comments ≡ min (count_by is_comment segments) (2 ^ 64 - 1)
   pub taken : Consumes mid new (flat_map segment_bytes segments ++ segment_bytes (NewLength height))
 
--- All stripes that the header's height makes were passed, and the body gives no height.
+-- All stripes that the header's height makes were skipped, and the body gives no height.
 pub record FindsNone (h : Fields) (old new : Option (List ℕ)) (entities moves comments : ℕ) : Type 0 where
   pub mid : Option (List ℕ)
   pub before : SkipsStripes h false entities old mid moves comments
@@ -173,7 +173,7 @@ abbrev pub Finds : Fields → Option (List ℕ) → Option (List ℕ) → ℕ �
 Finds h old new entities moves comments part_moves part_comments None = FindsNone h old new entities moves comments
 Finds h old new entities moves comments part_moves part_comments (Some height) = FindsGiven h old new entities moves comments part_moves part_comments height
 
--- a read failed before it was known whether the body gives a height: in the stripes, or behind the last of them
+-- a read failed before it was known whether the body gives a height: in the stripes, or after the last of them
 abbrev pub FindsOpen : Fields → List ℕ → Type 0
 FindsOpen h given = SkipsFault h 0 (stripe_count h.yd h.l0) false false given Truncated ⊎ IsOpen h given
 

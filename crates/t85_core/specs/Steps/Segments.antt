@@ -63,7 +63,7 @@ abbrev pub PieceFault : Fields → Place → Bool → List ℕ → Fault → Typ
 PieceFault h place moved rest fault =
     (height : ℕ) → rest_fault h (record { height = height; entities = place.entities; heights = if place.given then 1 else 0 }) (if moved then 1 else 0) false rest ≡ Some fault
 
--- of what stands behind FF 05
+-- of what stands after FF 05
 abbrev pub LengthFault : Fields → Place → List ℕ → Fault → Type 0
 LengthFault h place bytes fault = (height : ℕ) → length_fault h (record { height = height; entities = place.entities; heights = if place.given then 1 else 0 }) bytes ≡ Some fault
 
@@ -84,7 +84,7 @@ abbrev pub IsNextItem : Fields → Place → Bool → Next → Type 0
 IsNextItem h place given (next.Height height) = (given ≡ false) × (is_valid_length h place.entities height ≡ true) × IsLegal h (NewLength height) × (height ≢ place.height)
 IsNextItem h place given (next.Code c) = IsByteOrMarker c
 
--- Segments that stand in one stripe, behind a move or none, and what is next behind them.
+-- Segments that stand in one stripe, after a move or none, and what is next after them.
 pub record PassesSegments (h : Fields) (place : Place) (moved : Bool) (old new : Option (List ℕ)) (s : Segments) : Type 0 where
   pub segments : List Segment
   pub begun : IsBegun h segments []

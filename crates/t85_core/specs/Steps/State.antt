@@ -61,7 +61,7 @@ pub record StripeStart : Type 0 where
 abbrev pub image_start : ℕ → StripeStart
 image_start width = record { learned = fresh; offset = 0; previous = false; above = white_row width; second = white_row width }
 
--- a stripe begins its code anew
+-- a stripe begins its code again
 abbrev pub first_row_start : StripeStart → RowStart
 first_row_start c = record { state = record { place = start; learned = c.learned }; offset = c.offset; previous = c.previous; above = c.above; second = c.second }
 

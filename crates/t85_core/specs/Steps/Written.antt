@@ -48,7 +48,7 @@ next_stripe s width at rows = record {
   reset = s.reset;
 }
 
--- and this goes on to the stripe behind it
+-- and this goes on to the stripe after it
 abbrev pub next_encoder_start : Settings → ℕ → EncoderStart → List (List Bool) → EncoderStart
 next_encoder_start s width at rows = record {
   carry = next_stripe_start width s.reset (row_start_in s width at rows);

@@ -14,7 +14,7 @@ use crate::state::CodingState;
 use qm_core::{CodeBytes, Decoder, Stop, laws};
 use raster_core::{Shape, decode_row};
 
-/// Why a row was not set out.
+/// Why a row was not written.
 #[derive(Clone, Copy)]
 pub enum RowFault {
     /// The source of the code has failed.
@@ -23,7 +23,7 @@ pub enum RowFault {
     Write,
 }
 
-/// Decodes so many rows, the first of a stripe, and sets them out.
+/// Decodes so many rows, the first of a stripe, and writes them.
 pub fn decode_rows<C: CodeBytes, P: ByteTarget>(
     shape: Shape,
     at: Option<Move>,
@@ -62,7 +62,7 @@ pub fn decode_rows<C: CodeBytes, P: ByteTarget>(
     Ok(())
 }
 
-/// Decodes a row of a stripe and sets it out.
+/// Decodes a row of a stripe and writes it.
 fn decode_next_row<C: CodeBytes, P: ByteTarget>(
     shape: Shape,
     at: Option<Move>,

@@ -16,7 +16,7 @@ use crate::output_buffer::ByteTarget;
 use crate::segments::{ATMOVE, COMMENT, NEWLEN, SDNORM, SDRST};
 use byteorder::{BigEndian, ByteOrder};
 
-/// Sets a comment out.
+/// Writes a comment.
 pub fn write_comment<P: ByteTarget>(text: &[u8], target: &mut P) -> Result<(), Fault>
     requires target { P.failures target.old < 2 ^ 64 - 1 }
     requires fits { length text.now < 2 ^ 32 }
@@ -35,7 +35,7 @@ pub fn write_comment<P: ByteTarget>(text: &[u8], target: &mut P) -> Result<(), F
     target.put(text)
 }
 
-/// Sets a move out, at the first row of a stripe.
+/// Writes a move, at the first row of a stripe.
 pub fn write_move<P: ByteTarget>(offset: u8, target: &mut P) -> Result<(), Fault>
     requires target { P.failures target.old < 2 ^ 64 - 1 }
     ensures ok { OnOk result (Appends (P.text target.old) (P.text target.new)
@@ -50,7 +50,7 @@ pub fn write_move<P: ByteTarget>(offset: u8, target: &mut P) -> Result<(), Fault
     target.put(&[ESCAPE, ATMOVE, 0, 0, 0, 0, offset, 0])
 }
 
-/// Sets the end marker of a stripe out.
+/// Writes the end marker of a stripe.
 pub fn write_marker<P: ByteTarget>(reset: bool, target: &mut P) -> Result<(), Fault>
     requires target { P.failures target.old < 2 ^ 64 - 1 }
     ensures ok { OnOk result (Appends (P.text target.old) (P.text target.new)
@@ -65,7 +65,7 @@ pub fn write_marker<P: ByteTarget>(reset: bool, target: &mut P) -> Result<(), Fa
     target.put(&[ESCAPE, if reset { SDRST } else { SDNORM }])
 }
 
-/// Sets out what stands behind the last stripe: the height and an empty data entity, where a greater height was
+/// Sets out what stands after the last stripe: the height and an empty data entity, where a greater height was
 /// announced.
 pub fn write_ending<P: ByteTarget>(
     height: u32,
@@ -89,7 +89,7 @@ pub fn write_ending<P: ByteTarget>(
     }
 }
 
-/// Sets a height and an empty data entity out.
+/// Writes a height and an empty data entity.
 fn write_new_height<P: ByteTarget>(height: u32, reset: bool, target: &mut P) -> Result<(), Fault>
     requires target { P.failures target.old < 2 ^ 64 - 1 }
     ensures ok { OnOk result (Appends (P.text target.old) (P.text target.new)

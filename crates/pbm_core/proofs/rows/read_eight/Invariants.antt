@@ -3,7 +3,7 @@ use Rattle.pbm_core.specs.Image.{binary}
 use Rattle.pbm_core.specs.Steps.{PassesPixels}
 use Rattle.pbm_core.proofs.rows.read_eight.Given as goal
 
--- the pixels so far were passed
+-- the pixels so far were skipped
 abbrev pub invariant-pixels : goal.invariant-pixels
 invariant-pixels g l = record {
   pixels : List Bool;

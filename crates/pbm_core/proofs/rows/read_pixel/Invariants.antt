@@ -4,7 +4,7 @@ use Rattle.std.specs.Io.KnownBytes.{Consumes}
 use Rattle.pbm_core.specs.Pbm.{IsWhite}
 use Rattle.pbm_core.proofs.rows.read_pixel.Given as goal
 
--- white space was passed
+-- white space was skipped
 abbrev pub invariant-space : goal.invariant-space
 invariant-space g l = record {
   space : List ℕ;

@@ -2,7 +2,7 @@ use Rattle.std.proofs.Common.{◌≡◌, ◌<◌, ◌+◌, ◌*◌, ℕ, Bool, L
 use Rattle.pbm_core.specs.Steps.{byte_at, PassesPixels}
 use Rattle.pbm_core.proofs.rows.read_plain.Given as goal
 
--- the pixels so far were passed, and stand in the bytes so far
+-- the pixels so far were skipped, and stand in the bytes so far
 abbrev pub invariant-loop-i : goal.invariant-loop-i
 invariant-loop-i g l = record {
   pixels : List Bool;

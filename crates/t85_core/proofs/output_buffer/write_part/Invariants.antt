@@ -3,7 +3,7 @@ use Rattle.std.specs.Io.KnownBytes.{Keeps, append_known}
 use Rattle.t85_core.specs.Steps.Buffers.{held_of, known_length}
 use Rattle.t85_core.proofs.output_buffer.write_part.Given as goal
 
--- what stands written and what is still to be written are the text
+-- what is written and what is still to be written are the text
 abbrev pub invariant-loop-place : goal.invariant-loop-place
 invariant-loop-place g l = record {
   within : l.place ≤ l.end;
