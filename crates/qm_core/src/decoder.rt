@@ -6,6 +6,7 @@ ghost use Rattle.qm_core.specs.declared.source.Heard.TheVariants.{Stopped};
 use crate::context::Context;
 use crate::entries::entry_of;
 use crate::learned::Learned;
+use crate::skipping::left_of;
 use crate::source::{CodeBytes, Heard, Pulled};
 
 /// The source failed, in this call or an earlier one.
@@ -32,11 +33,14 @@ pub struct Decoder {
 }
 
 impl Decoder {
-    ghost use Rattle.std.specs.Prelude.{ℕ, List, [], ◌∷◌, ◌++◌};
-    ghost use Rattle.qm_core.specs.Place.{Place, State, start, renormalised, step};
+    ghost use Rattle.std.specs.Prelude.{ℕ, List, [], ◌∷◌, ◌++◌, length, replicate};
+    ghost use Rattle.qm_core.specs.Code.{wanted_bytes};
+    ghost use Rattle.qm_core.specs.Place.{Place, State, start, renormalised, step, after};
     ghost use Rattle.qm_core.specs.Machine.{Registers};
-    ghost use Rattle.qm_core.specs.Source.{Pulls};
+    ghost use Rattle.qm_core.specs.Source.{Pulls, bytes_of, heard_of};
     ghost use Rattle.qm_core.specs.Decoder.{has_stopped, DecoderIsAt, Fills, Next};
+    ghost use Rattle.qm_core.specs.Skipping.{IsRun, CanSkip};
+    ghost use Rattle.qm_core.specs.declared.source.Heard.TheVariants.{More};
     ghost use Rattle.qm_core.specs.declared.source.Pulled.{Pulled};
 
     /// A decoder at the beginning of a code, of which nothing was pulled.
@@ -82,6 +86,41 @@ impl Decoder {
             self.fill(source)?;
         }
         Ok(self.decide(learned, cx))
+    }
+
+    /// Takes `count` times the favoured pixel of a context, where the bits that are there show that all
+    /// of them come next and none is followed by a doubling; else it does nothing.
+    #[inline(always)]
+    pub fn skip(&mut self, learned: &Learned, cx: Context, pixel: bool, count: u32) -> bool
+        requires few { count ≤ 64 }
+        ensures stopped { has_stopped self.new ≡ has_stopped self.old }
+        ensures going { IsTrue result → has_stopped self.old ≡ false }
+        ensures unchanged { result ≡ false → self.new ≡ self.old }
+        ensures skipped { (p : Place) (answers : List Pulled) → DecoderIsAt self.old p answers →
+            IsTrue result →
+            IsRun (record { place = p; learned = learned.now })
+            (record { context = cx.number; pixel = pixel }) count
+            × DecoderIsAt self.new (after (record { place = p; learned = learned.now })
+            (replicate count (record { context = cx.number; pixel = pixel }))).place answers
+            × (heard_of answers ≡ More → wanted_bytes p.doublings ≤ length (bytes_of answers)) }
+        ensures exact { (p : Place) (answers : List Pulled) → DecoderIsAt self.old p answers →
+            (IsTrue result ↔ CanSkip self.old (record { place = p; learned = learned.now }) answers
+            (record { context = cx.number; pixel = pixel }) count) }
+    {
+        let is_ready = self.bits >= 16;
+        if !is_ready {
+            return false;
+        }
+        match left_of(learned, cx, pixel, count, self.span) {
+            None => false,
+            Some(left) => {
+                if left <= self.code {
+                    return false;
+                }
+                self.span = left;
+                true
+            }
+        }
     }
 
     /// Pulls until 16 bits are there, at most two bytes.

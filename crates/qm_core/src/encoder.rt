@@ -11,6 +11,7 @@ use crate::context::Context;
 use crate::entries::{Entry, entry_of};
 use crate::learned::Learned;
 use crate::sink::{CodeSink, SinkFault};
+use crate::skipping::left_of;
 
 /// Why an encoder did not do what it was asked.
 #[derive(Clone, Copy, PartialEq, Eq, Debug)]
@@ -223,7 +224,10 @@ fn next_cell(is_favoured: bool, entry: &Entry) -> u8
 }
 
 impl Encoder {
+    ghost use Rattle.std.specs.Prelude.{replicate};
+    ghost use Rattle.qm_core.specs.Place.{after};
     ghost use Rattle.qm_core.specs.Encoder.{event_count, has_failed, RegistersAreAt, EncoderIsAt, Goes, Put, Finish};
+    ghost use Rattle.qm_core.specs.Skipping.{IsRun, has_room};
 
     /// An encoder at the beginning of a code, of which nothing was pushed.
     pub fn start() -> Encoder
@@ -302,6 +306,40 @@ impl Encoder {
         }
         learned.set(cx, next_cell(is_favoured, entry));
         self.go(self.low + lower as u64, entry.span, out)
+    }
+
+    /// Codes `count` times the favoured pixel of a context, where the place has room for all of them
+    /// without a doubling; else it does nothing.
+    #[inline(always)]
+    pub fn skip(&mut self, learned: &Learned, cx: Context, pixel: bool, count: u32) -> bool
+        requires few { count ≤ 64 }
+        requires events { event_count self.old + count ≤ MAX_EVENTS }
+        ensures going { has_failed self.new ≡ has_failed self.old }
+        ensures failed { IsTrue (has_failed self.old) → result ≡ false }
+        ensures unchanged { result ≡ false → self.new ≡ self.old }
+        ensures events { result ≡ true → event_count self.new ≡ event_count self.old + count }
+        ensures skipped { (p : Place) (pushed : List ℕ) → EncoderIsAt self.old p pushed →
+            IsTrue result →
+            IsRun (record { place = p; learned = learned.now })
+            (record { context = cx.number; pixel = pixel }) count
+            × EncoderIsAt self.new (after (record { place = p; learned = learned.now })
+            (replicate count (record { context = cx.number; pixel = pixel }))).place pushed }
+        ensures exact { (p : Place) (pushed : List ℕ) → has_failed self.old ≡ false →
+            EncoderIsAt self.old p pushed →
+            result ≡ has_room (record { place = p; learned = learned.now })
+            (record { context = cx.number; pixel = pixel }) count }
+    {
+        if self.failed {
+            return false;
+        }
+        match left_of(learned, cx, pixel, count, self.span) {
+            None => false,
+            Some(left) => {
+                self.span = left;
+                self.events += count as u64;
+                true
+            }
+        }
     }
 
     /// Goes to a part that is too small, doubled until it is large enough.

@@ -40,7 +40,7 @@ past_at row past x v h =
     let low : past % 2 ^ v ≡ before row x v = ap (λ p. p % 2 ^ v) (h ∙ ap (λ w. before row x w) one) ∙ before_mod row x 1 v in
     rw (e, before_suc row x v, low) (omega arith)
 
-events_next : (mode : Mode) (lines : Lines) (offset : ℕ) (first : List Event) (x cx : ℕ) (pixel : Bool) → cx ≡ context_at mode lines offset x → pixel ≡ pixel_at lines.row x →
+pub events_next : (mode : Mode) (lines : Lines) (offset : ℕ) (first : List Event) (x cx : ℕ) (pixel : Bool) → cx ≡ context_at mode lines offset x → pixel ≡ pixel_at lines.row x →
     (first ++ events_to mode lines offset x) ++ record { context = cx; pixel = pixel } ∷ [] ≡ first ++ events_to mode lines offset (x + 1)
 events_next mode lines offset first x cx pixel c p =
     let f : ℕ → Event = λ y. record { context = context_at mode lines offset y; pixel = pixel_at lines.row y } in

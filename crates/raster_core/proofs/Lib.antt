@@ -17,3 +17,8 @@ pub mod Shifts
 pub mod Packs
 pub mod Parts
 pub mod Choosing
+pub mod Colours
+pub mod Skips
+pub mod SkipsAlong
+pub mod Whites
+pub mod WhitesAlong

@@ -1,5 +1,5 @@
 -- Tests of const parameters, and offsets.
-use Rattle.std.proofs.Common.{◌≡◌, ℕ, zero, suc, Bool, true, false, not, refl, sym, ◌∙◌, ap, arith, eqb}
+use Rattle.std.proofs.Common.{◌≡◌, ◌≤◌, ℕ, zero, suc, Bool, true, false, not, refl, sym, ◌∙◌, ap, arith, eqb}
 use Rattle.std.proofs.lemmas.Bool.Decides.{nat_tests}
 use Rattle.raster_core.specs.Machine.Registers.{is_moved}
 
@@ -16,3 +16,7 @@ clear_is (suc n) b h e = absurd (omega (arith, h))
 pub nominal_none : (offset : ℕ) → is_moved offset ≡ false → offset ≡ 0
 nominal_none zero h = refl
 nominal_none (suc t) h = cc
+
+pub moved_some : (offset : ℕ) → is_moved offset ≡ true → 1 ≤ offset
+moved_some zero h = cc
+moved_some (suc t) h = omega arith

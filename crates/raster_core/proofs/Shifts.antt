@@ -276,9 +276,9 @@ near_next q g d h =
     one_left : (g d : ℕ) → d < 64 → g + (63 - d) ≡ g + 64 - (d + 1)
     one_left g d h = omega arith
 
--- ---- white words
+-- ---- words of one colour
 
-dark : (p : ℕ → Bool) (f n : ℕ) → word p f n ≡ 0 → (i : ℕ) → i < n → p (f + i) ≡ false
+pub dark : (p : ℕ → Bool) (f n : ℕ) → word p f n ≡ 0 → (i : ℕ) → i < n → p (f + i) ≡ false
 unfolding word
 dark p f zero e i lt = absurd (omega (arith, lt))
 dark p f (suc n) e i lt =
@@ -293,24 +293,42 @@ dark p f (suc n) e i lt =
     white_bit true e = absurd (omega (arith, e))
     white_bit false e = refl
 
-all_dark : (p : ℕ → Bool) (place : ℕ) → word p place 64 ≡ 0 → word p (place + 64) 64 ≡ 0 → word p (place + 128) 64 ≡ 0 →
-    (i : ℕ) → i < 192 → p (place + i) ≡ false
-all_dark p place one two three i lt =
-    elim (order i 64) [
-      | inl h ↦ dark p place 64 one i h
-      | inr h ↦ elim (order i 128) [
-        | inl k ↦ ap p (at i 64 h) ∙ dark p (place + 64) 64 two (i - 64) (omega (arith, k))
-        | inr k ↦ ap p (at i 128 k) ∙ dark p (place + 128) 64 three (i - 128) (omega (arith, lt))
-      ]
-    ]
+pub lit : (p : ℕ → Bool) (f n : ℕ) → word p f n ≡ 2 ^ n - 1 → (i : ℕ) → i < n → p (f + i) ≡ true
+lit p f n e i lt =
+    let none : word (λ k. not (p k)) f n ≡ 0 = sym (word_not p f n) ∙ omega (arith, e) in
+    black (p (f + i)) (dark (λ k. not (p k)) f n none i lt)
+  where
+    black : (b : Bool) → not b ≡ false → b ≡ true
+    black true e = refl
+    black false e = sym e
+
+-- what holds in each of three words holds in all
+pub in_all : (p : ℕ → Bool) (place : ℕ) (b : Bool) → ((i : ℕ) → i < 64 → p (place + i) ≡ b) → ((i : ℕ) → i < 64 → p (place + 64 + i) ≡ b) → ((i : ℕ) → i < 64 → p (place + 128 + i) ≡ b) →
+    (i : ℕ) → i < 192 → p (place + i) ≡ p place
+in_all p place b one two three i lt =
+    there i lt ∙ sym (ap p (sym (add-zero place)) ∙ one 0 (omega arith))
   where
     at : (i k : ℕ) → k ≤ i → place + i ≡ place + k + (i - k)
     at i k h = omega (arith, h)
 
-white_n : (p m : ℕ → Bool) (place c lag n : ℕ) → ((i : ℕ) → i < 192 → p (place + i) ≡ false) → lag ≤ 127 → n ≤ 64 →
+    there : (i : ℕ) → i < 192 → p (place + i) ≡ b
+    there i lt =
+        elim (order i 64) [
+          | inl h ↦ one i h
+          | inr h ↦ elim (order i 128) [
+            | inl k ↦ ap p (at i 64 h) ∙ two (i - 64) (omega (arith, k))
+            | inr k ↦ ap p (at i 128 k) ∙ three (i - 128) (omega (arith, lt))
+          ]
+        ]
+
+same_self : (b : Bool) → same b b ≡ true
+same_self true = refl
+same_self false = refl
+
+even_n : (p m : ℕ → Bool) (place c lag n : ℕ) → ((i : ℕ) → i < 192 → p (place + i) ≡ p place) → lag ≤ 127 → n ≤ 64 →
     count_ones (word m c n) ≡ agreed_from p p m (place + 128) (place + 128 - lag) c n
 unfolding agreed_from
-white_n p m place c lag n h high le =
+even_n p m place c lag n h high le =
     word_ones m c n
     ∙ count_same m (λ i. m (c + i) && same (p (place + 128 + i)) (p ((place + 128 - lag) + i))) c 0 n (λ i lt. sym (here i lt))
   where
@@ -329,12 +347,13 @@ white_n p m place c lag n h high le =
 
     here : (i : ℕ) → i < n → m (c + (0 + i)) && same (p (place + 128 + (0 + i))) (p ((place + 128 - lag) + (0 + i))) ≡ m (c + i)
     here i lt =
-        let one : p (place + 128 + (0 + i)) ≡ false = ap p (one_at i) ∙ h (128 + i) (omega (arith, lt, le)) in
-        let other : p ((place + 128 - lag) + (0 + i)) ≡ false = ap p (other_at i) ∙ h (128 - lag + i) (omega (arith, lt, le)) in
+        let one : p (place + 128 + (0 + i)) ≡ p place = ap p (one_at i) ∙ h (128 + i) (omega (arith, lt, le)) in
+        let other : p ((place + 128 - lag) + (0 + i)) ≡ p place = ap p (other_at i) ∙ h (128 - lag + i) (omega (arith, lt, le)) in
         ap (λ x. m (c + (0 + i)) && same x (p ((place + 128 - lag) + (0 + i)))) one
-        ∙ ap (λ x. m (c + (0 + i)) && same false x) other
+        ∙ ap (λ x. m (c + (0 + i)) && same (p place) x) other
+        ∙ ap (λ x. m (c + (0 + i)) && x) (same_self (p place))
         ∙ kept (m (c + (0 + i))) ∙ ap (λ k. m (c + k)) (start i)
 
-pub white_agreed : (p m : ℕ → Bool) (place c lag : ℕ) → word p place 64 ≡ 0 → word p (place + 64) 64 ≡ 0 → word p (place + 128) 64 ≡ 0 → lag ≤ 127 →
+pub even_agreed : (p m : ℕ → Bool) (place c lag : ℕ) → ((i : ℕ) → i < 192 → p (place + i) ≡ p place) → lag ≤ 127 →
     count_ones (word m c 64) ≡ agreed_from p p m (place + 128) (place + 128 - lag) c 64
-white_agreed p m place c lag one two three high = white_n p m place c lag 64 (all_dark p place one two three) high (lit≤ tt)
+even_agreed p m place c lag h high = even_n p m place c lag 64 h high (lit≤ tt)

@@ -1,5 +1,6 @@
 -- How rows are coded: what registers, words and bytes stand for on the way.
 pub mod Registers
 pub mod Words
+pub mod Uniform
 pub mod Decoded
 pub mod Encoded

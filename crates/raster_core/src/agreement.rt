@@ -1,6 +1,6 @@
 //! At how many pixels of a word a row agrees with its adaptive pixel.
 
-ghost use Rattle.std.specs.Prelude.{ℕ, ◌+◌, ◌-◌, ◌*◌, ◌^◌, ◌≡◌, ◌≤◌, ◌<◌, Bool, slice_index};
+ghost use Rattle.std.specs.Prelude.{ℕ, ◌+◌, ◌-◌, ◌*◌, ◌^◌, ◌≡◌, ◌≤◌, ◌<◌, Bool, IsTrue, slice_index};
 ghost use Rattle.raster_core.specs.Lines.{Lines};
 ghost use Rattle.raster_core.specs.Packed.{packed_row};
 ghost use Rattle.raster_core.specs.Machine.Words.{word as pixels_word, led, is_within, agreed_from, part_agreement};
@@ -53,9 +53,23 @@ pub(crate) fn held_in(
     }
 }
 
+/// Whether the pixels of three words are all white, or all black.
+#[inline(always)]
+fn is_even(second: u64, before: u64, word: u64) -> bool
+    ensures { (p : ℕ → Bool) (place : ℕ) → second ≡ pixels_word p place 64 →
+        before ≡ pixels_word p (place + 64) 64
+        → word ≡ pixels_word p (place + 128) 64 → IsTrue result → (i : ℕ) → i < 192 →
+        p (place + i) ≡ p place }
+{
+    if second == 0 {
+        return before | word == 0;
+    }
+    second & before & word == u64::MAX
+}
+
 /// Counts the pixels of a word at each lag from `least` to `most`; `second` and `before` are the
-/// words to its left. Where all three are white the pixels agree at each lag: their number is
-/// answered, and not counted.
+/// words to its left. Where all three are white, or black, the pixels agree at each lag: their
+/// number is answered, and not counted.
 pub(crate) fn add_word(
     counts: &mut [u64; 128],
     least: usize,
@@ -80,7 +94,7 @@ pub(crate) fn add_word(
         64 }
 {
     let end = most + 1;
-    if second | before | word == 0 {
+    if is_even(second, before, word) {
         return u64::from(mask.count_ones());
     }
     if end <= 64 {

@@ -1,12 +1,12 @@
 //! Decoding a row.
 
-ghost use Rattle.std.specs.Prelude.{◌≡◌, ℕ, ◌+◌, ◌-◌, ◌*◌, ◌^◌, ◌<◌, ◌≤◌, ◌↔◌, length, List, IsTrue, IsErr, OnOk, OnErr, IfOk, false, true};
+ghost use Rattle.std.specs.Prelude.{◌≡◌, ℕ, ◌+◌, ◌-◌, ◌*◌, ◌^◌, ◌<◌, ◌≤◌, ◌↔◌, length, List, slice_index, IsTrue, IsErr, OnOk, OnErr, IfOk, false, true};
 ghost use Rattle.std.specs.Int.{div_ceil};
 ghost use Rattle.qm_core.specs.Source.{Pulls};
 ghost use Rattle.qm_core.specs.Place.{Place};
 ghost use Rattle.qm_core.specs.Decoder.{DecoderIsAt, has_stopped};
 ghost use Rattle.qm_core.specs.declared.source.Pulled.{Pulled};
-ghost use Rattle.raster_core.specs.Machine.Decoded.{Along, StopsAlong, RowAlong, RowStops};
+ghost use Rattle.raster_core.specs.Machine.Decoded.{Along, StopsAlong, SkipsAlong, SkipsWhiteAlong, RowAlong, RowStops};
 ghost use Rattle.raster_core.specs.Lines.{Lines};
 ghost use Rattle.raster_core.specs.Window.{shape_mode, held, width_of};
 ghost use Rattle.raster_core.specs.Packed.{HasLines, SameAbove};
@@ -16,6 +16,7 @@ ghost use Rattle.raster_core.specs.Row.{FirstDecoded, FirstStopped, RowDecoded};
 use crate::bytes::byte_at;
 use crate::context::{by_template, context_of, flag_context, past_and};
 use crate::shape::{Kept, Shape};
+use crate::uniform::{is_blank, is_run, is_white_above, past_eight, uniform_context, whiten};
 use crate::window::Window;
 use qm_core::{CodeBytes, Decoder, Learned, Stop, laws};
 
@@ -68,6 +69,194 @@ fn decode_byte<S: CodeBytes, const TWO_LINE: bool, const MOVED: bool>(
     Ok(past)
 }
 
+/// Decodes a byte in one step, if it is `byte` and its pixels all stand among pixels of their own
+/// colour, and no byte of the code is wanted. Else it does nothing.
+#[inline(always)]
+fn skip_byte<const MOVED: bool>(
+    shape: Shape,
+    offset: u8,
+    second_bytes: u32,
+    above_bytes: u32,
+    byte: u8,
+    before: u128,
+    n: u32,
+    learned: &Learned,
+    decoder: &mut Decoder,
+) -> bool
+    requires offset { offset ≤ 127 }
+    requires moved { MOVED ≡ is_moved offset }
+    ensures stopped { has_stopped decoder.new ≡ has_stopped decoder.old }
+    ensures going { result ≡ true → has_stopped decoder.old ≡ false }
+    ensures unchanged { result ≡ false → decoder.new ≡ decoder.old }
+    ensures eight { result ≡ true → n ≡ 8 }
+    ensures skipped { result ≡ true → SkipsAlong (shape_mode shape) offset second_bytes above_bytes
+        byte before decoder.old learned.now decoder.new }
+{
+    let colour = byte == 255;
+    if is_run::<MOVED>(offset, second_bytes, above_bytes, byte, before, n) {
+        decoder.skip(learned, uniform_context(colour), colour, 8)
+    } else {
+        false
+    }
+}
+
+/// Decodes n pixels of a byte, all eight in one step where that can be: where the byte is as the
+/// one above it, of one colour.
+#[inline(always)]
+fn decode_step<S: CodeBytes, const TWO_LINE: bool, const MOVED: bool>(
+    shape: Shape,
+    offset: u8,
+    second_bytes: u32,
+    above_bytes: u32,
+    before: u128,
+    n: u32,
+    learned: &mut Learned,
+    decoder: &mut Decoder,
+    source: &mut S,
+) -> Result<u128, Stop>
+    requires count { S.failed source.old + 1 < 2 ^ 64 }
+    requires offset { offset ≤ 127 }
+    requires template { TWO_LINE ≡ shape.two_line }
+    requires moved { MOVED ≡ is_moved offset }
+    requires second { second_bytes < 2 ^ 24 }
+    requires above { above_bytes < 2 ^ 24 }
+    requires some { 1 ≤ n }
+    requires few { n ≤ 8 }
+    ensures stopped { IsTrue (has_stopped decoder.old) → IsErr result ×
+        (decoder.new ≡ decoder.old) × (source.new ≡ source.old) }
+    ensures stops { IsTrue (has_stopped decoder.new) ↔ IsErr result }
+    ensures same { OnOk result (S.failed source.new ≡ S.failed source.old) }
+    ensures counted { has_stopped decoder.old ≡ false →
+        OnErr result (S.failed source.new ≡ S.failed source.old + 1) }
+    ensures ok { IfOk result (λ past. Along (Pulls S.gives S.failed) source.old source.new
+        (shape_mode shape) offset second_bytes above_bytes before
+        decoder.old learned.old n past decoder.new learned.new) }
+    ensures err { OnErr result (StopsAlong (Pulls S.gives S.failed) source.old source.new
+        (shape_mode shape) offset second_bytes above_bytes before
+        decoder.old learned.old n decoder.new) }
+{
+    let byte = ((above_bytes >> 8) % 256) as u8;
+    if skip_byte::<MOVED>(
+        shape,
+        offset,
+        second_bytes,
+        above_bytes,
+        byte,
+        before,
+        n,
+        learned,
+        decoder,
+    ) {
+        Ok(past_eight::<MOVED>(before, byte))
+    } else {
+        decode_byte::<_, TWO_LINE, MOVED>(
+            shape,
+            offset,
+            second_bytes,
+            above_bytes,
+            before,
+            n,
+            learned,
+            decoder,
+            source,
+        )
+    }
+}
+
+/// Decodes eight bytes in one step, where they are white and below white ones, and no byte of the
+/// code is wanted. Else it does nothing. What stands before them has to be white.
+#[inline(always)]
+fn skip_word(
+    above: &[u8],
+    second: &[u8],
+    i: usize,
+    left: u32,
+    learned: &Learned,
+    decoder: &mut Decoder,
+) -> bool
+    requires place { i < 2 ^ 32 }
+    ensures stopped { has_stopped decoder.new ≡ has_stopped decoder.old }
+    ensures going { result ≡ true → has_stopped decoder.old ≡ false }
+    ensures unchanged { result ≡ false → decoder.new ≡ decoder.old }
+    ensures inside { result ≡ true → 64 < left }
+    ensures skipped { result ≡ true → SkipsWhiteAlong above.now second.now i 8 decoder.old
+        learned.now decoder.new }
+{
+    if is_white_above(above, second, i, left) {
+        decoder.skip(learned, uniform_context(false), false, 64)
+    } else {
+        false
+    }
+}
+
+/// Decodes white bytes by eights, and says how many eights, as long as that can be.
+#[inline(never)]
+fn skip_words(
+    above: &[u8],
+    second: &[u8],
+    i: usize,
+    left: u32,
+    learned: &Learned,
+    decoder: &mut Decoder,
+) -> u32
+    requires some { 1 ≤ left }
+    requires place { 8 * i + left < 2 ^ 32 }
+    ensures stopped { has_stopped decoder.new ≡ has_stopped decoder.old }
+    ensures going { 1 ≤ result → has_stopped decoder.old ≡ false }
+    ensures unchanged { result ≡ 0 → decoder.new ≡ decoder.old }
+    ensures inside { 64 * result < left }
+    ensures skipped { SkipsWhiteAlong above.now second.now i (8 * result) decoder.old learned.now
+        decoder.new }
+{
+    let mut words = 0u32;
+    let mut at = i;
+    let mut rest = left;
+    'words: while skip_word(above, second, at, rest, learned, decoder) {
+        words += 1;
+        at += 8;
+        rest -= 64;
+    }
+    words
+}
+
+/// The same after white pixels alone, and writes the white bytes; else it decodes nothing.
+#[inline(always)]
+fn skip_blank(
+    current: &mut [u8],
+    above: &[u8],
+    second: &[u8],
+    i: usize,
+    left: u32,
+    second_bytes: u32,
+    above_bytes: u32,
+    before: u128,
+    learned: &Learned,
+    decoder: &mut Decoder,
+) -> u32
+    requires some { 1 ≤ left }
+    requires place { 8 * i + left < 2 ^ 32 }
+    requires long { length current.old ≡ div_ceil (8 * i + left) 8 }
+    ensures stopped { has_stopped decoder.new ≡ has_stopped decoder.old }
+    ensures going { 1 ≤ result → has_stopped decoder.old ≡ false }
+    ensures unchanged { result ≡ 0 → decoder.new ≡ decoder.old }
+    ensures inside { 64 * result < left }
+    ensures second { 1 ≤ result → second_bytes ≡ 0 }
+    ensures above { 1 ≤ result → above_bytes ≡ 0 }
+    ensures before { 1 ≤ result → before ≡ 0 }
+    ensures white { (k : ℕ) → i ≤ k → k < i + 8 * result → slice_index current.new k ≡ 0 }
+    ensures kept { (k : ℕ) → k < i → slice_index current.new k ≡ slice_index current.old k }
+    ensures skipped { SkipsWhiteAlong above.now second.now i (8 * result) decoder.old learned.now
+        decoder.new }
+{
+    if is_blank(second_bytes, above_bytes, before) {
+        let words = skip_words(above, second, i, left, learned, decoder);
+        whiten(current, i, i + 8 * words as usize);
+        words
+    } else {
+        0
+    }
+}
+
 /// Decodes the pixels of a plain row.
 fn decode_bytes<S: CodeBytes, const TWO_LINE: bool, const MOVED: bool>(
     shape: Shape,
@@ -102,11 +291,29 @@ fn decode_bytes<S: CodeBytes, const TWO_LINE: bool, const MOVED: bool>(
     let mut second_bytes = byte_at(second, 0);
     let mut past = 0u128;
     let mut left = shape.width;
-    for i in 0..current.len() {
+    let mut i = 0;
+    while i < current.len() {
+        let words = skip_blank(
+            current,
+            above,
+            second,
+            i,
+            left,
+            second_bytes,
+            above_bytes,
+            past,
+            learned,
+            decoder,
+        );
+        if words > 0 {
+            i += 8 * words as usize;
+            left -= 64 * words;
+            continue;
+        }
         above_bytes = above_bytes % 0x1_0000 * 256 + byte_at(above, i + 1);
         second_bytes = second_bytes % 0x1_0000 * 256 + byte_at(second, i + 1);
         let n = left.min(8);
-        past = decode_byte::<_, TWO_LINE, MOVED>(
+        past = decode_step::<_, TWO_LINE, MOVED>(
             shape,
             offset,
             second_bytes,
@@ -119,6 +326,7 @@ fn decode_bytes<S: CodeBytes, const TWO_LINE: bool, const MOVED: bool>(
         )?;
         current[i] = ((((past % 256) as u32) << (8 - n)) % 256) as u8;
         left -= n;
+        i += 1;
     }
     Ok(())
 }

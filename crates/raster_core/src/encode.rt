@@ -5,7 +5,7 @@ ghost use Rattle.std.specs.Int.{div_ceil};
 ghost use Rattle.qm_core.specs.Encoder.{EncoderIsAt, event_count, has_failed};
 ghost use Rattle.qm_core.specs.Place.{Place};
 ghost use Rattle.raster_core.specs.Events.{Encodes, Fails};
-ghost use Rattle.raster_core.specs.Machine.Encoded.{EncodesByte, FailsByte, EncodesRow, FailsRow};
+ghost use Rattle.raster_core.specs.Machine.Encoded.{EncodesByte, FailsByte, SkipsByte, SkipsWhite, EncodesRow, FailsRow};
 ghost use Rattle.raster_core.specs.Lines.{Lines, may_be_typical, pseudo_event};
 ghost use Rattle.raster_core.specs.Window.{shape_mode, held, width_of};
 ghost use Rattle.raster_core.specs.Packed.{HasLines, packed_row};
@@ -15,6 +15,7 @@ ghost use Rattle.raster_core.specs.Row.{RowEncoded};
 use crate::bytes::byte_at;
 use crate::context::{by_template, context_of, flag_context, past_and};
 use crate::shape::{Kept, Shape};
+use crate::uniform::{is_blank, is_run, is_white, is_white_above, past_eight, uniform_context};
 use crate::window::Window;
 use qm_core::{CodeSink, CoderFault, Encoder, Learned, MAX_EVENTS};
 
@@ -74,6 +75,205 @@ fn encode_byte<W: CodeSink, const TWO_LINE: bool, const MOVED: bool>(
     Ok(past)
 }
 
+/// Encodes a byte in one step, where its pixels all stand among pixels of their own colour, and no
+/// byte of the code comes of it. Else it does nothing.
+#[inline(always)]
+fn skip_byte<const MOVED: bool>(
+    shape: Shape,
+    offset: u8,
+    second_bytes: u32,
+    above_bytes: u32,
+    byte: u8,
+    before: u128,
+    n: u32,
+    learned: &Learned,
+    encoder: &mut Encoder,
+) -> bool
+    requires offset { offset ≤ 127 }
+    requires moved { MOVED ≡ is_moved offset }
+    requires events { event_count encoder.old + n ≤ MAX_EVENTS }
+    ensures going { has_failed encoder.new ≡ has_failed encoder.old }
+    ensures failed { IsTrue (has_failed encoder.old) → result ≡ false }
+    ensures unchanged { result ≡ false → encoder.new ≡ encoder.old }
+    ensures eight { result ≡ true → n ≡ 8 }
+    ensures events { result ≡ true → event_count encoder.new ≡ event_count encoder.old + 8 }
+    ensures skipped { result ≡ true → SkipsByte (shape_mode shape) offset second_bytes above_bytes
+        byte
+        before encoder.old learned.now encoder.new }
+{
+    let colour = byte == 255;
+    if is_run::<MOVED>(offset, second_bytes, above_bytes, byte, before, n) {
+        encoder.skip(learned, uniform_context(colour), colour, 8)
+    } else {
+        false
+    }
+}
+
+/// Encodes the first n pixels of a byte, all eight in one step where that can be.
+#[inline(always)]
+fn encode_step<W: CodeSink, const TWO_LINE: bool, const MOVED: bool>(
+    shape: Shape,
+    offset: u8,
+    second_bytes: u32,
+    above_bytes: u32,
+    byte: u8,
+    before: u128,
+    n: u32,
+    learned: &mut Learned,
+    encoder: &mut Encoder,
+    out: &mut W,
+) -> Result<u128, CoderFault>
+    requires count { W.failed out.old + 1 < 2 ^ 64 }
+    requires offset { offset ≤ 127 }
+    requires template { TWO_LINE ≡ shape.two_line }
+    requires moved { MOVED ≡ is_moved offset }
+    requires second { second_bytes < 2 ^ 24 }
+    requires above { above_bytes < 2 ^ 24 }
+    requires some { 1 ≤ n }
+    requires few { n ≤ 8 }
+    requires events { event_count encoder.old + n ≤ MAX_EVENTS }
+    ensures failed { IsTrue (has_failed encoder.old) → (result ≡ Err CoderFault.Failed) ×
+        (encoder.new ≡ encoder.old) × (out.new ≡ out.old) }
+    ensures fails { IsTrue (has_failed encoder.new) ↔ IsErr result }
+    ensures fault { has_failed encoder.old ≡ false → IsErr result → result ≡ Err CoderFault.Write }
+    ensures events { OnOk result (event_count encoder.new ≡ event_count encoder.old + n) }
+    ensures same { OnOk result (W.failed out.new ≡ W.failed out.old) }
+    ensures counted { has_failed encoder.old ≡ false →
+        OnErr result (W.failed out.new ≡ W.failed out.old + 1) }
+    ensures ok { IfOk result (λ past. EncodesByte W.took out.old out.new (shape_mode shape) offset
+        second_bytes above_bytes byte before
+        encoder.old learned.old n past encoder.new learned.new) }
+    ensures err { has_failed encoder.old ≡ false →
+        OnErr result (FailsByte W.took W.refused out.old out.new (shape_mode shape) offset
+        second_bytes
+        above_bytes byte before
+        encoder.old learned.old n) }
+{
+    if skip_byte::<MOVED>(
+        shape,
+        offset,
+        second_bytes,
+        above_bytes,
+        byte,
+        before,
+        n,
+        learned,
+        encoder,
+    ) {
+        Ok(past_eight::<MOVED>(before, byte))
+    } else {
+        encode_byte::<_, TWO_LINE, MOVED>(
+            shape,
+            offset,
+            second_bytes,
+            above_bytes,
+            byte,
+            before,
+            n,
+            learned,
+            encoder,
+            out,
+        )
+    }
+}
+
+/// Encodes eight bytes in one step, where they are white and below white ones, and no byte of the
+/// code comes of it. Else it does nothing. What stands before them has to be white.
+#[inline(always)]
+fn skip_word(
+    current: &[u8],
+    above: &[u8],
+    second: &[u8],
+    i: usize,
+    left: u32,
+    learned: &Learned,
+    encoder: &mut Encoder,
+) -> bool
+    requires place { i < 2 ^ 32 }
+    requires events { event_count encoder.old + left ≤ MAX_EVENTS }
+    ensures going { has_failed encoder.new ≡ has_failed encoder.old }
+    ensures failed { IsTrue (has_failed encoder.old) → result ≡ false }
+    ensures unchanged { result ≡ false → encoder.new ≡ encoder.old }
+    ensures inside { result ≡ true → 64 < left }
+    ensures events { result ≡ true → event_count encoder.new ≡ event_count encoder.old + 64 }
+    ensures skipped { result ≡ true → SkipsWhite current.now above.now second.now i 8 encoder.old
+        learned.now encoder.new }
+{
+    if is_white_above(above, second, i, left) && is_white(current, i) {
+        encoder.skip(learned, uniform_context(false), false, 64)
+    } else {
+        false
+    }
+}
+
+/// Encodes white bytes by eights, and says how many eights, as long as that can be.
+#[inline(never)]
+fn skip_words(
+    current: &[u8],
+    above: &[u8],
+    second: &[u8],
+    i: usize,
+    left: u32,
+    learned: &Learned,
+    encoder: &mut Encoder,
+) -> u32
+    requires some { 1 ≤ left }
+    requires place { 8 * i + left < 2 ^ 32 }
+    requires events { event_count encoder.old + left ≤ MAX_EVENTS }
+    ensures going { has_failed encoder.new ≡ has_failed encoder.old }
+    ensures failed { IsTrue (has_failed encoder.old) → result ≡ 0 }
+    ensures unchanged { result ≡ 0 → encoder.new ≡ encoder.old }
+    ensures inside { 64 * result < left }
+    ensures events { event_count encoder.new ≡ event_count encoder.old + 64 * result }
+    ensures skipped { SkipsWhite current.now above.now second.now i (8 * result) encoder.old
+        learned.now encoder.new }
+{
+    let mut words = 0u32;
+    let mut at = i;
+    let mut rest = left;
+    'words: while skip_word(current, above, second, at, rest, learned, encoder) {
+        words += 1;
+        at += 8;
+        rest -= 64;
+    }
+    words
+}
+
+/// The same after white pixels alone; else it encodes nothing.
+#[inline(always)]
+fn skip_blank(
+    current: &[u8],
+    above: &[u8],
+    second: &[u8],
+    i: usize,
+    left: u32,
+    second_bytes: u32,
+    above_bytes: u32,
+    before: u128,
+    learned: &Learned,
+    encoder: &mut Encoder,
+) -> u32
+    requires some { 1 ≤ left }
+    requires place { 8 * i + left < 2 ^ 32 }
+    requires events { event_count encoder.old + left ≤ MAX_EVENTS }
+    ensures going { has_failed encoder.new ≡ has_failed encoder.old }
+    ensures failed { IsTrue (has_failed encoder.old) → result ≡ 0 }
+    ensures unchanged { result ≡ 0 → encoder.new ≡ encoder.old }
+    ensures inside { 64 * result < left }
+    ensures events { event_count encoder.new ≡ event_count encoder.old + 64 * result }
+    ensures second { 1 ≤ result → second_bytes ≡ 0 }
+    ensures above { 1 ≤ result → above_bytes ≡ 0 }
+    ensures before { 1 ≤ result → before ≡ 0 }
+    ensures skipped { SkipsWhite current.now above.now second.now i (8 * result) encoder.old
+        learned.now encoder.new }
+{
+    if is_blank(second_bytes, above_bytes, before) {
+        skip_words(current, above, second, i, left, learned, encoder)
+    } else {
+        0
+    }
+}
+
 /// Encodes the pixels of a plain row.
 fn encode_bytes<W: CodeSink, const TWO_LINE: bool, const MOVED: bool>(
     shape: Shape,
@@ -114,11 +314,29 @@ fn encode_bytes<W: CodeSink, const TWO_LINE: bool, const MOVED: bool>(
     let mut second_bytes = byte_at(second, 0);
     let mut past = 0u128;
     let mut left = shape.width;
-    for i in 0..current.len() {
+    let mut i = 0;
+    while i < current.len() {
+        let words = skip_blank(
+            current,
+            above,
+            second,
+            i,
+            left,
+            second_bytes,
+            above_bytes,
+            past,
+            learned,
+            encoder,
+        );
+        if words > 0 {
+            i += 8 * words as usize;
+            left -= 64 * words;
+            continue;
+        }
         above_bytes = above_bytes % 0x1_0000 * 256 + byte_at(above, i + 1);
         second_bytes = second_bytes % 0x1_0000 * 256 + byte_at(second, i + 1);
         let n = left.min(8);
-        past = encode_byte::<_, TWO_LINE, MOVED>(
+        past = encode_step::<_, TWO_LINE, MOVED>(
             shape,
             offset,
             second_bytes,
@@ -131,6 +349,7 @@ fn encode_bytes<W: CodeSink, const TWO_LINE: bool, const MOVED: bool>(
             out,
         )?;
         left -= n;
+        i += 1;
     }
     Ok(())
 }

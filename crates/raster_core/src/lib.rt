@@ -10,6 +10,7 @@ mod decode;
 mod encode;
 mod shape;
 mod tally;
+mod uniform;
 mod window;
 mod words;
 

@@ -1,12 +1,18 @@
 -- What decoding the pixels of a row leaves, on the way.
-use Rattle.std.specs.Prelude.{ℕ, ◌+◌, ◌*◌, ◌≡◌, ◌<◌, Bool, List, [], ◌++◌, length, slice_index}
-use Rattle.qm_core.specs.Place.{State, Event, Estimate}
+use Rattle.std.specs.Prelude.{ℕ, ◌+◌, ◌*◌, ◌≡◌, ◌≤◌, ◌<◌, Bool, false, List, [], ◌++◌, length, replicate, slice_index}
+use Rattle.qm_core.specs.Place.{Place, State, Event, Estimate, after}
+use Rattle.qm_core.specs.Source.{bytes_of, heard_of}
+use Rattle.qm_core.specs.Code.{wanted_bytes}
+use Rattle.qm_core.specs.Skipping.{IsRun}
+use Rattle.qm_core.specs.Decoder.{DecoderIsAt, has_stopped}
+use Rattle.qm_core.specs.declared.source.Heard.TheVariants.{More}
 use Rattle.qm_core.specs.declared.source.Pulled.{Pulled}
 use Rattle.qm_core.specs.declared.decoder.Decoder.{Decoder}
 use Rattle.raster_core.specs.Lines.{Lines, Mode, pixel_events}
-use Rattle.raster_core.specs.Machine.Registers.{before, past_bits}
+use Rattle.raster_core.specs.Machine.Registers.{bit, before, past_bits}
 use Rattle.raster_core.specs.Events.{Decodes, Stops}
 use Rattle.raster_core.specs.Packed.{packed_row}
+use Rattle.raster_core.specs.Machine.Uniform.{uniform_event, StaysUniform, AreWhite}
 
 -- the lines with another current row
 abbrev pub with_row : Lines → List Bool → Lines
@@ -51,6 +57,28 @@ StopsAlong {S} pull old new mode offset second above past d learned n d' =
     PixelsSoFar pull from old mode offset first s answers lines done past d learned →
     second ≡ before lines.second (length done + 16) 24 → above ≡ before lines.above (length done + 16) 24 →
     PixelsStop pull from new mode offset first s answers lines (length done + n) d'
+
+-- A byte of one colour was decoded in one step, with no byte asked for: each of its pixels stands in the context of that colour.
+pub record SkipsAlong (mode : Mode) (offset second above byte past : ℕ) (d : Decoder) (learned : List Estimate) (d' : Decoder) : Type 0 where
+  pub colour : Bool
+  pub byte_is : byte ≡ bit colour * 255
+  pub going : has_stopped d ≡ false
+  pub uniform : (lines : Lines) (x : ℕ) → second ≡ before lines.second (x + 16) 24 → above ≡ before lines.above (x + 16) 24 → past ≡ before lines.row x (past_bits offset) →
+      StaysUniform mode lines offset colour x 8
+  pub decoded : (p : Place) (answers : List Pulled) → DecoderIsAt d p answers →
+      IsRun (record { place = p; learned = learned }) (uniform_event colour) 8
+      × DecoderIsAt d' (after (record { place = p; learned = learned }) (replicate 8 (uniform_event colour))).place answers
+      × (heard_of answers ≡ More → wanted_bytes p.doublings ≤ length (bytes_of answers))
+
+-- `count` white bytes from byte i on, below white bytes up to the one after them, were decoded in one step, with no byte asked for.
+pub record SkipsWhiteAlong (above second : List ℕ) (i count : ℕ) (d : Decoder) (learned : List Estimate) (d' : Decoder) : Type 0 where
+  pub above_white : AreWhite above (i + 1) count
+  pub second_white : AreWhite second (i + 1) count
+  pub none : count ≡ 0 → d' ≡ d
+  pub decoded : (p : Place) (answers : List Pulled) → DecoderIsAt d p answers →
+      IsRun (record { place = p; learned = learned }) (uniform_event false) (8 * count)
+      × DecoderIsAt d' (after (record { place = p; learned = learned }) (replicate (8 * count) (uniform_event false))).place answers
+      × (1 ≤ count → heard_of answers ≡ More → wanted_bytes p.doublings ≤ length (bytes_of answers))
 
 -- The bytes of a row have been decoded up to byte i.
 pub record BytesSoFar {S : Type 0} (pull : S → Pulled → S → Type 0) (from to : S) (mode : Mode) (offset : ℕ) (first : List Event)

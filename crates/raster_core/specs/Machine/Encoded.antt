@@ -1,11 +1,14 @@
 -- What encoding the pixels of a row leaves, on the way.
-use Rattle.std.specs.Prelude.{ℕ, ◌+◌, ◌*◌, ◌≡◌, ◌<◌, List, ◌++◌, map}
-use Rattle.qm_core.specs.Place.{State, Event, Estimate}
+use Rattle.std.specs.Prelude.{ℕ, ◌+◌, ◌*◌, ◌≡◌, ◌<◌, Bool, false, List, ◌++◌, map, replicate}
+use Rattle.qm_core.specs.Place.{Place, State, Event, Estimate, after}
+use Rattle.qm_core.specs.Encoder.{EncoderIsAt}
+use Rattle.qm_core.specs.Skipping.{IsRun}
 use Rattle.qm_core.specs.declared.encoder.Encoder.{Encoder}
 use Rattle.raster_core.specs.Raster.{pixel_at}
 use Rattle.raster_core.specs.Lines.{Lines, Mode, numbers_from, context_at}
-use Rattle.raster_core.specs.Machine.Registers.{before, past_bits}
+use Rattle.raster_core.specs.Machine.Registers.{bit, before, past_bits}
 use Rattle.raster_core.specs.Packed.{packed_row}
+use Rattle.raster_core.specs.Machine.Uniform.{uniform_event, StaysUniform, AreWhite}
 use Rattle.raster_core.specs.Events.{Encodes, Fails}
 
 -- the first x pixels of the row in their contexts
@@ -46,6 +49,25 @@ FailsByte {S} took refused old new mode offset second above byte past e learned 
     (from : S) (first : List Event) (s : State) (pushed : List ℕ) (lines : Lines) (x : ℕ) →
     EncodedTo took from old mode offset first s pushed lines x past e learned → ByteAt lines second above byte x →
     FailedTo took refused from new mode offset first s pushed lines (x + n)
+
+-- a byte of one colour was encoded in one step, with no byte of the code: each of its pixels stands in the context of that colour
+pub record SkipsByte (mode : Mode) (offset second above byte past : ℕ) (e : Encoder) (learned : List Estimate) (e' : Encoder) : Type 0 where
+  pub colour : Bool
+  pub byte_is : byte ≡ bit colour * 255
+  pub uniform : (lines : Lines) (x : ℕ) → second ≡ before lines.second (x + 16) 24 → above ≡ before lines.above (x + 16) 24 → past ≡ before lines.row x (past_bits offset) →
+      StaysUniform mode lines offset colour x 8
+  pub coded : (p : Place) (pushed : List ℕ) → EncoderIsAt e p pushed →
+      IsRun (record { place = p; learned = learned }) (uniform_event colour) 8
+      × EncoderIsAt e' (after (record { place = p; learned = learned }) (replicate 8 (uniform_event colour))).place pushed
+
+-- `count` white bytes from byte i on, below white bytes up to the one after them, were encoded in one step, with no byte of the code
+pub record SkipsWhite (current above second : List ℕ) (i count : ℕ) (e : Encoder) (learned : List Estimate) (e' : Encoder) : Type 0 where
+  pub row_white : AreWhite current i count
+  pub above_white : AreWhite above (i + 1) count
+  pub second_white : AreWhite second (i + 1) count
+  pub coded : (p : Place) (pushed : List ℕ) → EncoderIsAt e p pushed →
+      IsRun (record { place = p; learned = learned }) (uniform_event false) (8 * count)
+      × EncoderIsAt e' (after (record { place = p; learned = learned }) (replicate (8 * count) (uniform_event false))).place pushed
 
 -- the bytes of a row are encoded up to byte i
 pub record RowTo {S : Type 0} (took : S → ℕ → S → Type 0) (from to : S) (mode : Mode) (offset : ℕ) (first : List Event)

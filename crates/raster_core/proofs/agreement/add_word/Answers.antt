@@ -1,8 +1,7 @@
-use Rattle.std.proofs.Common.{◌≡◌, ℕ, ◌+◌, ◌-◌, ◌∙◌, sym, ap, arith, get_or, inl, inr}
+use Rattle.std.proofs.Common.{◌≡◌, ℕ, ◌+◌, ◌-◌, ◌∙◌, ap, arith, get_or, inl, inr}
 use Rattle.raster_core.specs.Machine.Words.{word, agreed_from}
-use Rattle.std.specs.Prelude.{bit_or, count_ones}
-use Rattle.std.proofs.lemmas.Nat.{le_or_l, le_or_r}
-use Rattle.raster_core.proofs.Shifts.{white_agreed}
+use Rattle.std.specs.Prelude.{count_ones}
+use Rattle.raster_core.proofs.Shifts.{even_agreed}
 use Rattle.raster_core.proofs.Parts.{order}
 use Rattle.raster_core.proofs.agreement.add_word.Goals as goal
 
@@ -37,13 +36,8 @@ returns-else-end-le64-clause-counts d p m place c second before one mask lag fro
           ∙ ap (λ x. get_or d.args.counts.now lag 0 + agreed_from p p m (place + 128) x c 64) (far place lag)
     ])
 
-pub returns-then-second-before-eq0-clause-counts : goal.returns-then-second-before-eq0-clause-counts
-returns-then-second-before-eq0-clause-counts d p m place c second before one mask lag from to =
-    let all : bit_or (bit_or d.args.second d.args.before) d.args.word ≡ 0 = d.if-second-before-eq0.true in
-    let left : bit_or d.args.second d.args.before ≡ 0 = omega (arith, all, le_or_l (bit_or d.args.second d.args.before) d.args.word) in
-    let first_zero : word p place 64 ≡ 0 = sym second ∙ omega (arith, left, le_or_l d.args.second d.args.before) in
-    let second_zero : word p (place + 64) 64 ≡ 0 = sym before ∙ omega (arith, left, le_or_r d.args.second d.args.before) in
-    let third_zero : word p (place + 128) 64 ≡ 0 = sym one ∙ omega (arith, all, le_or_r (bit_or d.args.second d.args.before) d.args.word) in
+pub returns-then-is_even-clause-counts : goal.returns-then-is_even-clause-counts
+returns-then-is_even-clause-counts d p m place c second before one mask lag from to =
     ap (λ x. get_or d.args.counts.now lag 0 + x) d.from.ensures
     ∙ ap (λ x. get_or d.args.counts.now lag 0 + count_ones x) mask
-    ∙ ap (λ x. get_or d.args.counts.now lag 0 + x) (white_agreed p m place c lag first_zero second_zero third_zero (omega (arith, to, d.requires.most)))
+    ∙ ap (λ x. get_or d.args.counts.now lag 0 + x) (even_agreed p m place c lag (d.is_even.ensures p place second before one d.if-is_even.true) (omega (arith, to, d.requires.most)))

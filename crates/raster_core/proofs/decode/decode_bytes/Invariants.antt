@@ -15,3 +15,6 @@ invariant-loop-i g l = record {
   along : BytesAlong (Pulls g.S.CodeBytes.gives g.S.CodeBytes.failed) l.fn.source l.source (shape_mode l.shape) l.offset l.above l.second l.fn.decoder l.fn.learned
       l.shape.width l.left l.i l.second_bytes l.above_bytes l.past l.current l.decoder l.learned;
 }
+
+abbrev pub decreases-loop-i : goal.decreases-loop-i
+decreases-loop-i g l = l.left

@@ -15,3 +15,6 @@ invariant-loop-i g l = record {
   along : EncodesRows g.W.CodeSink.took l.fn.out l.out (shape_mode l.shape) l.offset l.current l.above l.second l.fn.encoder l.fn.learned
       (l.shape.width - l.left) l.i l.second_bytes l.above_bytes l.past l.encoder l.learned;
 }
+
+abbrev pub decreases-loop-i : goal.decreases-loop-i
+decreases-loop-i g l = l.left

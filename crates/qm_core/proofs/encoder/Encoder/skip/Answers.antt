@@ -1,0 +1,21 @@
+use Rattle.std.proofs.Common.{◌≡◌, ◌-◌, ◌*◌, arith, refl, sym}
+use Rattle.qm_core.specs.Skipping.{upper_size}
+use Rattle.qm_core.proofs.FavouredRuns.{is_run, after_run}
+use Rattle.qm_core.proofs.Putting.{codes_lower}
+use Rattle.qm_core.proofs.encoder.Encoder.skip.Goals as goal
+
+pub invariant_of-self-clause-whole : goal.invariant_of-self-clause-whole
+invariant_of-self-clause-whole c = let l = c.in-Some.ensures.left _ refl in omega (arith, l, c.args.self.now.whole)
+
+pub returns-in-Some-clause-skipped : goal.returns-in-Some-clause-skipped
+returns-in-Some-clause-skipped c p pushed s _ =
+    let room = c.in-Some.ensures.some p _ s.digits.size refl in
+    let l = c.in-Some.ensures.left _ refl in
+    let left : c.args.self.now.span - 128 * (c.args.count * upper_size c.args.learned.now c.args.cx.number) ≡ c.in-Some.left = omega (arith, l) in
+    (is_run _ _ _ room, rw (after_run (record { place = p; learned = c.args.learned.now }) (record { context = c.args.cx.number; pixel = c.args.pixel }) c.args.count room) (rw left at (codes_lower _ _ _ _ _ _ (128 * (c.args.count * upper_size c.args.learned.now c.args.cx.number)) (c.args.count * upper_size c.args.learned.now c.args.cx.number) p pushed refl s)))
+
+pub returns-in-Some-clause-exact : goal.returns-in-Some-clause-exact
+returns-in-Some-clause-exact c p pushed _ s = sym (c.in-Some.ensures.some p _ s.digits.size refl)
+
+pub returns-in-Some-clause-events : goal.returns-in-Some-clause-events
+returns-in-Some-clause-events c _ = refl

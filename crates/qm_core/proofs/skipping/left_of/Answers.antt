@@ -1,0 +1,26 @@
+use Rattle.std.proofs.Common.{◌≡◌, ◌*◌, ◌-◌, arith, ap}
+use Rattle.qm_core.specs.Table.{row_at}
+use Rattle.qm_core.specs.Machine.{estimate}
+use Rattle.qm_core.proofs.FavouredRuns.{scaled, other_pixel, no_room, room}
+use Rattle.qm_core.proofs.skipping.left_of.Goals as goal
+
+pub returns-then-pixel-cell-clause-none : goal.returns-then-pixel-cell-clause-none
+returns-then-pixel-cell-clause-none c p e _ =
+    other_pixel (record { place = p; learned = c.args.learned.now }) c.args.cx.number c.args.count c.args.pixel (estimate c.cell-cell.result) c.cell-cell.ensures c.if-pixel-cell.true
+
+pub returns-then-span-upper-clause-none : goal.returns-then-span-upper-clause-none
+returns-then-span-upper-clause-none c p e _ =
+    no_room (record { place = p; learned = c.args.learned.now }) c.args.cx.number c.args.count c.args.pixel (estimate c.cell-cell.result) c.cell-cell.ensures
+    (let u = scaled c.args.count _ _ c.entry_of.ensures.span in omega (arith, u, e, c.if-span-upper.true))
+
+pub returns-clause-some : goal.returns-clause-some
+returns-clause-some c p left e _ =
+    room (record { place = p; learned = c.args.learned.now }) c.args.cx.number c.args.count c.args.pixel (estimate c.cell-cell.result) c.cell-cell.ensures c.if-pixel-cell.false
+    (let u = scaled c.args.count _ _ c.entry_of.ensures.span in omega (arith, u, e, c.if-span-upper.false))
+
+pub returns-clause-left : goal.returns-clause-left
+returns-clause-left c left e =
+    let u = scaled c.args.count _ _ c.entry_of.ensures.span in
+    let is : c.args.span - c.args.count * c.entry_of.result.now.span ≡ left = cc in
+    let q = ap (λ x. c.args.count * (row_at x.row).size) c.cell-cell.ensures in
+    omega (arith, u, is, q, c.if-span-upper.false)

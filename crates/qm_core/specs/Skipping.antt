@@ -1,0 +1,39 @@
+-- Several events at once, which are all the favoured pixel of one context.
+use Rattle.std.specs.Prelude.{ℕ, ◌≡◌, ◌≤◌, ◌+◌, ◌*◌, Bool, not, nat_lt, ◌&&◌, IsTrue, List, length, replicate}
+use Rattle.qm_core.specs.Table.{row_at}
+use Rattle.qm_core.specs.Place.{State, Event, Estimate, estimate_of, same, after}
+use Rattle.qm_core.specs.Code.{Lies, wanted_bytes}
+use Rattle.qm_core.specs.Source.{bytes_of, heard_of}
+use Rattle.qm_core.specs.declared.source.Pulled.{Pulled}
+use Rattle.qm_core.specs.declared.source.Heard.{Heard}
+use Rattle.qm_core.specs.declared.source.Heard.TheVariants.{More, Ended, Stopped}
+use Rattle.qm_core.specs.declared.decoder.Decoder.{Decoder}
+
+-- as many events more as `count`, all this one: each of them begins after as many doublings as the first, and nothing
+-- is learned
+pub record IsRun (s : State) (event : Event) (count : ℕ) : Type 0 where
+  pub quiet : (k : ℕ) → k ≤ count → (after s (replicate k event)).place.doublings ≡ s.place.doublings
+  pub taught : (after s (replicate count event)).learned ≡ s.learned
+
+-- the size of the less probable part in a context
+abbrev pub upper_size : List Estimate → ℕ → ℕ
+upper_size learned cx = (row_at (estimate_of learned cx).row).size
+
+-- whether an event is its context's favoured pixel, and the place has room for so many of it without a doubling
+abbrev pub has_room : State → Event → ℕ → Bool
+has_room s event count =
+    same event.pixel (estimate_of s.learned event.context).pixel
+    && not (nat_lt s.place.size (0x8000 + count * upper_size s.learned event.context))
+
+-- An event after n doublings wants no pull: while the source goes on, the bytes that it gave are enough; after its end
+-- 16 bits are there, zeros among them.
+abbrev pub WantsNone : Heard → ℕ → ℕ → ℕ → Type 0
+WantsNone More bits n held = wanted_bytes n ≤ held
+WantsNone Ended bits n held = 16 ≤ bits
+WantsNone Stopped bits n held = ⊥
+
+-- so many events can be passed at once: the place has room, nothing is to be pulled, and the bytes lie after them
+pub record CanSkip (d : Decoder) (s : State) (answers : List Pulled) (event : Event) (count : ℕ) : Type 0 where
+  pub room : IsTrue (has_room s event count)
+  pub ready : WantsNone (heard_of answers) d.bits s.place.doublings (length (bytes_of answers))
+  pub inside : Lies (bytes_of answers) (after s (replicate count event)).place

@@ -1,0 +1,41 @@
+//! Several favoured pixels of one context at once.
+
+ghost use Rattle.std.specs.Prelude.{◌≡◌, ◌+◌, ◌*◌, ◌≤◌, ℕ, None, Some, true, false};
+ghost use Rattle.qm_core.specs.Place.{Place};
+ghost use Rattle.qm_core.specs.Skipping.{has_room, upper_size};
+
+use crate::context::Context;
+use crate::entries::entry_of;
+use crate::learned::Learned;
+
+/// What is left of the size of a place, times 128, after `count` times the favoured pixel of a context;
+/// `None` where the pixel is the other one, or the place would be doubled.
+#[inline(always)]
+pub(crate) fn left_of(
+    learned: &Learned,
+    cx: Context,
+    pixel: bool,
+    count: u32,
+    span: u32,
+) -> Option<u32>
+    requires few { count ≤ 64 }
+    ensures none { (p : Place) → span ≡ 128 * p.size → result ≡ None →
+        has_room (record { place = p; learned = learned.now })
+        (record { context = cx.number; pixel = pixel }) count ≡ false }
+    ensures some { (p : Place) (left : ℕ) → span ≡ 128 * p.size → result ≡ Some left →
+        has_room (record { place = p; learned = learned.now })
+        (record { context = cx.number; pixel = pixel }) count ≡ true }
+    ensures left { (left : ℕ) → result ≡ Some left →
+        span ≡ left + 128 * (count * upper_size learned.now cx.number) }
+    ensures large { (left : ℕ) → result ≡ Some left → 0x40_0000 ≤ left }
+{
+    let cell = learned.cell(cx);
+    let upper = count * entry_of(cell).span;
+    if pixel != (cell % 2 == 1) {
+        return None;
+    }
+    if span < 0x40_0000 + upper {
+        return None;
+    }
+    Some(span - upper)
+}

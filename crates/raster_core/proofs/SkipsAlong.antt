@@ -1,0 +1,139 @@
+-- Runs of pixels, decoded in one step.
+use Rattle.std.proofs.Common.{◌≡◌, ℕ, zero, suc, ◌+◌, ◌-◌, ◌*◌, ◌%◌, ◌^◌, ◌<◌, ◌≤◌, Bool, true, false, List, [], ◌∷◌, ◌++◌, length, refl, sym, ◌∙◌, ap, arith, subst, replicate, append_assoc}
+use Rattle.std.proofs.Math.Nat.{pow-suc}
+use Rattle.std.proofs.lemmas.Nat.{pow_pos}
+use Rattle.std.proofs.lemmas.List.{replicate-append-replicate, append-nil, length-append, length-replicate, get_or-append-add, get_or-replicate}
+use Rattle.qm_core.specs.Place.{Place, State, Event, Estimate, step, after}
+use Rattle.qm_core.specs.Code.{wanted_bytes}
+use Rattle.qm_core.specs.Source.{bytes_of, heard_of, is_stopped}
+use Rattle.qm_core.specs.Skipping.{IsRun}
+use Rattle.qm_core.specs.Decoder.{DecoderIsAt, has_stopped}
+use Rattle.qm_core.specs.declared.source.Pulled.{Pulled}
+use Rattle.qm_core.specs.declared.source.Heard.TheVariants.{More, Stopped}
+use Rattle.qm_core.specs.declared.decoder.Decoder.{Decoder}
+use Rattle.raster_core.specs.Raster.{pixel_at}
+use Rattle.raster_core.specs.Lines.{Lines, Mode, context_at, pixel_events}
+use Rattle.raster_core.specs.Machine.Registers.{bit, before, past_bits}
+use Rattle.raster_core.specs.Enough.{AreEnough}
+use Rattle.raster_core.specs.Machine.Decoded.{with_row, PixelsSoFar, Along, SkipsAlong}
+use Rattle.raster_core.specs.Machine.Uniform.{uniform_context, uniform_event, StaysUniform}
+use Rattle.raster_core.proofs.Before.{before_suc, before_zero}
+use Rattle.raster_core.proofs.Causal.{context_front, before_front, pixel_events_more}
+use Rattle.raster_core.proofs.Runs.{after_append, enough_append}
+use Rattle.raster_core.proofs.Skips.{one_more, past_run}
+
+-- ---- a row that goes on in one colour
+
+pub run_pixels : (done : List Bool) (n : ℕ) (c : Bool) (k : ℕ) → k < n → pixel_at (done ++ replicate n c) (length done + k) ≡ c
+run_pixels done n c k few = get_or-append-add done (replicate n c) k false ∙ get_or-replicate n k c false few
+
+pub run_before : (row : List Bool) (x n : ℕ) (c : Bool) → ((k : ℕ) → k < n → pixel_at row (x + k) ≡ c) → before row (x + n) n ≡ bit c * (2 ^ n - 1)
+run_before row x zero c own = before_zero row (x + 0) ∙ none c
+  where
+    none : (c : Bool) → 0 ≡ bit c * (2 ^ 0 - 1)
+    none true = refl
+    none false = refl
+run_before row x (suc n) c own =
+    let e : x + suc n ≡ suc (x + n) = omega arith in
+    let shorter = run_before row x n c (λ k few. own k (omega (arith, few))) in
+    ap (λ y. before row y (suc n)) e ∙ (before_suc row (x + n) n ∙ (ap (λ b. 2 * before row (x + n) n + bit b) (own n (omega arith)) ∙ (ap (λ z. 2 * z + bit c) shorter ∙ twice c n)))
+  where
+    twice : (c : Bool) (n : ℕ) → 2 * (bit c * (2 ^ n - 1)) + bit c ≡ bit c * (2 ^ suc n - 1)
+    twice true n = let p = pow-suc 2 n in let q = pow_pos n in omega (arith, p, q)
+    twice false n = omega arith
+
+run_front : (done : List Bool) (n j : ℕ) (c : Bool) → j ≤ n → done ++ replicate n c ≡ (done ++ replicate j c) ++ replicate (n - j) c
+run_front done n j c few =
+    let e : j + (n - j) ≡ n = omega (arith, few) in
+    ap (λ z. done ++ z) (ap (λ z. replicate z c) (sym e) ∙ sym (replicate-append-replicate j (n - j) c)) ∙ sym (append_assoc done (replicate j c) (replicate (n - j) c))
+
+-- the context of each depends on the pixels before it alone
+run_contexts : (mode : Mode) (lines : Lines) (offset : ℕ) (done : List Bool) (n : ℕ) (c : Bool) → StaysUniform mode (with_row lines (done ++ replicate n c)) offset c (length done) n →
+    (j : ℕ) → j < n → context_at mode (with_row lines (done ++ replicate j c)) offset (length done + j) ≡ uniform_context c
+run_contexts mode lines offset done n c stays j few =
+    let long : length (done ++ replicate j c) ≡ length done + j = length-append done (replicate j c) ∙ ap (λ k. length done + k) (length-replicate j c) in
+    sym (context_front mode lines (done ++ replicate j c) (replicate (n - j) c) offset (length done + j) (omega (arith, long)))
+    ∙ (ap (λ row. context_at mode (with_row lines row) offset (length done + j)) (sym (run_front done n j c (omega (arith, few))))
+    ∙ stays j few (λ k less. run_pixels done n c k (omega (arith, few, less))))
+
+events_run : (mode : Mode) (lines : Lines) (offset : ℕ) (done : List Bool) (n : ℕ) (c : Bool) →
+    ((j : ℕ) → j < n → context_at mode (with_row lines (done ++ replicate j c)) offset (length done + j) ≡ uniform_context c) →
+    pixel_events mode (with_row lines (done ++ replicate n c)) offset ≡ pixel_events mode (with_row lines done) offset ++ replicate n (uniform_event c)
+events_run mode lines offset done zero c contexts = ap (λ row. pixel_events mode (with_row lines row) offset) (append-nil done) ∙ sym (append-nil (pixel_events mode (with_row lines done) offset))
+events_run mode lines offset done (suc n) c contexts =
+    let shorter = events_run mode lines offset done n c (λ j few. contexts j (omega (arith, few))) in
+    let long : length (done ++ replicate n c) ≡ length done + n = length-append done (replicate n c) ∙ ap (λ k. length done + k) (length-replicate n c) in
+    let row : done ++ replicate (suc n) c ≡ (done ++ replicate n c) ++ c ∷ [] = ap (λ z. done ++ z) (sym (one_more n c)) ∙ sym (append_assoc done (replicate n c) (c ∷ [])) in
+    let here : context_at mode (with_row lines (done ++ replicate n c)) offset (length (done ++ replicate n c)) ≡ uniform_context c =
+    ap (λ x. context_at mode (with_row lines (done ++ replicate n c)) offset x) long ∙ contexts n (omega arith) in
+    ap (λ r. pixel_events mode (with_row lines r) offset) row
+    ∙ (pixel_events_more mode lines offset (done ++ replicate n c) c
+    ∙ (ap (λ k. pixel_events mode (with_row lines (done ++ replicate n c)) offset ++ record { context = k; pixel = c } ∷ []) here
+    ∙ (ap (λ es. es ++ uniform_event c ∷ []) shorter
+    ∙ (append_assoc (pixel_events mode (with_row lines done) offset) (replicate n (uniform_event c)) (uniform_event c ∷ [])
+    ∙ ap (λ es. pixel_events mode (with_row lines done) offset ++ es) (one_more n (uniform_event c))))))
+
+-- ---- a run wants no byte
+
+enough_run : (n : ℕ) (s : State) (event : Event) (count : ℕ) → ((k : ℕ) → k ≤ n → (after s (replicate k event)).place.doublings ≡ s.place.doublings) → wanted_bytes s.place.doublings ≤ count →
+    AreEnough count s (replicate n event)
+enough_run zero s event count quiet h = tt
+enough_run (suc n) s event count quiet h =
+    let one : (step s event.context event.pixel).place.doublings ≡ s.place.doublings = quiet 1 (omega arith) in
+    (h, enough_run n (step s event.context event.pixel) event count (λ k few. quiet (suc k) (omega (arith, few)) ∙ sym one) (subst (λ z. wanted_bytes z ≤ count) (sym one) h))
+
+not_stopped : (d : Decoder) (p : Place) (answers : List Pulled) → DecoderIsAt d p answers → has_stopped d ≡ false → heard_of answers ≡ Stopped → ⊥
+not_stopped d p answers h going stopped =
+    let e : is_stopped Stopped ≡ false = ap is_stopped (sym stopped) ∙ (ap is_stopped (sym h.heard) ∙ going) in
+    cc
+
+-- n pixels in one step
+pub decoded_run : {S : Type 0} (pull : S → Pulled → S → Type 0) (from old : S) (mode : Mode) (offset : ℕ) (first : List Event) (s : State) (answers : List Pulled) (lines : Lines) (done : List Bool)
+    (n past past' : ℕ) (d d' : Decoder) (learned : List Estimate) (c : Bool) →
+    PixelsSoFar pull from old mode offset first s answers lines done past d learned →
+    StaysUniform mode (with_row lines (done ++ replicate n c)) offset c (length done) n → past' ≡ before (done ++ replicate n c) (length (done ++ replicate n c)) (past_bits offset) →
+    has_stopped d ≡ false →
+    ((p : Place) (given : List Pulled) → DecoderIsAt d p given →
+    IsRun (record { place = p; learned = learned }) (uniform_event c) n
+    × DecoderIsAt d' (after (record { place = p; learned = learned }) (replicate n (uniform_event c))).place given
+    × (heard_of given ≡ More → wanted_bytes p.doublings ≤ length (bytes_of given))) →
+    PixelsSoFar pull from old mode offset first s answers lines (done ++ replicate n c) past' d' learned
+decoded_run {S} pull from old mode offset first s answers lines done n past past' d d' learned c h stays past_is going decoded =
+    let es = first ++ pixel_events mode (with_row lines done) offset in
+    let given = answers ++ h.more in
+    let k = decoded (after s es).place given h.decodes.stands in
+    let same : after s es ≡ record { place = (after s es).place; learned = learned } = ap (λ l. record { place = (after s es).place; learned = l }) (sym h.decodes.taught) in
+    let run : es ++ replicate n (uniform_event c) ≡ first ++ pixel_events mode (with_row lines (done ++ replicate n c)) offset =
+    append_assoc first (pixel_events mode (with_row lines done) offset) (replicate n (uniform_event c)) ∙ ap (λ z. first ++ z) (sym (events_run mode lines offset done n c (run_contexts mode lines offset done n c stays))) in
+    let last : after (record { place = (after s es).place; learned = learned }) (replicate n (uniform_event c)) ≡ after s (first ++ pixel_events mode (with_row lines (done ++ replicate n c)) offset) =
+    ap (λ t. after t (replicate n (uniform_event c))) (sym same) ∙ (sym (after_append s es (replicate n (uniform_event c))) ∙ ap (after s) run) in
+    record {
+      past_is = past_is;
+      more = h.more;
+      decodes = record {
+        gives = h.decodes.gives;
+        stands = subst (λ t. DecoderIsAt d' t.place given) last k.1;
+        taught = sym k.0.taught ∙ ap (λ t. t.learned) last;
+        enough = λ more. subst (λ z. AreEnough (length (bytes_of given)) s z) run
+            (enough_append es (replicate n (uniform_event c)) (length (bytes_of given)) s (h.decodes.enough more)
+            (subst (λ t. AreEnough (length (bytes_of given)) t (replicate n (uniform_event c))) (sym same)
+            (enough_run n (record { place = (after s es).place; learned = learned }) (uniform_event c) (length (bytes_of given)) k.0.quiet (k.2 more))));
+        going = λ stopped. absurd (not_stopped d (after s es).place given h.decodes.stands going stopped);
+      };
+    }
+
+pub skipped_along : {S : Type 0} (pull : S → Pulled → S → Type 0) (old : S) (mode : Mode) (offset second above byte past past' : ℕ) (d d' : Decoder) (learned : List Estimate) →
+    SkipsAlong mode offset second above byte past d learned d' → past' ≡ past % 2 ^ (past_bits offset - 8) * 256 + byte →
+    Along pull old old mode offset second above past d learned 8 past' d' learned
+skipped_along {S} pull old mode offset second above byte past past' d d' learned k past_is = λ from first s answers lines done so_far s2 a2.
+    let row = done ++ replicate 8 k.colour in
+    let near : past ≡ before row (length done) (past_bits offset) = so_far.past_is ∙ sym (before_front done (replicate 8 k.colour) (length done) (past_bits offset) (omega arith)) in
+    let byte_is : byte ≡ before row (length done + 8) 8 = k.byte_is ∙ sym (run_before row (length done) 8 k.colour (run_pixels done 8 k.colour)) in
+    let long : length row ≡ length done + 8 = length-append done (replicate 8 k.colour) in
+    let behind : past' ≡ before row (length row) (past_bits offset) =
+    past_is ∙ (past_run row offset past (length done) byte near byte_is ∙ ap (λ x. before row x (past_bits offset)) (sym long)) in
+    record {
+      pixels = replicate 8 k.colour;
+      count = refl;
+      so_far = decoded_run pull from old mode offset first s answers lines done 8 past past' d d' learned k.colour so_far (k.uniform (with_row lines row) (length done) s2 a2 near) behind k.going k.decoded;
+    }

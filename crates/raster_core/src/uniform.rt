@@ -1,0 +1,156 @@
+//! Bytes whose pixels all stand among pixels of their own colour.
+
+ghost use Rattle.std.specs.Prelude.{◌≡◌, ℕ, ◌+◌, ◌-◌, ◌*◌, ◌/◌, ◌%◌, ◌^◌, ◌≤◌, ◌<◌, IsTrue, length, nat_eq, slice_index};
+ghost use Rattle.raster_core.specs.Lines.{Lines, Mode};
+ghost use Rattle.raster_core.specs.Machine.Registers.{before, bit, is_moved, past_bits};
+ghost use Rattle.raster_core.specs.Machine.Uniform.{uniform_context, AreWhite, StaysUniform};
+
+use qm_core::Context;
+
+/// The context whose ten pixels all are of a colour.
+#[inline(always)]
+pub(crate) fn uniform_context(colour: bool) -> Context
+    ensures { result.number ≡ uniform_context colour }
+{
+    Context::of(if colour { 1023 } else { 0 })
+}
+
+/// Whether all that a byte's contexts read near it, the byte itself aside, is of a colour.
+#[inline(always)]
+fn surrounds(colour: bool, second_bytes: u32, above_bytes: u32, past: u128) -> bool
+    ensures second { IsTrue result → second_bytes / 2 ^ 7 % 1024 ≡ bit colour * 1023 }
+    ensures above { IsTrue result → above_bytes / 2 ^ 6 % 8192 ≡ bit colour * 8191 }
+    ensures past { IsTrue result → past % 16 ≡ bit colour * 15 }
+{
+    let read = (above_bytes >> 6) % 8192 + (second_bytes >> 7) % 1024 + (past % 16) as u32;
+    read == if colour { 9229 } else { 0 }
+}
+
+/// Whether the moved adaptive pixels of the next eight, as far as they lie before them, are of a
+/// colour.
+#[inline(always)]
+fn surrounds_far(colour: bool, offset: u8, past: u128) -> bool
+    requires { offset ≤ 127 }
+    ensures { IsTrue result → past / 2 ^ (offset - 8) % 256 ≡ bit colour * 255 }
+{
+    (past >> offset.saturating_sub(8)) % 256 == if colour { 255 } else { 0 }
+}
+
+/// Whether the contexts of a byte's eight pixels are that of a colour, as long as the byte is of
+/// that colour. The registers are those of decoding.
+#[inline(always)]
+fn is_uniform<const MOVED: bool>(
+    colour: bool,
+    offset: u8,
+    second_bytes: u32,
+    above_bytes: u32,
+    past: u128,
+) -> bool
+    requires offset { offset ≤ 127 }
+    requires moved { MOVED ≡ is_moved offset }
+    ensures { IsTrue result → (mode : Mode) (lines : Lines) (x : ℕ) →
+        second_bytes ≡ before lines.second (x + 16) 24 →
+        above_bytes ≡ before lines.above (x + 16) 24 →
+        past ≡ before lines.row x (past_bits offset) → StaysUniform mode lines offset colour x 8 }
+{
+    if MOVED {
+        surrounds(colour, second_bytes, above_bytes, past) && surrounds_far(colour, offset, past)
+    } else {
+        surrounds(colour, second_bytes, above_bytes, past)
+    }
+}
+
+/// Whether eight pixels, if they are those of `byte`, are of one colour, and each stands in the
+/// context of that colour.
+#[inline(always)]
+pub(crate) fn is_run<const MOVED: bool>(
+    offset: u8,
+    second_bytes: u32,
+    above_bytes: u32,
+    byte: u8,
+    past: u128,
+    n: u32,
+) -> bool
+    requires offset { offset ≤ 127 }
+    requires moved { MOVED ≡ is_moved offset }
+    ensures eight { IsTrue result → n ≡ 8 }
+    ensures byte { IsTrue result → byte ≡ bit (nat_eq byte 255) * 255 }
+    ensures uniform { IsTrue result → (mode : Mode) (lines : Lines) (x : ℕ) →
+        second_bytes ≡ before lines.second (x + 16) 24 →
+        above_bytes ≡ before lines.above (x + 16) 24 →
+        past ≡ before lines.row x (past_bits offset) →
+        StaysUniform mode lines offset (nat_eq byte 255) x 8 }
+{
+    n == 8
+        && (byte == 0 || byte == 255)
+        && is_uniform::<MOVED>(byte == 255, offset, second_bytes, above_bytes, past)
+}
+
+/// The pixels before the next one, after eight of a colour.
+#[inline(always)]
+pub(crate) fn past_eight<const MOVED: bool>(past: u128, byte: u8) -> u128
+    ensures { (offset : ℕ) → MOVED ≡ is_moved offset →
+        result ≡ past % 2 ^ (past_bits offset - 8) * 256 + byte }
+{
+    if MOVED {
+        past % 0x100_0000_0000_0000_0000_0000_0000_0000 * 256 + u128::from(byte)
+    } else {
+        u128::from((past % 0x100_0000_0000_0000) as u64 * 256 + u64::from(byte))
+    }
+}
+
+/// Whether the registers of a byte hold white pixels alone.
+#[inline(always)]
+pub(crate) fn is_blank(second_bytes: u32, above_bytes: u32, past: u128) -> bool
+    ensures second { IsTrue result → second_bytes ≡ 0 }
+    ensures above { IsTrue result → above_bytes ≡ 0 }
+    ensures past { IsTrue result → past ≡ 0 }
+{
+    second_bytes == 0 && above_bytes == 0 && past == 0
+}
+
+/// Whether eight bytes of a row are white and none of them lies after its last.
+#[inline(always)]
+pub(crate) fn is_white(row: &[u8], i: usize) -> bool
+    requires { i < 2 ^ 33 }
+    ensures { IsTrue result → AreWhite row.now i 8 }
+{
+    if i + 8 <= row.len() {
+        let first = u32::from(row[i])
+            + u32::from(row[i + 1])
+            + u32::from(row[i + 2])
+            + u32::from(row[i + 3]);
+        let last = u32::from(row[i + 4])
+            + u32::from(row[i + 5])
+            + u32::from(row[i + 6])
+            + u32::from(row[i + 7]);
+        first + last == 0
+    } else {
+        false
+    }
+}
+
+/// Whether more than eight bytes are left of a row, and what the contexts of the next eight read of
+/// the two rows above, from the next byte of those on, is white.
+#[inline(always)]
+pub(crate) fn is_white_above(above: &[u8], second: &[u8], i: usize, left: u32) -> bool
+    requires { i < 2 ^ 32 }
+    ensures inside { IsTrue result → 64 < left }
+    ensures above { IsTrue result → AreWhite above.now (i + 1) 8 }
+    ensures second { IsTrue result → AreWhite second.now (i + 1) 8 }
+{
+    left > 64 && is_white(above, i + 1) && is_white(second, i + 1)
+}
+
+/// Makes the bytes of a row from one place to another white.
+#[inline(always)]
+pub(crate) fn whiten(row: &mut [u8], from: usize, to: usize)
+    requires from { from ≤ to }
+    requires to { to ≤ length row.old }
+    ensures inside { (k : ℕ) → from ≤ k → k < to → slice_index row.new k ≡ 0 }
+    ensures before { (k : ℕ) → k < from → slice_index row.new k ≡ slice_index row.old k }
+{
+    for k in from..to {
+        row[k] = 0;
+    }
+}
