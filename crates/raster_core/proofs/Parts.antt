@@ -118,6 +118,15 @@ count_none f a (suc n) h =
     shifted : (x i : ℕ) → (x + 1) + i ≡ x + (i + 1)
     shifted x i = omega arith
 
+-- a word more of the row
+pub part_next : (lines : Lines) (width offset b y z p : ℕ) → y ≡ part_agreement lines width offset 0 (64 * b) → z ≡ y + p →
+    p ≡ part_agreement lines width offset (64 * b) 64 → z ≡ part_agreement lines width offset 0 (64 * (b + 1))
+part_next lines width offset b y z p e f g =
+    let n : 64 * b + 64 ≡ 64 * (b + 1) = omega arith in
+    let h : part_agreement lines width offset 0 (64 * (b + 1)) ≡ part_agreement lines width offset 0 (64 * b) + part_agreement lines width offset (64 * b) 64 =
+    sym (ap (part_agreement lines width offset 0) n) ∙ part_more lines width offset (64 * b) 64 in
+    omega (arith, e, f, g, h)
+
 -- the whole row
 pub part_all : (lines : Lines) (width offset n : ℕ) → length lines.row ≡ width → width ≤ n →
     part_agreement lines width offset 0 n ≡ agreements offset lines

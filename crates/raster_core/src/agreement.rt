@@ -1,11 +1,12 @@
 //! At how many pixels of a word a row agrees with its adaptive pixel.
 
 ghost use Rattle.std.specs.Prelude.{ℕ, ◌+◌, ◌-◌, ◌*◌, ◌^◌, ◌≡◌, ◌≤◌, ◌<◌, Bool, IsTrue, slice_index};
+ghost use Rattle.std.specs.Int.{div_ceil};
 ghost use Rattle.raster_core.specs.Lines.{Lines};
 ghost use Rattle.raster_core.specs.Packed.{packed_row};
 ghost use Rattle.raster_core.specs.Machine.Words.{word as pixels_word, led, is_within, agreed_from, part_agreement};
 
-use crate::words::{agreed_word, joined, word_at};
+use crate::words::{agreed_word, joined, mask_at, word_at};
 
 /// The 64 pixels that are `lag` to the left of the last word of three.
 fn left_by(lag: usize, second: u64, before: u64, word: u64) -> u64
@@ -140,6 +141,42 @@ fn add_lags(
         counts[lag] += agreed_word(mask, word, near);
         near = far << 63 | near >> 1;
         far >>= 1;
+    }
+}
+
+/// At how many pixels of a row the adaptive pixel at `offset` is the same one.
+pub(crate) fn held_row(row: &[u8], above: &[u8], width: u32, offset: u8) -> u64
+    requires offset { offset ≤ 127 }
+    ensures agreed { (lines : Lines) → row.now ≡ packed_row lines.row →
+        above.now ≡ packed_row lines.above →
+        result ≡ part_agreement lines width offset 0 (64 * div_ceil width 64) }
+    ensures small { result ≤ 2 ^ 32 }
+{
+    let words = (width as usize).div_ceil(64);
+    let mut held = 0;
+    let mut second = 0;
+    let mut before = 0;
+    for k in 0..words {
+        let word = word_at(row, k + 2);
+        let mask = mask_at(width, k);
+        held += held_in(above, k, offset, second, before, word, mask);
+        second = before;
+        before = word;
+    }
+    held
+}
+
+/// Adds to the counts at the lags from `from` up to `end`.
+pub(crate) fn add_each(counts: &mut [u64; 128], more: &[u64; 128], from: usize, end: usize)
+    requires end { end ≤ 128 }
+    requires room { (lag : ℕ) → slice_index counts.old lag + slice_index more.now lag < 2 ^ 64 }
+    ensures counts { (lag : ℕ) → from ≤ lag → lag < end →
+        slice_index counts.new lag ≡ slice_index counts.old lag + slice_index more.now lag }
+    ensures room { (lag : ℕ) → slice_index counts.new lag ≤ slice_index counts.old lag + slice_index
+        more.now lag }
+{
+    for lag in from..end {
+        counts[lag] += more[lag];
     }
 }
 

@@ -315,7 +315,7 @@ fn encode_bytes<W: CodeSink, const TWO_LINE: bool, const MOVED: bool>(
     let mut past = 0u128;
     let mut left = shape.width;
     let mut i = 0;
-    while i < current.len() {
+    'bytes: while left >= 8 {
         let words = skip_blank(
             current,
             above,
@@ -335,7 +335,6 @@ fn encode_bytes<W: CodeSink, const TWO_LINE: bool, const MOVED: bool>(
         }
         above_bytes = above_bytes % 0x1_0000 * 256 + byte_at(above, i + 1);
         second_bytes = second_bytes % 0x1_0000 * 256 + byte_at(second, i + 1);
-        let n = left.min(8);
         past = encode_step::<_, TWO_LINE, MOVED>(
             shape,
             offset,
@@ -343,14 +342,31 @@ fn encode_bytes<W: CodeSink, const TWO_LINE: bool, const MOVED: bool>(
             above_bytes,
             current[i],
             past,
-            n,
+            8,
             learned,
             encoder,
             out,
         )?;
-        left -= n;
+        left -= 8;
         i += 1;
     }
+    if left == 0 {
+        return Ok(());
+    }
+    let last_above = above_bytes % 0x1_0000 * 256 + byte_at(above, i + 1);
+    let last_second = second_bytes % 0x1_0000 * 256 + byte_at(second, i + 1);
+    encode_byte::<_, TWO_LINE, MOVED>(
+        shape,
+        offset,
+        last_second,
+        last_above,
+        current[i],
+        past,
+        left,
+        learned,
+        encoder,
+        out,
+    )?;
     Ok(())
 }
 

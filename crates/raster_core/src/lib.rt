@@ -6,6 +6,7 @@
 mod agreement;
 mod bytes;
 mod context;
+mod counted;
 mod decode;
 mod encode;
 mod shape;

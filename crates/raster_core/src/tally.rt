@@ -2,12 +2,13 @@
 
 ghost use Rattle.std.specs.Prelude.{ℕ, ◌+◌, ◌*◌, ◌^◌, ◌≡◌, ◌≤◌, slice_index};
 
-use crate::agreement::{add_all, add_word, held_in};
+use crate::agreement::{add_each, held_row};
+use crate::counted::Counted;
 use crate::window::Window;
-use crate::words::{mask_at, word_at};
 
 /// For each lag that may be chosen, at how many pixels of the rows so far the pixel so far to the
-/// left is the same one. It keeps counts, and no rows.
+/// left is the same one. It keeps counts, and one
+/// row.
 #[derive(Drop)]
 pub struct Tally {
     two_line: bool,
@@ -17,6 +18,7 @@ pub struct Tally {
     counts: [u64; 128],
     /// The same for the adaptive pixel as it stood.
     held: u64,
+    last: Counted,
     ghost in_reach: { most ≤ 127 },
     ghost counts_fit: { (lag : ℕ) → slice_index counts lag ≤ 2 ^ 32 * rows },
     ghost held_fits: { held ≤ 2 ^ 32 * rows },
@@ -46,6 +48,7 @@ impl Tally {
             rows: 0,
             counts: [0; 128],
             held: 0,
+            last: Counted::none(),
         }
     }
 
@@ -75,32 +78,12 @@ impl Tally {
     {
         let least = self.least_lag() as usize;
         let most = self.most as usize;
-        let words = (width as usize).div_ceil(64);
         let row = window.row(0);
-        let above = window.row(1);
-        let mut counts = self.counts;
-        let mut held = self.held;
-        let mut alike = 0;
-        let mut second = 0;
-        let mut before = 0;
-        for k in 0..words {
-            let word = word_at(row, k + 2);
-            let mask = mask_at(width, k);
-            held += held_in(above, k, offset, second, before, word, mask);
-            alike += add_word(&mut counts, least, most, second, before, word, mask);
-            second = before;
-            before = word;
-        }
-        add_all(&mut counts, least, most + 1, alike);
-        let rows = self.rows + 1;
-        *self = Tally {
-            two_line: self.two_line,
-            most: self.most,
-            width,
-            rows,
-            counts,
-            held,
-        };
+        self.last.count(row, width, least, most);
+        add_each(&mut self.counts, &self.last.agreed, least, most + 1);
+        self.held += held_row(row, window.row(1), width, offset);
+        self.width = width;
+        self.rows += 1;
     }
 
     /// The least lag with the greatest count, where it agrees at more than an eighth of the pixels

@@ -1,6 +1,8 @@
 -- Pixels in words, the first one highest.
-use Rattle.std.specs.Prelude.{ℕ, zero, suc, ◌+◌, ◌-◌, ◌*◌, Bool, false, List, count_by, ◌&&◌, nat_lt, if◌then◌else◌}
+use Rattle.std.specs.Prelude.{ℕ, zero, suc, ◌+◌, ◌-◌, ◌*◌, ◌≡◌, ◌≤◌, slice_index, Bool, false, List, count_by, ◌&&◌, nat_lt, if◌then◌else◌}
+use Rattle.std.specs.Int.{div_ceil}
 use Rattle.raster_core.specs.Raster.{pixel_at}
+use Rattle.raster_core.specs.Packed.{packed_row}
 use Rattle.qm_core.specs.Place.{same}
 use Rattle.raster_core.specs.Machine.Registers.{bit}
 use Rattle.raster_core.specs.Lines.{Lines, adaptive, numbers_from}
@@ -26,3 +28,9 @@ agreed_from p q m a b c n = count_by (λ i. m (c + i) && same (p (a + i)) (q (b 
 unfoldable pub part_agreement : Lines → (width offset first n : ℕ) → ℕ
 part_agreement lines width offset first n =
     count_by (λ x. is_within width x && same (pixel_at lines.row x) (adaptive lines offset x)) (numbers_from first n)
+
+-- the counts are those of the row in these bytes, at each of these lags
+abbrev pub AgreesAt : List ℕ → ℕ → ℕ → ℕ → List ℕ → Type 0
+AgreesAt bytes width least most counts =
+    (lines : Lines) → bytes ≡ packed_row lines.row → (lag : ℕ) → least ≤ lag → lag ≤ most →
+    slice_index counts lag ≡ part_agreement lines width lag 0 (64 * div_ceil width 64)

@@ -5,8 +5,8 @@ use Rattle.raster_core.specs.Window.{shape_mode}
 use Rattle.raster_core.specs.Machine.Encoded.{EncodesRows}
 use Rattle.raster_core.proofs.encode.encode_bytes.Given as goal
 
-abbrev pub invariant-loop-i : goal.invariant-loop-i
-invariant-loop-i g l = record {
+abbrev pub invariant-bytes : goal.invariant-bytes
+invariant-bytes g l = record {
   same : g.W.CodeSink.failed l.out ≡ g.W.CodeSink.failed l.fn.out;
   left : l.left ≡ l.shape.width - 8 * l.i;
   events : event_count l.encoder + l.left ≡ event_count l.fn.encoder + l.shape.width;
@@ -16,5 +16,5 @@ invariant-loop-i g l = record {
       (l.shape.width - l.left) l.i l.second_bytes l.above_bytes l.past l.encoder l.learned;
 }
 
-abbrev pub decreases-loop-i : goal.decreases-loop-i
-decreases-loop-i g l = l.left
+abbrev pub decreases-bytes : goal.decreases-bytes
+decreases-bytes g l = l.left
