@@ -9,9 +9,16 @@ use Rattle.t85_core.specs.Grammar.{Segment, NewLength, Move, Comment}
 abbrev pub has_bit : ℕ → ℕ → Bool
 has_bit options k = options / 2 ^ k % 2 == 1
 
--- how rows are coded: LRLTWO is bit 6 of the options, TPBON is bit 3
+-- the bits of the options byte that say how rows are coded: two lines in the template, and typical prediction
+abbrev pub LRLTWO : ℕ
+LRLTWO = 6
+
+abbrev pub TPBON : ℕ
+TPBON = 3
+
+-- how rows are coded
 abbrev pub mode_of : ℕ → Mode
-mode_of options = record { two_line = has_bit options 6; typical = has_bit options 3 }
+mode_of options = record { two_line = has_bit options LRLTWO; typical = has_bit options TPBON }
 
 -- The move of a stripe, a row and an offset: the first of its segments that is one. No stripe has two.
 abbrev pub move_of : List Segment → Option (ℕ × ℕ)

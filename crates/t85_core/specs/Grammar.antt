@@ -6,6 +6,28 @@ use Rattle.byteorder.specs.Endian.{big_bytes}
 use Rattle.qm_core.specs.Code.{stuffed}
 use Rattle.t85_core.specs.Header.{Fields, is_variable}
 
+-- A byte ESC and one of these begin what is no byte of a code: the two end markers, an aborted image, and the segments.
+abbrev pub ESC : ℕ
+ESC = 255
+
+abbrev pub SDNORM : ℕ
+SDNORM = 2
+
+abbrev pub SDRST : ℕ
+SDRST = 3
+
+abbrev pub ABORT : ℕ
+ABORT = 4
+
+abbrev pub NEWLEN : ℕ
+NEWLEN = 5
+
+abbrev pub ATMOVE : ℕ
+ATMOVE = 6
+
+abbrev pub COMMENT : ℕ
+COMMENT = 7
+
 -- a segment: a new height, a move of the adaptive pixel at a row of the stripe, or a comment
 pub data Segment : Type 0 where
   NewLength : (height : ℕ) → Segment
@@ -13,9 +35,9 @@ pub data Segment : Type 0 where
   Comment : (text : List ℕ) → Segment
 
 abbrev pub segment_bytes : Segment → List ℕ
-segment_bytes (NewLength height) = 255 ∷ 5 ∷ big_bytes 4 height
-segment_bytes (Move row offset) = 255 ∷ 6 ∷ big_bytes 4 row ++ offset ∷ 0 ∷ []
-segment_bytes (Comment text) = 255 ∷ 7 ∷ big_bytes 4 (length text) ++ text
+segment_bytes (NewLength height) = ESC ∷ NEWLEN ∷ big_bytes 4 height
+segment_bytes (Move row offset) = ESC ∷ ATMOVE ∷ big_bytes 4 row ++ offset ∷ 0 ∷ []
+segment_bytes (Comment text) = ESC ∷ COMMENT ∷ big_bytes 4 (length text) ++ text
 
 abbrev pub is_move : Segment → Bool
 is_move (NewLength height) = false
@@ -53,7 +75,7 @@ is_nil (b ∷ code) = false
 
 -- the end marker: SDRST, which resets, or SDNORM
 abbrev pub marker_bytes : Bool → List ℕ
-marker_bytes reset = 255 ∷ (if reset then 3 else 2) ∷ []
+marker_bytes reset = ESC ∷ (if reset then SDRST else SDNORM) ∷ []
 
 abbrev pub stripe_bytes : Stripe → List ℕ
 stripe_bytes s = flat_map segment_bytes s.segments ++ (stuffed s.code ++ marker_bytes s.reset)

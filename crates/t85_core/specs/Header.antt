@@ -25,9 +25,13 @@ pub record IsAccepted (h : Fields) : Type 0 where
   -- no private table follows: not DPON and DPPRIV without DPLAST
   pub no_table : h.options % 8 ≢ 6
 
--- whether the height may change in the stream: VLENGTH is bit 5 of the options
+-- the bit of the options byte by which the height may change in the stream
+abbrev pub VLENGTH : ℕ
+VLENGTH = 5
+
+-- whether it may
 abbrev pub is_variable : Fields → Bool
-is_variable h = h.options / 2 ^ 5 % 2 == 1
+is_variable h = h.options / 2 ^ VLENGTH % 2 == 1
 
 -- the number in the four bytes from place i, the highest first
 abbrev pub long_at : ℕ → List ℕ → ℕ

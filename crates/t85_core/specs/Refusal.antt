@@ -5,7 +5,7 @@ use Rattle.qm_core.specs.Code.{stuffed}
 use Rattle.t85_core.specs.declared.fault.Fault.{Fault}
 use Rattle.t85_core.specs.declared.fault.Fault.TheVariants.{Truncated, BadEscape, Aborted, MoveRefused, SecondMove, LengthRefused, SecondLength, Changed}
 use Rattle.t85_core.specs.Header.{Fields, is_variable}
-use Rattle.t85_core.specs.Grammar.{Stripe, Segment, segment_bytes, is_move, lengths, stripe_bytes, stripe_count, all_segments, is_nil, is_valid_length, IsBegun, AreStripes, GiveOnly}
+use Rattle.t85_core.specs.Grammar.{ESC, SDNORM, SDRST, ABORT, NEWLEN, ATMOVE, Stripe, Segment, segment_bytes, is_move, lengths, stripe_bytes, stripe_count, all_segments, is_nil, is_valid_length, IsBegun, AreStripes, GiveOnly}
 
 -- Where bytes stand: the height in use, and how many data entities and heights came before them.
 pub record Spot : Type 0 where
@@ -52,19 +52,19 @@ comment_fault bytes =
 -- none after a code byte FF, an end marker or a whole legal segment.
 abbrev pub escape_fault : Fields → Spot → ℕ → Bool → ℕ → List ℕ → Option Fault
 escape_fault h spot moves in_code escape bytes =
-    if (escape == 0) || (escape == 2) || (escape == 3) then None
-    else if escape == 4 then Some Aborted
+    if (escape == 0) || (escape == SDNORM) || (escape == SDRST) then None
+    else if escape == ABORT then Some Aborted
     else if (escape == 1) || nat_le 8 escape || in_code then Some BadEscape
-    else if escape == 5 then length_fault h spot bytes
-    else if escape == 6 then move_fault h moves bytes
+    else if escape == NEWLEN then length_fault h spot bytes
+    else if escape == ATMOVE then move_fault h moves bytes
     else comment_fault bytes
 
 -- The fault of a rest. There is none where a code byte, an end marker or a whole legal segment is at its front, so a
 -- rest with a fault has nothing more to be taken off it.
 abbrev pub rest_fault : Fields → Spot → ℕ → Bool → List ℕ → Option Fault
 rest_fault h spot moves in_code [] = Some Truncated
-rest_fault h spot moves in_code (b ∷ []) = if b == 255 then Some Truncated else None
-rest_fault h spot moves in_code (b ∷ escape ∷ bytes) = if b == 255 then escape_fault h spot moves in_code escape bytes else None
+rest_fault h spot moves in_code (b ∷ []) = if b == ESC then Some Truncated else None
+rest_fault h spot moves in_code (b ∷ escape ∷ bytes) = if b == ESC then escape_fault h spot moves in_code escape bytes else None
 
 -- A stripe that stands there and isn't whole is cut into whole legal segments, code bytes and a rest, and the rest has
 -- this fault.

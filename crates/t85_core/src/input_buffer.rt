@@ -56,7 +56,7 @@ pub trait ByteSource {
 #[derive(Drop)]
 pub struct InputBuffer<'a, R: Input> {
     input: &'a mut R,
-    bytes: [u8; 4096],
+    bytes: [u8; SIZE],
     at: usize,
     end: usize,
     ghost ordered: { at ≤ end },

@@ -68,7 +68,7 @@ pub trait ByteTarget {
 #[derive(Drop)]
 pub struct OutputBuffer<'a, W: Output> {
     output: &'a mut W,
-    bytes: [u8; 4096],
+    bytes: [u8; SIZE],
     at: usize,
     end: usize,
     ghost ordered: { at ≤ end },
