@@ -1,0 +1,5 @@
+pub mod EncodedParts
+pub mod FirstRows
+pub mod Headers
+pub mod Pixels
+pub mod Whole

@@ -1,0 +1,77 @@
+use Rattle.std.proofs.Common.{◌≡◌, ◌≤◌, ◌+◌, ◌^◌, Bool, true, arith, ◌⊎◌, inr, ℕ, List, [], ◌++◌, length, append-nil, take, Option, Some, None, Result, Ok, Err, refl, sym, ap, ◌∙◌, subst}
+use Rattle.std.specs.Prelude.{OnOk, IfErr, IfSome}
+use Rattle.std.specs.Io.KnownBytes.{Appends}
+use Rattle.pbm_core.specs.Device.{between}
+use Rattle.pbm_core.specs.Image.{IsPbm, OneImage, WrittenImageIsRead, pbm}
+use Rattle.t85_core.specs.declared.fault.Fault.{Fault}
+use Rattle.t85_core.specs.Denotes.{Denotes}
+use Rattle.t85_core.specs.ToJbg.{WritesStream}
+use Rattle.t85_core.specs.Outcome.{pbm_text}
+use Rattle.t85_core.specs.Jbg.{Settings}
+use Rattle.t85_core.specs.Options.{settings_of}
+use Rattle.t85_core.specs.ToPbm.{IsFixed, WritesDenoted, ToPbm, again_failures}
+use Rattle.uses.specs.Image.{IsRawForm, WritesRawForm, IsOfImage}
+use Rattle.uses.specs.declared.held.Held.{Held}
+use Rattle.uses.proofs.Whole.{LineOrFault, from_empty, told}
+use Rattle.uses.proofs.image.round_trip.Goals as goal
+
+module _ (s : Settings) (first : List ℕ) (old new : Option (List ℕ)) where
+  -- The stream denotes the raster that was read, and what is written is the one raster that it denotes.
+  same_raster : OneImage → WrittenImageIsRead → (bytes : List ℕ) → WritesStream s bytes (Some []) (Some first) → WritesDenoted first old new → WritesRawForm bytes old new
+  same_raster one_image is_read bytes read written = record { raster = read.raster; rest = read.rest; is = read.is; appends = appends; unchanged = unchanged } where
+    same : read.raster ≡ written.raster
+    same = written.only read.raster (subst (λ text. Denotes text read.raster) (sym read.appends) read.denotes)
+
+    appends : Appends old new (pbm_text read.raster)
+    appends = subst (λ raster. Appends old new (pbm_text raster)) (sym same) written.appends
+
+    unchanged : IsRawForm bytes → Appends old new bytes
+    unchanged raw =
+        let raster = raw.0 in
+        let proper = raw.1 in
+        let wide : raster.width ≤ 1048576 = proper.width_to in
+        let tall : length raster.rows ≤ 4294967295 = (let below = proper.height_to in omega (arith, below)) in
+        let text : bytes ≡ pbm raster.width raster.rows ++ [] = raw.2 ∙ sym (append-nil (pbm raster.width raster.rows)) in
+        let image = is_read raster.width raster.rows [] proper.width_from wide proper.height_from tall proper.rows in
+        let both = one_image bytes raster.width raster.rows [] read.raster.width read.raster.rows read.rest (subst (λ l. IsPbm l raster.width raster.rows []) (sym text) image) read.is in
+        subst (λ l. Appends old new l) (sym (raw.2 ∙ ap (λ w. pbm w raster.rows) both.widths ∙ ap (λ rows. pbm read.raster.width rows) both.all_rows)) appends
+
+  came_back : OneImage → WrittenImageIsRead → (known : Option (List ℕ)) (room stream second : List ℕ) (len : ℕ) (answer : Result (Unit {0}) Fault) → len ≡ 0 → first ≡ stream → second ≡ stream
+      → IfSome known (λ bytes. WritesStream s bytes (Some (take len room)) (Some stream)) → OnOk answer (IsFixed first ⊎ (Some second ≡ Some first) → WritesDenoted first old new)
+      → OnOk answer (IfSome known (λ bytes. WritesRawForm bytes old new))
+  came_back one_image is_read known room stream second len (Err fault) empty once twice read written = tt
+  came_back one_image is_read None room stream second len (Ok u) empty once twice read written = tt
+  came_back one_image is_read (Some bytes) room stream second len (Ok u) empty once twice read written =
+      same_raster one_image is_read bytes
+      (from_empty s bytes room stream first len empty once read)
+      (written (inr (ap Some (twice ∙ sym once))))
+
+  known_told : LineOrFault → (known : Option (List ℕ)) (room stream second : List ℕ) (len limit : ℕ) (in_new again_new : Option (List ℕ)) (untouched : Type 0) (again_reads writes_old writes_new : ℕ) (flushed : Bool) (answer : Result (Unit {0}) Fault)
+      → len ≡ 0 → first ≡ stream → second ≡ stream → 2 ^ 32 ≤ limit + 1 → again_reads ≡ 0 → IfSome known (λ bytes. WritesStream s bytes (Some (take len room)) (Some stream))
+      → ToPbm limit (between (Some first) in_new 0 0) true untouched (between (Some second) again_new 0 again_reads) (between old new writes_old writes_new) flushed answer → IfErr answer (λ fault. IfSome known (λ bytes. IsOfImage fault))
+  known_told law None room stream second len limit in_new again_new untouched again_reads writes_old writes_new flushed (Ok u) empty once twice large none read converts = tt
+  known_told law None room stream second len limit in_new again_new untouched again_reads writes_old writes_new flushed (Err f) empty once twice large none read converts = tt
+  known_told law (Some bytes) room stream second len limit in_new again_new untouched again_reads writes_old writes_new flushed answer empty once twice large none read converts =
+      let written : WritesStream s bytes (Some []) (Some first) = from_empty s bytes room stream first len empty once read in
+      told law first written.raster (subst (λ text. Denotes text written.raster) (sym written.appends) written.denotes) limit large in_new again_new old new untouched writes_old writes_new flushed answer
+      (subst (λ reads. ToPbm limit (between (Some first) in_new 0 0) true untouched (between (Some first) again_new 0 reads) (between old new writes_old writes_new) flushed answer) none
+      (subst (λ text. ToPbm limit (between (Some first) in_new 0 0) true untouched (between (Some text) again_new 0 again_reads) (between old new writes_old writes_new) flushed answer) (twice ∙ sym once) converts))
+
+never_failed : (again : Option Held) → again_failures (λ (held : Held). 0) again ≡ 0
+never_failed None = refl
+never_failed (Some held) = refl
+
+pub returns-clause-again : goal.returns-clause-again
+returns-clause-again g c =
+    came_back (settings_of c.args.options.now) c.written.result.now (g.W.Output.contents c.args.output.now) (g.W.Output.contents c.to_pbm.new.output) c.images.ensures.one_image c.images.ensures.written_image_is_read
+    (g.R.Input.remaining c.args.input.now) c.new-stream.result.bytes.now (take c.to_jbg.new.output.len c.to_jbg.new.output.bytes.now) c.written-2.result.now c.new-stream.result.len c.to_pbm.result
+    c.new-stream.ensures.empty c.written.ensures c.written-2.ensures
+    c.in_ok-to_jbg.ensures.outcome.whole c.to_pbm.ensures.outcome.denoted
+
+pub returns-clause-told : goal.returns-clause-told
+returns-clause-told g c =
+    known_told (settings_of c.args.options.now) c.written.result.now (g.W.Output.contents c.args.output.now) (g.W.Output.contents c.to_pbm.new.output) c.lines.ensures.line_or_fault
+    (g.R.Input.remaining c.args.input.now) c.new-stream.result.bytes.now (take c.to_jbg.new.output.len c.to_jbg.new.output.bytes.now) c.written-2.result.now c.new-stream.result.len 4294967295
+    _ _ _ _ _ _ _ c.to_pbm.result
+    c.new-stream.ensures.empty c.written.ensures c.written-2.ensures (omega arith) (never_failed c.to_pbm.new.again)
+    c.in_ok-to_jbg.ensures.outcome.whole c.to_pbm.ensures.outcome

@@ -1,0 +1,90 @@
+use Rattle.std.proofs.Common.{◌≡◌, ◌≢◌, ◌<◌, ◌^◌, ℕ, List, [], length, take, Option, Some, None, Result, Ok, Err, sym, ap, subst, arith}
+use Rattle.std.specs.Prelude.{OnOk, IfErr, IfSome, option_map, unwrap_or, ◌==◌}
+use Rattle.std.specs.Borrow.{Bor}
+use Rattle.std.specs.Option.{option_map_or}
+use Rattle.std.specs.Io.KnownBytes.{Appends}
+use Rattle.qm_core.specs.Laws.{EventsKeepPlace, OneCode}
+use Rattle.qm_core.specs.Place.{IsPlace, start}
+use Rattle.t85_core.specs.declared.fault.Fault.{Fault}
+use Rattle.t85_core.specs.declared.fault.Fault.TheVariants.{Read, Write}
+use Rattle.t85_core.specs.declared.options.Options.{Options}
+use Rattle.t85_core.specs.Denotes.{Denotes}
+use Rattle.t85_core.specs.ToJbg.{WritesStream}
+use Rattle.t85_core.specs.Height.{StreamFault}
+use Rattle.t85_core.specs.Info.{HasLine, line_text}
+use Rattle.t85_core.specs.Jbg.{Settings, AreSettings}
+use Rattle.t85_core.specs.Options.{settings_of}
+use Rattle.t85_core.specs.Failures.{CountsRead}
+use Rattle.uses.specs.Image.{IsOfImage}
+use Rattle.uses.specs.Line.{line_numbers, WritesLine}
+use Rattle.uses.proofs.EncodedParts.{has_line}
+use Rattle.uses.proofs.Whole.{LineOrFault, from_empty, no_fault}
+use Rattle.uses.proofs.line.line_of_encoded.Goals as goal
+
+-- options are accepted
+are_settings : (o : Options) → AreSettings (settings_of o)
+are_settings o = record {
+  options_to = o.no_reserved_bit;
+  no_low_bit = o.no_low_bit;
+  no_layer_bit = ap (λ n. n == 1) o.no_layer_bit;
+  stripe_from = o.some_rows;
+  stripe_to = o.not_too_many;
+  offset_to = o.in_range;
+  announced_to = announced o.announced o.announced_fits;
+  comment_to = comment o.comment o.comment_fits;
+} where
+  announced : (a : Option ℕ) → option_map_or (λ n. n) a 0 < 2 ^ 32 → unwrap_or a 0 < 2 ^ 32
+  announced None fits = fits
+  announced (Some n) fits = fits
+
+  comment : (c : Option (Bor (List ℕ))) → option_map_or (λ (c : Bor (List ℕ)). length c.now) c 0 < 2 ^ 32 → length (unwrap_or (option_map (λ (c : Bor (List ℕ)). c.now) c) []) < 2 ^ 32
+  comment None fits = fits
+  comment (Some c) fits = fits
+
+abbrev OneLine : Type 0
+OneLine = (bytes x y : List ℕ) → HasLine bytes x → HasLine bytes y → x ≡ y
+
+module _ (s : Settings) (accepted : AreSettings s) (first : List ℕ) (old new : Option (List ℕ)) where
+  the_line : OneLine → IsPlace start → EventsKeepPlace → OneCode → (bytes : List ℕ) → WritesStream s bytes (Some []) (Some first) → (text : List ℕ) × HasLine first text × Appends old new text → WritesLine s bytes old new
+  the_line one_line start_is_place keep one_code bytes w told = record {
+    raster = w.raster;
+    rest = w.rest;
+    is = w.is;
+    appends = subst (λ l. Appends old new l) same told.2;
+  } where
+    line : HasLine first (line_text (line_numbers s w.raster))
+    line = subst (λ l. HasLine l (line_text (line_numbers s w.raster))) (sym w.appends) (has_line start_is_place keep one_code s w.raster accepted w.proper w.denotes)
+
+    same : told.0 ≡ line_text (line_numbers s w.raster)
+    same = one_line first told.0 (line_text (line_numbers s w.raster)) told.1 line
+
+  known_line : OneLine → IsPlace start → EventsKeepPlace → OneCode → (known : Option (List ℕ)) (room stream : List ℕ) (len : ℕ) (answer : Result (Unit {0}) Fault) → len ≡ 0 → first ≡ stream
+      → IfSome known (λ bytes. WritesStream s bytes (Some (take len room)) (Some stream)) → OnOk answer ((text : List ℕ) × HasLine first text × Appends old new text) → OnOk answer (IfSome known (λ bytes. WritesLine s bytes old new))
+  known_line one_line start_is_place keep one_code known room stream len (Err fault) empty same written told = tt
+  known_line one_line start_is_place keep one_code None room stream len (Ok u) empty same written told = tt
+  known_line one_line start_is_place keep one_code (Some bytes) room stream len (Ok u) empty same written told = the_line one_line start_is_place keep one_code bytes (from_empty s bytes room stream first len empty same written) told
+
+known_told : LineOrFault → (s : Settings) (known : Option (List ℕ)) (room stream first : List ℕ) (len : ℕ) (answer : Result (Unit {0}) Fault) → len ≡ 0 → first ≡ stream
+    → IfSome known (λ bytes. WritesStream s bytes (Some (take len room)) (Some stream)) → IfErr answer (λ f. f ≢ Read → f ≢ Write → StreamFault first f) → CountsRead 0 0 answer
+    → IfErr answer (λ fault. IfSome known (λ _. IsOfImage fault))
+known_told law s None room stream first len (Ok u) empty same written refused counts = tt
+known_told law s None room stream first len (Err f) empty same written refused counts = tt
+known_told law s (Some bytes) room stream first len (Ok u) empty same written refused counts = tt
+known_told law s (Some bytes) room stream first len (Err Write) empty same written refused counts = tt
+known_told law s (Some bytes) room stream first len (Err Read) empty same written refused counts = absurd (omega (arith, counts))
+known_told law s (Some bytes) room stream first len (Err f) empty same written refused counts =
+    let w = from_empty s bytes room stream first len empty same written in
+    absurd (no_fault law first w.raster (subst (λ l. Denotes l w.raster) (sym w.appends) w.denotes) f (refused (λ e. absurd (let bot : ⊥ = cc in bot)) (λ e. absurd (let bot : ⊥ = cc in bot))))
+
+pub returns-clause-line : goal.returns-clause-line
+returns-clause-line g c =
+    known_line (settings_of c.args.options.now) (are_settings c.args.options.now) c.written.result.now (g.W.Output.contents c.args.output.now) (g.W.Output.contents c.info.new.output)
+    c.lines.ensures.one_line c.places.ensures.start_is_place c.places.ensures.events_keep_place c.codes.ensures.one_code
+    (g.R.Input.remaining c.args.input.now) c.new-stream.result.bytes.now (take c.to_jbg.new.output.len c.to_jbg.new.output.bytes.now) c.new-stream.result.len c.info.result
+    c.new-stream.ensures.empty c.written.ensures c.in_ok-to_jbg.ensures.outcome.whole c.info.ensures.outcome.line
+
+pub returns-clause-told : goal.returns-clause-told
+returns-clause-told g c =
+    known_told c.lines.ensures.line_or_fault (settings_of c.args.options.now)
+    (g.R.Input.remaining c.args.input.now) c.new-stream.result.bytes.now (take c.to_jbg.new.output.len c.to_jbg.new.output.bytes.now) c.written.result.now c.new-stream.result.len c.info.result
+    c.new-stream.ensures.empty c.written.ensures c.in_ok-to_jbg.ensures.outcome.whole c.info.ensures.outcome.refused c.info.ensures.outcome.reads

@@ -1,0 +1,4 @@
+pub mod Coder
+pub mod Cut
+pub mod Image
+pub mod Line

@@ -1,0 +1,34 @@
+//! A stream that ends too early.
+
+ghost use Rattle.std.specs.Prelude.{◌-◌, ◌^◌, ◌<◌, IfSome};
+ghost use Rattle.raster_core.specs.Raster.{Raster};
+ghost use Rattle.uses.specs.Cut.{Begins, WritesFirst};
+
+use crate::held::Held;
+use pbm_core::{Input, Output};
+use std::alloc::Global;
+use t85_core::laws::{code_denotes, lines};
+use t85_core::{Fault, to_pbm};
+
+/// Writes the image of a stream, which may end anywhere.
+///
+/// Whatever fails, a beginning of the image is written, and where no write failed none but whole rows. Of a stream
+/// whose height may change nothing is written, since it isn't read twice; of one whose height is fixed the header and
+/// rows, as soon as its header came.
+pub fn rows_of_cut<R: Input, W: Output>(
+    alloc: Global,
+    input: &mut R,
+    output: &mut W,
+) -> Result<(), Fault>
+    requires input { R.failures input.old < 2 ^ 64 - 1 }
+    requires output { W.failures output.old < 2 ^ 64 - 1 }
+    ensures { IfSome (R.remaining input.old)
+        (λ bytes. (raster : Raster) → Begins raster bytes →
+        WritesFirst raster bytes (W.contents output.old) (W.contents output.new) result) }
+{
+    // What the proof cites of streams.
+    code_denotes();
+    lines();
+    let mut again: Option<Held<'_>> = None;
+    to_pbm(alloc, input, &mut again, u32::MAX, output)
+}

@@ -1,0 +1,41 @@
+//! An image, its stream, and the image again.
+
+ghost use Rattle.std.specs.Prelude.{◌-◌, ◌^◌, ◌<◌, OnOk, IfErr, IfSome};
+ghost use Rattle.uses.specs.Image.{WritesRawForm, IsOfImage};
+
+use crate::held::Held;
+use pbm_core::laws::images;
+use pbm_core::trial::Drip;
+use pbm_core::{Input, Output};
+use std::alloc::Global;
+use t85_core::laws::lines;
+use t85_core::{Fault, Options, to_jbg, to_pbm};
+
+/// Writes the stream of an image into a lent slice, and from there the image again, in the raw form. Of that stream
+/// nothing is refused: a fault is one of the image, of memory or of an output.
+pub fn round_trip<R: Input, W: Output>(
+    alloc: Global,
+    input: &mut R,
+    options: &Options<'_>,
+    room: &mut [u8],
+    output: &mut W,
+) -> Result<(), Fault>
+    requires input { R.failures input.old < 2 ^ 64 - 1 }
+    requires output { W.failures output.old < 2 ^ 64 - 1 }
+    ensures again { OnOk result (IfSome (R.remaining input.old)
+        (λ bytes. WritesRawForm bytes (W.contents output.old) (W.contents output.new))) }
+    ensures told { IfErr result (λ fault. IfSome (R.remaining input.old) (λ _. IsOfImage fault)) }
+{
+    // What the proof cites of images and streams.
+    images();
+    lines();
+    let mut stream = Drip::new(room, usize::MAX, None, false);
+    to_jbg(alloc, input, &mut stream, options)?;
+    let mut first = Held {
+        rest: stream.written(),
+    };
+    let mut again = Some(Held {
+        rest: stream.written(),
+    });
+    to_pbm(alloc, &mut first, &mut again, u32::MAX, output)
+}

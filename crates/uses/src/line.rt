@@ -1,0 +1,41 @@
+//! The line about a stream that is written.
+
+ghost use Rattle.std.specs.Prelude.{◌-◌, ◌^◌, ◌<◌, OnOk, IfErr, IfSome};
+ghost use Rattle.t85_core.specs.Options.{settings_of};
+ghost use Rattle.uses.specs.Image.{IsOfImage};
+ghost use Rattle.uses.specs.Line.{WritesLine};
+
+use crate::held::Held;
+use pbm_core::trial::Drip;
+use pbm_core::{Input, Output};
+use qm_core::laws as coder;
+use std::alloc::Global;
+use t85_core::laws::lines;
+use t85_core::{Fault, Options, info, to_jbg};
+
+/// Writes the stream of an image into a lent slice, and then the line about that stream.
+pub fn line_of_encoded<R: Input, W: Output>(
+    alloc: Global,
+    input: &mut R,
+    options: &Options<'_>,
+    room: &mut [u8],
+    output: &mut W,
+) -> Result<(), Fault>
+    requires input { R.failures input.old < 2 ^ 64 - 1 }
+    requires output { W.failures output.old < 2 ^ 64 - 1 }
+    ensures line { OnOk result (IfSome (R.remaining input.old)
+        (λ bytes. WritesLine (settings_of options.now) bytes (W.contents output.old)
+        (W.contents output.new))) }
+    ensures told { IfErr result (λ fault. IfSome (R.remaining input.old) (λ _. IsOfImage fault)) }
+{
+    // What the proof cites of codes and streams.
+    coder::places();
+    coder::codes();
+    lines();
+    let mut stream = Drip::new(room, usize::MAX, None, false);
+    to_jbg(alloc, input, &mut stream, options)?;
+    let mut held = Held {
+        rest: stream.written(),
+    };
+    info(&mut held, output)
+}

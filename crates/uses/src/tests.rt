@@ -1,0 +1,76 @@
+//! Each caller once, where all goes well.
+
+use crate::coder::pixels_again;
+use crate::cut::rows_of_cut;
+use crate::image::round_trip;
+use crate::line::line_of_encoded;
+use pbm_core::trial::{Drip, Pieces};
+use qm_core::{Context, Learned};
+use std::alloc::Global;
+use t85_core::{Fault, Options};
+
+/// Three by two pixels in the plain form.
+const IMAGE: &[u8] = b"P1 3 2 101 010";
+
+/// What comes back of the image, and how many bytes of it.
+fn back(alloc: Global, held: &mut [u8]) -> Result<usize, Fault> {
+    let options = Options::new(8, 1, 0, None, false, None)?;
+    let mut room = [0; 64];
+    let mut input = Pieces::new(IMAGE, 4096, None);
+    let mut output = Drip::new(held, 4096, None, false);
+    round_trip(alloc, &mut input, &options, &mut room, &mut output)?;
+    Ok(output.len)
+}
+
+#[test]
+fn image_comes_back(rt: HostRuntime) {
+    let mut held = [0; 9];
+    assert!(rt; back(rt.alloc(), &mut held) == Ok(9));
+    assert!(rt; held == *b"P4\n3 2\n\xa0\x40");
+}
+
+/// The line about its stream, and how many bytes it has.
+fn line(alloc: Global, held: &mut [u8]) -> Result<usize, Fault> {
+    let options = Options::new(8, 1, 0, Some(5), false, Some(b"abc"))?;
+    let mut room = [0; 64];
+    let mut input = Pieces::new(IMAGE, 4096, None);
+    let mut output = Drip::new(held, 4096, None, false);
+    line_of_encoded(alloc, &mut input, &options, &mut room, &mut output)?;
+    Ok(output.len)
+}
+
+#[test]
+fn line_is_written(rt: HostRuntime) {
+    let mut held = [0; 19];
+    assert!(rt; line(rt.alloc(), &mut held) == Ok(19));
+    assert!(rt; held == *b"3 5 1 0 40 2 2 0 1\n");
+}
+
+/// A black pixel's stream, up to its code.
+const CUT: &[u8] =
+    b"\x00\x00\x01\x00\x00\x00\x00\x01\x00\x00\x00\x01\x00\x00\x00\x01\x00\x00\x00\x00";
+
+/// What is reported of it, and how many bytes are written.
+fn cut(alloc: Global, held: &mut [u8]) -> (Result<(), Fault>, usize) {
+    let mut input = Pieces::new(CUT, 4096, None);
+    let mut output = Drip::new(held, 4096, None, false);
+    let told = rows_of_cut(alloc, &mut input, &mut output);
+    (told, output.len)
+}
+
+#[test]
+fn rows_of_a_cut_stream(rt: HostRuntime) {
+    let mut held = [0; 7];
+    assert!(rt; cut(rt.alloc(), &mut held) == (Err(Fault::Truncated), 7));
+    assert!(rt; held == *b"P4\n1 1\n");
+}
+
+#[test]
+fn pixels_come_back(rt: HostRuntime) {
+    let contexts = [Context::of(3), Context::of(3), Context::of(1000)];
+    let pixels = [true, false, true];
+    let mut learned = Learned::new();
+    let mut copy = Learned::new();
+    let again = pixels_again(rt.alloc(), &contexts, &pixels, &mut learned, &mut copy);
+    assert!(rt; again.is_ok_and(|again| again.as_slice() == pixels.as_slice()));
+}
