@@ -1,5 +1,6 @@
 # make            builds both programs into bin/, and shows them on a real page
-# make test       the gate: every proof, every edit that must fail, every test, runs of the built programs; ends in `rt ci`
+# make test       the gate: the documents, every proof, every edit that must fail, every test, runs of the built
+#                 programs; ends in `rt ci`
 # make turns      makes each allocation of the programs fail in turn
 # make interop    exchanges streams with JBIG-KIT's programs, and compares the images
 # make bench      measures beside JBIG-KIT and netpbm; no test is timed
@@ -23,7 +24,14 @@ build:
 		cp crates/$$program/out/$$program bin/$$program; \
 	done
 
-test: build
+# The documents speak of what is there, and clauses can be read.
+documents:
+	tools/references
+	tools/model --check
+	tools/clauses
+	tools/prose
+
+test: documents build
 	tools/must-not-compile
 	tests/turns bin
 	tests/stored bin
@@ -40,6 +48,7 @@ bench: build
 	bench/decode bin/jbgtopbm85
 	bench/encode bin/pbmtojbg85
 	bench/plain bin/pbmtojbg85
+	bench/classes bin bench/classes.svg
 
 install: build
 	@for program in $(PROGRAMS); do \
@@ -49,4 +58,4 @@ install: build
 clean:
 	rm -rf bin crates/*/out
 
-.PHONY: show build test turns interop bench install clean
+.PHONY: show build documents test turns interop bench install clean
