@@ -1,9 +1,12 @@
 //! The row that was counted last.
 
-ghost use Rattle.std.specs.Prelude.{ℕ, ◌+◌, ◌*◌, ◌^◌, ◌≡◌, ◌≤◌, ◌<◌, IsTrue, length, slice_index, take};
-ghost use Rattle.raster_core.specs.Machine.Words.{AgreesAt};
+ghost use Rattle.std.specs.Prelude.{ℕ, ◌+◌, ◌*◌, ◌^◌, ◌≡◌, ◌≤◌, ◌<◌, IsTrue, Some, length, slice_index, take};
+ghost use Rattle.std.specs.Int.{div_ceil};
+ghost use Rattle.raster_core.specs.Lines.{Lines};
+ghost use Rattle.raster_core.specs.Packed.{packed_row};
+ghost use Rattle.raster_core.specs.Machine.Words.{AgreesAt, AgreesBelowItself, part_agreement};
 
-use crate::agreement::{add_all, add_word};
+use crate::agreement::{add_all, add_word, held_row};
 use crate::words::{mask_at, word_at};
 
 /// At how many pixels of a row the pixel so far to the left is the same one, for each lag. A row of
@@ -17,7 +20,13 @@ pub struct Counted {
     least: usize,
     most: usize,
     pub(crate) agreed: [u64; 128],
+    /// The same for the adaptive pixel in its nominal place, where the row above is the same row.
+    /// It is counted when it is first asked for.
+    below_itself: Option<u64>,
     ghost small: { (lag : ℕ) → slice_index agreed lag ≤ 2 ^ 32 },
+    ghost below_small: { (n : ℕ) → below_itself ≡ Some n → n ≤ 2 ^ 32 },
+    ghost below_agrees: { (n : ℕ) → below_itself ≡ Some n → len ≤ 1024 →
+        AgreesBelowItself (take len row) width n },
     ghost agrees: { len ≤ 1024 → AgreesAt (take len row) width least most agreed },
 }
 
@@ -31,12 +40,17 @@ impl Counted {
             least: 0,
             most: 0,
             agreed: [0; 128],
+            below_itself: None,
         }
     }
 
     /// Whether it is of this row and these lags.
     fn is_of(&self, row: &[u8], width: u32, least: usize, most: usize) -> bool
-        ensures { IsTrue result → AgreesAt row.now width least most self.now.agreed }
+        ensures agreed { IsTrue result → AgreesAt row.now width least most self.now.agreed }
+        ensures row { IsTrue result → take self.now.len self.now.row ≡ row.now }
+        ensures width { IsTrue result → self.now.width ≡ width }
+        ensures least { IsTrue result → self.now.least ≡ least }
+        ensures most { IsTrue result → self.now.most ≡ most }
     {
         if width != self.width || least != self.least || most != self.most {
             return false;
@@ -53,6 +67,10 @@ impl Counted {
         requires least_small { least < 64 }
         requires most { most ≤ 127 }
         ensures agreed { AgreesAt row.now width least most self.new.agreed }
+        ensures row { self.new.len ≤ 1024 → take self.new.len self.new.row ≡ row.now }
+        ensures width { self.new.width ≡ width }
+        ensures least { self.new.least ≡ least }
+        ensures most { self.new.most ≡ most }
     {
         if self.is_of(row, width, least, most) {
             return;
@@ -63,6 +81,48 @@ impl Counted {
         self.width = width;
         self.least = least;
         self.most = most;
+        self.below_itself = None;
+    }
+
+    /// At how many pixels of the row that was counted last the adaptive pixel at `offset` is the
+    /// same one.
+    pub(crate) fn held(&mut self, row: &[u8], above: &[u8], offset: u8) -> u64
+        requires offset { offset ≤ 127 }
+        requires agreed { AgreesAt row.now self.old.width self.old.least self.old.most
+            self.old.agreed }
+        requires row { self.old.len ≤ 1024 → take self.old.len self.old.row ≡ row.now }
+        ensures agreed { (lines : Lines) → row.now ≡ packed_row lines.row →
+            above.now ≡ packed_row lines.above →
+            result ≡ part_agreement lines self.old.width offset 0
+            (64 * div_ceil self.old.width 64) }
+        ensures small { result ≤ 2 ^ 32 }
+    {
+        let lag = offset as usize;
+        if self.least <= lag && lag <= self.most {
+            self.agreed[lag]
+        } else if offset == 0 && self.len <= 1024 && row == above {
+            self.held_below_itself()
+        } else {
+            held_row(row, above, self.width, offset)
+        }
+    }
+
+    /// At how many pixels of the row that was counted last the adaptive pixel in its nominal place
+    /// is the same one, where the row above is the same row.
+    fn held_below_itself(&mut self) -> u64
+        requires { self.old.len ≤ 1024 }
+        ensures agreed { AgreesBelowItself (take self.old.len self.old.row) self.old.width result }
+        ensures small { result ≤ 2 ^ 32 }
+    {
+        match self.below_itself {
+            Some(held) => held,
+            None => {
+                let row = &self.row[..self.len];
+                let held = held_row(row, row, self.width, 0);
+                self.below_itself = Some(held);
+                held
+            }
+        }
     }
 }
 

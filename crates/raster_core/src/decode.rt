@@ -1,17 +1,19 @@
 //! Decoding a row.
 
-ghost use Rattle.std.specs.Prelude.{◌≡◌, ℕ, ◌+◌, ◌-◌, ◌*◌, ◌^◌, ◌<◌, ◌≤◌, ◌↔◌, length, List, slice_index, IsTrue, IsErr, OnOk, OnErr, IfOk, false, true};
+ghost use Rattle.std.specs.Prelude.{◌≡◌, ℕ, ◌+◌, ◌-◌, ◌*◌, ◌^◌, ◌<◌, ◌≤◌, ◌↔◌, length, List, slice_index, IsTrue, IsErr, OnOk, OnErr, IfOk, false, true, nat_eq};
 ghost use Rattle.std.specs.Int.{div_ceil};
 ghost use Rattle.qm_core.specs.Source.{Pulls};
 ghost use Rattle.qm_core.specs.Place.{Place};
+ghost use Rattle.qm_core.specs.Skipping.{CanSkip};
 ghost use Rattle.qm_core.specs.Decoder.{DecoderIsAt, has_stopped};
 ghost use Rattle.qm_core.specs.declared.source.Pulled.{Pulled};
 ghost use Rattle.raster_core.specs.Machine.Decoded.{Along, StopsAlong, SkipsAlong, SkipsWhiteAlong, RowAlong, RowStops};
 ghost use Rattle.raster_core.specs.Lines.{Lines};
 ghost use Rattle.raster_core.specs.Window.{shape_mode, held, width_of};
 ghost use Rattle.raster_core.specs.Packed.{HasLines, SameAbove};
-ghost use Rattle.raster_core.specs.Machine.Registers.{is_moved};
+ghost use Rattle.raster_core.specs.Machine.Registers.{bit, is_moved};
 ghost use Rattle.raster_core.specs.Row.{FirstDecoded, FirstStopped, RowDecoded};
+ghost use Rattle.raster_core.specs.Machine.Uniform.{uniform_event, AreAllOf, AreWhite};
 
 use crate::bytes::byte_at;
 use crate::context::{by_template, context_of, flag_context, past_and};
@@ -91,6 +93,12 @@ fn skip_byte<const MOVED: bool>(
     ensures eight { result ≡ true → n ≡ 8 }
     ensures skipped { result ≡ true → SkipsAlong (shape_mode shape) offset second_bytes above_bytes
         byte before decoder.old learned.now decoder.new }
+    ensures taken { (p : Place) (answers : List Pulled) → DecoderIsAt decoder.old p answers →
+        n ≡ 8 →
+        byte ≡ bit (nat_eq byte 255) * 255 →
+        AreAllOf second_bytes above_bytes before offset (nat_eq byte 255) →
+        CanSkip decoder.old (record { place = p; learned = learned.now }) answers
+        (uniform_event (nat_eq byte 255)) 8 → result ≡ true }
 {
     let colour = byte == 255;
     if is_run::<MOVED>(offset, second_bytes, above_bytes, byte, before, n) {
@@ -181,6 +189,11 @@ fn skip_word(
     ensures inside { result ≡ true → 64 < left }
     ensures skipped { result ≡ true → SkipsWhiteAlong above.now second.now i 8 decoder.old
         learned.now decoder.new }
+    ensures taken { (p : Place) (answers : List Pulled) → DecoderIsAt decoder.old p answers →
+        64 < left → i + 9 ≤ length above.now → i + 9 ≤ length second.now →
+        AreWhite above.now (i + 1) 8 → AreWhite second.now (i + 1) 8 →
+        CanSkip decoder.old (record { place = p; learned = learned.now }) answers
+        (uniform_event false) 64 → result ≡ true }
 {
     if is_white_above(above, second, i, left) {
         decoder.skip(learned, uniform_context(false), false, 64)

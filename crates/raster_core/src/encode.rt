@@ -1,16 +1,18 @@
 //! Encoding a row.
 
-ghost use Rattle.std.specs.Prelude.{◌≡◌, ℕ, ◌+◌, ◌-◌, ◌*◌, ◌^◌, ◌<◌, ◌≤◌, ◌↔◌, length, List, [], ◌∷◌, IsTrue, IsErr, OnOk, OnErr, IfOk, Err, false, true};
+ghost use Rattle.std.specs.Prelude.{◌≡◌, ℕ, ◌+◌, ◌-◌, ◌*◌, ◌^◌, ◌<◌, ◌≤◌, ◌↔◌, length, List, [], ◌∷◌, IsTrue, IsErr, OnOk, OnErr, IfOk, Err, false, true, nat_eq};
 ghost use Rattle.std.specs.Int.{div_ceil};
 ghost use Rattle.qm_core.specs.Encoder.{EncoderIsAt, event_count, has_failed};
 ghost use Rattle.qm_core.specs.Place.{Place};
+ghost use Rattle.qm_core.specs.Skipping.{has_room};
 ghost use Rattle.raster_core.specs.Events.{Encodes, Fails};
 ghost use Rattle.raster_core.specs.Machine.Encoded.{EncodesByte, FailsByte, SkipsByte, SkipsWhite, EncodesRow, FailsRow};
 ghost use Rattle.raster_core.specs.Lines.{Lines, may_be_typical, pseudo_event};
 ghost use Rattle.raster_core.specs.Window.{shape_mode, held, width_of};
 ghost use Rattle.raster_core.specs.Packed.{HasLines, packed_row};
-ghost use Rattle.raster_core.specs.Machine.Registers.{is_moved};
+ghost use Rattle.raster_core.specs.Machine.Registers.{bit, is_moved};
 ghost use Rattle.raster_core.specs.Row.{RowEncoded};
+ghost use Rattle.raster_core.specs.Machine.Uniform.{uniform_event, AreAllOf, AreWhite};
 
 use crate::bytes::byte_at;
 use crate::context::{by_template, context_of, flag_context, past_and};
@@ -100,6 +102,11 @@ fn skip_byte<const MOVED: bool>(
     ensures skipped { result ≡ true → SkipsByte (shape_mode shape) offset second_bytes above_bytes
         byte
         before encoder.old learned.now encoder.new }
+    ensures taken { (p : Place) (pushed : List ℕ) → has_failed encoder.old ≡ false →
+        EncoderIsAt encoder.old p pushed → n ≡ 8 → byte ≡ bit (nat_eq byte 255) * 255 →
+        AreAllOf second_bytes above_bytes before offset (nat_eq byte 255) →
+        IsTrue (has_room (record { place = p; learned = learned.now })
+        (uniform_event (nat_eq byte 255)) 8) → result ≡ true }
 {
     let colour = byte == 255;
     if is_run::<MOVED>(offset, second_bytes, above_bytes, byte, before, n) {
@@ -198,6 +205,12 @@ fn skip_word(
     ensures events { result ≡ true → event_count encoder.new ≡ event_count encoder.old + 64 }
     ensures skipped { result ≡ true → SkipsWhite current.now above.now second.now i 8 encoder.old
         learned.now encoder.new }
+    ensures taken { (p : Place) (pushed : List ℕ) → has_failed encoder.old ≡ false →
+        EncoderIsAt encoder.old p pushed → 64 < left → i + 8 ≤ length current.now →
+        i + 9 ≤ length above.now → i + 9 ≤ length second.now → AreWhite current.now i 8 →
+        AreWhite above.now (i + 1) 8 → AreWhite second.now (i + 1) 8 →
+        IsTrue (has_room (record { place = p; learned = learned.now }) (uniform_event false) 64) →
+        result ≡ true }
 {
     if is_white_above(above, second, i, left) && is_white(current, i) {
         encoder.skip(learned, uniform_context(false), false, 64)
@@ -255,6 +268,7 @@ fn skip_blank(
 ) -> u32
     requires some { 1 ≤ left }
     requires place { 8 * i + left < 2 ^ 32 }
+    requires inside { i < length current.now }
     requires events { event_count encoder.old + left ≤ MAX_EVENTS }
     ensures going { has_failed encoder.new ≡ has_failed encoder.old }
     ensures failed { IsTrue (has_failed encoder.old) → result ≡ 0 }
@@ -267,7 +281,7 @@ fn skip_blank(
     ensures skipped { SkipsWhite current.now above.now second.now i (8 * result) encoder.old
         learned.now encoder.new }
 {
-    if is_blank(second_bytes, above_bytes, before) {
+    if current[i] == 0 && is_blank(second_bytes, above_bytes, before) {
         skip_words(current, above, second, i, left, learned, encoder)
     } else {
         0

@@ -2,7 +2,7 @@
 
 ghost use Rattle.std.specs.Prelude.{ℕ, ◌+◌, ◌*◌, ◌^◌, ◌≡◌, ◌≤◌, slice_index};
 
-use crate::agreement::{add_each, held_row};
+use crate::agreement::add_each;
 use crate::counted::Counted;
 use crate::window::Window;
 
@@ -79,9 +79,10 @@ impl Tally {
         let least = self.least_lag() as usize;
         let most = self.most as usize;
         let row = window.row(0);
+        let above = window.row(1);
         self.last.count(row, width, least, most);
         add_each(&mut self.counts, &self.last.agreed, least, most + 1);
-        self.held += held_row(row, window.row(1), width, offset);
+        self.held += self.last.held(row, above, offset);
         self.width = width;
         self.rows += 1;
     }

@@ -1,9 +1,9 @@
 //! Bytes whose pixels all stand among pixels of their own colour.
 
-ghost use Rattle.std.specs.Prelude.{◌≡◌, ℕ, ◌+◌, ◌-◌, ◌*◌, ◌/◌, ◌%◌, ◌^◌, ◌≤◌, ◌<◌, IsTrue, length, nat_eq, slice_index};
+ghost use Rattle.std.specs.Prelude.{◌≡◌, ℕ, ◌+◌, ◌-◌, ◌*◌, ◌/◌, ◌%◌, ◌^◌, ◌≤◌, ◌<◌, IsTrue, length, nat_eq, slice_index, true};
 ghost use Rattle.raster_core.specs.Lines.{Lines, Mode};
 ghost use Rattle.raster_core.specs.Machine.Registers.{before, bit, is_moved, past_bits};
-ghost use Rattle.raster_core.specs.Machine.Uniform.{uniform_context, AreWhite, StaysUniform};
+ghost use Rattle.raster_core.specs.Machine.Uniform.{uniform_context, AreAllOf, AreWhite, StaysUniform};
 
 use qm_core::Context;
 
@@ -21,9 +21,12 @@ fn surrounds(colour: bool, second_bytes: u32, above_bytes: u32, past: u128) -> b
     ensures second { IsTrue result → second_bytes / 2 ^ 7 % 1024 ≡ bit colour * 1023 }
     ensures above { IsTrue result → above_bytes / 2 ^ 6 % 8192 ≡ bit colour * 8191 }
     ensures past { IsTrue result → past % 16 ≡ bit colour * 15 }
+    ensures all { second_bytes / 2 ^ 7 % 1024 ≡ bit colour * 1023 →
+        above_bytes / 2 ^ 6 % 8192 ≡ bit colour * 8191 → past % 16 ≡ bit colour * 15 →
+        result ≡ true }
 {
     let read = (above_bytes >> 6) % 8192 + (second_bytes >> 7) % 1024 + (past % 16) as u32;
-    read == if colour { 9229 } else { 0 }
+    read == if colour { 8191 + 1023 + 15 } else { 0 }
 }
 
 /// Whether the moved adaptive pixels of the next eight, as far as they lie before them, are of a
@@ -31,7 +34,8 @@ fn surrounds(colour: bool, second_bytes: u32, above_bytes: u32, past: u128) -> b
 #[inline(always)]
 fn surrounds_far(colour: bool, offset: u8, past: u128) -> bool
     requires { offset ≤ 127 }
-    ensures { IsTrue result → past / 2 ^ (offset - 8) % 256 ≡ bit colour * 255 }
+    ensures far { IsTrue result → past / 2 ^ (offset - 8) % 256 ≡ bit colour * 255 }
+    ensures all { past / 2 ^ (offset - 8) % 256 ≡ bit colour * 255 → result ≡ true }
 {
     (past >> offset.saturating_sub(8)) % 256 == if colour { 255 } else { 0 }
 }
@@ -48,10 +52,11 @@ fn is_uniform<const MOVED: bool>(
 ) -> bool
     requires offset { offset ≤ 127 }
     requires moved { MOVED ≡ is_moved offset }
-    ensures { IsTrue result → (mode : Mode) (lines : Lines) (x : ℕ) →
+    ensures uniform { IsTrue result → (mode : Mode) (lines : Lines) (x : ℕ) →
         second_bytes ≡ before lines.second (x + 16) 24 →
         above_bytes ≡ before lines.above (x + 16) 24 →
         past ≡ before lines.row x (past_bits offset) → StaysUniform mode lines offset colour x 8 }
+    ensures all { AreAllOf second_bytes above_bytes past offset colour → result ≡ true }
 {
     if MOVED {
         surrounds(colour, second_bytes, above_bytes, past) && surrounds_far(colour, offset, past)
@@ -80,6 +85,8 @@ pub(crate) fn is_run<const MOVED: bool>(
         above_bytes ≡ before lines.above (x + 16) 24 →
         past ≡ before lines.row x (past_bits offset) →
         StaysUniform mode lines offset (nat_eq byte 255) x 8 }
+    ensures all { n ≡ 8 → byte ≡ bit (nat_eq byte 255) * 255 →
+        AreAllOf second_bytes above_bytes past offset (nat_eq byte 255) → result ≡ true }
 {
     n == 8
         && (byte == 0 || byte == 255)
@@ -105,6 +112,7 @@ pub(crate) fn is_blank(second_bytes: u32, above_bytes: u32, past: u128) -> bool
     ensures second { IsTrue result → second_bytes ≡ 0 }
     ensures above { IsTrue result → above_bytes ≡ 0 }
     ensures past { IsTrue result → past ≡ 0 }
+    ensures all { second_bytes ≡ 0 → above_bytes ≡ 0 → past ≡ 0 → result ≡ true }
 {
     second_bytes == 0 && above_bytes == 0 && past == 0
 }
@@ -113,7 +121,8 @@ pub(crate) fn is_blank(second_bytes: u32, above_bytes: u32, past: u128) -> bool
 #[inline(always)]
 pub(crate) fn is_white(row: &[u8], i: usize) -> bool
     requires { i < 2 ^ 33 }
-    ensures { IsTrue result → AreWhite row.now i 8 }
+    ensures white { IsTrue result → AreWhite row.now i 8 }
+    ensures all { i + 8 ≤ length row.now → AreWhite row.now i 8 → result ≡ true }
 {
     if i + 8 <= row.len() {
         let first = u32::from(row[i])
@@ -138,6 +147,8 @@ pub(crate) fn is_white_above(above: &[u8], second: &[u8], i: usize, left: u32) -
     ensures inside { IsTrue result → 64 < left }
     ensures above { IsTrue result → AreWhite above.now (i + 1) 8 }
     ensures second { IsTrue result → AreWhite second.now (i + 1) 8 }
+    ensures all { 64 < left → i + 9 ≤ length above.now → i + 9 ≤ length second.now →
+        AreWhite above.now (i + 1) 8 → AreWhite second.now (i + 1) 8 → result ≡ true }
 {
     left > 64 && is_white(above, i + 1) && is_white(second, i + 1)
 }

@@ -1,5 +1,5 @@
 -- The line of `info`.
-use Rattle.std.specs.Prelude.{ℕ, List, [], ◌∷◌, ◌++◌, ◌≡◌, ◌≢◌, ◌⊎◌, ◌-◌, ◌^◌, ⊤, Bool, true, length, drop, sum_by, min, Option, IfSome, Result, OnOk, IfErr, IsErrOf}
+use Rattle.std.specs.Prelude.{ℕ, List, [], ◌∷◌, ◌++◌, ◌≡◌, ◌≢◌, ◌⊎◌, ◌-◌, ◌^◌, ⊤, Bool, true, length, drop, sum_by, min, IfSome, Result, OnOk, IfErr, IsErrOf}
 use Rattle.std.specs.Fmt.{decimal}
 use Rattle.std.specs.Io.KnownBytes.{Consumes, Appends, Keeps}
 use Rattle.pbm_core.specs.Device.{AppendsBeginning, Change}

@@ -1,8 +1,9 @@
 -- Pixels among pixels of their own colour.
-use Rattle.std.specs.Prelude.{ℕ, ◌+◌, ◌<◌, ◌≡◌, Bool, true, false, List, slice_index}
+use Rattle.std.specs.Prelude.{ℕ, ◌+◌, ◌-◌, ◌*◌, ◌/◌, ◌%◌, ◌^◌, ◌<◌, ◌≡◌, Bool, true, false, List, slice_index}
 use Rattle.qm_core.specs.Place.{Event}
 use Rattle.raster_core.specs.Raster.{pixel_at}
 use Rattle.raster_core.specs.Lines.{Lines, Mode, context_at}
+use Rattle.raster_core.specs.Machine.Registers.{bit}
 
 -- the context whose ten pixels all are of this colour
 abbrev pub uniform_context : Bool → ℕ
@@ -18,6 +19,13 @@ abbrev pub StaysUniform : Mode → Lines → ℕ → Bool → ℕ → ℕ → Ty
 StaysUniform mode lines offset colour x n =
     (j : ℕ) → j < n → ((k : ℕ) → k < j → pixel_at lines.row (x + k) ≡ colour) →
     context_at mode lines offset (x + j) ≡ uniform_context colour
+
+-- the registers of a byte hold pixels of this colour alone, wherever the contexts of its pixels read them
+pub record AreAllOf (second above past offset : ℕ) (colour : Bool) : Type 0 where
+  pub second_is : second / 2 ^ 7 % 1024 ≡ bit colour * 1023
+  pub above_is : above / 2 ^ 6 % 8192 ≡ bit colour * 8191
+  pub near : past % 16 ≡ bit colour * 15
+  pub far : past / 2 ^ (offset - 8) % 256 ≡ bit colour * 255
 
 -- `count` bytes from byte i on are white
 abbrev pub AreWhite : List ℕ → ℕ → ℕ → Type 0

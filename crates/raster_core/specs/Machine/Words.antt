@@ -34,3 +34,9 @@ abbrev pub AgreesAt : List ℕ → ℕ → ℕ → ℕ → List ℕ → Type 0
 AgreesAt bytes width least most counts =
     (lines : Lines) → bytes ≡ packed_row lines.row → (lag : ℕ) → least ≤ lag → lag ≤ most →
     slice_index counts lag ≡ part_agreement lines width lag 0 (64 * div_ceil width 64)
+
+-- the number is that of the row in these bytes at the nominal place, where the row above has the same bytes
+abbrev pub AgreesBelowItself : List ℕ → ℕ → ℕ → Type 0
+AgreesBelowItself bytes width number =
+    (lines : Lines) → bytes ≡ packed_row lines.row → bytes ≡ packed_row lines.above →
+    number ≡ part_agreement lines width 0 0 (64 * div_ceil width 64)

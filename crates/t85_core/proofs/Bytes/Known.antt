@@ -1,8 +1,6 @@
 -- From what a walk took to what is said of all the bytes.
-use Rattle.std.proofs.Common.{cond, count_by, ◌||◌, ◌≡◌, ◌≢◌, ◌⊎◌, inl, inr, ◌<◌, ◌≤◌, ◌+◌, ℕ, Bool, true, false, not, List, [], ◌∷◌, ◌++◌, Option, None, Some, IfSome, length, drop, slice_index, nat_lt, nat_le, refl, sym, ap, ◌∙◌, subst, append-nil, append_assoc, length-drop, length-append, arith}
+use Rattle.std.proofs.Common.{cond, ◌||◌, ◌≡◌, ◌≢◌, ◌⊎◌, inl, inr, ◌<◌, ◌≤◌, ◌+◌, ℕ, Bool, true, false, not, List, [], ◌∷◌, ◌++◌, Option, None, Some, IfSome, length, drop, slice_index, nat_lt, nat_le, refl, sym, ap, ◌∙◌, subst, append-nil, length-drop, length-append, arith}
 use Rattle.std.specs.Bool.{◌==◌}
-use Rattle.std.specs.Prelude.{flat_map}
-use Rattle.qm_core.specs.Code.{stuffed}
 use Rattle.std.proofs.lemmas.Bool.{cases_lt}
 use Rattle.std.proofs.lemmas.Bool.Decides.{nat_tests}
 use Rattle.std.proofs.lemmas.List.{get_or_append_left, drop-append-le, drop_at}
@@ -10,9 +8,9 @@ use Rattle.byteorder.specs.Endian.{big_number}
 use Rattle.byteorder.specs.Numbers.{big_from-append}
 use Rattle.t85_core.specs.declared.fault.Fault.{Fault}
 use Rattle.t85_core.specs.declared.fault.Fault.TheVariants.{ShortHeader, Truncated, Read, MoveRefused, Aborted, BadEscape, LengthRefused, SecondMove, SecondLength, Changed}
-use Rattle.t85_core.specs.Refusal.{Spot, spot_behind, spot_after, rest_fault, escape_fault, length_fault, move_fault, comment_fault, is_legal_move, StripeFault, StripesFault}
+use Rattle.t85_core.specs.Refusal.{Spot, rest_fault, escape_fault, length_fault, move_fault, comment_fault, is_legal_move}
 use Rattle.t85_core.specs.Height.{StreamFault}
-use Rattle.t85_core.specs.Grammar.{stripe_bytes, segment_bytes, is_move, is_nil, is_valid_length}
+use Rattle.t85_core.specs.Grammar.{is_valid_length}
 use Rattle.t85_core.specs.Failures.{Ends, counted_as}
 use Rattle.t85_core.specs.Header.{Fields, is_variable, HeaderOf, long_at, header_fault, first_refusal, refusals}
 

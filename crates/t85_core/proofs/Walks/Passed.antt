@@ -7,7 +7,6 @@ use Rattle.std.proofs.lemmas.List.Sums.{sum_by-append}
 use Rattle.qm_core.specs.Code.{stuffed}
 use Rattle.t85_core.specs.declared.fault.Fault.{Fault}
 use Rattle.t85_core.specs.declared.fault.Fault.TheVariants.{Truncated, Changed}
-use Rattle.t85_core.specs.declared.segments.Code.{Code}
 use Rattle.t85_core.specs.declared.segments.Move as move
 use Rattle.t85_core.specs.Header.{Fields}
 use Rattle.t85_core.specs.Grammar.{Segment, NewLength, Move, Comment, lengths, GiveOnly, segment_bytes, is_move, is_comment, marker_bytes, Stripe, all_segments, IsLegal, IsBegun, is_valid_length}
@@ -15,7 +14,7 @@ use Rattle.t85_core.specs.Coding.{move_of}
 use Rattle.t85_core.specs.Steps.DecodeRows.{pair_of}
 use Rattle.t85_core.specs.Refusal.{Spot, spot_behind, rest_fault, StripeFault}
 use Rattle.t85_core.specs.Failures.{Ends, counted_as}
-use Rattle.t85_core.specs.Steps.Segments.{spot_at, CodeFault, HeadFault, PieceFault, next_bytes, IsNextItem, PassesCode, PassesHead, PassesSegment, PassesSegments, SegmentsFault}
+use Rattle.t85_core.specs.Steps.Segments.{spot_at, CodeFault, HeadFault, PieceFault, next_bytes, IsNextItem, PassesCode, PassesSegment, PassesSegments, SegmentsFault}
 use Rattle.t85_core.specs.declared.segments.Next.{Next}
 use Rattle.t85_core.specs.declared.segments.Next.TheVariants as next
 use Rattle.t85_core.specs.declared.segments.Place.{Place}

@@ -9,7 +9,7 @@ pub returns-clause-counts : goal.returns-clause-counts
 returns-clause-counts c rows lines k w =
     let long = w.row_wide ∙ c.requires.width in
     let e = c.row-row.ensures ∙ w.row_is in
-    let f = c.row.ensures ∙ w.above_is in
+    let f = c.row-above.ensures ∙ w.above_is in
     let whole : c.args.width ≤ 64 * div_ceil c.args.width 64 = omega arith in
     record {
       number = let g : length (rows ++ lines ∷ []) ≡ length rows + 1 = length_push rows lines in omega (arith, g, k.number);
@@ -23,7 +23,7 @@ returns-clause-counts c rows lines k w =
           ∙ ap (λ x. agreement rows lag + x) (part_all lines c.args.width lag (64 * div_ceil c.args.width 64) long whole)
           ∙ sym (agreement_push rows lines lag);
       held =
-          ap (λ x. c.args.self.now.held + x) (c.held_row.ensures.agreed lines e f)
+          ap (λ x. c.args.self.now.held + x) (c.held.ensures.agreed lines e f ∙ ap (λ x. part_agreement lines x c.args.offset 0 (64 * div_ceil x 64)) c.count.ensures.width)
           ∙ ap (λ x. x + part_agreement lines c.args.width c.args.offset 0 (64 * div_ceil c.args.width 64)) k.held
           ∙ ap (λ x. agreement rows c.args.offset + x) (part_all lines c.args.width c.args.offset (64 * div_ceil c.args.width 64) long whole)
           ∙ sym (agreement_push rows lines c.args.offset);
