@@ -110,3 +110,7 @@ bytes_all pull old to mode offset above second d₀ learned₀ width left i seco
 
 pub wrap : (x : ℕ) → x % 4294967296 % 256 ≡ x % 256
 wrap x = omega arith
+
+-- a whole byte is not shifted
+pub whole : (x : ℕ) → x % 256 ≡ x % 256 * 2 ^ (8 - 8) % 256
+whole x = omega arith

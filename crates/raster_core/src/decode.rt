@@ -305,7 +305,7 @@ fn decode_bytes<S: CodeBytes, const TWO_LINE: bool, const MOVED: bool>(
     let mut past = 0u128;
     let mut left = shape.width;
     let mut i = 0;
-    while i < current.len() {
+    'bytes: while left >= 8 {
         let words = skip_blank(
             current,
             above,
@@ -325,22 +325,39 @@ fn decode_bytes<S: CodeBytes, const TWO_LINE: bool, const MOVED: bool>(
         }
         above_bytes = above_bytes % 0x1_0000 * 256 + byte_at(above, i + 1);
         second_bytes = second_bytes % 0x1_0000 * 256 + byte_at(second, i + 1);
-        let n = left.min(8);
         past = decode_step::<_, TWO_LINE, MOVED>(
             shape,
             offset,
             second_bytes,
             above_bytes,
             past,
-            n,
+            8,
             learned,
             decoder,
             source,
         )?;
-        current[i] = ((((past % 256) as u32) << (8 - n)) % 256) as u8;
-        left -= n;
+        current[i] = (past % 256) as u8;
+        left -= 8;
         i += 1;
     }
+    if left == 0 {
+        return Ok(());
+    }
+    let n = left;
+    let last_above = above_bytes % 0x1_0000 * 256 + byte_at(above, i + 1);
+    let last_second = second_bytes % 0x1_0000 * 256 + byte_at(second, i + 1);
+    let last = decode_byte::<_, TWO_LINE, MOVED>(
+        shape,
+        offset,
+        last_second,
+        last_above,
+        past,
+        n,
+        learned,
+        decoder,
+        source,
+    )?;
+    current[i] = ((((last % 256) as u32) << (8 - n)) % 256) as u8;
     Ok(())
 }
 

@@ -6,8 +6,8 @@ use Rattle.raster_core.specs.Window.{shape_mode}
 use Rattle.raster_core.specs.Machine.Decoded.{BytesAlong}
 use Rattle.raster_core.proofs.decode.decode_bytes.Given as goal
 
-abbrev pub invariant-loop-i : goal.invariant-loop-i
-invariant-loop-i g l = record {
+abbrev pub invariant-bytes : goal.invariant-bytes
+invariant-bytes g l = record {
   same : g.S.CodeBytes.failed l.source ≡ g.S.CodeBytes.failed l.fn.source;
   going : has_stopped l.decoder ≡ has_stopped l.fn.decoder;
   stuck : IsTrue (has_stopped l.fn.decoder) → (l.i ≡ 0) × (l.decoder ≡ l.fn.decoder) × (l.source ≡ l.fn.source);
@@ -16,5 +16,5 @@ invariant-loop-i g l = record {
       l.shape.width l.left l.i l.second_bytes l.above_bytes l.past l.current l.decoder l.learned;
 }
 
-abbrev pub decreases-loop-i : goal.decreases-loop-i
-decreases-loop-i g l = l.left
+abbrev pub decreases-bytes : goal.decreases-bytes
+decreases-bytes g l = l.left
