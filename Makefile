@@ -4,6 +4,7 @@
 # make turns      makes each allocation of the programs fail in turn
 # make interop    exchanges streams with JBIG-KIT's programs, and compares the images
 # make bench      measures beside JBIG-KIT and netpbm; no test is timed
+# make against    compares with another build of both programs, in the folder OTHER
 # make install    copies the programs to $(DESTDIR)$(PREFIX)/bin
 
 PREFIX ?= /usr/local
@@ -43,6 +44,10 @@ turns: build
 interop: build
 	tests/interop bin
 
+# Compares with another build: make against OTHER=folder
+against: build
+	tests/against bin $(OTHER)
+
 bench: build
 	bench/info bin/jbgtopbm85
 	bench/decode bin/jbgtopbm85
@@ -58,4 +63,4 @@ install: build
 clean:
 	rm -rf bin crates/*/out
 
-.PHONY: show build documents test turns interop bench install clean
+.PHONY: show build documents test turns interop against bench install clean
