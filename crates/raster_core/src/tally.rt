@@ -64,6 +64,7 @@ impl Tally {
 
     /// Counts the current row of a window, typical or not, that was coded with the adaptive pixel
     /// at this offset. Between two restarts width and offset stay the same.
+    #[inline(never)]
     pub fn add_row(&mut self, window: &Window, width: u32, offset: u8)
         requires width { width_of window.now ≡ width }
         requires offset { offset ≤ 127 }
