@@ -10,7 +10,6 @@ ghost use Rattle.pbm_core.specs.Device.{change};
 ghost use Rattle.program_core.specs.Run.{names_file, reads_file, writes_file, exit_status};
 ghost use Rattle.program_core.specs.Pbmtojbg85.{settings_asked};
 
-mod args;
 mod words;
 mod work;
 
@@ -20,8 +19,7 @@ use crate::program::{create_output, open_input};
 use pbm_core::{Input, Output};
 use std::alloc::Global;
 use std::process::ExitCode;
-use t85_core::{Options, to_jbg};
-use words::comment_bytes;
+use t85_core::to_jbg;
 pub use words::job;
 pub use work::Job;
 
@@ -65,16 +63,6 @@ pub fn run<R: Input, W: Output, M: Output>(
         (M.failures messages.new ≡ M.failures messages.old) }
     ensures once { M.failures messages.new ≤ M.failures messages.old + 1 }
 {
-    let outcome = match Options::new(
-        job.p,
-        job.s,
-        job.m,
-        job.announced,
-        job.reset,
-        comment_bytes(&job.comment),
-    ) {
-        Ok(options) => to_jbg(alloc, input, output, &options),
-        Err(fault) => Err(fault),
-    };
+    let outcome = to_jbg(alloc, input, output, &job.options());
     report(NAME, outcome, messages)
 }

@@ -6,9 +6,8 @@ ghost use Rattle.program_core.specs.Options.{number_in};
 ghost use Rattle.program_core.specs.Pbmtojbg85.{HasDefaults, IsFaultOf, IsEncodeJobOf, IsOptionFault, encode_command as the_command, encode_matches};
 
 use super::NAME;
-use super::args::{default_arg, flag_arg, number_arg, text_arg};
 use super::work::Job;
-use crate::args::file_arg;
+use crate::args::{default_arg, file_arg, flag_arg, number_arg, text_arg};
 use crate::line_fault::LineFault;
 use crate::matches::{flag, matches_of, number, text};
 use clap::{ArgMatches, Command};

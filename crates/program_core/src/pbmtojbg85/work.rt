@@ -3,6 +3,9 @@
 ghost use Rattle.std.specs.Prelude.{◌≡◌, None, option_map, string_bytes};
 ghost use Rattle.t85_core.specs.Options.{refusal_of};
 
+use super::words::comment_bytes;
+use t85_core::Options;
+
 /// What the arguments ask for, with options that are accepted.
 #[derive(Debug, Drop)]
 pub struct Job {
@@ -22,4 +25,26 @@ pub struct Job {
     /// The output file; standard output without one, or with `-`.
     pub output: Option<String>,
     ghost accepted: { refusal_of p s m (option_map string_bytes comment) ≡ None },
+}
+
+impl Job {
+    ghost use Rattle.t85_core.specs.Options.{settings_of};
+    ghost use Rattle.program_core.specs.Pbmtojbg85.{settings_asked};
+
+    /// The options that the job asks for, which are accepted.
+    pub(super) fn options(&self) -> Options<'_>
+        ensures { settings_of result ≡ settings_asked self.now }
+    {
+        match Options::new(
+            self.p,
+            self.s,
+            self.m,
+            self.announced,
+            self.reset,
+            comment_bytes(&self.comment),
+        ) {
+            Ok(options) => options,
+            Err(_) => unreachable!(),
+        }
+    }
 }
