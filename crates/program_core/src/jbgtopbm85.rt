@@ -84,6 +84,7 @@ pub fn run<R: Input, Second: Input, W: Output, M: Output>(
         (change (again_known Second.remaining) (again_failures Second.failures) again.old again.new)
         (change W.contents W.failures output.old output.new) (W.flushed output.new) outcome
         × FlushesOnce (W.flushes output.old) (W.flushes output.new) outcome }
+    ensures same_target { W.target output.new ≡ W.target output.old }
 
     // A message is tried once, and only after a fault.
     ensures quiet { result ≡ 0 → Keeps (M.contents messages.old) (M.contents messages.new) ×
@@ -111,6 +112,7 @@ fn work_on<R: Input, Second: Input, W: Output>(
         (change (again_known Second.remaining) (again_failures Second.failures) again.old again.new)
         (change W.contents W.failures output.old output.new) (W.flushed output.new) result }
     ensures flushes { FlushesOnce (W.flushes output.old) (W.flushes output.new) result }
+    ensures same_target { W.target output.new ≡ W.target output.old }
 {
     if job.info {
         info(input, output)

@@ -57,6 +57,7 @@ pub fn run<R: Input, W: Output, M: Output>(
         (change R.remaining R.failures input.old input.new)
         (change W.contents W.failures output.old output.new) (W.flushed output.new) outcome
         × FlushesOnce (W.flushes output.old) (W.flushes output.new) outcome }
+    ensures same_target { W.target output.new ≡ W.target output.old }
 
     // A message is tried once, and only after a fault.
     ensures quiet { result ≡ 0 → Keeps (M.contents messages.old) (M.contents messages.new) ×

@@ -1,5 +1,5 @@
 -- What `decode` and `find_height` leave of their input and output.
-use Rattle.std.specs.Prelude.{ℕ, ◌≡◌, ◌≢◌, Bool, List, ◌++◌, Option, IfSome, Result, OnOk, IfErr, IsErrOf, ◌+◌, ◌≤◌, false, IfOk}
+use Rattle.std.specs.Prelude.{ℕ, ◌≡◌, ◌≢◌, Bool, List, ◌++◌, Option, IfSome, Result, OnOk, IfErr, IsErrOf, ◌≤◌, false, IfOk}
 use Rattle.std.specs.Io.KnownBytes.{Appends, Consumes, Keeps}
 use Rattle.pbm_core.specs.Device.{AppendsBeginning, Change}
 use Rattle.raster_core.specs.Raster.{Raster}

@@ -1,5 +1,5 @@
 -- What `encode` leaves of its input and output.
-use Rattle.std.specs.Prelude.{ℕ, ◌+◌, ◌≡◌, Bool, List, ◌++◌, length, Option, ◌/◌, ◌≢◌, ◌≤◌, ◌<◌, ⊤, true, take, IfSome, Result, OnOk, IfErr, IsErrOf, false}
+use Rattle.std.specs.Prelude.{ℕ, ◌≡◌, Bool, List, ◌++◌, length, Option, ◌/◌, ◌≢◌, ◌≤◌, ◌<◌, ⊤, true, take, IfSome, Result, OnOk, IfErr, IsErrOf, false}
 use Rattle.t85_core.specs.Jbg.{Settings, is_low, jbg, jbg_up_to}
 use Rattle.std.specs.Io.KnownBytes.{Appends, Consumes, Keeps}
 use Rattle.pbm_core.specs.Device.{Change}

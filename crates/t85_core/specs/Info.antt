@@ -1,10 +1,11 @@
 -- The line of `info`.
-use Rattle.std.specs.Prelude.{ℕ, List, [], ◌∷◌, ◌++◌, ◌≡◌, ◌≢◌, ◌⊎◌, ◌-◌, ◌^◌, ⊤, Bool, true, length, drop, sum_by, min, IfSome, Result, OnOk, IfErr, IsErrOf}
+use Rattle.std.specs.Prelude.{ℕ, List, [], ◌∷◌, ◌++◌, ◌≡◌, ◌≢◌, ◌⊎◌, ◌-◌, ◌^◌, ⊤, Bool, true, length, drop, sum_by, min, IfSome, Result, OnOk, IfOk, IfErr, IsErrOf}
 use Rattle.std.specs.Fmt.{decimal}
 use Rattle.std.specs.Io.KnownBytes.{Consumes, Appends, Keeps}
 use Rattle.pbm_core.specs.Device.{AppendsBeginning, Change}
 use Rattle.t85_core.specs.declared.fault.Fault.{Fault}
 use Rattle.t85_core.specs.declared.fault.Fault.TheVariants.{ShortHeader, Truncated, Changed, SecondLength, LengthRefused, SecondMove, MoveRefused, Aborted, BadEscape, Read, Write, OutOfMemory, OptionBits, StripeZero, MoveLarge, AnnouncedLow, TooManyRows, VariableHeight, CommentLong, Pbm}
+use Rattle.t85_core.specs.declared.summary.Summary.{Summary}
 use Rattle.t85_core.specs.Header.{Fields, HeaderOf}
 use Rattle.t85_core.specs.Grammar.{Stripe, Parts, moves_in, comments_in}
 use Rattle.t85_core.specs.Height.{IsHeight, IsOpen, StreamFault}
@@ -21,6 +22,15 @@ line_text (n ∷ m ∷ more) = decimal n ++ 32 ∷ line_text (m ∷ more)
 abbrev pub numbers_of : Fields → ℕ → List Stripe → List ℕ
 numbers_of h height stripes =
     h.xd ∷ h.yd ∷ h.l0 ∷ h.mx ∷ h.options ∷ height ∷ length stripes ∷ sum_by moves_in stripes ∷ min (sum_by comments_in stripes) (2 ^ 64 - 1) ∷ []
+
+-- the numbers of a stream that has its parts
+pub record HasNumbers (bytes numbers : List ℕ) : Type 0 where
+  pub header : Fields
+  pub header_of : HeaderOf bytes header
+  pub height : ℕ
+  pub height_is : IsHeight header (drop 20 bytes) height
+  pub parts : Parts header height (drop 20 bytes)
+  pub numbers_are : numbers ≡ numbers_of header height parts.stripes
 
 -- the line of a stream that has its parts
 pub record HasLine (bytes text : List ℕ) : Type 0 where
@@ -67,6 +77,22 @@ IsBodyFault SecondLength = ⊤
 IsBodyFault Changed = ⊤
 IsBodyFault Read = ⊤
 IsBodyFault _ = ⊥
+
+-- the numbers of a summary, in the order of the line
+abbrev pub numbers_in : Summary → List ℕ
+numbers_in s =
+    s.width ∷ s.announced_height ∷ s.stripe_rows ∷ s.most_offset ∷ s.options ∷ s.height ∷ s.entities ∷ s.moves ∷ s.comments ∷ []
+
+-- What `summarize` leaves of its input.
+pub record Summarize (input : Change) (answer : Result Summary Fault) : Type 0 where
+  -- a stream that has its parts gives its numbers
+  pub numbers : IfOk answer (λ s. IfSome input.old.bytes (λ bytes. HasNumbers bytes (numbers_in s)))
+  -- each other gives its fault
+  pub refused : IfErr answer (λ f. f ≢ Read → IfSome input.old.bytes (λ bytes. StreamFault bytes f))
+  pub among : IfErr answer IsWalkFault
+  -- a read failed, and what was read up to there is no whole stream
+  pub unread : IsErrOf answer Read → (given : List ℕ) × Consumes input.old.bytes input.new.bytes given × IsUnfinished given
+  pub reads : CountsRead input.old.failures input.new.failures answer
 
 -- What `info` leaves of its input and its output. Of each are given the known bytes and the count of failures, before
 -- the call and after it, and of the output whether it was flushed last.

@@ -49,6 +49,7 @@ pub fn decode<R: Input, W: Output>(
         (change R.remaining R.failures input.old input.new)
         (change W.contents W.failures output.old output.new) result }
     ensures no_flush { W.flushes output.new ≡ W.flushes output.old }
+    ensures same_target { W.target output.new ≡ W.target output.old }
 {
     // What the proof cites of the coder.
     coder_laws();
@@ -106,6 +107,7 @@ fn decode_buffered<S: ByteSource, W: Output>(
     ensures same_source { S.source stream.new ≡ S.source stream.old }
     ensures same_writer { buffer.new.output.ghost_name ≡ buffer.old.output.ghost_name }
     ensures no_flush { W.flushes buffer.new.output.now ≡ W.flushes buffer.old.output.now }
+    ensures same_target { W.target buffer.new.output.now ≡ W.target buffer.old.output.now }
 {
     // What the proof cites of the coder.
     coder_laws();

@@ -53,6 +53,7 @@ pub fn encode<R: Input, W: Output>(
         (change R.remaining R.failures input.old input.new)
         (change W.contents W.failures output.old output.new) result }
     ensures no_flush { W.flushes output.new ≡ W.flushes output.old }
+    ensures same_target { W.target output.new ≡ W.target output.old }
 {
     // What the proof cites.
     code_denotes();
@@ -108,6 +109,7 @@ fn encode_buffered<R: Input, W: Output>(
         (W.failures buffer.new.output.now) result }
     ensures same_writer { buffer.new.output.ghost_name ≡ buffer.old.output.ghost_name }
     ensures no_flush { W.flushes buffer.new.output.now ≡ W.flushes buffer.old.output.now }
+    ensures same_target { W.target buffer.new.output.now ≡ W.target buffer.old.output.now }
 {
     match encode_image(size, form, options, carried, source, buffer) {
         Ok(()) => buffer.write_held(),

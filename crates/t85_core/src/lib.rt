@@ -16,11 +16,11 @@ mod segments;
 mod state;
 mod summary;
 
-pub use conversion::{to_jbg, to_pbm};
+pub use conversion::{to_jbg, to_pbm, to_pbm_in};
 pub use decoding::decode;
 pub use encoding::encode;
 pub use fault::Fault;
 pub use header::Header;
 pub use height::find_height;
 pub use options::Options;
-pub use summary::info;
+pub use summary::{Summary, info, summarize};

@@ -74,6 +74,7 @@ impl Line {
             (W.contents output.new) self.now) }
         ensures flushed { OnOk result (W.flushed output.new ≡ true) }
         ensures flushes { FlushesOnce (W.flushes output.old) (W.flushes output.new) result }
+        ensures same_target { W.target output.new ≡ W.target output.old }
         ensures counts { CountsWrite (W.failures output.old) (W.failures output.new) result }
     {
         if write_bytes(output, &self.bytes[..self.len]).is_err() {

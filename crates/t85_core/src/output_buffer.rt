@@ -26,7 +26,7 @@ pub trait ByteTarget {
     /// How often the writer has failed.
     ghost failures: { Self → ℕ };
 
-    /// Which writer it has, and how often that was asked to flush.
+    /// Which writer it has, which memory was lent to that, and how often it was asked to flush.
     ghost writer: { Self → Writer };
 
     /// Takes bytes.
@@ -105,6 +105,7 @@ impl<W: Output> OutputBuffer<'_, W> {
             (W.failures self.new.output.now) result }
         ensures same_writer { self.new.output.ghost_name ≡ self.old.output.ghost_name }
         ensures no_flush { W.flushes self.new.output.now ≡ W.flushes self.old.output.now }
+        ensures same_target { W.target self.new.output.now ≡ W.target self.old.output.now }
     {
         match write_part(self.output, &self.bytes, self.at, self.end) {
             Ok(()) => {
@@ -134,6 +135,7 @@ fn write_part<W: Output>(output: &mut W, bytes: &[u8], at: usize, end: usize) ->
     ensures bound { IfErr result (λ place. place ≤ end) }
     ensures grows { known_length (W.contents output.old) ≤ known_length (W.contents output.new) }
     ensures no_flush { W.flushes output.new ≡ W.flushes output.old }
+    ensures same_target { W.target output.new ≡ W.target output.old }
     ensures counts { CountsFailure (W.failures output.old) (W.failures output.new) result }
 {
     let mut place = at;
@@ -176,6 +178,7 @@ impl<W: Output> ByteTarget for OutputBuffer<'_, W> {
 
     ghost writer = { λ s. record {
       reference = s.output.ghost_name;
+      target = W.target s.output.now;
       flushes = W.flushes s.output.now;
     } };
 

@@ -5,8 +5,8 @@ ghost use Rattle.std.specs.Io.KnownBytes.{Consumes};
 ghost use Rattle.pbm_core.specs.Device.{change};
 ghost use Rattle.t85_core.specs.declared.fault.Fault.TheVariants.{Read};
 ghost use Rattle.t85_core.specs.Options.{fields_of};
-ghost use Rattle.t85_core.specs.Info.{Info, IsWalkFault, line_text};
-ghost use Rattle.t85_core.specs.Steps.HeightWalk.{FindsGiven, BodyLine, BodyRefused, BodyUnfinished};
+ghost use Rattle.t85_core.specs.Info.{Info, IsWalkFault, Summarize, line_text, numbers_in};
+ghost use Rattle.t85_core.specs.Steps.HeightWalk.{FindsGiven, BodyNumbers, BodyRefused, BodyUnfinished};
 ghost use Rattle.t85_core.specs.Failures.{CountsRead, FlushesOnce};
 
 use crate::fault::Fault;
@@ -16,6 +16,38 @@ use crate::input_buffer::{ByteSource, InputBuffer};
 use crate::line::Line;
 use pbm_core::{Input, Output};
 
+/// What a stream says of itself: its header, the height in use, and what stands before its last data entity.
+#[derive(Clone, Copy, Debug, PartialEq, Eq)]
+pub struct Summary {
+    pub width: u32,
+    /// The height that the header gives.
+    pub announced_height: u32,
+    /// The rows of a stripe.
+    pub stripe_rows: u32,
+    /// The greatest offset of the adaptive pixel.
+    pub most_offset: u8,
+    /// The options byte.
+    pub options: u8,
+    /// The height in use: a later one where the stream gives it, else the header's.
+    pub height: u32,
+    /// The data entities, one a stripe.
+    pub entities: u32,
+    /// The moves of the adaptive pixel.
+    pub moves: u64,
+    /// The comments, counted up to 2^64 - 1.
+    pub comments: u64,
+}
+
+/// Walks the stream without decoding it, and says what it finds.
+pub fn summarize<R: Input>(input: &mut R) -> Result<Summary, Fault>
+    requires { R.failures input.old < 2 ^ 64 - 1 }
+    ensures { Summarize (change R.remaining R.failures input.old input.new) result }
+{
+    let header = Header::read(input)?;
+    let mut stream = InputBuffer::new(input);
+    summarize_body(&header, &mut stream)
+}
+
 /// Walks the stream and writes one line of nine numbers: width, height, rows of a stripe, greatest
 /// offset, options, height in use, data entities, moves and comments. Then it flushes once.
 pub fn info<R: Input, W: Output>(input: &mut R, output: &mut W) -> Result<(), Fault>
@@ -24,18 +56,34 @@ pub fn info<R: Input, W: Output>(input: &mut R, output: &mut W) -> Result<(), Fa
     ensures outcome { Info (change R.remaining R.failures input.old input.new)
         (change W.contents W.failures output.old output.new) (W.flushed output.new) result }
     ensures flushes { FlushesOnce (W.flushes output.old) (W.flushes output.new) result }
+    ensures same_target { W.target output.new ≡ W.target output.old }
 {
-    let header = Header::read(input)?;
-    let mut stream = InputBuffer::new(input);
-    let line = summary(&header, &mut stream)?;
-    line.put(output)
+    let found = summarize(input)?;
+    line_of(&found).put(output)
 }
 
-/// The line of a stream that stands after this header.
-fn summary<S: ByteSource>(header: &Header, stream: &mut S) -> Result<Line, Fault>
+/// The line of these numbers.
+fn line_of(found: &Summary) -> Line
+    ensures { result ≡ line_text (numbers_in found.now) }
+{
+    Line::of(&[
+        u64::from(found.width),
+        u64::from(found.announced_height),
+        u64::from(found.stripe_rows),
+        u64::from(found.most_offset),
+        u64::from(found.options),
+        u64::from(found.height),
+        u64::from(found.entities),
+        found.moves,
+        found.comments,
+    ])
+}
+
+/// The summary of a stream that stands after this header.
+fn summarize_body<S: ByteSource>(header: &Header, stream: &mut S) -> Result<Summary, Fault>
     requires stream { S.failures stream.old < 2 ^ 64 - 1 }
-    ensures ok { IfOk result (λ line. IfSome (S.known stream.old)
-        (BodyLine (fields_of header.now) line)) }
+    ensures ok { IfOk result (λ found. IfSome (S.known stream.old)
+        (BodyNumbers (fields_of header.now) (numbers_in found))) }
     ensures err { IfErr result (λ f. f ≢ Read → IfSome (S.known stream.old)
         (BodyRefused (fields_of header.now) f)) }
     ensures unread { IsErrOf result Read → (given : List ℕ) ×
@@ -48,7 +96,7 @@ fn summary<S: ByteSource>(header: &Header, stream: &mut S) -> Result<Line, Fault
 {
     let reached = find(header, stream)?;
     match reached.height {
-        None => Ok(line_of(header, header.yd, reached.entities, reached.passed)),
+        None => Ok(summary_of(header, header.yd, reached.entities, reached.passed)),
         Some(height) => walk_on(header, height, reached, stream),
     }
 }
@@ -59,14 +107,14 @@ fn walk_on<S: ByteSource>(
     height: u32,
     reached: Reached,
     stream: &mut S,
-) -> Result<Line, Fault>
+) -> Result<Summary, Fault>
     requires stream { S.failures stream.old < 2 ^ 64 - 1 }
     requires few { reached.passed.moves ≤ reached.entities }
     requires part { reached.part.moves ≤ 1 }
-    ensures ok { IfOk result (λ line. (known : Option (List ℕ)) →
+    ensures ok { IfOk result (λ found. (known : Option (List ℕ)) →
         FindsGiven (fields_of header.now) known (S.known stream.old) reached.entities
         reached.passed.moves reached.passed.comments reached.part.moves reached.part.comments height
-        → IfSome known (BodyLine (fields_of header.now) line)) }
+        → IfSome known (BodyNumbers (fields_of header.now) (numbers_in found))) }
     ensures err { IfErr result (λ f. f ≢ Read → (known : Option (List ℕ)) →
         FindsGiven (fields_of header.now) known (S.known stream.old) reached.entities
         reached.passed.moves reached.passed.comments reached.part.moves reached.part.comments height
@@ -83,7 +131,7 @@ fn walk_on<S: ByteSource>(
 {
     let count = height.div_ceil(header.l0);
     if reached.entities >= count {
-        return Ok(line_of(header, height, count, reached.passed));
+        return Ok(summary_of(header, height, count, reached.passed));
     }
     let moved = reached.part.moves > 0;
     let more = skip_stripes(header, reached.entities, count, true, moved, stream)?;
@@ -95,24 +143,24 @@ fn walk_on<S: ByteSource>(
             .saturating_add(reached.part.comments)
             .saturating_add(more.passed.comments),
     };
-    Ok(line_of(header, height, count, passed))
+    Ok(summary_of(header, height, count, passed))
 }
 
-/// The line of a header, of a height and so many data entities, and of what was skipped in them.
-fn line_of(header: &Header, height: u32, entities: u32, passed: Passed) -> Line
-    ensures { let h = header.now in result ≡ line_text
-        (h.xd ∷ h.yd ∷ h.l0 ∷ h.mx ∷ h.options ∷ height ∷ entities ∷ passed.moves ∷ passed.comments
-        ∷ []) }
+/// The summary of a header, of a height and so many data entities, and of what was skipped in them.
+fn summary_of(header: &Header, height: u32, entities: u32, passed: Passed) -> Summary
+    ensures { let h = header.now in numbers_in result ≡
+        h.xd ∷ h.yd ∷ h.l0 ∷ h.mx ∷ h.options ∷ height ∷ entities ∷ passed.moves ∷ passed.comments
+        ∷ [] }
 {
-    Line::of(&[
-        u64::from(header.xd),
-        u64::from(header.yd),
-        u64::from(header.l0),
-        u64::from(header.mx),
-        u64::from(header.options),
-        u64::from(height),
-        u64::from(entities),
-        passed.moves,
-        passed.comments,
-    ])
+    Summary {
+        width: header.xd,
+        announced_height: header.yd,
+        stripe_rows: header.l0,
+        most_offset: header.mx,
+        options: header.options,
+        height,
+        entities,
+        moves: passed.moves,
+        comments: passed.comments,
+    }
 }

@@ -70,6 +70,8 @@ impl Output for Counter<'_> {
 
     ghost flushes = { λ s. s.flushes };
 
+    ghost target = { λ s. 0 };
+
     fn failures(&self) -> u64 {
         0
     }

@@ -1,17 +1,18 @@
--- What `info` leaves, whichever way it ends.
+-- What `summarize` and `info` leave, whichever way they end.
 use Rattle.std.proofs.Common.{◌≡◌, ◌≢◌, inl, inr, ◌≤◌, ◌+◌, ◌++◌, ℕ, Bool, true, List, Option, None, Some, Result, Ok, Err, length, drop, sym, ap, ◌∙◌, subst, arith}
-use Rattle.std.specs.Prelude.{IfSome, OnOk, IfErr}
+use Rattle.std.specs.Prelude.{IfSome, OnOk, IfOk, IfErr, IsErrOf}
 use Rattle.std.specs.Io.KnownBytes.{Consumes, Appends}
 use Rattle.std.specs.Result.{IsErrAnd}
 use Rattle.pbm_core.specs.Device.{AppendsBeginning, between}
 use Rattle.t85_core.specs.declared.fault.Fault.{Fault}
 use Rattle.t85_core.specs.declared.fault.Fault.TheVariants.{ShortHeader, Truncated, Read, Write}
+use Rattle.t85_core.specs.declared.summary.Summary.{Summary}
 use Rattle.t85_core.specs.Header.{Fields, HeaderOf, header_fault}
 use Rattle.t85_core.specs.Refusal.{BodyFault}
 use Rattle.t85_core.specs.Height.{IsHeight, IsOpen, StreamFault}
-use Rattle.t85_core.specs.Steps.HeightWalk.{BodyLine, BodyRefused, BodyUnfinished}
-use Rattle.t85_core.specs.Failures.{Ends, CountsWrite, counted_as, failed_reads}
-use Rattle.t85_core.specs.Info.{Info, HasLine, IsUnfinished, IsWalkFault}
+use Rattle.t85_core.specs.Steps.HeightWalk.{BodyNumbers, BodyRefused, BodyUnfinished}
+use Rattle.t85_core.specs.Failures.{Ends, CountsRead, CountsWrite, counted_as, failed_reads}
+use Rattle.t85_core.specs.Info.{Info, Summarize, HasNumbers, HasLine, numbers_in, line_text, IsUnfinished, IsWalkFault}
 use Rattle.t85_core.proofs.Grammar.Faults.{header_faults, uncounted, no_write, unwritten}
 use Rattle.t85_core.proofs.Bytes.Held.{Keeps-same}
 use Rattle.t85_core.proofs.Bytes.Known.{HeaderOf-append, behind, refused_header}
@@ -50,82 +51,98 @@ unread_stream given body h long is (inl r) = inr (inl (inr (record {
 })))
 unread_stream given body h long is (inr o) = inr (inr (record { header = h; header_of = HeaderOf-append given body h is; open_still = subst (IsOpen h) (sym (behind given body long)) o }))
 
--- the line of the body is that of the stream
-pub known_line : (old mid : Option (List ℕ)) (given : List ℕ) (h : Fields) (line : List ℕ) → length given ≡ 20 → Consumes old mid given → HeaderOf given h → IfSome mid (BodyLine h line) → IfSome old (λ bytes. HasLine bytes line)
-known_line None mid given h line long taken is l = tt
-known_line (Some bytes) None given h line long taken is l = absurd taken
-known_line (Some bytes) (Some body) given h line long taken is l =
+-- the numbers of the body are those of the stream
+known_numbers : (old mid : Option (List ℕ)) (given : List ℕ) (h : Fields) (numbers : List ℕ) → length given ≡ 20 → Consumes old mid given → HeaderOf given h → IfSome mid (BodyNumbers h numbers) → IfSome old (λ bytes. HasNumbers bytes numbers)
+known_numbers None mid given h numbers long taken is n = tt
+known_numbers (Some bytes) None given h numbers long taken is n = absurd taken
+known_numbers (Some bytes) (Some body) given h numbers long taken is n =
     let whole : drop 20 bytes ≡ body = ap (drop 20) taken ∙ behind given body long in
     record {
       header = h;
       header_of = subst (λ z. HeaderOf z h) (sym taken) (HeaderOf-append given body h is);
-      height = l.height;
-      height_is = subst (λ z. IsHeight h z l.height) (sym whole) l.height_is;
-      parts = record { stripes = l.parts.stripes; rest = l.parts.rest; body_is = whole ∙ l.parts.body_is; count = l.parts.count; each = l.parts.each; gives = l.parts.gives };
-      text_is = l.line_is;
+      height = n.height;
+      height_is = subst (λ z. IsHeight h z n.height) (sym whole) n.height_is;
+      parts = record { stripes = n.parts.stripes; rest = n.parts.rest; body_is = whole ∙ n.parts.body_is; count = n.parts.count; each = n.parts.each; gives = n.parts.gives };
+      numbers_are = n.numbers_are;
     }
 
-module _ (in_old in_new : Option (List ℕ)) (reads_old reads_new : ℕ) (out : Option (List ℕ)) (writes : ℕ) (flushed : Bool) where
+module _ (in_old in_new : Option (List ℕ)) (reads_old reads_new : ℕ) where
   -- the header was refused
-  pub told_header : (f : Fault) → Ends ShortHeader in_old in_new (λ given fault. (length given ≤ 20) × (header_fault given ≡ Some fault)) f → reads_new ≡ reads_old + failed_reads f → Info (between in_old in_new reads_old reads_new) (between out out writes writes) flushed (Err f)
-  told_header f e counted =
-      let may = uncounted ShortHeader f (header_faults e.given (counted_as ShortHeader f) e.has_fault.1) in
-      record {
-        line = tt;
-        flushed_last = tt;
-        refused = λ read _. refused_header in_old in_new f e read;
-        unwritten = λ _. Keeps-same out;
-        among = λ _. may;
-        unread = λ is. unread_header in_old in_new f e (let same : f ≡ Read = cc in same);
-        cut = λ is. absurd (no_write f may (let same : f ≡ Write = cc in same));
-        reads = counted;
-        writes = omega (arith, unwritten f may);
-      }
-
-  -- the body was refused, after a header that was accepted
-  pub told_body : (mid : Option (List ℕ)) (given : List ℕ) (h : Fields) (f : Fault) → length given ≡ 20 → Consumes in_old mid given → HeaderOf given h → IsWalkFault f → (f ≢ Read → IfSome mid (BodyRefused h f))
-      → (known : Option (List ℕ)) → (f ≡ Read → (body : List ℕ) × Consumes mid known body × BodyUnfinished h body) → (f ≡ Read → known ≡ in_new) → reads_new ≡ reads_old + failed_reads f → Info (between in_old in_new reads_old reads_new) (between out out writes writes) flushed (Err f)
-  told_body mid given h f long taken is may refused known unread drained reads = record {
-    line = tt;
-    flushed_last = tt;
-    refused = λ read _. refused_stream in_old mid given h f long taken is (refused read);
-    unwritten = λ _. Keeps-same out;
-    among = λ _. may;
-    unread = λ same. (let read : f ≡ Read = cc in let u = unread read in (given ++ u.0, Consumes-more in_old mid in_new given u.0 taken (subst (λ k. Consumes mid k u.0) (drained read) u.1), unread_stream given u.0 h long is u.2));
-    cut = λ same. absurd (no_write f may (let s : f ≡ Write = cc in s));
-    reads = reads;
-    writes = omega (arith, unwritten f may);
+  pub told_header : (f : Fault) → Ends ShortHeader in_old in_new (λ given fault. (length given ≤ 20) × (header_fault given ≡ Some fault)) f → reads_new ≡ reads_old + failed_reads f → Summarize (between in_old in_new reads_old reads_new) (Err f)
+  told_header f e counted = record {
+    numbers = tt;
+    refused = λ read. refused_header in_old in_new f e read;
+    among = uncounted ShortHeader f (header_faults e.given (counted_as ShortHeader f) e.has_fault.1);
+    unread = λ is. unread_header in_old in_new f e (let same : f ≡ Read = cc in same);
+    reads = counted;
   }
 
+  -- the header was accepted, and the body walked
+  pub told_body : (mid : Option (List ℕ)) (given : List ℕ) (h : Fields) (r : Result Summary Fault) → length given ≡ 20 → Consumes in_old mid given → HeaderOf given h
+      → IfOk r (λ s. IfSome mid (BodyNumbers h (numbers_in s))) → IfErr r (λ f. f ≢ Read → IfSome mid (BodyRefused h f))
+      → (known : Option (List ℕ)) → (IsErrOf r Read → (body : List ℕ) × Consumes mid known body × BodyUnfinished h body) → IfErr r IsWalkFault → (IsErrOf r Read → known ≡ in_new) → CountsRead reads_old reads_new r
+      → Summarize (between in_old in_new reads_old reads_new) r
+  told_body mid given h (Ok s) long taken is found refused known unread may drained reads = record {
+    numbers = known_numbers in_old mid given h (numbers_in s) long taken is found;
+    refused = tt;
+    among = tt;
+    unread = λ e. absurd (let bot : ⊥ = cc in bot);
+    reads = reads;
+  }
+  told_body mid given h (Err f) long taken is found refused known unread may drained reads = record {
+    numbers = tt;
+    refused = λ read. refused_stream in_old mid given h f long taken is (refused read);
+    among = may;
+    unread = λ e. (let u = unread e in (given ++ u.0, Consumes-more in_old mid in_new given u.0 taken (subst (λ k. Consumes mid k u.0) (drained e) u.1), unread_stream given u.0 h long is u.2));
+    reads = reads;
+  }
+
+  -- a stream that has no line, or was not read to its end
+  pub told_none : (out : Option (List ℕ)) (writes : ℕ) (flushed : Bool) (f : Fault) → Summarize (between in_old in_new reads_old reads_new) (Err f) → Info (between in_old in_new reads_old reads_new) (between out out writes writes) flushed (Err f)
+  told_none out writes flushed f s = record {
+    line = tt;
+    flushed_last = tt;
+    refused = λ read _. s.refused read;
+    unwritten = λ _. Keeps-same out;
+    among = λ _. s.among;
+    unread = λ is. s.unread (let same : f ≡ Read = cc in ap Err same);
+    cut = λ is. absurd (no_write f s.among (let same : f ≡ Write = cc in same));
+    reads = s.reads;
+    writes = omega (arith, unwritten f s.among);
+  }
+
+has_line : (bytes numbers : List ℕ) → HasNumbers bytes numbers → HasLine bytes (line_text numbers)
+has_line bytes numbers n = record { header = n.header; header_of = n.header_of; height = n.height; height_is = n.height_is; parts = n.parts; text_is = ap line_text n.numbers_are }
+
 -- the line was to be written
-pub told_line : (in_old in_new : Option (List ℕ)) (reads_old reads_new : ℕ) (out_old out_new : Option (List ℕ)) (writes_old writes_new : ℕ) (flushed : Bool) (r : Result (Unit {0}) Fault) (text : List ℕ) → IfSome in_old (λ bytes. HasLine bytes text)
-    → OnOk r (Appends out_old out_new text) → IfErr r (λ f. f ≡ Write) → IfErr r (λ _. AppendsBeginning out_old out_new text) → OnOk r (flushed ≡ true) → reads_new ≡ reads_old → CountsWrite writes_old writes_new r
+pub told_line : (in_old in_new : Option (List ℕ)) (reads_old reads_new : ℕ) (out_old out_new : Option (List ℕ)) (writes_old writes_new : ℕ) (flushed : Bool) (r : Result (Unit {0}) Fault) (s : Summary) (text : List ℕ) → Summarize (between in_old in_new reads_old reads_new) (Ok s) → text ≡ line_text (numbers_in s)
+    → OnOk r (Appends out_old out_new text) → IfErr r (λ f. f ≡ Write) → IfErr r (λ _. AppendsBeginning out_old out_new text) → OnOk r (flushed ≡ true) → CountsWrite writes_old writes_new r
     → Info (between in_old in_new reads_old reads_new) (between out_old out_new writes_old writes_new) flushed r
-told_line in_old in_new reads_old reads_new out_old out_new writes_old writes_new flushed (Ok u) text known ok err cut last reads writes = record {
-  line = shown in_old known;
+told_line in_old in_new reads_old reads_new out_old out_new writes_old writes_new flushed (Ok u) s text found text_is ok err cut last writes = record {
+  line = shown in_old found.numbers;
   flushed_last = last;
   refused = tt;
   unwritten = tt;
   among = tt;
   unread = λ is. absurd (let bot : ⊥ = cc in bot);
   cut = λ is. absurd (let bot : ⊥ = cc in bot);
-  reads = reads;
+  reads = found.reads;
   writes = writes;
 } where
-  shown : (known : Option (List ℕ)) → IfSome known (λ bytes. HasLine bytes text) → IfSome known (λ bytes. (x : List ℕ) × HasLine bytes x × Appends out_old out_new x)
+  shown : (known : Option (List ℕ)) → IfSome known (λ bytes. HasNumbers bytes (numbers_in s)) → IfSome known (λ bytes. (x : List ℕ) × HasLine bytes x × Appends out_old out_new x)
   shown None h = tt
-  shown (Some bytes) h = (text, h, ok)
-told_line in_old in_new reads_old reads_new out_old out_new writes_old writes_new flushed (Err f) text known ok err cut last reads writes = record {
+  shown (Some bytes) h = (line_text (numbers_in s), has_line bytes (numbers_in s) h, subst (λ x. Appends out_old out_new x) text_is ok)
+told_line in_old in_new reads_old reads_new out_old out_new writes_old writes_new flushed (Err f) s text found text_is ok err cut last writes = record {
   line = tt;
   flushed_last = tt;
   refused = λ _ write. absurd (write err);
   unwritten = λ write. absurd (write err);
   among = λ write. absurd (write err);
   unread = λ is. absurd (let bot : ⊥ = cc in bot);
-  cut = λ _. shown in_old known;
-  reads = subst (λ x. reads_new ≡ reads_old + failed_reads x) (sym err) (omega (arith, reads));
+  cut = λ _. shown in_old found.numbers;
+  reads = subst (λ x. reads_new ≡ reads_old + failed_reads x) (sym err) (let same = found.reads in omega (arith, same));
   writes = writes;
 } where
-  shown : (known : Option (List ℕ)) → IfSome known (λ bytes. HasLine bytes text) → IfSome known (λ bytes. (x : List ℕ) × HasLine bytes x × AppendsBeginning out_old out_new x)
+  shown : (known : Option (List ℕ)) → IfSome known (λ bytes. HasNumbers bytes (numbers_in s)) → IfSome known (λ bytes. (x : List ℕ) × HasLine bytes x × AppendsBeginning out_old out_new x)
   shown None h = tt
-  shown (Some bytes) h = (text, h, cut)
+  shown (Some bytes) h = (line_text (numbers_in s), has_line bytes (numbers_in s) h, subst (λ x. AppendsBeginning out_old out_new x) text_is cut)

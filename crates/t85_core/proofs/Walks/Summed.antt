@@ -1,4 +1,4 @@
--- The line of a body whose height was found, or why it has none.
+-- The numbers of a body whose height was found, or why it has none.
 use Rattle.std.proofs.Common.{cond, ◌≡◌, ◌≢◌, ◌⊎◌, inl, inr, ◌<◌, ◌≤◌, ◌+◌, ◌-◌, ◌*◌, ◌^◌, ◌&&◌, ℕ, zero, suc, Bool, true, false, List, [], ◌∷◌, ◌++◌, Option, None, Some, IfSome, count_by, length, sum_by, min, nat_lt, nat_le, refl, sym, ap, ◌∙◌, subst, append_assoc, arith, true≢false}
 use Rattle.std.specs.Prelude.{flat_map}
 use Rattle.std.specs.List.{AllByRecursion}
@@ -12,27 +12,26 @@ use Rattle.t85_core.specs.declared.fault.Fault.TheVariants.{Truncated, Read}
 use Rattle.t85_core.specs.Header.{Fields, IsAccepted}
 use Rattle.t85_core.specs.Grammar.{NewLength, segment_bytes, is_move, is_comment, lengths, all_segments, Stripe, stripe_bytes, stripe_count, is_valid_length, IsLegal, IsBegun, GiveOnly, moves_in, comments_in}
 use Rattle.t85_core.specs.Height.{GivesHeight, IsHeight}
-use Rattle.t85_core.specs.Info.{line_text}
 use Rattle.t85_core.specs.Failures.{Ends, counted_as}
-use Rattle.t85_core.specs.Steps.HeightWalk.{IsAlone, SkipsStripes, SkipsFault, FindsGiven, FindsNone, BodyLine, BodyRefused, BodyUnfinished}
+use Rattle.t85_core.specs.Steps.HeightWalk.{IsAlone, SkipsStripes, SkipsFault, FindsGiven, FindsNone, BodyNumbers, BodyRefused, BodyUnfinished}
 use Rattle.t85_core.proofs.Bytes.Streams.{Consumes-more}
 use Rattle.t85_core.proofs.Bytes.Lists.{All-push, count_push, flat_map_push}
 use Rattle.t85_core.proofs.Bytes.Lengths.{lengths_append, gives_none, valid_in_use}
 use Rattle.t85_core.proofs.Walks.Found.{joined_to, broken_behind, parts_behind, joined_sum}
 use Rattle.t85_core.proofs.Walks.HeightFound.{skipped_whole}
 
-same_line : (h : Fields) (height count moves comments count' moves' comments' : ℕ) → count ≡ count' → moves ≡ moves' → comments ≡ comments' →
-    line_text (h.xd ∷ h.yd ∷ h.l0 ∷ h.mx ∷ h.options ∷ height ∷ count ∷ moves ∷ comments ∷ []) ≡ line_text (h.xd ∷ h.yd ∷ h.l0 ∷ h.mx ∷ h.options ∷ height ∷ count' ∷ moves' ∷ comments' ∷ [])
-same_line h height count moves comments count' moves' comments' a b c =
-    ap (λ n. line_text (h.xd ∷ h.yd ∷ h.l0 ∷ h.mx ∷ h.options ∷ height ∷ n ∷ moves ∷ comments ∷ [])) a
-    ∙ ap (λ n. line_text (h.xd ∷ h.yd ∷ h.l0 ∷ h.mx ∷ h.options ∷ height ∷ count' ∷ n ∷ comments ∷ [])) b
-    ∙ ap (λ n. line_text (h.xd ∷ h.yd ∷ h.l0 ∷ h.mx ∷ h.options ∷ height ∷ count' ∷ moves' ∷ n ∷ [])) c
+same_numbers : (h : Fields) (height count moves comments count' moves' comments' : ℕ) → count ≡ count' → moves ≡ moves' → comments ≡ comments' →
+    (h.xd ∷ h.yd ∷ h.l0 ∷ h.mx ∷ h.options ∷ height ∷ count ∷ moves ∷ comments ∷ []) ≡ (h.xd ∷ h.yd ∷ h.l0 ∷ h.mx ∷ h.options ∷ height ∷ count' ∷ moves' ∷ comments' ∷ [])
+same_numbers h height count moves comments count' moves' comments' a b c =
+    ap (λ n. (h.xd ∷ h.yd ∷ h.l0 ∷ h.mx ∷ h.options ∷ height ∷ n ∷ moves ∷ comments ∷ [])) a
+    ∙ ap (λ n. (h.xd ∷ h.yd ∷ h.l0 ∷ h.mx ∷ h.options ∷ height ∷ count' ∷ n ∷ comments ∷ [])) b
+    ∙ ap (λ n. (h.xd ∷ h.yd ∷ h.l0 ∷ h.mx ∷ h.options ∷ height ∷ count' ∷ moves' ∷ n ∷ [])) c
 
 -- no height is given
-pub none_line : (h : Fields) (old new : Option (List ℕ)) (entities moves comments : ℕ) (line : List ℕ) → FindsNone h old new entities moves comments →
-    line ≡ line_text (h.xd ∷ h.yd ∷ h.l0 ∷ h.mx ∷ h.options ∷ h.yd ∷ entities ∷ moves ∷ comments ∷ []) → IfSome old (BodyLine h line)
-none_line h old new entities moves comments line f is = went old f.mid f.before.taken f.height_is where
-  went : (old mid : Option (List ℕ)) → Consumes old mid (flat_map stripe_bytes f.before.stripes) → IfSome old (λ body. IsHeight h body h.yd) → IfSome old (BodyLine h line)
+pub none_numbers : (h : Fields) (old new : Option (List ℕ)) (entities moves comments : ℕ) (numbers : List ℕ) → FindsNone h old new entities moves comments →
+    numbers ≡ (h.xd ∷ h.yd ∷ h.l0 ∷ h.mx ∷ h.options ∷ h.yd ∷ entities ∷ moves ∷ comments ∷ []) → IfSome old (BodyNumbers h numbers)
+none_numbers h old new entities moves comments numbers f is = went old f.mid f.before.taken f.height_is where
+  went : (old mid : Option (List ℕ)) → Consumes old mid (flat_map stripe_bytes f.before.stripes) → IfSome old (λ body. IsHeight h body h.yd) → IfSome old (BodyNumbers h numbers)
   went None mid taken height = tt
   went (Some body) None taken height = absurd taken
   went (Some body) (Some rest) taken height = record {
@@ -46,7 +45,7 @@ none_line h old new entities moves comments line f is = went old f.mid f.before.
       each = f.before.each;
       gives = gives_none h.yd 0 (all_segments f.before.stripes) (omega arith) f.before.none;
     };
-    line_is = is ∙ same_line h h.yd entities moves comments (length f.before.stripes) (sum_by moves_in f.before.stripes) (min (sum_by comments_in f.before.stripes) (2 ^ 64 - 1)) (sym f.before.count_is) f.before.moves_are f.before.comments_are;
+    numbers_are = is ∙ same_numbers h h.yd entities moves comments (length f.before.stripes) (sum_by moves_in f.before.stripes) (min (sum_by comments_in f.before.stripes) (2 ^ 64 - 1)) (sym f.before.count_is) f.before.moves_are f.before.comments_are;
   }
 
 -- the last data entity before a valid height has a row of the image
@@ -117,12 +116,12 @@ module _ (h : Fields) (ok : IsAccepted h) (old mid : Option (List ℕ)) (entitie
     went (Some body) (Some rest) taken = inl (subst (λ z. GivesHeight h z n) (sym (taken ∙ behind_front rest)) (gives_height rest))
 
   -- all its stripes were skipped before it
-  pub whole_line : (count : ℕ) (line : List ℕ) → count ≡ stripe_count n h.l0 → count ≤ entities → line ≡ line_text (h.xd ∷ h.yd ∷ h.l0 ∷ h.mx ∷ h.options ∷ n ∷ count ∷ moves ∷ comments ∷ []) → IfSome old (BodyLine h line)
-  whole_line count line is few line_is = went old mid taken where
+  pub whole_numbers : (count : ℕ) (numbers : List ℕ) → count ≡ stripe_count n h.l0 → count ≤ entities → numbers ≡ (h.xd ∷ h.yd ∷ h.l0 ∷ h.mx ∷ h.options ∷ n ∷ count ∷ moves ∷ comments ∷ []) → IfSome old (BodyNumbers h numbers)
+  whole_numbers count numbers is few numbers_told = went old mid taken where
     same : count ≡ length f.before.stripes
     same = let fit = entities_fit h entities n ok.stripe_from f.valid in let e = f.before.count_is in omega (arith, fit, is, few, e)
 
-    went : (old mid : Option (List ℕ)) → Consumes old mid (flat_map stripe_bytes f.before.stripes ++ flat_map segment_bytes (f.segments ++ NewLength n ∷ [])) → IfSome old (BodyLine h line)
+    went : (old mid : Option (List ℕ)) → Consumes old mid (flat_map stripe_bytes f.before.stripes ++ flat_map segment_bytes (f.segments ++ NewLength n ∷ [])) → IfSome old (BodyNumbers h numbers)
     went None mid taken = tt
     went (Some body) None taken = absurd taken
     went (Some body) (Some rest) taken = record {
@@ -136,7 +135,7 @@ module _ (h : Fields) (ok : IsAccepted h) (old mid : Option (List ℕ)) (entitie
         each = f.before.each;
         gives = gives_none n 0 (all_segments f.before.stripes) (omega arith) f.before.none;
       };
-      line_is = line_is ∙ same_line h n count moves comments (length f.before.stripes) (sum_by moves_in f.before.stripes) (min (sum_by comments_in f.before.stripes) (2 ^ 64 - 1)) same f.before.moves_are f.before.comments_are;
+      numbers_are = numbers_told ∙ same_numbers h n count moves comments (length f.before.stripes) (sum_by moves_in f.before.stripes) (min (sum_by comments_in f.before.stripes) (2 ^ 64 - 1)) same f.before.moves_are f.before.comments_are;
     }
 
   begun : IsBegun h (f.segments ++ NewLength n ∷ []) []
@@ -165,11 +164,11 @@ module _ (h : Fields) (ok : IsAccepted h) (old mid : Option (List ℕ)) (entitie
 
   -- the rest of its stripes was skipped after it
   module _ (few : part_moves ≤ 1) (new : Option (List ℕ)) where
-    pub joined_line : (count more_moves more_comments all_moves some_comments all_comments : ℕ) (line : List ℕ) → count ≡ stripe_count n h.l0 → entities < count → SkipsStripes h (nat_lt 0 part_moves) (count - entities) mid new more_moves more_comments →
+    pub joined_numbers : (count more_moves more_comments all_moves some_comments all_comments : ℕ) (numbers : List ℕ) → count ≡ stripe_count n h.l0 → entities < count → SkipsStripes h (nat_lt 0 part_moves) (count - entities) mid new more_moves more_comments →
         all_moves ≡ (moves + part_moves) + more_moves → some_comments ≡ min (comments + part_comments) (2 ^ 64 - 1) → all_comments ≡ min (some_comments + more_comments) (2 ^ 64 - 1) →
-        line ≡ line_text (h.xd ∷ h.yd ∷ h.l0 ∷ h.mx ∷ h.options ∷ n ∷ count ∷ all_moves ∷ all_comments ∷ []) → IfSome old (BodyLine h line)
-    joined_line count more_moves more_comments all_moves some_comments all_comments line is less s moves_told some_told all_told line_is = by s.stripes refl where
-      by : (ts : List Stripe) → s.stripes ≡ ts → IfSome old (BodyLine h line)
+        numbers ≡ (h.xd ∷ h.yd ∷ h.l0 ∷ h.mx ∷ h.options ∷ n ∷ count ∷ all_moves ∷ all_comments ∷ []) → IfSome old (BodyNumbers h numbers)
+    joined_numbers count more_moves more_comments all_moves some_comments all_comments numbers is less s moves_told some_told all_told numbers_told = by s.stripes refl where
+      by : (ts : List Stripe) → s.stripes ≡ ts → IfSome old (BodyNumbers h numbers)
       by [] e = absurd (let many = s.count_is in let z = ap length e in omega (arith, many, z, less))
       by (t ∷ ts) e = went old mid new taken (subst (λ z. Consumes mid new (flat_map stripe_bytes z)) e s.taken) where
         many : length f.before.stripes + length (t ∷ ts) ≡ count
@@ -194,7 +193,7 @@ module _ (h : Fields) (ok : IsAccepted h) (old mid : Option (List ℕ)) (entitie
             let x = f.before.comments_are in
             omega (arith, a, b, m, x, part_comments_are, some_told, all_told)
 
-        went : (old mid new : Option (List ℕ)) → Consumes old mid (flat_map stripe_bytes f.before.stripes ++ flat_map segment_bytes (f.segments ++ NewLength n ∷ [])) → Consumes mid new (flat_map stripe_bytes (t ∷ ts)) → IfSome old (BodyLine h line)
+        went : (old mid new : Option (List ℕ)) → Consumes old mid (flat_map stripe_bytes f.before.stripes ++ flat_map segment_bytes (f.segments ++ NewLength n ∷ [])) → Consumes mid new (flat_map stripe_bytes (t ∷ ts)) → IfSome old (BodyNumbers h numbers)
         went None mid new a b = tt
         went (Some body) None new a b = absurd a
         went (Some body) (Some rest) None a b = absurd b
@@ -207,7 +206,7 @@ module _ (h : Fields) (ok : IsAccepted h) (old mid : Option (List ℕ)) (entitie
               height = n;
               height_is = inl (subst (λ z. GivesHeight h z n) (sym body_is) (gives_height (flat_map stripe_bytes (t ∷ ts) ++ left)));
               parts = record { stripes = f.before.stripes ++ joined_to (f.segments ++ NewLength n ∷ []) t ∷ ts; rest = left; body_is = body_is ∙ p.body_is; count = p.count; each = p.each; gives = p.gives };
-              line_is = line_is ∙ same_line h n count all_moves all_comments (length (f.before.stripes ++ joined_to (f.segments ++ NewLength n ∷ []) t ∷ ts)) (sum_by moves_in (f.before.stripes ++ joined_to (f.segments ++ NewLength n ∷ []) t ∷ ts))
+              numbers_are = numbers_told ∙ same_numbers h n count all_moves all_comments (length (f.before.stripes ++ joined_to (f.segments ++ NewLength n ∷ []) t ∷ ts)) (sum_by moves_in (f.before.stripes ++ joined_to (f.segments ++ NewLength n ∷ []) t ∷ ts))
                   (min (sum_by comments_in (f.before.stripes ++ joined_to (f.segments ++ NewLength n ∷ []) t ∷ ts)) (2 ^ 64 - 1)) (is ∙ sym p.count) moves_are comments_are;
             }
 

@@ -11,9 +11,10 @@ held_of bytes at end = take (end - at) (drop at bytes)
 abbrev pub ArePlain : List ℕ → Type 0
 ArePlain code = AllByRecursion (λ b. (b < 256) × (b ≢ 255)) code
 
--- a writer: which it is, and how often it was asked to flush
+-- a writer: which it is, which memory was lent to it, and how often it was asked to flush
 pub record Writer : Type 0 where
   pub reference : ℕ
+  pub target : ℕ
   pub flushes : ℕ
 
 -- how many bytes are known

@@ -6,7 +6,6 @@ use Rattle.qm_core.specs.Code.{stuffed}
 use Rattle.raster_core.specs.Packed.{packed_row}
 use Rattle.raster_core.specs.declared.shape.Shape.{Shape}
 use Rattle.t85_core.specs.declared.state.CodingState.{CodingState}
-use Rattle.t85_core.specs.declared.decoding.rows.RowFault.TheVariants as row_fault
 use Rattle.t85_core.specs.Header.{Fields}
 use Rattle.t85_core.specs.Grammar.{Segment, Stripe, segment_bytes, stripe_bytes, IsBegun, lengths, all_segments, GiveOnly}
 use Rattle.t85_core.specs.Refusal.{Spot, StripeFault}

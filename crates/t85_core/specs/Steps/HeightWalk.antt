@@ -11,7 +11,7 @@ use Rattle.t85_core.specs.Refusal.{rest_fault, BodyFault}
 use Rattle.t85_core.specs.declared.segments.Code.{Code}
 use Rattle.t85_core.specs.declared.segments.Code.TheVariants as code
 use Rattle.t85_core.specs.Steps.Segments.{PassesCode, CodeFault}
-use Rattle.t85_core.specs.Info.{line_text, numbers_of}
+use Rattle.t85_core.specs.Info.{numbers_of}
 use Rattle.t85_core.specs.Height.{IsHeight, IsOpen}
 
 -- The fault of a rest after so many entities, whatever the height in use is.
@@ -177,12 +177,12 @@ Finds h old new entities moves comments part_moves part_comments (Some height) =
 abbrev pub FindsOpen : Fields → List ℕ → Type 0
 FindsOpen h given = SkipsFault h 0 (stripe_count h.yd h.l0) false false given Truncated ⊎ IsOpen h given
 
--- The line of a body at its height.
-pub record BodyLine (h : Fields) (line body : List ℕ) : Type 0 where
+-- The numbers of a body at its height.
+pub record BodyNumbers (h : Fields) (numbers body : List ℕ) : Type 0 where
   pub height : ℕ
   pub height_is : IsHeight h body height
   pub parts : Parts h height body
-  pub line_is : line ≡ line_text (numbers_of h height parts.stripes)
+  pub numbers_are : numbers ≡ numbers_of h height parts.stripes
 
 -- a body that hasn't its parts at its height
 pub record BodyRefused (h : Fields) (fault : Fault) (body : List ℕ) : Type 0 where

@@ -31,6 +31,7 @@ returns-in-Ok-write_held g c =
       same_source = c.in-Err.ensures.same_source;
       same_writer = c.write_held-in_default.ensures.same_writer ∙ ap (λ w. w.reference) c.in-Err.ensures.same_writer;
       no_flush = c.write_held-in_default.ensures.no_flush ∙ ap (λ w. w.flushes) c.in-Err.ensures.same_writer;
+      same_target = c.write_held-in_default.ensures.same_target ∙ ap (λ w. w.target) c.in-Err.ensures.same_writer;
     }
 
 pub returns-in-Err-write_held : goal.returns-in-Err-write_held
@@ -48,6 +49,7 @@ returns-in-Err-write_held g c =
       same_source = c.in-Err.ensures.same_source;
       same_writer = c.write_held-in_default.ensures.same_writer ∙ ap (λ w. w.reference) c.in-Err.ensures.same_writer;
       no_flush = c.write_held-in_default.ensures.no_flush ∙ ap (λ w. w.flushes) c.in-Err.ensures.same_writer;
+      same_target = c.write_held-in_default.ensures.same_target ∙ ap (λ w. w.target) c.in-Err.ensures.same_writer;
     }
 
 pub returns-in-Write-clause-err : goal.returns-in-Write-clause-err

@@ -29,6 +29,7 @@ returns-in-Ok-write_held g c =
       writes = c.in-Ok-write_held.ensures.counts ∙ c.in-Err.ensures.writes;
       same_writer = c.write_held-in_default.ensures.same_writer ∙ ap (λ w. w.reference) c.in-Err.ensures.same_writer;
       no_flush = c.write_held-in_default.ensures.no_flush ∙ ap (λ w. w.flushes) c.in-Err.ensures.same_writer;
+      same_target = c.write_held-in_default.ensures.same_target ∙ ap (λ w. w.target) c.in-Err.ensures.same_writer;
     }
 
 pub write_held-requires-in_default : goal.write_held-requires-in_default
@@ -50,4 +51,5 @@ returns-in-Err-write_held g c =
       writes = (let a = c.in-Err.ensures.writes in let b = c.in-Err-write_held.ensures.counts in omega (arith, a, b, none));
       same_writer = c.write_held-in_default.ensures.same_writer ∙ ap (λ w. w.reference) c.in-Err.ensures.same_writer;
       no_flush = c.write_held-in_default.ensures.no_flush ∙ ap (λ w. w.flushes) c.in-Err.ensures.same_writer;
+      same_target = c.write_held-in_default.ensures.same_target ∙ ap (λ w. w.target) c.in-Err.ensures.same_writer;
     }

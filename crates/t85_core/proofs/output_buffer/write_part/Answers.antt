@@ -5,7 +5,7 @@ use Rattle.t85_core.proofs.Bytes.HeldBack.{grows_with, grows_kept, keeps_written
 use Rattle.t85_core.proofs.output_buffer.write_part.Goals as goal
 
 pub loop-place-init : goal.loop-place-init
-loop-place-init g c = record { within = c.requires.ordered; text = Keeps-same _; grows = omega arith; no_flush = refl; unfailed = refl }
+loop-place-init g c = record { within = c.requires.ordered; text = Keeps-same _; grows = omega arith; no_flush = refl; same_target = refl; unfailed = refl }
 
 pub loop-place-preserved : goal.loop-place-preserved
 loop-place-preserved g c =
@@ -19,6 +19,7 @@ loop-place-preserved g c =
       text = keeps_written _ _ _ _ held (take count held) _ c.loop-place.invariant.text c.in-Ok.ensures.bytes (sym (take-append-drop count held) ∙ ap (λ z. take count held ++ z) (sym (held_after bytes place count c.args.end fits)));
       grows = (let more = grows_with _ _ _ c.in-Ok.ensures.bytes in let before = c.loop-place.invariant.grows in omega (arith, more, before));
       no_flush = c.in-Ok.ensures.no_flush ∙ c.loop-place.invariant.no_flush;
+      same_target = c.in-Ok.ensures.same_target ∙ c.loop-place.invariant.same_target;
       unfailed = c.in-Ok.ensures.counts ∙ c.loop-place.invariant.unfailed;
     }
 

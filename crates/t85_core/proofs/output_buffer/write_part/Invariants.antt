@@ -10,6 +10,7 @@ invariant-loop-place g l = record {
   text : Keeps (append_known (g.W.Output.contents l.fn.output) (held_of l.bytes l.at l.end)) (append_known (g.W.Output.contents l.output) (held_of l.bytes l.place l.end));
   grows : known_length (g.W.Output.contents l.fn.output) ≤ known_length (g.W.Output.contents l.output);
   no_flush : g.W.Output.flushes l.output ≡ g.W.Output.flushes l.fn.output;
+  same_target : g.W.Output.target l.output ≡ g.W.Output.target l.fn.output;
   unfailed : g.W.Output.failures l.output ≡ g.W.Output.failures l.fn.output;
 }
 

@@ -3,12 +3,12 @@ use Rattle.t85_core.specs.Options.{fields_of}
 use Rattle.t85_core.proofs.Bytes.Ends.{exit, exit_of}
 use Rattle.t85_core.proofs.Walks.Found.{skips_faults, sought_whole}
 use Rattle.t85_core.proofs.Walks.HeightFound.{accepted}
-use Rattle.t85_core.proofs.Walks.Summed.{whole_line, joined_line, joined_refused, joined_unread}
+use Rattle.t85_core.proofs.Walks.Summed.{whole_numbers, joined_numbers, joined_refused, joined_unread}
 use Rattle.t85_core.proofs.summary.walk_on.Goals as goal
 
 pub returns-then-reached-count-clause-ok : goal.returns-then-reached-count-clause-ok
 returns-then-reached-count-clause-ok g c = λ known f.
-    whole_line (fields_of c.args.header.now) (accepted c.args.header.now) known _ _ _ _ _ _ _ f c.div_ceil-count.result _ c.div_ceil-count.ensures c.if-reached-count.true c.line_of.ensures
+    whole_numbers (fields_of c.args.header.now) (accepted c.args.header.now) known _ _ _ _ _ _ _ f c.div_ceil-count.result _ c.div_ceil-count.ensures c.if-reached-count.true c.summary_of.ensures
 
 pub returns-in_err-more-clause-err : goal.returns-in_err-more-clause-err
 returns-in_err-more-clause-err g c =
@@ -25,5 +25,5 @@ returns-in_err-more-clause-among g c = exit _ _ c.from_residual.ensures.1 (skips
 
 pub returns-clause-ok : goal.returns-clause-ok
 returns-clause-ok g c = λ known f.
-    joined_line (fields_of c.args.header.now) (accepted c.args.header.now) known _ _ _ _ _ _ _ f c.requires.part _ c.div_ceil-count.result _ _ _ _ _ _ c.div_ceil-count.ensures c.if-reached-count.false
-    (sought_whole (fields_of c.args.header.now) _ _ _ _ _ _ _ _ _ _ _ c.in_ok-more.ensures.ok) refl c.saturating_add.ensures c.saturating_add-2.ensures c.line_of-2.ensures
+    joined_numbers (fields_of c.args.header.now) (accepted c.args.header.now) known _ _ _ _ _ _ _ f c.requires.part _ c.div_ceil-count.result _ _ _ _ _ _ c.div_ceil-count.ensures c.if-reached-count.false
+    (sought_whole (fields_of c.args.header.now) _ _ _ _ _ _ _ _ _ _ _ c.in_ok-more.ensures.ok) refl c.saturating_add.ensures c.saturating_add-2.ensures c.summary_of-2.ensures

@@ -50,6 +50,11 @@ loop-taken-preserved g c =
       | then-self-eq-SIZE+in_ok-write_held w ↦ rw w.self-is w.write_held.ensures.no_flush
       | else-self-eq-SIZE w ↦ rw w.self-is refl
     ] in
+    let same_target : g.W.Output.target new.output.now ≡ g.W.Output.target old.output.now =
+    elim c.if-self-eq-SIZE.branch [
+      | then-self-eq-SIZE+in_ok-write_held w ↦ rw w.self-is w.write_held.ensures.same_target
+      | else-self-eq-SIZE w ↦ rw w.self-is refl
+    ] in
     let more = rw take_rest at c.fill-taken.ensures.text in
     record {
       within = omega (arith, c.fill-taken.ensures.bound, length-drop c.loop-taken.taken c.args.bytes.now, length-take (length c.args.bytes.now - c.loop-taken.taken) (drop c.loop-taken.taken c.args.bytes.now), c.loop-taken.invariant.within);
@@ -58,4 +63,5 @@ loop-taken-preserved g c =
       unfailed = rw c.fill-taken.ensures.lent (unfailed ∙ c.loop-taken.invariant.unfailed);
       same_writer = rw c.fill-taken.ensures.lent (same_writer ∙ c.loop-taken.invariant.same_writer);
       no_flush = rw c.fill-taken.ensures.lent (no_flush ∙ c.loop-taken.invariant.no_flush);
+      same_target = rw c.fill-taken.ensures.lent (same_target ∙ c.loop-taken.invariant.same_target);
     }

@@ -12,6 +12,7 @@ invariant-loop-taken g l = record {
   unfailed : g.W.Output.failures l.self.output.now ≡ g.W.Output.failures l.fn.self.output.now;
   same_writer : l.self.output.ghost_name ≡ l.fn.self.output.ghost_name;
   no_flush : g.W.Output.flushes l.self.output.now ≡ g.W.Output.flushes l.fn.self.output.now;
+  same_target : g.W.Output.target l.self.output.now ≡ g.W.Output.target l.fn.self.output.now;
 }
 
 abbrev pub decreases-loop-taken : goal.decreases-loop-taken

@@ -2,8 +2,8 @@ use Rattle.std.proofs.Common.{Err, ap}
 use Rattle.t85_core.specs.Options.{fields_of}
 use Rattle.t85_core.proofs.Bytes.Ends.{exit, exit_of}
 use Rattle.t85_core.proofs.Walks.HeightFound.{accepted, skipped_refused, open_unfinished}
-use Rattle.t85_core.proofs.Walks.Summed.{none_line}
-use Rattle.t85_core.proofs.summary.summary.Goals as goal
+use Rattle.t85_core.proofs.Walks.Summed.{none_numbers}
+use Rattle.t85_core.proofs.summary.summarize_body.Goals as goal
 
 pub returns-in_err-reached-clause-err : goal.returns-in_err-reached-clause-err
 returns-in_err-reached-clause-err g c =
@@ -16,4 +16,4 @@ returns-in_err-reached-clause-unread g c is =
     (u.0, u.1, open_unfinished (fields_of c.args.header.now) (accepted c.args.header.now) u.0 u.2)) is
 
 pub returns-in-None-clause-ok : goal.returns-in-None-clause-ok
-returns-in-None-clause-ok g c = none_line (fields_of c.args.header.now) _ _ _ _ _ _ (rw c.in-None.is at c.in_ok-reached.ensures.ok) c.line_of.ensures
+returns-in-None-clause-ok g c = none_numbers (fields_of c.args.header.now) _ _ _ _ _ _ (rw c.in-None.is at c.in_ok-reached.ensures.ok) c.summary_of.ensures
