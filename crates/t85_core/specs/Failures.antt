@@ -1,7 +1,8 @@
 -- What a call has taken from its input before a fault, and how its devices' counts of failures and flushes move.
-use Rattle.std.specs.Prelude.{◌≡◌, ◌≢◌, ◌+◌, ◌⊎◌, ℕ, List, Result, Ok, Err, Option, OnOk, OnErr, IfErr}
+use Rattle.std.specs.Prelude.{◌≡◌, ◌≢◌, ◌+◌, ◌⊎◌, ℕ, List, Result, Ok, Err, Option, OnOk, OnErr, IfErr, IsErrOf}
 use Rattle.std.specs.Io.KnownBytes.{Consumes, IsAtEnd}
 use Rattle.pbm_core.specs.Device.{one_more_flush}
+use Rattle.pbm_core.specs.declared.fault.PbmFault.{PbmFault}
 use Rattle.pbm_core.specs.declared.fault.PbmFault.TheVariants as pbm
 use Rattle.t85_core.specs.declared.fault.Fault.{Fault}
 use Rattle.t85_core.specs.declared.fault.Fault.TheVariants.{Read, Write, Pbm}
@@ -36,6 +37,10 @@ CountsBoth old new (Err fault) = CountsFault old new fault
 abbrev pub CountsWrite : {T : Type 0} → ℕ → ℕ → Result T Fault → Type 0
 CountsWrite old new (Ok x) = new ≡ old
 CountsWrite old new (Err f) = new ≡ old + failed_writes f
+
+-- what is said where rows of the image are missing
+abbrev pub IfMissing : Result (Unit {0}) Fault → (PbmFault → Type 0) → Type 0
+IfMissing answer Q = (fault : PbmFault) → IsErrOf answer (Pbm fault) → Q fault
 
 -- An output is asked to flush once where all else went well, and else not at all: so one that has failed was asked only
 -- where it was the flush that failed.

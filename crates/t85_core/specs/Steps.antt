@@ -4,6 +4,7 @@ pub mod Buffers
 pub mod Segments
 pub mod HeightWalk
 pub mod Entity
+pub mod Views
 pub mod State
 pub mod Cut
 pub mod DecodeRows

@@ -4,12 +4,12 @@ ghost use Rattle.std.specs.Prelude.{◌≡◌, ◌≢◌, ◌≤◌, ◌<◌, �
 ghost use Rattle.raster_core.specs.Window.{width_of};
 ghost use Rattle.t85_core.specs.Steps.State.{StripeStart, first_row_start};
 ghost use Rattle.t85_core.specs.Options.{fields_of};
-ghost use Rattle.std.specs.Io.KnownBytes.{append_known};
 ghost use Rattle.pbm_core.specs.Device.{change};
 ghost use Rattle.t85_core.specs.Decode.{Decode};
-ghost use Rattle.t85_core.specs.Steps.Buffers.{held_of, known_length};
+ghost use Rattle.t85_core.specs.Steps.Buffers.{known_length};
+ghost use Rattle.t85_core.specs.Steps.Views.{entity_view, text_taken, writer_of};
 ghost use Rattle.t85_core.specs.Steps.DecodeRows.{pair_of, IsCarried, IsFirst};
-ghost use Rattle.t85_core.specs.Steps.DecodeStripes.{CodeBegun, CodeRead, CodeCut, DecodeStripeStep, DecodeStripeStepCut, ImageRead, ImageCut, CodeUnwritten, DecodeStripeStepUnwritten, ImageUnwritten};
+ghost use Rattle.t85_core.specs.Steps.DecodeStripes.{CodeBegun, DecodeCodeOutcome, SomeStripeStart, DecodeStripeOutcome, ImageRead, ImageCut, ImageUnwritten};
 ghost use Rattle.t85_core.specs.Steps.Entity.{entity_known};
 ghost use Rattle.t85_core.specs.Steps.Segments.{spot_at};
 ghost use Rattle.t85_core.specs.Failures.{CountsBoth, CountsRead, CountsWrite};
@@ -83,21 +83,12 @@ fn decode_buffered<S: ByteSource, W: Output>(
     requires from { 1 ≤ height }
     requires to { height ≤ header.now.yd }
     ensures ok { OnOk result (ImageRead (fields_of header.now) height (S.known stream.old)
-        (S.known stream.new)
-        (append_known (W.contents buffer.old.output.now)
-        (held_of buffer.old.bytes buffer.old.at buffer.old.end))
-        (W.contents buffer.new.output.now)) }
+        (S.known stream.new) (text_taken buffer.old) (W.contents buffer.new.output.now)) }
     ensures err { IfErr result (λ f. f ≢ Write → ImageCut (fields_of header.now) height
-        (S.known stream.old) (S.known stream.new)
-        (append_known (W.contents buffer.old.output.now)
-        (held_of buffer.old.bytes buffer.old.at buffer.old.end)) (W.contents buffer.new.output.now)
-        f) }
+        (S.known stream.old) (S.known stream.new) (text_taken buffer.old)
+        (W.contents buffer.new.output.now) f) }
     ensures begun { ImageUnwritten (fields_of header.now) height (S.known stream.old)
-        (S.known stream.new)
-        (append_known (W.contents buffer.old.output.now)
-        (held_of buffer.old.bytes buffer.old.at buffer.old.end))
-        (append_known (W.contents buffer.new.output.now)
-        (held_of buffer.new.bytes buffer.new.at buffer.new.end)) }
+        (S.known stream.new) (text_taken buffer.old) (text_taken buffer.new) }
     ensures grows { known_length (W.contents buffer.old.output.now) ≤ known_length
         (W.contents buffer.new.output.now) }
     ensures drained { IsErrOf result Read → S.known stream.new ≡ S.beyond stream.new }
@@ -105,9 +96,7 @@ fn decode_buffered<S: ByteSource, W: Output>(
     ensures writes { CountsWrite (W.failures buffer.old.output.now)
         (W.failures buffer.new.output.now) result }
     ensures same_source { S.source stream.new ≡ S.source stream.old }
-    ensures same_writer { buffer.new.output.ghost_name ≡ buffer.old.output.ghost_name }
-    ensures no_flush { W.flushes buffer.new.output.now ≡ W.flushes buffer.old.output.now }
-    ensures same_target { W.target buffer.new.output.now ≡ W.target buffer.old.output.now }
+    ensures same_writer { writer_of buffer.new ≡ writer_of buffer.old }
 {
     // What the proof cites of the coder.
     coder_laws();
@@ -182,19 +171,13 @@ fn decode_stripe<S: ByteSource, P: ByteTarget>(
     requires target { P.failures target.old < 2 ^ 64 - 1 }
     requires width { width_of carried.old.window.now ≡ header.now.xd }
     requires offset { carried.old.kept.offset ≤ 127 }
-    requires carried { (c : StripeStart) × IsCarried (first_row_start c) carried.old }
-    ensures ok { OnOk result (DecodeStripeStep (fields_of header.now) (spot_at place)
+    requires carried { SomeStripeStart carried.old }
+    ensures outcome { DecodeStripeOutcome (fields_of header.now) (spot_at place)
         (if given.new then 1 else 0) (S.known stream.old) (S.known stream.new) rows carried.old
-        carried.new (P.text target.old) (P.text target.new)) }
-    ensures err { IfErr result (λ f. f ≢ Write → DecodeStripeStepCut (fields_of header.now)
-        (spot_at place) (S.known stream.old) (S.known stream.new) rows carried.old
-        (P.text target.old) (P.text target.new) f) }
-    ensures unwritten { IfErr result (λ _. DecodeStripeStepUnwritten (fields_of header.now)
-        (spot_at place) (S.known stream.old) (S.known stream.new) rows carried.old
-        (P.text target.old) (P.text target.new)) }
+        carried.new (P.text target.old) (P.text target.new) result }
     ensures drained { IsErrOf result Read → S.known stream.new ≡ S.beyond stream.new }
-    ensures width { OnOk result (width_of carried.new.window.now ≡ width_of
-        carried.old.window.now) }
+    ensures width { OnOk result (width_of carried.new.window.now ≡
+        width_of carried.old.window.now) }
     ensures offset { OnOk result (carried.new.kept.offset ≤ 127) }
     ensures reads { CountsRead (S.failures stream.old) (S.failures stream.new) result }
     ensures writes { CountsWrite (P.failures target.old) (P.failures target.new) result }
@@ -223,105 +206,14 @@ fn decode_code<S: ByteSource, P: ByteTarget>(
     requires some { 1 ≤ shape.width }
     requires offset { carried.old.kept.offset ≤ 127 }
     requires to { IfSome at (λ to. to.offset ≤ 127) }
-    requires begun { CodeBegun shape (option_map pair_of at) carried.old
-        (record {
-          known = entity_known entity.old.first (S.known entity.old.stream.now);
-          beyond =
-              S.beyond entity.old.stream.now;
-          reads = S.failures entity.old.stream.now;
-          source =
-              entity.old.stream.ghost_name;
-          input = S.source entity.old.stream.now;
-          first =
-              entity.old.first;
-          marker = entity.old.marker;
-          fault = entity.old.fault;
-        }) }
-    ensures ok { OnOk result (CodeRead
-        (record {
-          known = entity_known entity.old.first (S.known entity.old.stream.now);
-          beyond =
-              S.beyond entity.old.stream.now;
-          reads = S.failures entity.old.stream.now;
-          source =
-              entity.old.stream.ghost_name;
-          input = S.source entity.old.stream.now;
-          first =
-              entity.old.first;
-          marker = entity.old.marker;
-          fault = entity.old.fault;
-        })
-        (record {
-          known = entity_known entity.new.first (S.known entity.new.stream.now);
-          beyond =
-              S.beyond entity.new.stream.now;
-          reads = S.failures entity.new.stream.now;
-          source =
-              entity.new.stream.ghost_name;
-          input = S.source entity.new.stream.now;
-          first =
-              entity.new.first;
-          marker = entity.new.marker;
-          fault = entity.new.fault;
-        })
-        shape (option_map pair_of at) rows carried.old carried.new (P.text target.old)
-        (P.text target.new)) }
-    ensures err { IfErr result (λ f. f ≢ Write → CodeCut
-        (record {
-          known = entity_known entity.old.first (S.known entity.old.stream.now);
-          beyond =
-              S.beyond entity.old.stream.now;
-          reads = S.failures entity.old.stream.now;
-          source =
-              entity.old.stream.ghost_name;
-          input = S.source entity.old.stream.now;
-          first =
-              entity.old.first;
-          marker = entity.old.marker;
-          fault = entity.old.fault;
-        })
-        (record {
-          known = entity_known entity.new.first (S.known entity.new.stream.now);
-          beyond =
-              S.beyond entity.new.stream.now;
-          reads = S.failures entity.new.stream.now;
-          source =
-              entity.new.stream.ghost_name;
-          input = S.source entity.new.stream.now;
-          first =
-              entity.new.first;
-          marker = entity.new.marker;
-          fault = entity.new.fault;
-        })
-        shape (option_map pair_of at) rows carried.old (P.text target.old) (P.text target.new) f) }
-    ensures unwritten { IfErr result (λ _. CodeUnwritten
-        (record {
-          known = entity_known entity.old.first (S.known entity.old.stream.now);
-          beyond =
-              S.beyond entity.old.stream.now;
-          reads = S.failures entity.old.stream.now;
-          source =
-              entity.old.stream.ghost_name;
-          input = S.source entity.old.stream.now;
-          first =
-              entity.old.first;
-          marker = entity.old.marker;
-          fault = entity.old.fault;
-        })
-        (S.known entity.new.stream.now) shape (option_map pair_of at) rows carried.old
-        (P.text target.old) (P.text target.new)) }
-    ensures behind { OnOk result (entity.new.first ≡ None) }
-    ensures cut_behind { IfErr result (λ f. f ≢ Write → entity.new.first ≡ None) }
-    ensures drained { IsErrOf result Read → entity_known entity.new.first
-        (S.known entity.new.stream.now) ≡ S.beyond entity.new.stream.now }
-    ensures width { OnOk result (width_of carried.new.window.now ≡ width_of
-        carried.old.window.now) }
+    requires begun { CodeBegun shape (option_map pair_of at) carried.old (entity_view entity.old) }
+    ensures outcome { DecodeCodeOutcome (entity_view entity.old) (entity_view entity.new)
+        (S.known entity.new.stream.now) shape (option_map pair_of at) rows carried.old carried.new
+        (P.text target.old) (P.text target.new) result }
+    ensures width { OnOk result (width_of carried.new.window.now ≡
+        width_of carried.old.window.now) }
     ensures offset { OnOk result (carried.new.kept.offset ≤ 127) }
-    ensures reads { CountsRead (S.failures entity.old.stream.now) (S.failures entity.new.stream.now)
-        result }
     ensures writes { CountsWrite (P.failures target.old) (P.failures target.new) result }
-    ensures same_source { entity.new.stream.ghost_name ≡ entity.old.stream.ghost_name }
-    ensures same_input { S.source entity.new.stream.now ≡ S.source entity.old.stream.now }
     ensures grows { P.written target.old ≤ P.written target.new }
     ensures same_writer { P.writer target.new ≡ P.writer target.old }
 {

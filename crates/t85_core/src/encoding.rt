@@ -1,7 +1,7 @@
 //! Encoding an image.
 
 ghost use Rattle.std.specs.Prelude.{◌≡◌, ◌≤◌, ◌<◌, ◌+◌, ◌-◌, ◌^◌, [], nat_lt, length, OnOk, IfErr, IfSome, IsErrOf, false, if◌then◌else◌, ◌++◌};
-ghost use Rattle.std.specs.Io.KnownBytes.{Appends, append_known};
+ghost use Rattle.std.specs.Io.KnownBytes.{Appends};
 ghost use Rattle.pbm_core.specs.Device.{change};
 ghost use Rattle.pbm_core.specs.declared.fault.PbmFault.{PbmFault};
 ghost use Rattle.raster_core.specs.Tally.{is_two_line, most_of, row_count};
@@ -12,11 +12,12 @@ ghost use Rattle.t85_core.specs.Coding.{mode_of as coding_mode_of};
 ghost use Rattle.t85_core.specs.Steps.DecodeRows.{IsFirst};
 ghost use Rattle.t85_core.specs.Encode.{Encode, IsEncodeFault};
 ghost use Rattle.t85_core.specs.Steps.EncodeRows.{IsCountedTo};
-ghost use Rattle.t85_core.specs.Steps.EncodeStripes.{SomeHeld, SomeEncoderStart, EntityOfRows, CodeOfRefused, CodeOfRows, CodeOfShort, EncodeStripeStep, EncodeStripeStepShort, EntityOfRefused, EncodeStripeStepRefused, ImageRefused, ImageFront, ImageCoded, ImageShort};
+ghost use Rattle.t85_core.specs.Steps.EncodeStripes.{SomeHeld, SomeEncoderStart, EncodeCodeOutcome, EncodeEntityOutcome, EncodeStripeStep, EncodeStripeStepShort, EncodeStripeStepRefused, ImageRefused, ImageFront, ImageCoded, ImageShort, JbgShort, body_of};
 ghost use Rattle.t85_core.specs.Jbg.{jbg, jbg_up_to, stripes_of, stripes_up_to, ending, is_low};
 ghost use Rattle.t85_core.specs.Options.{settings_of};
-ghost use Rattle.t85_core.specs.Steps.Buffers.{held_of, known_length};
-ghost use Rattle.t85_core.specs.Failures.{CountsBoth, CountsRead, CountsWrite};
+ghost use Rattle.t85_core.specs.Steps.Buffers.{known_length};
+ghost use Rattle.t85_core.specs.Steps.Views.{text_taken, writer_of};
+ghost use Rattle.t85_core.specs.Failures.{CountsBoth, CountsRead, CountsWrite, IfMissing};
 ghost use Rattle.t85_core.specs.declared.fault.Fault.TheVariants.{Write, Pbm};
 
 mod rows;
@@ -80,36 +81,22 @@ fn encode_buffered<R: Input, W: Output>(
     requires offset { carried.old.kept.offset ≡ 0 }
     requires low { is_low (settings_of options.now) size.height ≡ false }
     requires first { IsFirst carried.old }
-    ensures ok { OnOk result (ImageCoded form size.width size.height
-        (λ raster. jbg (settings_of options.now) raster) (R.remaining source.old)
-        (R.remaining source.new)
-        (append_known (W.contents buffer.old.output.now)
-        (held_of buffer.old.bytes buffer.old.at buffer.old.end))
+    ensures ok { OnOk result (ImageCoded form size.width size.height (jbg (settings_of options.now))
+        (R.remaining source.old) (R.remaining source.new) (text_taken buffer.old)
         (W.contents buffer.new.output.now)) }
-    ensures short { (fault : PbmFault) → IsErrOf result (Pbm fault) →
-        ImageShort (settings_of options.now) form size.width size.height
-        (λ raster n. jbg_up_to (settings_of options.now) raster n)
-        (λ raster. jbg (settings_of options.now) raster) (R.remaining source.old)
-        (R.remaining source.new)
-        (append_known (W.contents buffer.old.output.now)
-        (held_of buffer.old.bytes buffer.old.at buffer.old.end)) (W.contents buffer.new.output.now)
-        fault }
-    ensures begun { ImageFront form size.width size.height
-        (λ raster. jbg (settings_of options.now) raster) (R.remaining source.old)
-        (R.remaining source.new)
-        (append_known (W.contents buffer.old.output.now)
-        (held_of buffer.old.bytes buffer.old.at buffer.old.end))
-        (append_known (W.contents buffer.new.output.now)
-        (held_of buffer.new.bytes buffer.new.at buffer.new.end)) }
+    ensures short { IfMissing result (JbgShort (settings_of options.now) form size.width size.height
+        (R.remaining source.old) (R.remaining source.new) (text_taken buffer.old)
+        (W.contents buffer.new.output.now)) }
+    ensures begun { ImageFront form size.width size.height (jbg (settings_of options.now))
+        (R.remaining source.old) (R.remaining source.new) (text_taken buffer.old)
+        (text_taken buffer.new) }
     ensures grows { known_length (W.contents buffer.old.output.now) ≤ known_length
         (W.contents buffer.new.output.now) }
     ensures among { IfErr result IsEncodeFault }
     ensures reads { CountsBoth (R.failures source.old) (R.failures source.new) result }
     ensures writes { CountsWrite (W.failures buffer.old.output.now)
         (W.failures buffer.new.output.now) result }
-    ensures same_writer { buffer.new.output.ghost_name ≡ buffer.old.output.ghost_name }
-    ensures no_flush { W.flushes buffer.new.output.now ≡ W.flushes buffer.old.output.now }
-    ensures same_target { W.target buffer.new.output.now ≡ W.target buffer.old.output.now }
+    ensures same_writer { writer_of buffer.new ≡ writer_of buffer.old }
 {
     match encode_image(size, form, options, carried, source, buffer) {
         Ok(()) => buffer.write_held(),
@@ -138,17 +125,13 @@ fn encode_image<R: Input, P: ByteTarget>(
     requires offset { carried.old.kept.offset ≡ 0 }
     requires low { is_low (settings_of options.now) size.height ≡ false }
     requires first { IsFirst carried.old }
-    ensures ok { OnOk result (ImageCoded form size.width size.height
-        (λ raster. jbg (settings_of options.now) raster)
+    ensures ok { OnOk result (ImageCoded form size.width size.height (jbg (settings_of options.now))
         (R.remaining source.old) (R.remaining source.new) (P.text target.old) (P.text target.new)) }
-    ensures short { (fault : PbmFault) → IsErrOf result (Pbm fault) →
-        ImageShort (settings_of options.now) form size.width size.height
-        (λ raster n. jbg_up_to (settings_of options.now) raster n)
-        (λ raster. jbg (settings_of options.now) raster) (R.remaining source.old)
-        (R.remaining source.new) (P.text target.old) (P.text target.new) fault }
-    ensures unwritten { IsErrOf result Write → ImageRefused form size.width size.height
-        (λ raster. jbg (settings_of options.now) raster)
-        (R.remaining source.old) (R.remaining source.new) (P.text target.old) (P.text target.new) }
+    ensures short { IfMissing result (JbgShort (settings_of options.now) form size.width size.height
+        (R.remaining source.old) (R.remaining source.new) (P.text target.old) (P.text target.new)) }
+    ensures unwritten { IsErrOf result Write → ImageRefused form size.width size.height (jbg
+        (settings_of options.now)) (R.remaining source.old) (R.remaining source.new)
+        (P.text target.old) (P.text target.new) }
     ensures among { IfErr result IsEncodeFault }
     ensures reads { CountsRead (R.failures source.old) (R.failures source.new) result }
     ensures writes { CountsWrite (P.failures target.old) (P.failures target.new) result }
@@ -180,20 +163,15 @@ fn encode_body<R: Input, P: ByteTarget>(
     requires offset { carried.old.kept.offset ≡ 0 }
     requires mode { shape_mode shape ≡ coding_mode_of options.now.options }
     requires first { IsFirst carried.old }
-    ensures ok { OnOk result (ImageCoded form size.width size.height
-        (λ raster. stripes_of (settings_of options.now) raster ++ ending (settings_of options.now)
-        (height_of raster))
+    ensures ok { OnOk result (ImageCoded form size.width size.height (body_of
+        (settings_of options.now)) (R.remaining source.old) (R.remaining source.new)
+        (P.text target.old) (P.text target.new)) }
+    ensures short { IfMissing result (ImageShort (settings_of options.now) form size.width
+        size.height (stripes_up_to (settings_of options.now)) (body_of (settings_of options.now))
         (R.remaining source.old) (R.remaining source.new) (P.text target.old) (P.text target.new)) }
-    ensures short { (fault : PbmFault) → IsErrOf result (Pbm fault) →
-        ImageShort (settings_of options.now) form size.width size.height
-        (λ raster n. stripes_up_to (settings_of options.now) raster n)
-        (λ raster. stripes_of (settings_of options.now) raster ++ ending (settings_of options.now)
-        (height_of raster)) (R.remaining source.old) (R.remaining source.new) (P.text target.old)
-        (P.text target.new) fault }
-    ensures unwritten { IsErrOf result Write → ImageRefused form size.width size.height
-        (λ raster. stripes_of (settings_of options.now) raster ++ ending (settings_of options.now)
-        (height_of raster))
-        (R.remaining source.old) (R.remaining source.new) (P.text target.old) (P.text target.new) }
+    ensures unwritten { IsErrOf result Write → ImageRefused form size.width size.height (body_of
+        (settings_of options.now)) (R.remaining source.old) (R.remaining source.new)
+        (P.text target.old) (P.text target.new) }
     ensures among { IfErr result IsEncodeFault }
     ensures reads { CountsRead (R.failures source.old) (R.failures source.new) result }
     ensures writes { CountsWrite (P.failures target.old) (P.failures target.new) result }
@@ -221,17 +199,15 @@ fn encode_stripes<R: Input, P: ByteTarget>(
     requires offset { carried.old.kept.offset ≡ 0 }
     requires mode { shape_mode shape ≡ coding_mode_of options.now.options }
     requires first { IsFirst carried.old }
-    ensures ok { OnOk result (ImageCoded form size.width size.height
-        (λ raster. stripes_of (settings_of options.now) raster)
+    ensures ok { OnOk result (ImageCoded form size.width size.height (stripes_of
+        (settings_of options.now)) (R.remaining source.old) (R.remaining source.new)
+        (P.text target.old) (P.text target.new)) }
+    ensures short { IfMissing result (ImageShort (settings_of options.now) form size.width
+        size.height (stripes_up_to (settings_of options.now)) (stripes_of (settings_of options.now))
         (R.remaining source.old) (R.remaining source.new) (P.text target.old) (P.text target.new)) }
-    ensures short { (fault : PbmFault) → IsErrOf result (Pbm fault) →
-        ImageShort (settings_of options.now) form size.width size.height
-        (λ raster n. stripes_up_to (settings_of options.now) raster n)
-        (λ raster. stripes_of (settings_of options.now) raster) (R.remaining source.old)
-        (R.remaining source.new) (P.text target.old) (P.text target.new) fault }
-    ensures unwritten { IsErrOf result Write → ImageRefused form size.width size.height
-        (λ raster. stripes_of (settings_of options.now) raster)
-        (R.remaining source.old) (R.remaining source.new) (P.text target.old) (P.text target.new) }
+    ensures unwritten { IsErrOf result Write → ImageRefused form size.width size.height (stripes_of
+        (settings_of options.now)) (R.remaining source.old) (R.remaining source.new)
+        (P.text target.old) (P.text target.new) }
     ensures among { IfErr result IsEncodeFault }
     ensures reads { CountsRead (R.failures source.old) (R.failures source.new) result }
     ensures writes { CountsWrite (P.failures target.old) (P.failures target.new) result }
@@ -288,19 +264,18 @@ fn encode_stripe<R: Input, P: ByteTarget>(
     requires some { 1 ≤ rows }
     requires offset { carried.old.kept.offset ≤ 127 }
     requires course { SomeEncoderStart shape reset carried.old tally.old }
-    ensures width { OnOk result (width_of carried.new.window.now ≡ width_of
-        carried.old.window.now) }
+    ensures width { OnOk result (width_of carried.new.window.now ≡
+        width_of carried.old.window.now) }
     ensures offset { OnOk result (carried.new.kept.offset ≤ 127) }
     ensures ok { OnOk result (EncodeStripeStep form shape reset rows is_counted
-        (R.remaining source.old) (R.remaining source.new)
-        carried.old carried.new tally.old tally.new (P.text target.old) (P.text target.new)) }
-    ensures short { (fault : PbmFault) → IsErrOf result (Pbm fault) →
-        EncodeStripeStepShort form shape reset rows (R.remaining source.old)
-        (R.remaining source.new)
-        carried.old tally.old (P.text target.old) (P.text target.new) fault }
+        (R.remaining source.old) (R.remaining source.new) carried.old carried.new tally.old
+        tally.new (P.text target.old) (P.text target.new)) }
+    ensures short { IfMissing result (EncodeStripeStepShort form shape reset rows
+        (R.remaining source.old) (R.remaining source.new) carried.old tally.old (P.text target.old)
+        (P.text target.new)) }
     ensures unwritten { IsErrOf result Write → EncodeStripeStepRefused form shape reset rows
-        (R.remaining source.old) (R.remaining source.new)
-        carried.old tally.old (P.text target.old) (P.text target.new) }
+        (R.remaining source.old) (R.remaining source.new) carried.old tally.old (P.text target.old)
+        (P.text target.new) }
     ensures among { IfErr result IsEncodeFault }
     ensures reads { CountsRead (R.failures source.old) (R.failures source.new) result }
     ensures writes { CountsWrite (P.failures target.old) (P.failures target.new) result }
@@ -341,20 +316,14 @@ fn encode_entity<R: Input, P: ByteTarget>(
     requires none { row_count tally.old ≡ 0 }
     requires begun { IsCountedTo size.width counted tally.old [] }
     requires held { SomeHeld shape carried.old }
-    ensures width { OnOk result (width_of carried.new.window.now ≡ width_of
-        carried.old.window.now) }
+    ensures width { OnOk result (width_of carried.new.window.now ≡
+        width_of carried.old.window.now) }
     ensures offset { OnOk result (carried.new.kept.offset ≤ 127) }
     ensures kept { OnOk result (carried.new.kept.offset ≡ if reset then 0 else
         carried.old.kept.offset) }
-    ensures ok { OnOk result (EntityOfRows form shape reset rows counted (R.remaining source.old)
-        (R.remaining source.new)
-        carried.old carried.new tally.new (P.text target.old) (P.text target.new)) }
-    ensures short { (fault : PbmFault) → IsErrOf result (Pbm fault) →
-        CodeOfShort form (λ bytes. Appends (P.text target.old) (P.text target.new) bytes) shape rows
-        (R.remaining source.old) (R.remaining source.new) carried.old fault }
-    ensures unwritten { IsErrOf result Write → EntityOfRefused form shape reset rows
-        (R.remaining source.old) (R.remaining source.new) carried.old (P.text target.old)
-        (P.text target.new) }
+    ensures outcome { EncodeEntityOutcome form shape reset rows counted (R.remaining source.old)
+        (R.remaining source.new) carried.old carried.new tally.new (P.text target.old)
+        (P.text target.new) result }
     // No byte of a stripe that is whole waits for the next one.
     ensures sent { OnOk result (P.held target.new ≡ []) }
     ensures two_line { OnOk result (is_two_line tally.new ≡ is_two_line tally.old) }
@@ -394,18 +363,12 @@ fn encode_code<R: Input, P: ByteTarget>(
     requires none { row_count tally.old ≡ 0 }
     requires begun { IsCountedTo size.width counted tally.old [] }
     requires held { SomeHeld shape carried.old }
-    ensures width { OnOk result (width_of carried.new.window.now ≡ width_of
-        carried.old.window.now) }
+    ensures width { OnOk result (width_of carried.new.window.now ≡
+        width_of carried.old.window.now) }
     ensures offset { OnOk result (carried.new.kept.offset ≡ carried.old.kept.offset) }
-    ensures ok { OnOk result (CodeOfRows form
-        (λ bytes. Appends (P.text target.old) (P.text target.new) bytes) shape rows counted
-        (R.remaining source.old) (R.remaining source.new) carried.old carried.new tally.new) }
-    ensures short { (fault : PbmFault) → IsErrOf result (Pbm fault) →
-        CodeOfShort form (λ bytes. Appends (P.text target.old) (P.text target.new) bytes) shape rows
-        (R.remaining source.old) (R.remaining source.new) carried.old fault }
-    ensures unwritten { IsErrOf result Write → CodeOfRefused form
-        (λ bytes. Appends (P.text target.old) (P.text target.new) bytes) shape rows
-        (R.remaining source.old) (R.remaining source.new) carried.old }
+    ensures outcome { EncodeCodeOutcome form (P.text target.old) (P.text target.new) shape rows
+        counted (R.remaining source.old) (R.remaining source.new) carried.old carried.new tally.new
+        result }
     ensures two_line { OnOk result (is_two_line tally.new ≡ is_two_line tally.old) }
     ensures most { OnOk result (most_of tally.new ≡ most_of tally.old) }
     ensures among { IfErr result IsEncodeFault }

@@ -90,22 +90,19 @@ impl<'a, W: Output> OutputBuffer<'a, W> {
 }
 
 impl<W: Output> OutputBuffer<'_, W> {
+    ghost use Rattle.t85_core.specs.Steps.Views.{text_taken, writer_of};
+
     /// Writes what is held.
     pub fn write_held(&mut self) -> Result<(), Fault>
         requires { W.failures self.old.output.now < 2 ^ 64 - 1 }
-        ensures text { Keeps (append_known (W.contents self.old.output.now)
-            (held_of self.old.bytes self.old.at self.old.end))
-            (append_known (W.contents self.new.output.now)
-            (held_of self.new.bytes self.new.at self.new.end)) }
+        ensures text { Keeps (text_taken self.old) (text_taken self.new) }
         ensures empty { OnOk result ((self.new.at ≡ 0) × (self.new.end ≡ 0)) }
         ensures grows { known_length (W.contents self.old.output.now) ≤ known_length
             (W.contents self.new.output.now) }
         ensures err { IfErr result (λ f. f ≡ Write) }
         ensures counts { CountsWrite (W.failures self.old.output.now)
             (W.failures self.new.output.now) result }
-        ensures same_writer { self.new.output.ghost_name ≡ self.old.output.ghost_name }
-        ensures no_flush { W.flushes self.new.output.now ≡ W.flushes self.old.output.now }
-        ensures same_target { W.target self.new.output.now ≡ W.target self.old.output.now }
+        ensures same_writer { writer_of self.new ≡ writer_of self.old }
     {
         match write_part(self.output, &self.bytes, self.at, self.end) {
             Ok(()) => {
@@ -129,9 +126,9 @@ fn write_part<W: Output>(output: &mut W, bytes: &[u8], at: usize, end: usize) ->
     requires countable { W.failures output.old < 2 ^ 64 - 1 }
     ensures ok { OnOk result (Appends (W.contents output.old) (W.contents output.new)
         (held_of bytes.now at end)) }
-    ensures err { IfErr result (λ place. Keeps
-        (append_known (W.contents output.old) (held_of bytes.now at end))
-        (append_known (W.contents output.new) (held_of bytes.now place end))) }
+    ensures err { IfErr result (λ place. Keeps (append_known (W.contents output.old)
+        (held_of bytes.now at end)) (append_known (W.contents output.new)
+        (held_of bytes.now place end))) }
     ensures bound { IfErr result (λ place. place ≤ end) }
     ensures grows { known_length (W.contents output.old) ≤ known_length (W.contents output.new) }
     ensures no_flush { W.flushes output.new ≡ W.flushes output.old }
@@ -149,14 +146,13 @@ fn write_part<W: Output>(output: &mut W, bytes: &[u8], at: usize, end: usize) ->
 }
 
 impl<W: Output> OutputBuffer<'_, W> {
+    ghost use Rattle.t85_core.specs.Steps.Views.{text_taken};
+
     /// Takes the first bytes, as many as there is room for.
     fn fill(&mut self, bytes: &[u8]) -> usize
         ensures bound { result ≤ length bytes.now }
         ensures takes { 0 < length bytes.now → self.old.end < 4096 → 0 < result }
-        ensures text { Appends (append_known (W.contents self.old.output.now)
-            (held_of self.old.bytes self.old.at self.old.end))
-            (append_known (W.contents self.new.output.now)
-            (held_of self.new.bytes self.new.at self.new.end)) (take result bytes.now) }
+        ensures text { Appends (text_taken self.old) (text_taken self.new) (take result bytes.now) }
         ensures lent { self.new.output ≡ self.old.output }
     {
         let count = (SIZE - self.end).min(bytes.len());
@@ -168,7 +164,9 @@ impl<W: Output> OutputBuffer<'_, W> {
 }
 
 impl<W: Output> ByteTarget for OutputBuffer<'_, W> {
-    ghost text = { λ s. append_known (W.contents s.output.now) (held_of s.bytes s.at s.end) };
+    ghost use Rattle.t85_core.specs.Steps.Views.{text_taken, writer_of};
+
+    ghost text = { λ s. text_taken s };
 
     ghost held = { λ s. held_of s.bytes s.at s.end };
 
@@ -176,11 +174,7 @@ impl<W: Output> ByteTarget for OutputBuffer<'_, W> {
 
     ghost failures = { λ s. W.failures s.output.now };
 
-    ghost writer = { λ s. record {
-      reference = s.output.ghost_name;
-      target = W.target s.output.now;
-      flushes = W.flushes s.output.now;
-    } };
+    ghost writer = { λ s. writer_of s };
 
     fn put(&mut self, bytes: &[u8]) -> Result<(), Fault> {
         let mut taken = 0;

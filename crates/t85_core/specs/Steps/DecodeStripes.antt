@@ -1,5 +1,5 @@
 -- What a decoder of stripes leaves.
-use Rattle.std.specs.Prelude.{ℕ, ◌+◌, ◌≡◌, Bool, List, [], ◌++◌, length, Option, Some, None, flat_map, ◌⊎◌}
+use Rattle.std.specs.Prelude.{ℕ, ◌+◌, ◌≡◌, Bool, List, [], ◌++◌, length, Option, Some, None, flat_map, ◌⊎◌, Result, OnOk, IfErr, IsErrOf, ◌≢◌}
 use Rattle.std.specs.Io.KnownBytes.{Appends, Consumes}
 use Rattle.pbm_core.specs.Device.{AppendsBeginning}
 use Rattle.qm_core.specs.Code.{stuffed}
@@ -9,13 +9,13 @@ use Rattle.t85_core.specs.declared.state.CodingState.{CodingState}
 use Rattle.t85_core.specs.Header.{Fields}
 use Rattle.t85_core.specs.Grammar.{Segment, Stripe, segment_bytes, stripe_bytes, IsBegun, lengths, all_segments, GiveOnly}
 use Rattle.t85_core.specs.Refusal.{Spot, StripeFault}
-use Rattle.t85_core.specs.Failures.{Ends}
+use Rattle.t85_core.specs.Failures.{Ends, CountsRead}
 use Rattle.t85_core.specs.Steps.Entity.{EntityView}
 use Rattle.t85_core.specs.declared.segments.Code.{Code}
 use Rattle.t85_core.specs.Denotes.{DenotesAt}
 use Rattle.t85_core.specs.Fixed.{Fixes}
 use Rattle.t85_core.specs.declared.fault.Fault.{Fault}
-use Rattle.t85_core.specs.declared.fault.Fault.TheVariants.{Truncated}
+use Rattle.t85_core.specs.declared.fault.Fault.TheVariants.{Truncated, Read, Write}
 use Rattle.t85_core.specs.Coding.{mode_of, move_of}
 use Rattle.t85_core.specs.Steps.State.{StripeStart, first_row_start, image_start, StripeRun, StripesRun}
 use Rattle.t85_core.specs.Steps.Cut.{BegunRun, FrontRun, RunEnough}
@@ -84,6 +84,10 @@ CodeCut s t shape move count carried text text' fault =
     (h : Fields) (spot : Spot) (heights : ℕ) (c : StripeStart) (segments : List Segment) (known : Option (List ℕ)) → CodeBegins h spot heights c segments known shape move carried s →
     StripeCut h spot c known t.known count text text' fault
 
+-- some stripe begins with this
+abbrev pub SomeStripeStart : CodingState → Type 0
+SomeStripeStart carried = (c : StripeStart) × IsCarried (first_row_start c) carried
+
 -- whatever is carried to the stripe
 abbrev pub DecodeStripeStep : Fields → Spot → ℕ → Option (List ℕ) → Option (List ℕ) → ℕ → CodingState → CodingState → Option (List ℕ) → Option (List ℕ) → Type 0
 DecodeStripeStep h spot heights known known' count carried carried' text text' = (c : StripeStart) → IsCarried (first_row_start c) carried → StripeRead h spot heights c known known' count carried' text text'
@@ -145,9 +149,28 @@ CodeUnwritten s known' shape move count carried text text' =
     (h : Fields) (spot : Spot) (heights : ℕ) (c : StripeStart) (segments : List Segment) (known : Option (List ℕ)) → CodeBegins h spot heights c segments known shape move carried s →
     StripeUnwritten h spot c known known' count text text'
 
+-- What decoding the code of a stripe leaves, also of its entity, whose stream still has these bytes. Nothing is read ahead
+-- any more, but where a write failed.
+pub record DecodeCodeOutcome (s t : EntityView) (unread : Option (List ℕ)) (shape : Shape) (move : Option (ℕ × ℕ)) (count : ℕ) (carried carried' : CodingState) (text text' : Option (List ℕ)) (answer : Result (Unit {0}) Fault) : Type 0 where
+  pub ok : OnOk answer (CodeRead s t shape move count carried carried' text text')
+  pub err : IfErr answer (λ f. f ≢ Write → CodeCut s t shape move count carried text text' f)
+  pub unwritten : IfErr answer (λ _. CodeUnwritten s unread shape move count carried text text')
+  pub behind : OnOk answer (t.first ≡ None)
+  pub cut_behind : IfErr answer (λ f. f ≢ Write → t.first ≡ None)
+  pub drained : IsErrOf answer Read → t.known ≡ t.beyond
+  pub reads : CountsRead s.reads t.reads answer
+  pub same_source : t.source ≡ s.source
+  pub same_input : t.input ≡ s.input
+
 -- whatever is carried to the stripe
 abbrev pub DecodeStripeStepUnwritten : Fields → Spot → Option (List ℕ) → Option (List ℕ) → ℕ → CodingState → Option (List ℕ) → Option (List ℕ) → Type 0
 DecodeStripeStepUnwritten h spot known known' count carried text text' = (c : StripeStart) → IsCarried (first_row_start c) carried → StripeUnwritten h spot c known known' count text text'
+
+-- What decoding a stripe leaves: all of its rows, those that what came decides, or those of them that were taken.
+pub record DecodeStripeOutcome (h : Fields) (spot : Spot) (heights : ℕ) (known known' : Option (List ℕ)) (count : ℕ) (carried carried' : CodingState) (text text' : Option (List ℕ)) (answer : Result (Unit {0}) Fault) : Type 0 where
+  pub ok : OnOk answer (DecodeStripeStep h spot heights known known' count carried carried' text text')
+  pub err : IfErr answer (λ f. f ≢ Write → DecodeStripeStepCut h spot known known' count carried text text' f)
+  pub unwritten : IfErr answer (λ _. DecodeStripeStepUnwritten h spot known known' count carried text text')
 
 -- However a body goes on that begins so, what is to be written for it begins with these rows.
 abbrev pub AreFirst : Fields → ℕ → List ℕ → List (List Bool) → Type 0

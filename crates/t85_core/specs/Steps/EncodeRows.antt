@@ -1,5 +1,5 @@
 -- What an encoder of the rows of a stripe leaves.
-use Rattle.std.specs.Prelude.{ℕ, ◌≡◌, ◌≤◌, ◌<◌, Bool, false, List, [], ◌∷◌, ◌++◌, length, Option, Some, None, IfSome}
+use Rattle.std.specs.Prelude.{ℕ, ◌≡◌, ◌≤◌, ◌<◌, Bool, false, List, [], ◌∷◌, ◌++◌, length, Option, Some, None, IfSome, Result, OnOk, IsErrOf}
 use Rattle.std.specs.Io.KnownBytes.{Consumes}
 use Rattle.pbm_core.specs.Image.{RowFault, AreRows}
 use Rattle.pbm_core.specs.declared.form.Form.{Form}
@@ -17,6 +17,9 @@ use Rattle.raster_core.specs.declared.tally.Tally.{Tally}
 use Rattle.t85_core.specs.declared.state.CodingState.{CodingState}
 use Rattle.t85_core.specs.Coding.{mode_of}
 use Rattle.t85_core.specs.Steps.State.{RowStart, StripeStart, first_row_start, offset_at}
+use Rattle.t85_core.specs.declared.fault.Fault.{Fault}
+use Rattle.t85_core.specs.declared.fault.Fault.TheVariants.{Write}
+use Rattle.t85_core.specs.Failures.{IfMissing}
 use Rattle.t85_core.specs.Jbg.{Settings}
 use Rattle.t85_core.specs.Steps.Written.{after_rows, lines_down, BeginsCode}
 
@@ -124,3 +127,11 @@ EncodeRowStepRefused {S} form took refused old new shape counted known known' ca
     (from : S) (began : Option (List ℕ)) (s : Settings) (move : Option (ℕ × ℕ)) (c : StripeStart) (rows : List (List Bool)) (count : ℕ) → IsShape s shape.width shape → length rows < count →
     RowsCoded took from old s form shape.width move c counted began known rows carried tally e →
     RowsRefused (λ bytes. GivesUpBehind took refused from bytes new) s form shape.width move c count began known'
+
+-- What encoding a row leaves: a row more; or rows that are short of one; or a sink that has refused a byte.
+pub record EncodeRowOutcome {S : Type 0} (form : Form) (took : S → ℕ → S → Type 0) (refused : S → S → Type 0) (old new : S) (shape : Shape) (counted : Option ℕ) (known known' : Option (List ℕ))
+    (carried carried' : CodingState) (tally tally' : Tally) (e e' : Encoder) (answer : Result (Unit {0}) Fault) : Type 0 where
+  pub ok : OnOk answer (EncodeRowStep form took old new shape counted known known' carried carried' tally tally' e e')
+  pub short : IfMissing answer (EncodeRowStepShort form took old new shape counted known known' carried tally e)
+  pub gives_up : IsErrOf answer Write → EncodeRowGivesUp form took refused old new shape counted known carried tally e
+  pub unwritten : IsErrOf answer Write → EncodeRowStepRefused form took refused old new shape counted known known' carried tally e

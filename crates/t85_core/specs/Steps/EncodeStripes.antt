@@ -1,14 +1,18 @@
 -- What an encoder of stripes leaves.
-use Rattle.std.specs.Prelude.{ℕ, ◌/◌, ◌≡◌, ◌≤◌, ◌<◌, Bool, List, ◌++◌, length, Option, IsTrue, ◌+◌}
+use Rattle.std.specs.Prelude.{ℕ, ◌/◌, ◌≡◌, ◌≤◌, ◌<◌, Bool, List, ◌++◌, length, Option, IsTrue, ◌+◌, Result, OnOk, IsErrOf}
 use Rattle.std.specs.Io.KnownBytes.{Appends, Consumes}
 use Rattle.pbm_core.specs.Image.{RowFault}
 use Rattle.pbm_core.specs.declared.form.Form.{Form}
 use Rattle.pbm_core.specs.declared.fault.PbmFault.{PbmFault}
 use Rattle.qm_core.specs.Code.{code_of, stuffed}
+use Rattle.qm_core.specs.Sink.{Took}
+use Rattle.t85_core.specs.declared.fault.Fault.{Fault}
+use Rattle.t85_core.specs.declared.fault.Fault.TheVariants.{Write}
+use Rattle.t85_core.specs.Failures.{IfMissing}
 use Rattle.raster_core.specs.Tally.{CountsLines, is_two_line, most_of}
 use Rattle.raster_core.specs.Offset.{candidates}
 use Rattle.raster_core.specs.Lines.{Lines}
-use Rattle.raster_core.specs.Raster.{Raster}
+use Rattle.raster_core.specs.Raster.{Raster, height}
 use Rattle.raster_core.specs.declared.shape.Shape.{Shape}
 use Rattle.raster_core.specs.declared.tally.Tally.{Tally}
 use Rattle.t85_core.specs.declared.state.CodingState.{CodingState}
@@ -16,10 +20,10 @@ use Rattle.t85_core.specs.Grammar.{stripe_bytes, marker_bytes}
 use Rattle.t85_core.specs.Coding.{mode_of}
 use Rattle.t85_core.specs.Steps.State.{StripeStart, first_row_start, next_stripe_start}
 use Rattle.t85_core.specs.Steps.DecodeRows.{IsCarried}
-use Rattle.t85_core.specs.Jbg.{Settings}
+use Rattle.t85_core.specs.Jbg.{Settings, jbg, jbg_up_to, stripes_of, ending}
 use Rattle.t85_core.specs.Steps.Written.{after_rows, lines_down, EncoderStart, next_stripe, next_encoder_start, BeginsStripe}
 use Rattle.t85_core.specs.Encode.{IsBeginning, raster_of, BeginsWith}
-use Rattle.t85_core.specs.Steps.EncodeRows.{ReadsRows, EndsInRow, IsShape, IsHeld, IsCountedTo, RowsShort, RowsRefused}
+use Rattle.t85_core.specs.Steps.EncodeRows.{ReadsRows, EndsInRow, IsShape, IsHeld, IsCountedTo, RowsShort, RowsRefused, GivesUp, GivesUpBehind}
 
 -- All rows of a stripe were read, and their code was taken.
 pub record CodeWritten (IsTaken : List ℕ → Type 0) (s : Settings) (form : Form) (width : ℕ) (move : Option (ℕ × ℕ)) (c : StripeStart)
@@ -51,6 +55,21 @@ CodeOfRefused form IsTaken shape count known known' carried =
 abbrev pub SomeHeld : Shape → CodingState → Type 0
 SomeHeld shape carried = (s : Settings) × (move : Option (ℕ × ℕ)) × (c : StripeStart) × IsShape s shape.width shape × IsHeld move 0 (first_row_start c) carried
 
+-- What encoding the rows of a stripe leaves of a sink: all of them, or those that came, or those that were taken.
+pub record EncodeRowsOutcome {S : Type 0} (form : Form) (took : S → ℕ → S → Type 0) (refused : S → S → Type 0) (old new : S) (shape : Shape) (count : ℕ) (counted : Option ℕ)
+    (known known' : Option (List ℕ)) (carried carried' : CodingState) (tally' : Tally) (answer : Result (Unit {0}) Fault) : Type 0 where
+  pub ok : OnOk answer (CodeOfRows form (λ bytes. Took took old bytes new) shape count counted known known' carried carried' tally')
+  pub short : IfMissing answer (CodeOfShort form (λ bytes. Took took old bytes new) shape count known known' carried)
+  pub gives_up : IsErrOf answer Write → SomeHeld shape carried → GivesUp took refused old new
+  pub unwritten : IsErrOf answer Write → CodeOfRefused form (λ bytes. GivesUpBehind took refused old bytes new) shape count known known' carried
+
+-- the same of a text
+pub record EncodeCodeOutcome (form : Form) (text text' : Option (List ℕ)) (shape : Shape) (count : ℕ) (counted : Option ℕ) (known known' : Option (List ℕ)) (carried carried' : CodingState)
+    (tally' : Tally) (answer : Result (Unit {0}) Fault) : Type 0 where
+  pub ok : OnOk answer (CodeOfRows form (λ bytes. Appends text text' bytes) shape count counted known known' carried carried' tally')
+  pub short : IfMissing answer (CodeOfShort form (λ bytes. Appends text text' bytes) shape count known known' carried)
+  pub unwritten : IsErrOf answer Write → CodeOfRefused form (λ bytes. Appends text text' bytes) shape count known known' carried
+
 -- The same with the end marker after it. What is carried goes on to the next stripe.
 pub record EntityWritten (s : Settings) (form : Form) (width : ℕ) (move : Option (ℕ × ℕ)) (c : StripeStart) (count : ℕ) (counted : Option ℕ)
     (known known' : Option (List ℕ)) (carried : CodingState) (tally : Tally) (text text' : Option (List ℕ)) : Type 0 where
@@ -80,6 +99,13 @@ abbrev pub EntityOfRefused : Form → Shape → Bool → ℕ → Option (List �
 EntityOfRefused form shape reset count known known' carried text text' =
     (s : Settings) (move : Option (ℕ × ℕ)) (c : StripeStart) → IsShape s shape.width shape → s.reset ≡ reset → IsHeld move 0 (first_row_start c) carried →
     EntityRefused s form shape.width move c count known known' text text'
+
+-- What encoding a data entity leaves.
+pub record EncodeEntityOutcome (form : Form) (shape : Shape) (reset : Bool) (count : ℕ) (counted : Option ℕ) (known known' : Option (List ℕ)) (carried carried' : CodingState) (tally' : Tally)
+    (text text' : Option (List ℕ)) (answer : Result (Unit {0}) Fault) : Type 0 where
+  pub ok : OnOk answer (EntityOfRows form shape reset count counted known known' carried carried' tally' text text')
+  pub short : IfMissing answer (CodeOfShort form (λ bytes. Appends text text' bytes) shape count known known' carried)
+  pub unwritten : IsErrOf answer Write → EntityOfRefused form shape reset count known known' carried text text'
 
 -- What a tally counts where a stripe begins: the rows of the stripe before, where there are offsets to choose from.
 pub record IsTallied (s : Settings) (width : ℕ) (at : EncoderStart) (tally : Tally) : Type 0 where
@@ -150,6 +176,10 @@ pub record ImageCoded (form : Form) (width height' : ℕ) (whole : Raster → Li
   pub read : ReadsRows form width known known' rows
   pub appended : Appends text text' (whole (raster_of width rows))
 
+-- the stripes of a raster and what stands after them
+abbrev pub body_of : Settings → Raster → List ℕ
+body_of s raster = stripes_of s raster ++ ending s (height raster)
+
 -- Not all rows came: of each image that begins with those that did, what was written is a beginning of this text, and
 -- holds the text of the stripes whose rows all came.
 pub record ImageShort (s : Settings) (form : Form) (width height' : ℕ) (up_to : Raster → ℕ → List ℕ) (whole : Raster → List ℕ) (known known' text text' : Option (List ℕ)) (fault : PbmFault) : Type 0 where
@@ -162,6 +192,10 @@ pub record ImageShort (s : Settings) (form : Form) (width height' : ℕ) (up_to 
   pub holds : (raster : Raster) → BeginsWith width height' rows raster → IsBeginning (up_to raster (length rows / s.stripe_rows)) bytes
   pub begins : (raster : Raster) → BeginsWith width height' rows raster → IsBeginning bytes (whole raster)
   pub appended : Appends text text' bytes
+
+-- the same of the whole stream
+abbrev pub JbgShort : Settings → Form → ℕ → ℕ → Option (List ℕ) → Option (List ℕ) → Option (List ℕ) → Option (List ℕ) → PbmFault → Type 0
+JbgShort s form width height' = ImageShort s form width height' (jbg_up_to s) (jbg s)
 
 -- The rows of an image that were read, and no more: of each image that begins with them, what was written is a beginning
 -- of this text.

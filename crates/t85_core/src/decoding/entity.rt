@@ -109,32 +109,12 @@ impl<S: ByteSource> EntityReader<'_, S> {
 }
 
 impl<S: ByteSource> CodeBytes for EntityReader<'_, S> {
+    ghost use Rattle.t85_core.specs.Steps.Views.{entity_view};
+
     ghost gives = { λ s answer t. EntityGives
-        (record {
-          known = entity_known s.first (S.known s.stream.now);
-          beyond = S.beyond
-              s.stream.now;
-          reads = S.failures s.stream.now;
-          source = s.stream.ghost_name;
-          input =
-              S.source s.stream.now;
-          first = s.first;
-          marker = s.marker;
-          fault = s.fault;
-        })
+        (entity_view s)
         answer
-        (record {
-          known = entity_known t.first (S.known t.stream.now);
-          beyond = S.beyond
-              t.stream.now;
-          reads = S.failures t.stream.now;
-          source = t.stream.ghost_name;
-          input =
-              S.source t.stream.now;
-          first = t.first;
-          marker = t.marker;
-          fault = t.fault;
-        }) };
+        (entity_view t) };
 
     ghost failed = { λ s. s.failures };
 

@@ -7,8 +7,8 @@ ghost use Rattle.qm_core.specs.Sink.{Took};
 ghost use Rattle.raster_core.specs.Tally.{is_two_line, most_of, row_count};
 ghost use Rattle.raster_core.specs.Window.{held, width_of};
 ghost use Rattle.t85_core.specs.Encode.{IsEncodeFault};
-ghost use Rattle.t85_core.specs.Steps.EncodeRows.{IsCountedTo, GivesUp, EncodeRowGivesUp, EncodeRowStepRefused, GivesUpBehind, EndsInRow, RowTaken, EncodeRowStep, EncodeRowStepShort};
-ghost use Rattle.t85_core.specs.Steps.EncodeStripes.{SomeHeld, CodeOfRefused, CodeOfRows, CodeOfShort};
+ghost use Rattle.t85_core.specs.Steps.EncodeRows.{IsCountedTo, EncodeRowOutcome, EndsInRow, RowTaken};
+ghost use Rattle.t85_core.specs.Steps.EncodeStripes.{EncodeRowsOutcome};
 ghost use Rattle.t85_core.specs.Failures.{CountsRead, CountsWrite};
 ghost use Rattle.t85_core.specs.declared.fault.Fault.TheVariants.{Write, Pbm};
 
@@ -40,20 +40,11 @@ pub fn encode_rows<R: Input, C: CodeSink>(
     requires counted { IfSome counted (λ offset. offset ≤ 127) }
     requires none { row_count tally.old ≡ 0 }
     requires begun { IsCountedTo size.width counted tally.old [] }
-    ensures width { OnOk result (width_of carried.new.window.now ≡ width_of
-        carried.old.window.now) }
+    ensures width { OnOk result (width_of carried.new.window.now ≡
+        width_of carried.old.window.now) }
     ensures offset { OnOk result (carried.new.kept.offset ≡ carried.old.kept.offset) }
-    ensures ok { OnOk result (CodeOfRows form (λ bytes. Took C.took sink.old bytes sink.new) shape
-        rows counted (R.remaining source.old) (R.remaining source.new)
-        carried.old carried.new tally.new) }
-    ensures short { (fault : PbmFault) → IsErrOf result (Pbm fault) →
-        CodeOfShort form (λ bytes. Took C.took sink.old bytes sink.new) shape rows
-        (R.remaining source.old) (R.remaining source.new) carried.old fault }
-    ensures refused { IsErrOf result Write → SomeHeld shape carried.old →
-        GivesUp C.took C.refused sink.old sink.new }
-    ensures unwritten { IsErrOf result Write → CodeOfRefused form
-        (λ bytes. GivesUpBehind C.took C.refused sink.old bytes sink.new) shape rows
-        (R.remaining source.old) (R.remaining source.new) carried.old }
+    ensures outcome { EncodeRowsOutcome form C.took C.refused sink.old sink.new shape rows counted
+        (R.remaining source.old) (R.remaining source.new) carried.old carried.new tally.new result }
     ensures two_line { OnOk result (is_two_line tally.new ≡ is_two_line tally.old) }
     ensures most { OnOk result (most_of tally.new ≡ most_of tally.old) }
     ensures among { IfErr result IsEncodeFault }
@@ -104,20 +95,11 @@ fn encode_next_row<R: Input, C: CodeSink>(
     requires going { has_failed encoder.old ≡ false }
     requires events { event_count encoder.old + size.width + 1 ≤ 2 ^ 56 }
     requires rows { row_count tally.old < 2 ^ 32 - 1 }
-    ensures ok { OnOk result (EncodeRowStep form C.took sink.old sink.new shape counted
-        (R.remaining source.old) (R.remaining source.new)
-        carried.old carried.new tally.old tally.new encoder.old encoder.new) }
-    ensures short { (fault : PbmFault) → IsErrOf result (Pbm fault) →
-        EncodeRowStepShort form C.took sink.old sink.new shape counted
-        (R.remaining source.old) (R.remaining source.new) carried.old tally.old encoder.old fault }
-    ensures refused { IsErrOf result Write → EncodeRowGivesUp form C.took C.refused sink.old
-        sink.new shape counted (R.remaining source.old)
-        carried.old tally.old encoder.old }
-    ensures unwritten { IsErrOf result Write → EncodeRowStepRefused form C.took C.refused sink.old
-        sink.new shape counted (R.remaining source.old) (R.remaining source.new)
-        carried.old tally.old encoder.old }
-    ensures width { OnOk result (width_of carried.new.window.now ≡ width_of
-        carried.old.window.now) }
+    ensures outcome { EncodeRowOutcome form C.took C.refused sink.old sink.new shape counted
+        (R.remaining source.old) (R.remaining source.new) carried.old carried.new tally.old
+        tally.new encoder.old encoder.new result }
+    ensures width { OnOk result (width_of carried.new.window.now ≡
+        width_of carried.old.window.now) }
     ensures offset { OnOk result (carried.new.kept.offset ≡ carried.old.kept.offset) }
     ensures going { OnOk result (has_failed encoder.new ≡ false) }
     ensures events { OnOk result (event_count encoder.new ≤ event_count encoder.old + size.width +
@@ -161,8 +143,8 @@ fn read_next_row<R: Input>(
     requires width { width_of window.old ≡ size.width }
     ensures ok { OnOk result (RowTaken form size.width (R.remaining source.old)
         (R.remaining source.new) (held window.old) (held window.new)) }
-    ensures short { IfErr result (λ f. (fault : PbmFault) × (f ≡ Pbm fault) ×
-        EndsInRow form size.width (R.remaining source.old) (R.remaining source.new) fault) }
+    ensures short { IfErr result (λ f. (fault : PbmFault) × (f ≡ Pbm fault) × EndsInRow form
+        size.width (R.remaining source.old) (R.remaining source.new) fault) }
     ensures width { width_of window.new ≡ width_of window.old }
     ensures among { IfErr result IsEncodeFault }
     ensures reads { CountsRead (R.failures source.old) (R.failures source.new) result }

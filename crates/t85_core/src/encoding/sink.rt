@@ -2,6 +2,7 @@
 
 ghost use Rattle.std.specs.Prelude.{◌≡◌};
 ghost use Rattle.t85_core.specs.Steps.Buffers.{TakesByte, RefusesByte};
+ghost use Rattle.t85_core.specs.Steps.Views.{sink_view};
 
 use crate::output_buffer::ByteTarget;
 use qm_core::{CodeSink, SinkFault};
@@ -22,37 +23,13 @@ impl<'a, P: ByteTarget> EntitySink<'a, P> {
 
 impl<P: ByteTarget> CodeSink for EntitySink<'_, P> {
     ghost took = { λ s byte t. TakesByte
-        (record {
-          target = s.target.ghost_name;
-          writer = P.writer s.target.now;
-          written = P.written
-              s.target.now;
-          text = P.text s.target.now;
-        })
+        (sink_view P.writer P.written P.text s)
         byte
-        (record {
-          target = t.target.ghost_name;
-          writer = P.writer t.target.now;
-          written = P.written
-              t.target.now;
-          text = P.text t.target.now;
-        }) };
+        (sink_view P.writer P.written P.text t) };
 
     ghost refused = { λ s t. RefusesByte
-        (record {
-          target = s.target.ghost_name;
-          writer = P.writer s.target.now;
-          written = P.written
-              s.target.now;
-          text = P.text s.target.now;
-        })
-        (record {
-          target = t.target.ghost_name;
-          writer = P.writer t.target.now;
-          written = P.written
-              t.target.now;
-          text = P.text t.target.now;
-        }) };
+        (sink_view P.writer P.written P.text s)
+        (sink_view P.writer P.written P.text t) };
 
     ghost failed = { λ s. P.failures s.target.now };
 

@@ -1,4 +1,4 @@
-use Rattle.std.proofs.Common.{◌≡◌, ◌∙◌, sym, ap, arith}
+use Rattle.std.proofs.Common.{◌≡◌, ◌∙◌, sym, arith}
 use Rattle.t85_core.specs.declared.fault.Fault.TheVariants.{Read, Write}
 use Rattle.t85_core.specs.Options.{fields_of}
 use Rattle.t85_core.proofs.Decodings.ImagePut.{in_use}
@@ -29,9 +29,7 @@ returns-in-Ok-write_held g c =
       reads = counts_any _ _ _ c.in-Err.ensures.reads;
       writes = c.in-Ok-write_held.ensures.counts ∙ c.in-Err.ensures.writes;
       same_source = c.in-Err.ensures.same_source;
-      same_writer = c.write_held-in_default.ensures.same_writer ∙ ap (λ w. w.reference) c.in-Err.ensures.same_writer;
-      no_flush = c.write_held-in_default.ensures.no_flush ∙ ap (λ w. w.flushes) c.in-Err.ensures.same_writer;
-      same_target = c.write_held-in_default.ensures.same_target ∙ ap (λ w. w.target) c.in-Err.ensures.same_writer;
+      same_writer = c.write_held-in_default.ensures.same_writer ∙ c.in-Err.ensures.same_writer;
     }
 
 pub returns-in-Err-write_held : goal.returns-in-Err-write_held
@@ -47,9 +45,7 @@ returns-in-Err-write_held g c =
       reads = counts_written _ _ c.in-Err.fault _ c.in-Err.ensures.reads last;
       writes = (let a = c.in-Err.ensures.writes in let b = c.in-Err-write_held.ensures.counts in omega (arith, a, b, none));
       same_source = c.in-Err.ensures.same_source;
-      same_writer = c.write_held-in_default.ensures.same_writer ∙ ap (λ w. w.reference) c.in-Err.ensures.same_writer;
-      no_flush = c.write_held-in_default.ensures.no_flush ∙ ap (λ w. w.flushes) c.in-Err.ensures.same_writer;
-      same_target = c.write_held-in_default.ensures.same_target ∙ ap (λ w. w.target) c.in-Err.ensures.same_writer;
+      same_writer = c.write_held-in_default.ensures.same_writer ∙ c.in-Err.ensures.same_writer;
     }
 
 pub returns-in-Write-clause-err : goal.returns-in-Write-clause-err

@@ -14,50 +14,44 @@ use Rattle.t85_core.proofs.Decodings.StripePut.{head_begins, stripe_head, cut_un
 use Rattle.t85_core.proofs.Walks.Passed.{Consumes-none}
 use Rattle.t85_core.proofs.decoding.decode_stripe.Goals as goal
 
-pub returns-in_err-head-clause-err : goal.returns-in_err-head-clause-err
-returns-in_err-head-clause-err g c =
-    exit _ _ c.from_residual.ensures.1 (λ _ c' is. stripe_head (fields_of c.args.header.now) (spot_at c.args.place) c' _ _ c.args.rows _ _ c.args.header.now.some_width c.in_err-head.ensures.err)
+pub returns-in_err-head-clause-outcome : goal.returns-in_err-head-clause-outcome
+returns-in_err-head-clause-outcome g c = record {
+  ok = search rules;
+  err = exit _ _ c.from_residual.ensures.1 (λ _ c' is. stripe_head (fields_of c.args.header.now) (spot_at c.args.place) c' _ _ c.args.rows _ _ c.args.header.now.some_width c.in_err-head.ensures.err);
+  unwritten = exit (λ _. DecodeStripeStepUnwritten (fields_of c.args.header.now) _ _ _ _ _ _ _) _ c.from_residual.ensures.1 (λ c' is.
+      cut_unset _ _ _ _ _ _ _ _ _ _ _ (stripe_head (fields_of c.args.header.now) (spot_at c.args.place) c' _ _ c.args.rows _ _ c.args.header.now.some_width c.in_err-head.ensures.err) (Consumes-none (g.S.ByteSource.known c.read_head.new.stream)));
+}
 
 pub decode_code-requires-clause-to : goal.decode_code-requires-clause-to
 decode_code-requires-clause-to g c = move_within c.args.header.now.in_range c.in_ok-head.ensures.ok
 
-pub returns-clause-ok : goal.returns-clause-ok
-returns-clause-ok g c =
-    let known = ap g.S.ByteSource.known (search rules) in
-    let entity = c.new-entity.ensures in
-    let begun = ap (λ x. entity_known x (g.S.ByteSource.known c.new-entity.result.stream.now)) entity.first ∙ ap (λ m. prepend_known (code_bytes c.in_ok-head.head.code) (g.S.ByteSource.known m.now)) entity.lent in
-    on_ok c.decode_code.result (λ none read c' is.
-    subst (λ k. StripeRead (fields_of c.args.header.now) (spot_at c.args.place) (cond c.in_ok-head.head.given 1 0) c' (g.S.ByteSource.known c.args.stream.now) k c.args.rows c.decode_code.new.carried (g.P.ByteTarget.text c.args.target.now) (g.P.ByteTarget.text c.decode_code.new.target))
-    (ap (λ x. entity_known x (g.S.ByteSource.known c.decode_code.new.entity.stream.now)) none ∙ known)
-    (read _ _ _ c' _ _ (head_begins c.in_ok-head.ensures.ok c' c.shape.result c.args.carried.now _ (record { width_is = c.shape.ensures.width; mode_is = c.shape.ensures.mode }) is begun entity.first entity.marker entity.fault)))
-    c.decode_code.ensures.behind c.decode_code.ensures.ok
-
-pub returns-in_err-head-clause-unwritten : goal.returns-in_err-head-clause-unwritten
-returns-in_err-head-clause-unwritten g c =
-    exit (λ _. DecodeStripeStepUnwritten (fields_of c.args.header.now) _ _ _ _ _ _ _) _ c.from_residual.ensures.1 (λ c' is.
-    cut_unset _ _ _ _ _ _ _ _ _ _ _ (stripe_head (fields_of c.args.header.now) (spot_at c.args.place) c' _ _ c.args.rows _ _ c.args.header.now.some_width c.in_err-head.ensures.err) (Consumes-none (g.S.ByteSource.known c.read_head.new.stream)))
-
-pub returns-clause-unwritten : goal.returns-clause-unwritten
-returns-clause-unwritten g c =
-    let known = ap g.S.ByteSource.known (search rules) in
-    let entity = c.new-entity.ensures in
-    let begun = ap (λ x. entity_known x (g.S.ByteSource.known c.new-entity.result.stream.now)) entity.first ∙ ap (λ m. prepend_known (code_bytes c.in_ok-head.head.code) (g.S.ByteSource.known m.now)) entity.lent in
-    if_err c.decode_code.result (λ f none cut c' is.
-    subst (λ k. StripeUnwritten (fields_of c.args.header.now) (spot_at c.args.place) c' (g.S.ByteSource.known c.args.stream.now) k c.args.rows (g.P.ByteTarget.text c.args.target.now) (g.P.ByteTarget.text c.decode_code.new.target))
-    known
-    (cut _ _ _ c' _ _ (head_begins c.in_ok-head.ensures.ok c' c.shape.result c.args.carried.now _ (record { width_is = c.shape.ensures.width; mode_is = c.shape.ensures.mode }) is begun entity.first entity.marker entity.fault)))
-    c.decode_code.ensures.cut_behind c.decode_code.ensures.unwritten
-
-pub returns-clause-err : goal.returns-clause-err
-returns-clause-err g c =
-    let known = ap g.S.ByteSource.known (search rules) in
-    let entity = c.new-entity.ensures in
-    let begun = ap (λ x. entity_known x (g.S.ByteSource.known c.new-entity.result.stream.now)) entity.first ∙ ap (λ m. prepend_known (code_bytes c.in_ok-head.head.code) (g.S.ByteSource.known m.now)) entity.lent in
-    if_err c.decode_code.result (λ f none cut written c' is.
-    subst (λ k. StripeCut (fields_of c.args.header.now) (spot_at c.args.place) c' (g.S.ByteSource.known c.args.stream.now) k c.args.rows (g.P.ByteTarget.text c.args.target.now) (g.P.ByteTarget.text c.decode_code.new.target) f)
-    (ap (λ x. entity_known x (g.S.ByteSource.known c.decode_code.new.entity.stream.now)) (none written) ∙ known)
-    (cut written _ _ _ c' _ _ (head_begins c.in_ok-head.ensures.ok c' c.shape.result c.args.carried.now _ (record { width_is = c.shape.ensures.width; mode_is = c.shape.ensures.mode }) is begun entity.first entity.marker entity.fault)))
-    c.decode_code.ensures.cut_behind c.decode_code.ensures.err
+pub returns-clause-outcome : goal.returns-clause-outcome
+returns-clause-outcome g c = record {
+  ok = (let known = ap g.S.ByteSource.known (search rules) in
+      let entity = c.new-entity.ensures in
+      let begun = ap (λ x. entity_known x (g.S.ByteSource.known c.new-entity.result.stream.now)) entity.first ∙ ap (λ m. prepend_known (code_bytes c.in_ok-head.head.code) (g.S.ByteSource.known m.now)) entity.lent in
+      on_ok c.decode_code.result (λ none read c' is.
+      subst (λ k. StripeRead (fields_of c.args.header.now) (spot_at c.args.place) (cond c.in_ok-head.head.given 1 0) c' (g.S.ByteSource.known c.args.stream.now) k c.args.rows c.decode_code.new.carried (g.P.ByteTarget.text c.args.target.now) (g.P.ByteTarget.text c.decode_code.new.target))
+      (ap (λ x. entity_known x (g.S.ByteSource.known c.decode_code.new.entity.stream.now)) none ∙ known)
+      (read _ _ _ c' _ _ (head_begins c.in_ok-head.ensures.ok c' c.shape.result c.args.carried.now _ (record { width_is = c.shape.ensures.width; mode_is = c.shape.ensures.mode }) is begun entity.first entity.marker entity.fault)))
+      c.decode_code.ensures.outcome.behind c.decode_code.ensures.outcome.ok);
+  err = (let known = ap g.S.ByteSource.known (search rules) in
+      let entity = c.new-entity.ensures in
+      let begun = ap (λ x. entity_known x (g.S.ByteSource.known c.new-entity.result.stream.now)) entity.first ∙ ap (λ m. prepend_known (code_bytes c.in_ok-head.head.code) (g.S.ByteSource.known m.now)) entity.lent in
+      if_err c.decode_code.result (λ f none cut written c' is.
+      subst (λ k. StripeCut (fields_of c.args.header.now) (spot_at c.args.place) c' (g.S.ByteSource.known c.args.stream.now) k c.args.rows (g.P.ByteTarget.text c.args.target.now) (g.P.ByteTarget.text c.decode_code.new.target) f)
+      (ap (λ x. entity_known x (g.S.ByteSource.known c.decode_code.new.entity.stream.now)) (none written) ∙ known)
+      (cut written _ _ _ c' _ _ (head_begins c.in_ok-head.ensures.ok c' c.shape.result c.args.carried.now _ (record { width_is = c.shape.ensures.width; mode_is = c.shape.ensures.mode }) is begun entity.first entity.marker entity.fault)))
+      c.decode_code.ensures.outcome.cut_behind c.decode_code.ensures.outcome.err);
+  unwritten = (let known = ap g.S.ByteSource.known (search rules) in
+      let entity = c.new-entity.ensures in
+      let begun = ap (λ x. entity_known x (g.S.ByteSource.known c.new-entity.result.stream.now)) entity.first ∙ ap (λ m. prepend_known (code_bytes c.in_ok-head.head.code) (g.S.ByteSource.known m.now)) entity.lent in
+      if_err c.decode_code.result (λ f none cut c' is.
+      subst (λ k. StripeUnwritten (fields_of c.args.header.now) (spot_at c.args.place) c' (g.S.ByteSource.known c.args.stream.now) k c.args.rows (g.P.ByteTarget.text c.args.target.now) (g.P.ByteTarget.text c.decode_code.new.target))
+      known
+      (cut _ _ _ c' _ _ (head_begins c.in_ok-head.ensures.ok c' c.shape.result c.args.carried.now _ (record { width_is = c.shape.ensures.width; mode_is = c.shape.ensures.mode }) is begun entity.first entity.marker entity.fault)))
+      c.decode_code.ensures.outcome.cut_behind c.decode_code.ensures.outcome.unwritten);
+}
 
 pub returns-in_err-head-clause-writes : goal.returns-in_err-head-clause-writes
 returns-in_err-head-clause-writes g c =

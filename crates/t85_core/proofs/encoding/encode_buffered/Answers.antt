@@ -1,4 +1,4 @@
-use Rattle.std.proofs.Common.{◌≡◌, ◌∙◌, sym, ap, subst, arith}
+use Rattle.std.proofs.Common.{◌≡◌, ◌∙◌, sym, subst, arith}
 use Rattle.t85_core.specs.Encode.{IsEncodeFault}
 use Rattle.t85_core.specs.declared.fault.Fault.TheVariants.{Write, Pbm}
 use Rattle.t85_core.proofs.Bytes.Ends.{on_ok, always}
@@ -27,9 +27,7 @@ returns-in-Ok-write_held g c =
       among = c.in-Err.ensures.among;
       reads = counts_any _ _ _ c.in-Err.ensures.reads;
       writes = c.in-Ok-write_held.ensures.counts ∙ c.in-Err.ensures.writes;
-      same_writer = c.write_held-in_default.ensures.same_writer ∙ ap (λ w. w.reference) c.in-Err.ensures.same_writer;
-      no_flush = c.write_held-in_default.ensures.no_flush ∙ ap (λ w. w.flushes) c.in-Err.ensures.same_writer;
-      same_target = c.write_held-in_default.ensures.same_target ∙ ap (λ w. w.target) c.in-Err.ensures.same_writer;
+      same_writer = c.write_held-in_default.ensures.same_writer ∙ c.in-Err.ensures.same_writer;
     }
 
 pub write_held-requires-in_default : goal.write_held-requires-in_default
@@ -49,7 +47,5 @@ returns-in-Err-write_held g c =
       among = subst IsEncodeFault (sym last) tt;
       reads = counts_written _ _ c.in-Err.fault _ c.in-Err.ensures.reads last;
       writes = (let a = c.in-Err.ensures.writes in let b = c.in-Err-write_held.ensures.counts in omega (arith, a, b, none));
-      same_writer = c.write_held-in_default.ensures.same_writer ∙ ap (λ w. w.reference) c.in-Err.ensures.same_writer;
-      no_flush = c.write_held-in_default.ensures.no_flush ∙ ap (λ w. w.flushes) c.in-Err.ensures.same_writer;
-      same_target = c.write_held-in_default.ensures.same_target ∙ ap (λ w. w.target) c.in-Err.ensures.same_writer;
+      same_writer = c.write_held-in_default.ensures.same_writer ∙ c.in-Err.ensures.same_writer;
     }

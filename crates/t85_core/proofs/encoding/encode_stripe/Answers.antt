@@ -32,7 +32,7 @@ returns-clause-ok g c =
       | then-is_counted w ↦ w.counted-is ∙ sym (ap (λ b. if b then Some c.if-reset.current else None) w.if-is_counted.true)
       | else-is_counted w ↦ w.counted-is ∙ sym (ap (λ b. if b then Some c.if-reset.current else None) w.if-is_counted.false)
     ] in
-    all_ok r e.kept e.two_line e.most e.ok (λ kept two_line most more s at is_shape reset_is course.
+    all_ok r e.kept e.two_line e.most e.outcome.ok (λ kept two_line most more s at is_shape reset_is course.
     let chosen_is = choice_is s c.args.shape.width at c.args.tally.now c.args.carried.now.kept.offset c.choose.result course.is_carried.offset_is course.is_tallied c.choose.ensures.chosen in
     let made : MoveMade s c.args.shape.width at (g.P.ByteTarget.text c.args.target.now) (g.P.ByteTarget.text c.match-choose.target) c.match-choose.carried = elim c.match-choose.branch [
       | in-Some+in_ok-write_move w ↦ rw w.carried-is (rw w.target-is (move_made s c.args.shape.width at _ _ c.args.carried.now c.choose.result chosen_is course.is_carried w.in-Some.offset _ w.in-Some.is refl w.in_ok-write_move.ensures.ok))
@@ -48,7 +48,7 @@ returns-clause-short g c fault is s at is_shape reset_is course =
       | in-Some+in_ok-write_move w ↦ rw w.carried-is (rw w.target-is (move_made s c.args.shape.width at _ _ c.args.carried.now c.choose.result chosen_is course.is_carried w.in-Some.offset _ w.in-Some.is refl w.in_ok-write_move.ensures.ok))
       | in_default w ↦ rw w.carried-is (rw w.target-is (no_move s c.args.shape.width at _ _ c.args.carried.now c.choose.result chosen_is course.is_carried _ (search rules) refl refl))
     ] in
-    stripe_short s c.args.shape.width c.args.rows at _ _ _ (g.P.ByteTarget.text c.match-choose.target) _ c.match-choose.carried fault made (c.encode_entity.ensures.short fault is s (next_move s c.args.shape.width at) at.carry is_shape made.held)
+    stripe_short s c.args.shape.width c.args.rows at _ _ _ (g.P.ByteTarget.text c.match-choose.target) _ c.match-choose.carried fault made (c.encode_entity.ensures.outcome.short fault is s (next_move s c.args.shape.width at) at.carry is_shape made.held)
 
 pub returns-clause-unwritten : goal.returns-clause-unwritten
 returns-clause-unwritten g c is s at is_shape reset_is course =
@@ -57,7 +57,7 @@ returns-clause-unwritten g c is s at is_shape reset_is course =
       | in-Some+in_ok-write_move w ↦ rw w.carried-is (rw w.target-is (move_made s c.args.shape.width at _ _ c.args.carried.now c.choose.result chosen_is course.is_carried w.in-Some.offset _ w.in-Some.is refl w.in_ok-write_move.ensures.ok))
       | in_default w ↦ rw w.carried-is (rw w.target-is (no_move s c.args.shape.width at _ _ c.args.carried.now c.choose.result chosen_is course.is_carried _ (search rules) refl refl))
     ] in
-    stripe_refused s c.args.shape.width c.args.rows at _ _ _ (g.P.ByteTarget.text c.match-choose.target) _ c.match-choose.carried made (c.encode_entity.ensures.unwritten is s (next_move s c.args.shape.width at) at.carry is_shape reset_is made.held)
+    stripe_refused s c.args.shape.width c.args.rows at _ _ _ (g.P.ByteTarget.text c.match-choose.target) _ c.match-choose.carried made (c.encode_entity.ensures.outcome.unwritten is s (next_move s c.args.shape.width at) at.carry is_shape reset_is made.held)
 
 pub returns-in_err-write_move-clause-unwritten : goal.returns-in_err-write_move-clause-unwritten
 returns-in_err-write_move-clause-unwritten g c is s at is_shape reset_is course =

@@ -4,6 +4,7 @@ use Rattle.std.proofs.Math.Seq.{take-add}
 use Rattle.std.specs.Prelude.{Result, Ok, Err, OnErr}
 use Rattle.std.specs.Io.KnownBytes.{Keeps, append_known}
 use Rattle.t85_core.specs.Steps.Buffers.{held_of, known_length}
+use Rattle.t85_core.specs.Steps.Views.{writer_of}
 use Rattle.t85_core.proofs.Bytes.Streams.{Appends-more, Appends-keeps}
 use Rattle.t85_core.proofs.Bytes.Held.{Keeps-same}
 use Rattle.t85_core.proofs.output_buffer.OutputBufferByteTarget.put.Goals as goal
@@ -40,19 +41,9 @@ loop-taken-preserved g c =
       | then-self-eq-SIZE+in_ok-write_held w ↦ rw w.self-is w.in_ok-write_held.ensures.counts
       | else-self-eq-SIZE w ↦ rw w.self-is refl
     ] in
-    let same_writer : new.output.ghost_name ≡ old.output.ghost_name =
+    let same_writer : writer_of new ≡ writer_of old =
     elim c.if-self-eq-SIZE.branch [
       | then-self-eq-SIZE+in_ok-write_held w ↦ rw w.self-is w.write_held.ensures.same_writer
-      | else-self-eq-SIZE w ↦ rw w.self-is refl
-    ] in
-    let no_flush : g.W.Output.flushes new.output.now ≡ g.W.Output.flushes old.output.now =
-    elim c.if-self-eq-SIZE.branch [
-      | then-self-eq-SIZE+in_ok-write_held w ↦ rw w.self-is w.write_held.ensures.no_flush
-      | else-self-eq-SIZE w ↦ rw w.self-is refl
-    ] in
-    let same_target : g.W.Output.target new.output.now ≡ g.W.Output.target old.output.now =
-    elim c.if-self-eq-SIZE.branch [
-      | then-self-eq-SIZE+in_ok-write_held w ↦ rw w.self-is w.write_held.ensures.same_target
       | else-self-eq-SIZE w ↦ rw w.self-is refl
     ] in
     let more = rw take_rest at c.fill-taken.ensures.text in
@@ -62,6 +53,4 @@ loop-taken-preserved g c =
       grows = rw c.fill-taken.ensures.lent (let before = c.loop-taken.invariant.grows in omega (arith, grows, before));
       unfailed = rw c.fill-taken.ensures.lent (unfailed ∙ c.loop-taken.invariant.unfailed);
       same_writer = rw c.fill-taken.ensures.lent (same_writer ∙ c.loop-taken.invariant.same_writer);
-      no_flush = rw c.fill-taken.ensures.lent (no_flush ∙ c.loop-taken.invariant.no_flush);
-      same_target = rw c.fill-taken.ensures.lent (same_target ∙ c.loop-taken.invariant.same_target);
     }

@@ -1,6 +1,7 @@
 use Rattle.std.proofs.Common.{◌≡◌, ◌≤◌, ◌-◌, length, take}
 use Rattle.std.specs.Io.KnownBytes.{Appends, append_known}
 use Rattle.t85_core.specs.Steps.Buffers.{held_of, known_length}
+use Rattle.t85_core.specs.Steps.Views.{writer_of}
 use Rattle.t85_core.proofs.output_buffer.OutputBufferByteTarget.put.Given as goal
 
 -- the bytes up to here were taken
@@ -10,9 +11,7 @@ invariant-loop-taken g l = record {
   text : Appends (append_known (g.W.Output.contents l.fn.self.output.now) (held_of l.fn.self.bytes l.fn.self.at l.fn.self.end)) (append_known (g.W.Output.contents l.self.output.now) (held_of l.self.bytes l.self.at l.self.end)) (take l.taken l.bytes);
   grows : known_length (g.W.Output.contents l.fn.self.output.now) ≤ known_length (g.W.Output.contents l.self.output.now);
   unfailed : g.W.Output.failures l.self.output.now ≡ g.W.Output.failures l.fn.self.output.now;
-  same_writer : l.self.output.ghost_name ≡ l.fn.self.output.ghost_name;
-  no_flush : g.W.Output.flushes l.self.output.now ≡ g.W.Output.flushes l.fn.self.output.now;
-  same_target : g.W.Output.target l.self.output.now ≡ g.W.Output.target l.fn.self.output.now;
+  same_writer : writer_of l.self ≡ writer_of l.fn.self;
 }
 
 abbrev pub decreases-loop-taken : goal.decreases-loop-taken
