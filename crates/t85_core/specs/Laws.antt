@@ -4,7 +4,7 @@ use Rattle.std.specs.Prelude.{ℕ, ◌≡◌, ◌≤◌, ◌⊎◌, Bool, List, 
 use Rattle.qm_core.specs.Code.{IsBytes}
 use Rattle.raster_core.specs.Raster.{Raster, IsRaster, height}
 use Rattle.t85_core.specs.declared.fault.Fault.{Fault}
-use Rattle.t85_core.specs.Header.{Fields, IsAccepted}
+use Rattle.t85_core.specs.Header.{Fields, IsAccepted, HeaderOf, header_bytes, header_fault}
 use Rattle.t85_core.specs.Grammar.{Segment, Stripe, Parts}
 use Rattle.t85_core.specs.Refusal.{BodyFault}
 use Rattle.t85_core.specs.Height.{IsHeight}
@@ -18,6 +18,15 @@ pub record IsInUse (h : Fields) (height' : ℕ) : Type 0 where
   pub accepted : IsAccepted h
   pub from : 1 ≤ height'
   pub to : height' ≤ h.yd
+
+-- The first twenty bytes decide whether they are a header, and of which fields, and how they are refused.
+pub record HeaderLaws : Type 0 where
+  pub stands : (bytes more : List ℕ) (h : Fields) → HeaderOf bytes h → HeaderOf (bytes ++ more) h
+  pub refusal_stands : (bytes more : List ℕ) → 20 ≤ length bytes → header_fault (bytes ++ more) ≡ header_fault bytes
+  -- bytes are the header of one list of fields at most
+  pub one : (bytes : List ℕ) (h other : Fields) → HeaderOf bytes h → HeaderOf bytes other → h ≡ other
+  -- the header that is written is that of its fields
+  pub written : (h : Fields) → IsAccepted h → HeaderOf (header_bytes h) h
 
 -- a body denotes one raster at most
 abbrev pub OneRaster : Type 0

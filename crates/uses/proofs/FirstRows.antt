@@ -21,9 +21,9 @@ use Rattle.t85_core.specs.Outcome.{pbm_rows, pbm_text}
 use Rattle.t85_core.specs.Jbg.{jbg}
 use Rattle.t85_core.specs.ToPbm.{ToPbmAt, ToPbmOnce, ToPbm, HeaderEnds, IsFixed, WantsReading}
 use Rattle.t85_core.specs.Failures.{counted_as}
-use Rattle.t85_core.specs.Laws.{CodeDenotes}
+use Rattle.t85_core.specs.Laws.{CodeDenotes, HeaderLaws}
 use Rattle.uses.specs.Cut.{Begins, WritesFirst, WritesFirstRows}
-use Rattle.uses.proofs.Headers.{fault_first, header_first, one_header, splits}
+use Rattle.uses.proofs.Headers.{splits}
 use Rattle.uses.proofs.Whole.{LineOrFault, no_fault, some_same}
 
 -- ---- rows that begin as others do
@@ -84,7 +84,7 @@ untold : (f : Fault) → f ≢ Read → counted_as ShortHeader f ≡ f
 untold Read other = absurd (other refl)
 untold f other = refl
 
-module _ (law : CodeDenotes) (line_law : LineOrFault) (raster : Raster) (bytes : List ℕ) (cut : Begins raster bytes) where
+module _ (law : CodeDenotes) (line_law : LineOrFault) (headers : HeaderLaws) (raster : Raster) (bytes : List ℕ) (cut : Begins raster bytes) where
   d : Denotes (jbg cut.chosen raster) raster
   d = law cut.chosen raster cut.accepted cut.proper cut.announced
 
@@ -94,7 +94,7 @@ module _ (law : CodeDenotes) (line_law : LineOrFault) (raster : Raster) (bytes :
       subst (λ (k : Fields). DenotesAt k k.yd (drop 20 bytes ++ cut.more) raster) same
       (subst (λ n. DenotesAt d.header n (drop 20 bytes ++ cut.more) raster) (height_is d.height_is) (subst (λ l. DenotesAt d.header d.height l raster) body_is d.denotes)) where
         same : d.header ≡ h
-        same = one_header (bytes ++ cut.more) d.header h (subst (λ l. HeaderOf l d.header) cut.stream_is d.header_of) (header_first bytes cut.more h header_of)
+        same = headers.one (bytes ++ cut.more) d.header h (subst (λ l. HeaderOf l d.header) cut.stream_is d.header_of) (headers.stands bytes cut.more h header_of)
 
         body_is : drop 20 (jbg cut.chosen raster) ≡ drop 20 bytes ++ cut.more
         body_is = ap (λ l. drop 20 l) cut.stream_is ∙ drop-append-le 20 bytes cut.more header_of.whole
@@ -124,8 +124,8 @@ module _ (law : CodeDenotes) (line_law : LineOrFault) (raster : Raster) (bytes :
         omega (arith, few, long, ap (λ l. length l) all)
     went false test =
         let enough : 20 ≤ length given = grind (arith, nat_tests) in
-        let same : header_fault bytes ≡ Some f = ap (λ l. header_fault l) h.ends.taken ∙ fault_first given left enough ∙ is in
-        no_fault line_law (jbg cut.chosen raster) raster d f (inl (ap (λ l. header_fault l) cut.stream_is ∙ fault_first bytes cut.more long ∙ same))
+        let same : header_fault bytes ≡ Some f = ap (λ l. header_fault l) h.ends.taken ∙ headers.refusal_stands given left enough ∙ is in
+        no_fault line_law (jbg cut.chosen raster) raster d f (inl (ap (λ l. header_fault l) cut.stream_is ∙ headers.refusal_stands bytes cut.more long ∙ same))
 
   module _ (out_old out_new : Option (List ℕ)) where
     unwritten : (answer : Result (Unit {0}) Fault) (f : Fault) → answer ≡ Err f → (IsFixed bytes → f ≢ Read → ⊥) → Keeps out_old out_new → WritesFirst raster bytes out_old out_new answer
@@ -191,7 +191,7 @@ module _ (law : CodeDenotes) (line_law : LineOrFault) (raster : Raster) (bytes :
     module _ (limit : ℕ) (large : 2 ^ 32 ≤ limit + 1) (in_new again_old again_new : Option (List ℕ)) (untouched : Type 0) (reads_old reads_new again_reads_old again_reads_new writes_old writes_new : ℕ) (flushed : Bool) (answer : Result (Unit {0}) Fault) where
       once : ToPbmOnce limit (between (Some bytes) in_new reads_old reads_new) (between out_old out_new writes_old writes_new) flushed answer → WritesFirst raster bytes out_old out_new answer
       once o =
-          let split = splits bytes o.header o.body o.taken in
+          let split = splits headers bytes o.header o.body o.taken in
           let tall = split.header_of.accepted.height_to in
           at_body o.header (body_denotes o.header split.header_of o.fixed) limit (omega arith) in_new reads_old reads_new writes_old writes_new flushed answer
           (subst (λ b. ToPbmAt o.header o.header.yd limit (between b in_new reads_old reads_new) (between out_old out_new writes_old writes_new) flushed answer) split.body_is o.converts)
@@ -199,7 +199,7 @@ module _ (law : CodeDenotes) (line_law : LineOrFault) (raster : Raster) (bytes :
       -- the height may change after all
       variable : (w : WantsReading (between (Some bytes) in_new reads_old reads_new) false (between out_old out_new writes_old writes_new) answer) → IsFixed bytes → VariableHeight ≢ Read → ⊥
       variable w fixed other =
-          let same = one_header bytes w.header fixed.header (splits bytes w.header in_new w.taken).header_of fixed.header_of in
+          let same = headers.one bytes w.header fixed.header (splits headers bytes w.header in_new w.taken).header_of fixed.header_of in
           true≢false (sym w.variable ∙ ap (λ (k : Fields). is_variable k) same ∙ fixed.height_is_fixed)
 
       -- without a second reading

@@ -12,12 +12,13 @@ use Rattle.t85_core.specs.ToJbg.{WritesStream}
 use Rattle.t85_core.specs.Jbg.{Settings}
 use Rattle.t85_core.specs.Header.{Fields, HeaderOf, header_fault}
 use Rattle.t85_core.specs.Height.{IsHeight, StreamFault}
+use Rattle.t85_core.specs.Laws.{HeaderLaws}
 use Rattle.t85_core.specs.Info.{HasLine, numbers_of, line_text}
 use Rattle.t85_core.specs.ToPbm.{TakesHeader, HeaderEnds, ToPbmAt, ToPbmOnce, ToPbmTwice, ToPbm, ReadsAgain}
 use Rattle.t85_core.specs.Failures.{counted_as, failed_reads}
 use Rattle.raster_core.specs.Raster.{Raster}
 use Rattle.uses.specs.Image.{IsOfImage}
-use Rattle.uses.proofs.Headers.{fault_first, one_header, splits}
+use Rattle.uses.proofs.Headers.{splits}
 
 -- a stream that has its parts has no fault
 abbrev pub LineOrFault : Type 0
@@ -44,12 +45,13 @@ unread f counts = refl
 pub from_empty : (s : Settings) (bytes room stream first : List ℕ) (len : ℕ) → len ≡ 0 → first ≡ stream → WritesStream s bytes (Some (take len room)) (Some stream) → WritesStream s bytes (Some []) (Some first)
 from_empty s bytes room stream first len empty same written = subst (λ text. WritesStream s bytes (Some []) (Some text)) (sym same) (subst (λ n. WritesStream s bytes (Some (take n room)) (Some stream)) empty written)
 
-module _ (law : LineOrFault) (bytes : List ℕ) (raster : Raster) (d : Denotes bytes raster) where
-  pub no_fault : (f : Fault) → StreamFault bytes f → ⊥
-  no_fault f has = law bytes _ f line has where
-    line : HasLine bytes (line_text (numbers_of d.header d.height d.denotes.parts.stripes))
-    line = record { header = d.header; header_of = d.header_of; height = d.height; height_is = d.height_is; parts = d.denotes.parts; text_is = refl }
+-- a stream that denotes a raster has no fault
+pub no_fault : LineOrFault → (bytes : List ℕ) (raster : Raster) → Denotes bytes raster → (f : Fault) → StreamFault bytes f → ⊥
+no_fault law bytes raster d f has = law bytes _ f line has where
+  line : HasLine bytes (line_text (numbers_of d.header d.height d.denotes.parts.stripes))
+  line = record { header = d.header; header_of = d.header_of; height = d.height; height_is = d.height_is; parts = d.denotes.parts; text_is = refl }
 
+module _ (law : LineOrFault) (headers : HeaderLaws) (bytes : List ℕ) (raster : Raster) (d : Denotes bytes raster) where
   header_stands : (left : Option (List ℕ)) (f : Fault) → HeaderEnds (between (Some bytes) left 0 0) f → ⊥
   header_stands None f h = absurd h.ends.taken
   header_stands (Some rest) f h = went (nat_lt (length h.ends.given) 20) refl where
@@ -64,14 +66,14 @@ module _ (law : LineOrFault) (bytes : List ℕ) (raster : Raster) (d : Denotes b
         let f_is : f ≡ ShortHeader = (let e : header_fault given ≡ Some ShortHeader = rw short in some_same f ShortHeader (sym is ∙ e)) in
         let end : rest ≡ [] = h.ends.at_end f_is in
         let all : bytes ≡ given = h.ends.taken ∙ ap (λ l. given ++ l) end ∙ append-nil given in
-        no_fault f (inl (ap (λ l. header_fault l) all ∙ is))
+        no_fault law bytes raster d f (inl (ap (λ l. header_fault l) all ∙ is))
     went false long =
         let enough : 20 ≤ length given = grind (arith, nat_tests) in
-        no_fault f (inl (ap (λ l. header_fault l) h.ends.taken ∙ fault_first given rest enough ∙ is))
+        no_fault law bytes raster d f (inl (ap (λ l. header_fault l) h.ends.taken ∙ headers.refusal_stands given rest enough ∙ is))
 
   module _ (h : Fields) (header_of : HeaderOf bytes h) (height limit : ℕ) (height_is : IsHeight h (drop 20 bytes) height) (within : height ≤ limit) (in_new out_old out_new : Option (List ℕ)) (writes_old writes_new : ℕ) (flushed : Bool) where
     body_stands : (f : Fault) → WritesRows h height (drop 20 bytes) f out_old out_new → ⊥
-    body_stands f w = no_fault f (inr (record { header = h; header_of = header_of; height = height; height_is = height_is; broken = w.fixes.broken }))
+    body_stands f w = no_fault law bytes raster d f (inr (record { header = h; header_of = header_of; height = height; height_is = height_is; broken = w.fixes.broken }))
 
     body_told : (f : Fault) → ToPbmAt h height limit (between (Some (drop 20 bytes)) in_new 0 0) (between out_old out_new writes_old writes_new) flushed (Err f) → IsOfImage f
     body_told Write c = tt
@@ -92,7 +94,7 @@ module _ (law : LineOrFault) (bytes : List ℕ) (raster : Raster) (d : Denotes b
     at_body : (h : Fields) (height : ℕ) (body left : Option (List ℕ)) → TakesHeader h (Some bytes) body → IsHeight h (drop 20 bytes) height → height ≤ h.yd →
         ToPbmAt h height limit (between body left 0 0) (between out_old out_new writes_old writes_new) flushed answer → IfErr answer IsOfImage
     at_body h height body left takes height_is below converts =
-        let stands = splits bytes h body takes in
+        let stands = splits headers bytes h body takes in
         let tall = takes.header_of.accepted.height_to in
         answer_told h stands.header_of height limit height_is (omega arith) left out_old out_new writes_old writes_new flushed answer
         (subst (λ b. ToPbmAt h height limit (between b left 0 0) (between out_old out_new writes_old writes_new) flushed answer) stands.body_is converts)
@@ -104,9 +106,9 @@ module _ (law : LineOrFault) (bytes : List ℕ) (raster : Raster) (d : Denotes b
         ReadsAgain h height limit (between (Some bytes) again_new 0 0) (between out_old out_new writes_old writes_new) flushed answer → IfErr answer IsOfImage
     again_told h body height takes finds again = elim again [
       | inl refused ↦ absurd (header_stands again_new refused.fault refused.header)
-      | inr (inl changed) ↦ absurd (changed.differs (one_header bytes changed.other h (splits bytes changed.other again_new changed.taken).header_of (splits bytes h body takes).header_of))
+      | inr (inl changed) ↦ absurd (changed.differs (headers.one bytes changed.other h (splits headers bytes changed.other again_new changed.taken).header_of (splits headers bytes h body takes).header_of))
       | inr (inr converts) ↦
-          at_body h height converts.body again_new converts.taken (subst (λ b. IfSome b (λ body. IsHeight h body height)) (splits bytes h body takes).body_is finds.found) finds.to converts.converts
+          at_body h height converts.body again_new converts.taken (subst (λ b. IfSome b (λ body. IsHeight h body height)) (splits headers bytes h body takes).body_is finds.found) finds.to converts.converts
     ]
 
     twice_told : ToPbmTwice limit (between (Some bytes) in_new 0 0) true untouched (between (Some bytes) again_new 0 0) (between out_old out_new writes_old writes_new) flushed answer → IfErr answer IsOfImage

@@ -7,7 +7,7 @@ ghost use Rattle.uses.specs.Cut.{Begins, WritesFirst};
 use crate::held::Held;
 use pbm_core::{Input, Output};
 use std::alloc::Global;
-use t85_core::laws::{code_denotes, lines};
+use t85_core::laws::{code_denotes, headers, lines};
 use t85_core::{Fault, to_pbm};
 
 /// Writes the image of a stream, which may end anywhere.
@@ -28,6 +28,7 @@ pub fn rows_of_cut<R: Input, W: Output>(
 {
     // What the proof cites of streams.
     code_denotes();
+    headers();
     lines();
     let mut again: Option<Held<'_>> = None;
     to_pbm(alloc, input, &mut again, u32::MAX, output)

@@ -8,7 +8,7 @@ use pbm_core::laws::images;
 use pbm_core::trial::Drip;
 use pbm_core::{Input, Output};
 use std::alloc::Global;
-use t85_core::laws::lines;
+use t85_core::laws::{headers, lines};
 use t85_core::{Fault, Options, to_jbg, to_pbm};
 
 /// Writes the stream of an image into a lent slice, and from there the image again, in the raw form. Of that stream
@@ -28,6 +28,7 @@ pub fn round_trip<R: Input, W: Output>(
 {
     // What the proof cites of images and streams.
     images();
+    headers();
     lines();
     let mut stream = Drip::new(room, usize::MAX, None, false);
     to_jbg(alloc, input, &mut stream, options)?;

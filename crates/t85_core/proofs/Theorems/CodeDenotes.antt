@@ -29,7 +29,7 @@ use Rattle.t85_core.proofs.Encodings.EncoderRows.{get_mapped, same_lines, flag_i
 use Rattle.t85_core.proofs.Theorems.CodeParts.{length_mapped, mapped_is, all_mapped, chosen_within, with_first, with_first_bytes, with_first_map, with_first_all, comments, move_behind, move_alone, begun_with_comment, begun_with_move}
 
 -- the bytes of a header, with whatever after them
-header_begins : (h : Fields) (rest : List ℕ) → IsAccepted h → HeaderOf (header_bytes h ++ rest) h
+pub header_begins : (h : Fields) (rest : List ℕ) → IsAccepted h → HeaderOf (header_bytes h ++ rest) h
 header_begins h rest ok = record {
   whole = omega arith;
   dl = refl;

@@ -5,6 +5,7 @@ use Rattle.pbm_core.specs.Device.{between}
 use Rattle.pbm_core.specs.Image.{IsPbm, OneImage, WrittenImageIsRead, pbm}
 use Rattle.t85_core.specs.declared.fault.Fault.{Fault}
 use Rattle.t85_core.specs.Denotes.{Denotes}
+use Rattle.t85_core.specs.Laws.{HeaderLaws}
 use Rattle.t85_core.specs.ToJbg.{WritesStream}
 use Rattle.t85_core.specs.Outcome.{pbm_text}
 use Rattle.t85_core.specs.Jbg.{Settings}
@@ -46,14 +47,14 @@ module _ (s : Settings) (first : List ℕ) (old new : Option (List ℕ)) where
       (from_empty s bytes room stream first len empty once read)
       (written (inr (ap Some (twice ∙ sym once))))
 
-  known_told : LineOrFault → (known : Option (List ℕ)) (room stream second : List ℕ) (len limit : ℕ) (in_new again_new : Option (List ℕ)) (untouched : Type 0) (again_reads writes_old writes_new : ℕ) (flushed : Bool) (answer : Result (Unit {0}) Fault)
+  known_told : LineOrFault → HeaderLaws → (known : Option (List ℕ)) (room stream second : List ℕ) (len limit : ℕ) (in_new again_new : Option (List ℕ)) (untouched : Type 0) (again_reads writes_old writes_new : ℕ) (flushed : Bool) (answer : Result (Unit {0}) Fault)
       → len ≡ 0 → first ≡ stream → second ≡ stream → 2 ^ 32 ≤ limit + 1 → again_reads ≡ 0 → IfSome known (λ bytes. WritesStream s bytes (Some (take len room)) (Some stream))
       → ToPbm limit (between (Some first) in_new 0 0) true untouched (between (Some second) again_new 0 again_reads) (between old new writes_old writes_new) flushed answer → IfErr answer (λ fault. IfSome known (λ bytes. IsOfImage fault))
-  known_told law None room stream second len limit in_new again_new untouched again_reads writes_old writes_new flushed (Ok u) empty once twice large none read converts = tt
-  known_told law None room stream second len limit in_new again_new untouched again_reads writes_old writes_new flushed (Err f) empty once twice large none read converts = tt
-  known_told law (Some bytes) room stream second len limit in_new again_new untouched again_reads writes_old writes_new flushed answer empty once twice large none read converts =
+  known_told law headers None room stream second len limit in_new again_new untouched again_reads writes_old writes_new flushed (Ok u) empty once twice large none read converts = tt
+  known_told law headers None room stream second len limit in_new again_new untouched again_reads writes_old writes_new flushed (Err f) empty once twice large none read converts = tt
+  known_told law headers (Some bytes) room stream second len limit in_new again_new untouched again_reads writes_old writes_new flushed answer empty once twice large none read converts =
       let written : WritesStream s bytes (Some []) (Some first) = from_empty s bytes room stream first len empty once read in
-      told law first written.raster (subst (λ text. Denotes text written.raster) (sym written.appends) written.denotes) limit large in_new again_new old new untouched writes_old writes_new flushed answer
+      told law headers first written.raster (subst (λ text. Denotes text written.raster) (sym written.appends) written.denotes) limit large in_new again_new old new untouched writes_old writes_new flushed answer
       (subst (λ reads. ToPbm limit (between (Some first) in_new 0 0) true untouched (between (Some first) again_new 0 reads) (between old new writes_old writes_new) flushed answer) none
       (subst (λ text. ToPbm limit (between (Some first) in_new 0 0) true untouched (between (Some text) again_new 0 again_reads) (between old new writes_old writes_new) flushed answer) (twice ∙ sym once) converts))
 
@@ -70,7 +71,7 @@ returns-clause-again g c =
 
 pub returns-clause-told : goal.returns-clause-told
 returns-clause-told g c =
-    known_told (settings_of c.args.options.now) c.written.result.now (g.W.Output.contents c.args.output.now) (g.W.Output.contents c.to_pbm.new.output) c.lines.ensures.line_or_fault
+    known_told (settings_of c.args.options.now) c.written.result.now (g.W.Output.contents c.args.output.now) (g.W.Output.contents c.to_pbm.new.output) c.lines.ensures.line_or_fault c.headers.ensures
     (g.R.Input.remaining c.args.input.now) c.new-stream.result.bytes.now (take c.to_jbg.new.output.len c.to_jbg.new.output.bytes.now) c.written-2.result.now c.new-stream.result.len 4294967295
     _ _ _ _ _ _ _ c.to_pbm.result
     c.new-stream.ensures.empty c.written.ensures c.written-2.ensures (omega arith) (never_failed c.to_pbm.new.again)
