@@ -9,6 +9,7 @@ pub mod Built
 pub mod OneRaster
 pub mod SomeRaster
 pub mod Worked
+pub mod StreamLength
 pub mod Longest
 pub mod FixedRows
 pub mod Stays

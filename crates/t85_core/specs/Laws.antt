@@ -1,11 +1,11 @@
 -- The laws of streams, in which height' is the height in use: from 1 to the header's.
 pub mod Worked
-use Rattle.std.specs.Prelude.{ℕ, ◌≡◌, ◌≤◌, ◌⊎◌, Bool, List, ◌∷◌, ◌++◌, length, take, Option}
+use Rattle.std.specs.Prelude.{ℕ, ◌≡◌, ◌≤◌, ◌⊎◌, Bool, List, ◌∷◌, ◌++◌, length, take, Option, ◌+◌, ◌*◌, unwrap_or, []}
 use Rattle.qm_core.specs.Code.{IsBytes}
 use Rattle.raster_core.specs.Raster.{Raster, IsRaster, height}
 use Rattle.t85_core.specs.declared.fault.Fault.{Fault}
 use Rattle.t85_core.specs.Header.{Fields, IsAccepted, HeaderOf, header_bytes, header_fault}
-use Rattle.t85_core.specs.Grammar.{Segment, Stripe, Parts}
+use Rattle.t85_core.specs.Grammar.{Segment, Stripe, Parts, stripe_count}
 use Rattle.t85_core.specs.Refusal.{BodyFault}
 use Rattle.t85_core.specs.Height.{IsHeight}
 use Rattle.t85_core.specs.Denotes.{DenotesAt, Denotes}
@@ -107,3 +107,12 @@ SomeHeight = (h : Fields) (body : List ℕ) → IsAccepted h → IsBytes body �
 -- it is in use, from 1 to the header's
 abbrev pub HeightWithin : Type 0
 HeightWithin = (h : Fields) (body : List ℕ) (height' : ℕ) → IsAccepted h → IsHeight h body height' → IsInUse h height'
+
+-- How many bytes the stream of an image of this size has at most: a header, a comment and a new height, and for each
+-- stripe a move, an end marker and the code, in which a pixel fills four bytes at most.
+abbrev pub most_bytes : Settings → ℕ → ℕ → ℕ
+most_bytes s width height' =
+    34 + length (unwrap_or s.comment []) + 14 * stripe_count height' s.stripe_rows + 4 * (height' * (width + 1))
+
+abbrev pub StreamIsShort : Type 0
+StreamIsShort = (s : Settings) (raster : Raster) → IsRaster raster → length (jbg s raster) ≤ most_bytes s raster.width (height raster)
