@@ -8,8 +8,10 @@ use Rattle.program_core.specs.declared.line_fault.LineFault.{LineFault}
 use Rattle.program_core.specs.declared.line_fault.LineFault.TheVariants as line_fault
 
 pub refusal_told : (kinds : Kinds) (k : ErrorKind) (fault : LineFault) → (k ≡ OutOfMemory) ⊎ IsAmong k kinds → Tells k fault → IsRefusal kinds fault
-refusal_told kinds k (line_fault.Help text) (inl memory) told = cc
-refusal_told kinds k (line_fault.Help text) (inr among) told = subst (λ (x : ErrorKind). IsAmong x kinds) told among
-refusal_told kinds k (line_fault.Usage text) (inl memory) told = absurd (told.1 memory)
-refusal_told kinds k (line_fault.Usage text) (inr among) told = (k, among, told.0)
+refusal_told kinds k (line_fault.Help text) (inl memory) (inl told) = absurd (let bot : ⊥ = cc in bot)
+refusal_told kinds k (line_fault.Help text) (inl memory) (inr told) = absurd (let bot : ⊥ = cc in bot)
+refusal_told kinds k (line_fault.Help text) (inr among) (inl told) = inl (subst (λ (x : ErrorKind). IsAmong x kinds) told among)
+refusal_told kinds k (line_fault.Help text) (inr among) (inr told) = inr (subst (λ (x : ErrorKind). IsAmong x kinds) told among)
+refusal_told kinds k (line_fault.Usage text) (inl memory) told = absurd (told.2 memory)
+refusal_told kinds k (line_fault.Usage text) (inr among) told = (k, among, told.0, told.1)
 refusal_told kinds k (line_fault.Fault f) among told = told

@@ -7,7 +7,7 @@ use Rattle.t85_core.specs.declared.fault.Fault.{Fault}
 use Rattle.t85_core.specs.Info.{Info}
 use Rattle.t85_core.specs.ToPbm.{ToPbm}
 use Rattle.program_core.specs.Line.{flag_in}
-use Rattle.program_core.specs.Options.{long_number_rule, number_in}
+use Rattle.program_core.specs.Options.{with_version, long_number_rule, number_in}
 use Rattle.program_core.specs.declared.jbgtopbm85.work.Job.{Job}
 
 -- `--info`
@@ -20,7 +20,7 @@ max_rows_rule = long_number_rule (codes "max-rows") (codes "max-rows")
 
 -- `jbgtopbm85 [options] [input [output]]`
 abbrev pub decode_command : App
-decode_command = with_rule (with_rule (with_rule (with_rule (new_app (codes "jbgtopbm85")) info_rule) max_rows_rule) (new_rule (codes "input"))) (new_rule (codes "output"))
+decode_command = with_version (with_rule (with_rule (with_rule (with_rule (new_app (codes "jbgtopbm85")) info_rule) max_rows_rule) (new_rule (codes "input"))) (new_rule (codes "output")))
 
 -- the matches that clap's walk over the arguments gives the command
 unfoldable pub decode_matches : List Text → List Row

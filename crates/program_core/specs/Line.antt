@@ -1,5 +1,5 @@
 -- What arguments say to a command, as clap's contracts see one.
-use Rattle.std.specs.Prelude.{◌≡◌, ◌≢◌, ⊤, ℕ, Bool, List, false, codes}
+use Rattle.std.specs.Prelude.{◌≡◌, ◌≢◌, ◌⊎◌, ⊤, ℕ, Bool, List, false, codes}
 use Rattle.std.specs.Option.{option_map_or}
 use Rattle.std.specs.Str.{bytes_eq}
 use Rattle.clap.specs.declared.error.ErrorKind.{ErrorKind}
@@ -20,7 +20,7 @@ status_of (line_fault.Usage text) = 2
 status_of (line_fault.Fault fault.OutOfMemory) = 1
 status_of (line_fault.Fault f) = 2
 
--- a text of the help
+-- a text of the help, or of the version
 abbrev pub IsHelp : LineFault → Type 0
 IsHelp (line_fault.Help text) = ⊤
 IsHelp (line_fault.Usage text) = ⊥
@@ -28,12 +28,12 @@ IsHelp (line_fault.Fault f) = ⊥
 
 -- what is answered for an error of clap of this kind
 abbrev pub Tells : ErrorKind → LineFault → Type 0
-Tells k (line_fault.Help text) = k ≡ kind.DisplayHelp
-Tells k (line_fault.Usage text) = (k ≢ kind.DisplayHelp) × (k ≢ kind.OutOfMemory)
+Tells k (line_fault.Help text) = (k ≡ kind.DisplayHelp) ⊎ (k ≡ kind.DisplayVersion)
+Tells k (line_fault.Usage text) = (k ≢ kind.DisplayHelp) × (k ≢ kind.DisplayVersion) × (k ≢ kind.OutOfMemory)
 Tells k (line_fault.Fault f) = f ≡ fault.OutOfMemory
 
--- help where that is among the refusals, a mistake where another is, or lack of memory
+-- the help or the version where that is among the refusals, a mistake where another is, or lack of memory
 abbrev pub IsRefusal : Kinds → LineFault → Type 0
-IsRefusal kinds (line_fault.Help text) = IsAmong kind.DisplayHelp kinds
-IsRefusal kinds (line_fault.Usage text) = (k : ErrorKind) × IsAmong k kinds × (k ≢ kind.DisplayHelp)
+IsRefusal kinds (line_fault.Help text) = IsAmong kind.DisplayHelp kinds ⊎ IsAmong kind.DisplayVersion kinds
+IsRefusal kinds (line_fault.Usage text) = (k : ErrorKind) × IsAmong k kinds × (k ≢ kind.DisplayHelp) × (k ≢ kind.DisplayVersion)
 IsRefusal kinds (line_fault.Fault f) = f ≡ fault.OutOfMemory

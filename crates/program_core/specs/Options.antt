@@ -1,8 +1,8 @@
 -- Options of one letter, as clap's contracts see them.
-use Rattle.std.specs.Prelude.{◌^◌, ◌&&◌, ℕ, List, Option, Some, None, pos, if◌then◌else◌, nat_lt, option_and_then}
+use Rattle.std.specs.Prelude.{◌^◌, ◌&&◌, ℕ, List, Option, Some, None, true, pos, if◌then◌else◌, nat_lt, option_and_then}
 use Rattle.std.specs.Str.Parse.{digits_value, without_leading_plus}
 use Rattle.clap.specs.ValueTests.{is_numeral}
-use Rattle.clap.specs.Words.{Row, Rule, Text, new_rule, one_of}
+use Rattle.clap.specs.Words.{App, Row, Rule, Text, new_rule, one_of}
 use Rattle.clap.specs.declared.builder.ArgAction.TheVariants.{Set, SetTrue}
 use Rattle.clap.specs.declared.builder.value_parser.ValueParser.TheVariants as parser
 
@@ -41,3 +41,7 @@ decimal text = let digits = without_leading_plus text in
 -- the number that the matches give an option
 abbrev pub number_in : Text → List Row → Option ℕ
 number_in id rows = option_and_then decimal (one_of id rows)
+
+-- a command with a version, which `-V` and `--version` show
+abbrev pub with_version : App → App
+with_version a = record a { top = record a.top { has_version = true } }

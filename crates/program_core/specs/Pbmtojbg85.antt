@@ -8,12 +8,12 @@ use Rattle.t85_core.specs.declared.fault.Fault.TheVariants as fault
 use Rattle.program_core.specs.Line.{flag_in, IsRefusal}
 use Rattle.program_core.specs.declared.line_fault.LineFault.{LineFault}
 use Rattle.program_core.specs.declared.line_fault.LineFault.TheVariants as line_fault
-use Rattle.program_core.specs.Options.{number_rule, text_rule, flag_rule, number_in}
+use Rattle.program_core.specs.Options.{with_version, number_rule, text_rule, flag_rule, number_in}
 use Rattle.program_core.specs.declared.pbmtojbg85.work.Job.{Job}
 
 -- `pbmtojbg85 [options] [input [output]]`
 abbrev pub encode_command : App
-encode_command = with_rule (with_rule (with_rule (with_rule (with_rule (with_rule (with_rule (with_rule
+encode_command = with_version (with_rule (with_rule (with_rule (with_rule (with_rule (with_rule (with_rule (with_rule
     (new_app (codes "pbmtojbg85"))
     (number_rule (codes "options") 112 (codes "8" ∷ [])))
     (number_rule (codes "stripe") 115 (codes "128" ∷ [])))
@@ -22,7 +22,7 @@ encode_command = with_rule (with_rule (with_rule (with_rule (with_rule (with_rul
     (text_rule (codes "comment") 67))
     (flag_rule (codes "reset") 114))
     (new_rule (codes "input")))
-    (new_rule (codes "output"))
+    (new_rule (codes "output")))
 
 -- the matches that clap's walk over the arguments gives the command
 unfoldable pub encode_matches : List Text → List Row

@@ -7,6 +7,9 @@ ghost use Rattle.program_core.specs.Options.{number_rule, flag_rule, text_rule};
 use clap::{Arg, ArgAction, value_parser};
 use std::alloc::Global;
 
+/// The version of both commands, which is also the library's.
+pub(crate) const VERSION: &str = "1.0.0";
+
 /// The name of a file.
 pub(crate) fn file_arg<'a>(alloc: Global, name: &'a str, help: &'a str) -> Arg<'a>
     ensures rule { rule_of result ≡ new_rule name.entry.now }

@@ -13,7 +13,7 @@ use t85_core::Fault;
 /// Why the arguments give no job.
 #[derive(Debug, Drop)]
 pub enum LineFault {
-    /// The text of the help.
+    /// The text of the help, or of the version.
     Help(String),
     /// The text on a mistake in the arguments.
     Usage(String),
@@ -21,7 +21,7 @@ pub enum LineFault {
 }
 
 impl LineFault {
-    /// The exit status: 0 for help, 1 for lack of memory, 2 for a mistake.
+    /// The exit status: 0 for the help and the version, 1 for lack of memory, 2 for a mistake.
     pub fn status(&self) -> u8
         ensures { result ≡ status_of self.now }
     {
@@ -53,9 +53,8 @@ pub(crate) fn fault_of(alloc: Global, error: clap::Error) -> LineFault
     let Ok(text) = format!(in alloc; "{error}") else {
         return LineFault::Fault(Fault::OutOfMemory);
     };
-    if kind == ErrorKind::DisplayHelp {
-        LineFault::Help(text)
-    } else {
-        LineFault::Usage(text)
+    match kind {
+        ErrorKind::DisplayHelp | ErrorKind::DisplayVersion => LineFault::Help(text),
+        _ => LineFault::Usage(text),
     }
 }

@@ -140,9 +140,11 @@ fn reads_words_of_the_decoder(rt: HostRuntime) {
 }
 
 /// Words, and the status with which they are refused.
-static REFUSED: [(&[&str], u8); 20] = [
+static REFUSED: [(&[&str], u8); 24] = [
     (&["jbgtopbm85", "-h"], 0),
     (&["jbgtopbm85", "--help"], 0),
+    (&["jbgtopbm85", "-V"], 0),
+    (&["jbgtopbm85", "--version"], 0),
     (&["jbgtopbm85", "-x"], 2),
     (&["jbgtopbm85", "--info=1"], 2),
     (&["jbgtopbm85", "--info", "--info"], 2),
@@ -151,6 +153,8 @@ static REFUSED: [(&[&str], u8); 20] = [
     (&["jbgtopbm85", "--max-rows", "4294967296"], 2),
     (&["pbmtojbg85", "-h"], 0),
     (&["pbmtojbg85", "--help"], 0),
+    (&["pbmtojbg85", "-V"], 0),
+    (&["pbmtojbg85", "--version"], 0),
     (&["pbmtojbg85", "-x"], 2),
     (&["pbmtojbg85", "-Y"], 2),
     (&["pbmtojbg85", "-Y4294967296"], 2),

@@ -3,11 +3,12 @@
 ghost use Rattle.std.specs.Prelude.{◌≡◌, IfErr, IfOk, map, false, true};
 ghost use Rattle.clap.specs.Words.{app_of, found_of, is_simple, rows_of, rule_of};
 ghost use Rattle.program_core.specs.Line.{IsRefusal};
+ghost use Rattle.program_core.specs.Options.{with_version};
 ghost use Rattle.program_core.specs.Jbgtopbm85.{IsDecodeJobOf, decode_command as the_command, info_rule, decode_matches, max_rows_rule, decode_refusals};
 
 use super::NAME;
 use super::work::Job;
-use crate::args::file_arg;
+use crate::args::{VERSION, file_arg};
 use crate::line_fault::LineFault;
 use crate::matches::{flag, matches_of, number, text};
 use clap::{Arg, ArgAction, ArgMatches, Command, value_parser};
@@ -38,6 +39,13 @@ fn max_rows_arg<'a>(alloc: Global) -> Arg<'a>
 
 fn command<'a>(alloc: Global) -> Result<Command<'a>, AllocError>
     ensures { IfOk result (λ c. app_of c ≡ the_command) }
+{
+    Ok(unversioned(alloc)?.version(VERSION))
+}
+
+/// The command, but for its version.
+fn unversioned<'a>(alloc: Global) -> Result<Command<'a>, AllocError>
+    ensures { IfOk result (λ c. with_version (app_of c) ≡ the_command) }
 {
     let args = [
         info_arg(alloc),

@@ -2,12 +2,12 @@
 
 ghost use Rattle.std.specs.Prelude.{◌≡◌, Some, is_some, IfErr, IfOk, map, option_map, string_bytes, true};
 ghost use Rattle.clap.specs.Words.{app_of, found_of, is_simple, rows_of};
-ghost use Rattle.program_core.specs.Options.{number_in};
+ghost use Rattle.program_core.specs.Options.{number_in, with_version};
 ghost use Rattle.program_core.specs.Pbmtojbg85.{HasDefaults, IsFaultOf, IsEncodeJobOf, IsOptionFault, encode_command as the_command, encode_matches};
 
 use super::NAME;
 use super::work::Job;
-use crate::args::{default_arg, file_arg, flag_arg, number_arg, text_arg};
+use crate::args::{VERSION, default_arg, file_arg, flag_arg, number_arg, text_arg};
 use crate::line_fault::LineFault;
 use crate::matches::{flag, matches_of, number, text};
 use clap::{ArgMatches, Command};
@@ -17,6 +17,13 @@ use t85_core::Options;
 
 fn command<'a>(alloc: Global) -> Result<Command<'a>, AllocError>
     ensures { IfOk result (λ c. app_of c ≡ the_command) }
+{
+    Ok(unversioned(alloc)?.version(VERSION))
+}
+
+/// The command, but for its version.
+fn unversioned<'a>(alloc: Global) -> Result<Command<'a>, AllocError>
+    ensures { IfOk result (λ c. with_version (app_of c) ≡ the_command) }
 {
     let args = [
         default_arg(
