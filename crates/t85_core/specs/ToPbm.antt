@@ -1,6 +1,5 @@
 -- What `to_pbm` leaves. A stream whose height may change is read twice, first for its height and then for its rows.
-use Rattle.std.specs.Prelude.{ℕ, ◌+◌, ◌*◌, ◌≡◌, ◌≢◌, ◌≤◌, ◌<◌, ◌⊎◌, Bool, true, false, ◌&&◌, ◌==◌, List, length, Option, Some, None, IfSome, Result, Ok, Err, OnOk, IfErr, IsErrOf}
-use Rattle.std.specs.Int.{div_ceil}
+use Rattle.std.specs.Prelude.{ℕ, ◌+◌, ◌≡◌, ◌≢◌, ◌≤◌, ◌<◌, ◌⊎◌, Bool, true, false, ◌&&◌, ◌==◌, List, length, Option, Some, None, IfSome, Result, Ok, Err, OnOk, IfErr, IsErrOf}
 use Rattle.std.specs.Io.KnownBytes.{Appends, Consumes, Keeps}
 use Rattle.pbm_core.specs.Device.{Change, known_from}
 use Rattle.raster_core.specs.Raster.{Raster}
@@ -155,16 +154,6 @@ pub record IsFixed (bytes : List ℕ) : Type 0 where
   pub header : Fields
   pub header_of : HeaderOf bytes header
   pub height_is_fixed : is_variable header ≡ false
-
--- how many bytes three rows of this width have
-abbrev pub window_length : ℕ → ℕ
-window_length width = 3 * div_ceil width 8
-
--- an accepted header, of an image of which three rows are longer than this
-pub record IsWiderThan (window : ℕ) (bytes : List ℕ) : Type 0 where
-  pub header : Fields
-  pub header_of : HeaderOf bytes header
-  pub longer : window < window_length header.xd
 
 -- What `to_pbm` leaves. Of each reading are given the known bytes and the count of failures, before the call and after
 -- it; of the second also whether there is one, and what it means that it is untouched. It goes one of four ways.

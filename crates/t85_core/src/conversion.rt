@@ -1,14 +1,14 @@
 //! Whole files: the image of a stream, and the stream of an image.
 
-ghost use Rattle.std.specs.Prelude.{◌≡◌, ◌≤◌, ◌<◌, ◌-◌, ◌^◌, ℕ, List, Option, length, IfSome, IsErrOf, is_some, true, if◌then◌else◌};
-ghost use Rattle.pbm_core.specs.Device.{change, known_from};
+ghost use Rattle.std.specs.Prelude.{◌≡◌, ◌≤◌, ◌<◌, ◌-◌, ◌^◌, IfSome, is_some, true, if◌then◌else◌};
+ghost use Rattle.pbm_core.specs.Device.{change};
 ghost use Rattle.t85_core.specs.Options.{fields_of, settings_of};
 ghost use Rattle.t85_core.specs.Header.{is_variable};
 ghost use Rattle.t85_core.specs.Failures.{FlushesOnce};
-ghost use Rattle.t85_core.specs.ToPbm.{ToPbmAt, ToPbmBehind, ToPbm, TakesHeader, IsWiderThan, window_length, again_known, again_failures, is_same_header};
+ghost use Rattle.t85_core.specs.ToPbm.{ToPbmAt, ToPbmBehind, ToPbm, again_known, again_failures, is_same_header};
 ghost use Rattle.t85_core.specs.ToJbg.{ToJbg};
 ghost use Rattle.t85_core.specs.Jbg.{is_low};
-ghost use Rattle.t85_core.specs.declared.fault.Fault.TheVariants.{Write, OutOfMemory, Pbm};
+ghost use Rattle.t85_core.specs.declared.fault.Fault.TheVariants.{Write, Pbm};
 
 use crate::decoding::decode;
 use crate::encoding::encode;
@@ -44,76 +44,22 @@ pub fn to_pbm<R: Input, Second: Input, W: Output>(
     ensures flushes { FlushesOnce (W.flushes output.old) (W.flushes output.new) result }
     ensures same_target { W.target output.new ≡ W.target output.old }
 {
-    let header = Header::read(first)?;
-    match vec![in alloc; 0u8; window_bytes(header.xd)] {
-        Ok(mut rows) => convert_after(&header, rows.as_mut_slice(), max_rows, first, again, output),
-        // An empty window is too short, and is refused after all else that is.
-        Err(_) => convert_after(&header, &mut [], max_rows, first, again, output),
-    }
-}
-
-/// Writes the image of a stream as `to_pbm` does, with a window that the caller lends: three rows of the image. It takes
-/// no memory, and answers `OutOfMemory` where the window is shorter.
-pub fn to_pbm_in<R: Input, Second: Input, W: Output>(
-    window: &mut [u8],
-    first: &mut R,
-    again: &mut Option<Second>,
-    max_rows: u32,
-    output: &mut W,
-) -> Result<(), Fault>
-    requires first { R.failures first.old < 2 ^ 64 - 1 }
-    requires again { IfSome again.old (λ reading. Second.failures reading < 2 ^ 64 - 1) }
-    requires output { W.failures output.old < 2 ^ 64 - 1 }
-    ensures outcome { ToPbm max_rows (change R.remaining R.failures first.old first.new)
-        (is_some again.old) (again.new ≡ again.old)
-        (change (again_known Second.remaining) (again_failures Second.failures) again.old again.new)
-        (change W.contents W.failures output.old output.new) (W.flushed output.new) result }
-    ensures short { IsErrOf result OutOfMemory → IfSome (R.remaining first.old)
-        (IsWiderThan (length window.old)) }
-    ensures flushes { FlushesOnce (W.flushes output.old) (W.flushes output.new) result }
-    ensures same_target { W.target output.new ≡ W.target output.old }
-{
-    let header = Header::read(first)?;
-    convert_after(&header, window, max_rows, first, again, output)
-}
-
-/// Writes the image of a stream whose header was read from the first reading.
-fn convert_after<R: Input, Second: Input, W: Output>(
-    header: &Header,
-    window: &mut [u8],
-    max_rows: u32,
-    first: &mut R,
-    again: &mut Option<Second>,
-    output: &mut W,
-) -> Result<(), Fault>
-    requires first { R.failures first.old < 2 ^ 64 - 1 }
-    requires again { IfSome again.old (λ reading. Second.failures reading < 2 ^ 64 - 1) }
-    requires output { W.failures output.old < 2 ^ 64 - 1 }
-    ensures outcome { (known : Option (List ℕ)) →
-        TakesHeader (fields_of header.now) known (R.remaining first.old) →
-        ToPbm max_rows (known_from known (change R.remaining R.failures first.old first.new))
-        (is_some again.old) (again.new ≡ again.old)
-        (change (again_known Second.remaining) (again_failures Second.failures) again.old again.new)
-        (change W.contents W.failures output.old output.new) (W.flushed output.new) result }
-    ensures short { IsErrOf result OutOfMemory → length window.old < window_length header.now.xd }
-    ensures flushes { FlushesOnce (W.flushes output.old) (W.flushes output.new) result }
-    ensures same_target { W.target output.new ≡ W.target output.old }
-{
     // What the proof cites of the coder.
     coder_laws();
+    let header = Header::read(first)?;
     if !header.is_variable() {
-        return convert(header, window, header.yd, max_rows, first, output);
+        return convert(alloc, &header, header.yd, max_rows, first, output);
     }
     match again {
-        Some(reading) => convert_again(header, window, max_rows, first, reading, output),
+        Some(reading) => convert_again(alloc, &header, max_rows, first, reading, output),
         None => Err(Fault::VariableHeight),
     }
 }
 
 /// Writes the image of a stream whose height may change. The first reading stands after the header.
 fn convert_again<R: Input, Second: Input, W: Output>(
+    alloc: Global,
     header: &Header,
-    window: &mut [u8],
     max_rows: u32,
     first: &mut R,
     again: &mut Second,
@@ -127,7 +73,6 @@ fn convert_again<R: Input, Second: Input, W: Output>(
         (change R.remaining R.failures first.old first.new)
         (again.new ≡ again.old) (change Second.remaining Second.failures again.old again.new)
         (change W.contents W.failures output.old output.new) (W.flushed output.new) result }
-    ensures short { IsErrOf result OutOfMemory → length window.old < window_length header.now.xd }
     ensures flushes { FlushesOnce (W.flushes output.old) (W.flushes output.new) result }
     ensures same_target { W.target output.new ≡ W.target output.old }
 {
@@ -137,7 +82,7 @@ fn convert_again<R: Input, Second: Input, W: Output>(
             if !is_same(&other, header) {
                 return Err(Fault::Changed);
             }
-            convert(header, window, height, max_rows, again, output)
+            convert(alloc, header, height, max_rows, again, output)
         }
         Err(fault) => match fault {
             Fault::Read => Err(Fault::Read),
@@ -159,8 +104,8 @@ fn is_same(one: &Header, other: &Header) -> bool
 
 /// Writes the image of a body at a height. The input stands after the header.
 fn convert<R: Input, W: Output>(
+    alloc: Global,
     header: &Header,
-    window: &mut [u8],
     height: u32,
     max_rows: u32,
     input: &mut R,
@@ -173,19 +118,17 @@ fn convert<R: Input, W: Output>(
     ensures outcome { ToPbmAt (fields_of header.now) height max_rows
         (change R.remaining R.failures input.old input.new)
         (change W.contents W.failures output.old output.new) (W.flushed output.new) result }
-    ensures short { IsErrOf result OutOfMemory → length window.old < window_length header.now.xd }
     ensures flushes { FlushesOnce (W.flushes output.old) (W.flushes output.new) result }
     ensures same_target { W.target output.new ≡ W.target output.old }
 {
     if height > max_rows {
         return Err(Fault::TooManyRows);
     }
-    let bytes = window_bytes(header.xd);
-    if window.len() < bytes {
+    let Ok(mut rows) = vec![in alloc; 0u8; window_bytes(header.xd)] else {
         return Err(Fault::OutOfMemory);
-    }
-    let mut rows = Window::over(&mut window[..bytes], header.xd);
-    decode(header, height, &mut rows, input, output)?;
+    };
+    let mut window = Window::over(rows.as_mut_slice(), header.xd);
+    decode(header, height, &mut window, input, output)?;
     match output.flush() {
         Ok(()) => Ok(()),
         Err(DeviceFailed) => Err(Fault::Write),

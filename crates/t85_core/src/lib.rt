@@ -16,7 +16,7 @@ mod segments;
 mod state;
 mod summary;
 
-pub use conversion::{to_jbg, to_pbm, to_pbm_in};
+pub use conversion::{to_jbg, to_pbm};
 pub use decoding::decode;
 pub use encoding::encode;
 pub use fault::Fault;

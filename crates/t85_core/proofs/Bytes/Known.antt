@@ -4,7 +4,6 @@ use Rattle.std.specs.Bool.{◌==◌}
 use Rattle.std.proofs.lemmas.Bool.{cases_lt}
 use Rattle.std.proofs.lemmas.Bool.Decides.{nat_tests}
 use Rattle.std.proofs.lemmas.List.{get_or_append_left, drop-append-le, drop_at}
-use Rattle.std.specs.Io.KnownBytes.{Consumes}
 use Rattle.byteorder.specs.Endian.{big_number}
 use Rattle.byteorder.specs.Numbers.{big_from-append}
 use Rattle.t85_core.specs.declared.fault.Fault.{Fault}
@@ -41,12 +40,6 @@ HeaderOf-append given more h p =
       options = byte-append given more 19 (omega arith) ∙ p.options;
       accepted = p.accepted;
     }
-
--- what holds of all bytes that begin with a header holds of those from which it was taken
-pub header_before : (old new : Option (List ℕ)) (given : List ℕ) (h : Fields) (Q : List ℕ → Type 0) → Consumes old new given → HeaderOf given h → ((bytes : List ℕ) → HeaderOf bytes h → Q bytes) → IfSome old Q
-header_before None new given h Q taken is q = tt
-header_before (Some bytes) None given h Q taken is q = absurd taken
-header_before (Some bytes) (Some body) given h Q taken is q = q bytes (subst (λ z. HeaderOf z h) (sym taken) (HeaderOf-append given body h is))
 
 pub header_fault-append : (given more : List ℕ) → 20 ≤ length given → header_fault (given ++ more) ≡ header_fault given
 header_fault-append given more long =

@@ -1,9 +1,9 @@
 -- From a header and a body to what is said of the whole stream.
 use Rattle.std.proofs.Common.{◌≡◌, ◌≢◌, ◌≤◌, ◌<◌, ◌+◌, inl, inr, ◌⊎◌, ℕ, Bool, true, false, ◌&&◌, List, [], drop, nat_eq, Option, None, Some, IfSome, Result, Ok, Err, refl, sym, ap, ◌∙◌, subst, arith, true≢false}
-use Rattle.std.specs.Prelude.{OnOk, IsErrOf, is_some}
+use Rattle.std.specs.Prelude.{OnOk, is_some}
 use Rattle.std.specs.Io.KnownBytes.{Consumes, Keeps}
 use Rattle.std.proofs.lemmas.Bool.Decides.{nat_tests}
-use Rattle.pbm_core.specs.Device.{Change, between}
+use Rattle.pbm_core.specs.Device.{between}
 use Rattle.t85_core.specs.declared.fault.Fault.{Fault}
 use Rattle.t85_core.specs.declared.fault.Fault.TheVariants.{Write, OutOfMemory, TooManyRows}
 use Rattle.t85_core.specs.Header.{Fields, HeaderOf, is_variable}
@@ -48,27 +48,6 @@ module _ (h : Fields) (height limit : ℕ) (known : Option (List ℕ)) (reads : 
     reads = omega arith;
     writes = omega arith;
   }
-
-  -- there is no window for it
-  pub at_no_memory : height ≤ limit → ToPbmAt h height limit (between known known reads reads) (between out out writes writes) flushed (Err OutOfMemory)
-  at_no_memory fits = record {
-    whole = tt;
-    flushed_last = tt;
-    within = tt;
-    not_high = λ _. fits;
-    too_high = λ e. absurd (let bot : ⊥ = cc in bot);
-    no_memory = λ _. (Keeps-same known, Keeps-same out);
-    broken = λ _ _ _ n. absurd (n refl);
-    unread = λ e. absurd (let bot : ⊥ = cc in bot);
-    front = front_none;
-    among = λ _ _ n. absurd (n refl);
-    reads = omega arith;
-    writes = omega arith;
-  }
-
--- decoding a body answers no want of memory
-pub decodes_in_memory : (h : Fields) (height : ℕ) (input output : Change) (f : Fault) → Decode h height input output (Err f) → IsErrOf {T = Unit {0}} (Err f) OutOfMemory → ⊥
-decodes_in_memory h height input output f d e = (let same : f ≡ OutOfMemory = cc in no_body_fault f same (d.among (λ w. let both : OutOfMemory ≡ Write = sym same ∙ w in let bot : ⊥ = cc in bot)))
 
 module _ (h : Fields) (height limit : ℕ) (in_old in_new : Option (List ℕ)) (reads_old reads_new : ℕ) (out_old out_new : Option (List ℕ)) (writes_old writes_new : ℕ) (flushed : Bool) (fits : height ≤ limit) where
   -- the body breaks, or a device fails

@@ -1,11 +1,37 @@
+use Rattle.std.proofs.Common.{inl, inr, refl, sym, ap, ◌∙◌}
+use Rattle.std.specs.Prelude.{is_some}
+use Rattle.t85_core.specs.Options.{fields_of}
+use Rattle.t85_core.proofs.Bytes.Held.{Keeps-same}
+use Rattle.t85_core.proofs.Decodings.Converted.{goes_once, goes_twice}
 use Rattle.t85_core.proofs.conversion.to_pbm.Goals as goal
 
-pub returns-in-Ok-clause-outcome : goal.returns-in-Ok-clause-outcome
-returns-in-Ok-clause-outcome g c =
+pub returns-then-not-is_variable-clause-outcome : goal.returns-then-not-is_variable-clause-outcome
+returns-then-not-is_variable-clause-outcome g c =
     let taken = c.in_ok-header.ensures.accepted in
-    rw c.in_ok-header.ensures.counts at c.convert_after.ensures.outcome _ (record { given = taken.0; long = taken.1; taken = taken.2; header_of = taken.3 })
+    goes_once c.coder_laws.ensures (fields_of c.in_ok-header.header) c.args.max_rows _ (g.R.Input.remaining c.read.new.input) _ _ _ _ _ _ _ _ _ _ _ _ c.convert.result
+    (record { given = taken.0; long = taken.1; taken = taken.2; header_of = taken.3 }) (sym c.is_variable.ensures ∙ c.if-not-is_variable.true) (rw c.in_ok-header.ensures.counts at c.convert.ensures.outcome) refl
 
-pub returns-in-Err-clause-outcome : goal.returns-in-Err-clause-outcome
-returns-in-Err-clause-outcome g c =
+pub returns-in-Some-clause-outcome : goal.returns-in-Some-clause-outcome
+returns-in-Some-clause-outcome g c =
     let taken = c.in_ok-header.ensures.accepted in
-    rw c.in_ok-header.ensures.counts at c.convert_after-in-Err.ensures.outcome _ (record { given = taken.0; long = taken.1; taken = taken.2; header_of = taken.3 })
+    goes_twice c.coder_laws.ensures (λ reading. g.Second.Input.remaining reading) (λ reading. g.Second.Input.failures reading) (fields_of c.in_ok-header.header) c.args.max_rows _ (g.R.Input.remaining c.read.new.input) _ _ _ _ _ _ _ _ _ _ c.convert_again.result
+    (record { given = taken.0; long = taken.1; taken = taken.2; header_of = taken.3 }) (sym c.is_variable.ensures ∙ c.if-not-is_variable.false) (rw c.in_ok-header.ensures.counts at c.convert_again.ensures.outcome) c.args.again.now c.in-Some.is
+
+pub returns-in-None-clause-outcome : goal.returns-in-None-clause-outcome
+returns-in-None-clause-outcome g c =
+    let taken = c.in_ok-header.ensures.accepted in
+    record {
+      went = inr (inr (inl (
+        record {
+          header = fields_of c.in_ok-header.header;
+          taken = record { given = taken.0; long = taken.1; taken = taken.2; header_of = taken.3 };
+          variable = sym c.is_variable.ensures ∙ c.if-not-is_variable.false;
+          once = ap is_some c.in-None.is;
+          answer_is = refl;
+          unfailed = c.in_ok-header.ensures.counts;
+          nothing = record { kept = Keeps-same _; unfailed = refl };
+        },
+        refl,
+      )));
+      denoted = tt;
+    }
