@@ -8,4 +8,6 @@ mod devices;
 #[cfg(test)]
 mod pbm;
 #[cfg(test)]
+mod pulls;
+#[cfg(test)]
 mod rows;

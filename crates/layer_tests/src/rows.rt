@@ -14,8 +14,8 @@ use std::test::Fail;
 
 /// A sink that keeps what it takes.
 #[derive(Drop)]
-struct Taken {
-    bytes: Vec<u8>,
+pub struct Taken {
+    pub bytes: Vec<u8>,
 }
 
 impl CodeSink for Taken {
@@ -37,19 +37,21 @@ impl CodeSink for Taken {
 
 /// A source of stuffed bytes. After them it answers End, or a fault.
 #[derive(Drop)]
-struct Given<'a> {
+pub struct Given<'a> {
     bytes: &'a [u8],
     ends: bool,
+    pub asked: u64,
     failed: u64,
 }
 
 impl<'a> Given<'a> {
-    fn new(bytes: &'a [u8], ends: bool) -> Given<'a>
+    pub fn new(bytes: &'a [u8], ends: bool) -> Given<'a>
         ensures { result.failed ≡ 0 }
     {
         Given {
             bytes,
             ends,
+            asked: 0,
             failed: 0,
         }
     }
@@ -61,6 +63,7 @@ impl CodeBytes for Given<'_> {
     ghost failed = { λ s. s.failed };
 
     fn pull(&mut self) -> Pulled {
+        self.asked = self.asked.saturating_add(1);
         match self.bytes.split_first() {
             Some((255, rest)) => {
                 self.bytes = match rest.split_first() {
@@ -96,14 +99,14 @@ const START: Kept = Kept {
 
 /// How rows are coded, and what is kept from one to the next.
 #[derive(Drop)]
-struct Course {
+pub struct Course {
     shape: Shape,
     kept: Kept,
     learned: Learned,
 }
 
 impl Course {
-    fn new(shape: Shape, offset: u8) -> Course {
+    pub fn new(shape: Shape, offset: u8) -> Course {
         Course {
             shape,
             kept: Kept {
@@ -136,7 +139,7 @@ impl Course {
     }
 
     /// Decodes the current row of a window.
-    fn decode<S: CodeBytes>(
+    pub fn decode<S: CodeBytes>(
         &mut self,
         rt: &impl Abort,
         window: &mut Window,
@@ -154,7 +157,7 @@ impl Course {
     }
 }
 
-fn shape(width: u32, two_line: bool, typical: bool) -> Shape {
+pub fn shape(width: u32, two_line: bool, typical: bool) -> Shape {
     Shape {
         width,
         two_line,
@@ -293,7 +296,7 @@ fn codes_by_hand(rt: HostRuntime) -> Result<(), Fail> {
 }
 
 /// Codes a pixel.
-fn put(
+pub fn put(
     rt: &impl Abort,
     encoder: &mut Encoder,
     learned: &mut Learned,
@@ -568,7 +571,7 @@ fn turns_and_clears(rt: HostRuntime) {
 
 /// The pixel of a row that stands so far to the right of x, or so far to the left; white outside of
 /// it.
-fn pixel(row: &[u8], width: u32, x: u32, right: u32, left: u32) -> bool {
+pub fn pixel(row: &[u8], width: u32, x: u32, right: u32, left: u32) -> bool {
     let at = x.wrapping_add(right).wrapping_sub(left);
     match row.get((at / 8) as usize) {
         Some(byte) => at < width && *byte & (0x80 >> (at % 8)) != 0,
@@ -577,7 +580,7 @@ fn pixel(row: &[u8], width: u32, x: u32, right: u32, left: u32) -> bool {
 }
 
 /// The context of x by the coordinates of its ten pixels.
-fn context_by_coordinates(shape: Shape, offset: u8, rows: [&[u8]; 3], x: u32) -> u16 {
+pub fn context_by_coordinates(shape: Shape, offset: u8, rows: [&[u8]; 3], x: u32) -> u16 {
     let [row, above, second] = rows;
     let width = shape.width;
     let adaptive = if offset == 0 {
