@@ -3,7 +3,7 @@
 ghost use Rattle.std.specs.Prelude.{◌≡◌, ◌≢◌, ◌+◌, ◌-◌, ◌*◌, ◌%◌, ◌^◌, ◌≤◌, ◌<◌, List, ℕ, ◌++◌, None, IsTrue, false, true, Err, Ok, [], IsErr, OnOk, OnErr, ◌↔◌, nat_lt, not, if◌then◌else◌};
 ghost use Rattle.qm_core.specs.Place.{Place, State, start, step, renormalised, same};
 ghost use Rattle.qm_core.specs.Code.{stuffed};
-ghost use Rattle.qm_core.specs.Machine.{run_bytes, Digits};
+ghost use Rattle.qm_core.specs.Machine.{estimate, run_bytes, Digits};
 ghost use Rattle.qm_core.specs.Sink.{Writes};
 
 use crate::batch::{Batch, Tail};
@@ -38,6 +38,9 @@ pub struct Encoder {
     tail: Tail,
     events: u64,
     failed: bool,
+    /// A favoured pixel that leaves the size at least this, and so the larger part, changes nothing but the size. Greater
+    /// than any size after a fault.
+    floor: u32,
     ghost large: { 0x40_0000 ≤ span },
     ghost small: { span ≤ 0x80_0000 },
     ghost whole: { span % 128 ≡ 0 },
@@ -47,6 +50,8 @@ pub struct Encoder {
     ghost fixed: { tail.held ≡ None → low + span ≤ 2 ^ (bits + 7) },
     ghost count: { tail.zeros + tail.ones ≤ 2 * events },
     ghost few: { events ≤ 2 ^ 56 },
+    ghost going: { failed ≡ false → floor ≡ 0x40_0000 },
+    ghost stuck: { failed ≡ true → 0x80_0000 < floor },
 }
 
 /// The registers after doublings.
@@ -191,12 +196,30 @@ fn write_both<W: CodeSink>(first: Batch, second: Batch, out: &mut W) -> Result<(
     }
 }
 
-/// Whether two pixels are the same.
+/// Whether a pixel is the one that a cell favours.
 #[inline(always)]
-fn is_same(a: bool, b: bool) -> bool
-    ensures { result ≡ same a b }
+fn favours(cell: u8, pixel: bool) -> bool
+    ensures { result ≡ same pixel (estimate cell).pixel }
 {
-    if a { b } else { !b }
+    (cell % 2 + u8::from(pixel)) % 2 == 0
+}
+
+/// Whether a pixel changes nothing but the size.
+#[inline(always)]
+fn is_quiet(is_favoured: bool, lower: u32, floor: u32) -> bool
+    ensures favoured { result ≡ true → is_favoured ≡ true }
+    ensures large { result ≡ true → floor ≤ lower }
+    ensures small { result ≡ false → is_favoured ≡ true → lower < floor }
+{
+    is_favoured && lower >= floor
+}
+
+/// The floor of an encoder.
+fn floor_of(failed: bool) -> u32
+    ensures going { failed ≡ false → result ≡ 0x40_0000 }
+    ensures stuck { failed ≡ true → 0x80_0000 < result }
+{
+    if failed { u32::MAX } else { 0x40_0000 }
 }
 
 /// Whether a pixel takes the lower part.
@@ -246,6 +269,7 @@ impl Encoder {
             },
             events: 0,
             failed: false,
+            floor: 0x40_0000,
         }
     }
 
@@ -287,24 +311,24 @@ impl Encoder {
             (record { place = p; learned = learned.old }) pushed
             cx.number pixel self.new learned.new result }
     {
+        let cell = learned.cell(cx);
+        let entry = entry_of(cell);
+        let lower = self.span - entry.span;
+        let is_favoured = favours(cell, pixel);
+        if is_quiet(is_favoured, lower, self.floor) {
+            self.span = lower;
+            self.events += 1;
+            return Ok(());
+        }
         if self.failed {
             return Err(CoderFault::Failed);
         }
         self.events += 1;
-        let cell = learned.cell(cx);
-        let entry = entry_of(cell);
-        let lower = self.span - entry.span;
-        let is_favoured = is_same(pixel, cell % 2 == 1);
+        learned.set(cx, next_cell(is_favoured, entry));
         let is_lower = is_lower(is_favoured, lower, entry.span);
         if is_lower {
-            if lower >= 0x40_0000 {
-                self.span = lower;
-                return Ok(());
-            }
-            learned.set(cx, next_cell(is_favoured, entry));
             return self.go(self.low, lower, out);
         }
-        learned.set(cx, next_cell(is_favoured, entry));
         self.go(self.low + lower as u64, entry.span, out)
     }
 
@@ -406,6 +430,7 @@ impl Encoder {
         self.bits = shifted.bits;
         let written = write_both(shifted.first, shifted.second, out);
         self.failed = written.is_err();
+        self.floor = floor_of(self.failed);
         written
     }
 

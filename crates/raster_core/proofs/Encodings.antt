@@ -24,7 +24,7 @@ pixel_in row byte x n h few =
     let is : byte ≡ before row (((x + n) + 1) + (7 - n)) ((n + 1) + (7 - n)) = h ∙ (ap (λ z. before row z 8) place ∙ ap (λ k. before row (((x + n) + 1) + (7 - n)) k) size) in
     rw is (before_part row ((x + n) + 1) n 1 (7 - n) ∙ (before_far row ((x + n) + 1) 0 ∙ rw (before_zero row ((x + n) + 1), left_at row (x + n) 1) (omega arith)))
 
-byte_shifted : (byte n : ℕ) → n < 8 → byte * 2 ^ n / 2 ^ 7 ≡ byte / 2 ^ (7 - n)
+pub byte_shifted : (byte n : ℕ) → n < 8 → byte * 2 ^ n / 2 ^ 7 ≡ byte / 2 ^ (7 - n)
 byte_shifted byte n h =
     let back : n ≡ 7 - (7 - n) = omega arith in
     ap (λ k. byte * 2 ^ k / 2 ^ 7) back ∙ (shifted_div byte (7 - n) 0 (omega arith) ∙ ap (λ k. byte / 2 ^ k) (add-zero (7 - n)))
@@ -77,14 +77,14 @@ at_registers lines offset second above byte past x n h b p =
 pub byte_next : {S : Type 0} (took : S → ℕ → S → Type 0) (refused : S → S → Type 0) (failed : S → ℕ) (old mid to : S) (mode : Mode) (offset second above byte past₀ : ℕ) (e₀ : Encoder) (learned₀ : List Estimate)
     (n past past' : ℕ) (e e' : Encoder) (learned learned' : List Estimate) (cx : ℕ) (pixel : Bool) (result : Result (Unit {0}) CoderFault) →
     n < 8 → result ≡ Ok tt → past' ≡ past % 2 ^ (past_bits offset - 1) * 2 + bit pixel → pixel ≡ nat_eq (byte * 2 ^ n / 2 ^ 7 % 2) 1 →
-    ((lines : Lines) (x : ℕ) → AreAt lines offset (second / 2 ^ 7 * 2 ^ n) (above / 2 ^ 6 * 2 ^ n) past x → cx ≡ context_at mode lines offset x) →
+    ((lines : Lines) (x : ℕ) → AreAt lines offset (second / 2 ^ 7 * 2 ^ n) (above / 2 ^ 6 * 2 ^ n) past (x + n) → ByteAt lines second above byte x → past₀ ≡ before lines.row x (past_bits offset) → cx ≡ context_at mode lines offset (x + n)) →
     ((p : Place) (pushed : List ℕ) → EncoderIsAt e p pushed → Put took refused failed mid to (record { place = p; learned = learned }) pushed cx pixel e' learned' result) →
     EncodesByte took old mid mode offset second above byte past₀ e₀ learned₀ n past e learned →
     EncodesByte took old to mode offset second above byte past₀ e₀ learned₀ (n + 1) past' e' learned'
 byte_next {S} took refused failed old mid to mode offset second above byte past₀ e₀ learned₀ n past past' e e' learned learned' cx pixel result few is past_is pixel_is context put along = λ from first s pushed lines x h b.
     let m = along from first s pushed lines x h b in
     let here : pixel ≡ pixel_at lines.row (x + n) = pixel_is ∙ bit_test _ _ (ap (λ z. z % 2) (byte_shifted byte n few) ∙ pixel_in lines.row byte x n b.byte_is few) in
-    let cx_is = context lines (x + n) (at_registers lines offset second above byte past x n few b m.past_is) in
+    let cx_is = context lines x (at_registers lines offset second above byte past x n few b m.past_is) b h.past_is in
     let u : Put took refused failed mid to (after s (first ++ events_to mode lines offset (x + n))) (pushed ++ m.run.more) cx pixel e' learned' (Ok tt) =
     subst (λ r. Put took refused failed mid to (after s (first ++ events_to mode lines offset (x + n))) (pushed ++ m.run.more) cx pixel e' learned' r) is
     (subst (λ l. Put took refused failed mid to (record { place = (after s (first ++ events_to mode lines offset (x + n))).place; learned = l }) (pushed ++ m.run.more) cx pixel e' learned' result) m.run.taught
@@ -107,15 +107,15 @@ byte_next {S} took refused failed old mid to mode offset second above byte past�
 
 pub byte_fails : {S : Type 0} (took : S → ℕ → S → Type 0) (refused : S → S → Type 0) (failed : S → ℕ) (old mid to : S) (mode : Mode) (offset second above byte past₀ : ℕ) (e₀ : Encoder) (learned₀ : List Estimate)
     (n all past : ℕ) (e e' : Encoder) (learned learned' : List Estimate) (cx : ℕ) (pixel : Bool) (result : Result (Unit {0}) CoderFault) (fault : CoderFault) →
-    n < 8 → n < all → result ≡ Err fault → failed mid ≡ failed old → pixel ≡ nat_eq (byte * 2 ^ n / 2 ^ 7 % 2) 1 →
-    ((lines : Lines) (x : ℕ) → AreAt lines offset (second / 2 ^ 7 * 2 ^ n) (above / 2 ^ 6 * 2 ^ n) past x → cx ≡ context_at mode lines offset x) →
+    n < 8 → n < all → result ≡ Err fault → pixel ≡ nat_eq (byte * 2 ^ n / 2 ^ 7 % 2) 1 →
+    ((lines : Lines) (x : ℕ) → AreAt lines offset (second / 2 ^ 7 * 2 ^ n) (above / 2 ^ 6 * 2 ^ n) past (x + n) → ByteAt lines second above byte x → past₀ ≡ before lines.row x (past_bits offset) → cx ≡ context_at mode lines offset (x + n)) →
     ((p : Place) (pushed : List ℕ) → EncoderIsAt e p pushed → Put took refused failed mid to (record { place = p; learned = learned }) pushed cx pixel e' learned' result) →
     EncodesByte took old mid mode offset second above byte past₀ e₀ learned₀ n past e learned →
     FailsByte took refused old to mode offset second above byte past₀ e₀ learned₀ all
-byte_fails {S} took refused failed old mid to mode offset second above byte past₀ e₀ learned₀ n all past e e' learned learned' cx pixel result fault few within is same pixel_is context put along = λ from first s pushed lines x h b.
+byte_fails {S} took refused failed old mid to mode offset second above byte past₀ e₀ learned₀ n all past e e' learned learned' cx pixel result fault few within is pixel_is context put along = λ from first s pushed lines x h b.
     let m = along from first s pushed lines x h b in
     let here : pixel ≡ pixel_at lines.row (x + n) = pixel_is ∙ bit_test _ _ (ap (λ z. z % 2) (byte_shifted byte n few) ∙ pixel_in lines.row byte x n b.byte_is few) in
-    let cx_is = context lines (x + n) (at_registers lines offset second above byte past x n few b m.past_is) in
+    let cx_is = context lines x (at_registers lines offset second above byte past x n few b m.past_is) b h.past_is in
     let u : Put took refused failed mid to (after s (first ++ events_to mode lines offset (x + n))) (pushed ++ m.run.more) cx pixel e' learned' (Err fault) =
     subst (λ r. Put took refused failed mid to (after s (first ++ events_to mode lines offset (x + n))) (pushed ++ m.run.more) cx pixel e' learned' r) is
     (subst (λ l. Put took refused failed mid to (record { place = (after s (first ++ events_to mode lines offset (x + n))).place; learned = l }) (pushed ++ m.run.more) cx pixel e' learned' result) m.run.taught

@@ -21,4 +21,7 @@ pub mod Colours
 pub mod Skips
 pub mod SkipsAlong
 pub mod Whites
+pub mod LaneTables
 pub mod WhitesAlong
+pub mod LaneContexts
+pub mod LanePixels

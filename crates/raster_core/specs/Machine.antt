@@ -1,6 +1,7 @@
 -- How rows are coded: what registers, words and bytes stand for on the way.
 pub mod Registers
 pub mod Words
+pub mod Lanes
 pub mod Uniform
 pub mod Decoded
 pub mod Encoded

@@ -7,7 +7,7 @@ ghost use Rattle.qm_core.specs.Place.{Place};
 ghost use Rattle.qm_core.specs.Skipping.{CanSkip};
 ghost use Rattle.qm_core.specs.Decoder.{DecoderIsAt, has_stopped};
 ghost use Rattle.qm_core.specs.declared.source.Pulled.{Pulled};
-ghost use Rattle.raster_core.specs.Machine.Decoded.{Along, StopsAlong, SkipsAlong, SkipsWhiteAlong, RowAlong, RowStops};
+ghost use Rattle.raster_core.specs.Machine.Decoded.{Along, StopsAlong, AlongMore, StopsMore, SkipsAlong, SkipsWhiteAlong, RowAlong, RowStops};
 ghost use Rattle.raster_core.specs.Lines.{Lines};
 ghost use Rattle.raster_core.specs.Window.{shape_mode, held, width_of};
 ghost use Rattle.raster_core.specs.Packed.{HasLines, SameAbove};
@@ -17,10 +17,11 @@ ghost use Rattle.raster_core.specs.Machine.Uniform.{uniform_event, AreAllOf, Are
 
 use crate::bytes::byte_at;
 use crate::context::{by_template, context_of, flag_context, past_and};
+use crate::lanes::{first_around, has_lanes, last_around};
 use crate::shape::{Kept, Shape};
 use crate::uniform::{is_blank, is_run, is_white_above, past_eight, uniform_context, whiten};
 use crate::window::Window;
-use qm_core::{CodeBytes, Decoder, Learned, Stop, laws};
+use qm_core::{CodeBytes, Context, Decoder, Learned, Stop, laws};
 
 /// Decodes n pixels of a byte. The registers `second_bytes` and `above_bytes` have the byte before,
 /// the byte and the one after it of the two rows above, `before` and the result the last pixels of
@@ -69,6 +70,174 @@ fn decode_byte<S: CodeBytes, const TWO_LINE: bool, const MOVED: bool>(
         above *= 2;
     }
     Ok(past)
+}
+
+/// Decodes a pixel, to whose context the rows above give the first of these lanes.
+#[inline(always)]
+fn decode_one<S: CodeBytes>(
+    lanes: u64,
+    before: u128,
+    learned: &mut Learned,
+    decoder: &mut Decoder,
+    source: &mut S,
+) -> Result<u128, Stop>
+    requires { S.failed source.old + 1 < 2 ^ 64 }
+    ensures stopped { IsTrue (has_stopped decoder.old) → IsErr result ×
+        (decoder.new ≡ decoder.old) × (source.new ≡ source.old) }
+    ensures stops { IsTrue (has_stopped decoder.new) ↔ IsErr result }
+    ensures same { OnOk result (S.failed source.new ≡ S.failed source.old) }
+    ensures counted { has_stopped decoder.old ≡ false →
+        OnErr result (S.failed source.new ≡ S.failed source.old + 1) }
+    ensures ok { IfOk result (λ past. AlongMore (Pulls S.gives S.failed) source.old source.new
+        lanes before decoder.old learned.old 1 past decoder.new learned.new) }
+    ensures err { OnErr result (StopsMore (Pulls S.gives S.failed) source.old source.new
+        lanes before decoder.old learned.old 1 decoder.new) }
+{
+    let around = (lanes % 0x400) as u16 / 4 * 4;
+    let cx = Context::of(around + (before % 4) as u16);
+    let pixel = decoder.next(learned, cx, source)?;
+    Ok(past_and::<false>(before, pixel))
+}
+
+/// Decodes two pixels.
+#[inline(always)]
+fn decode_two<S: CodeBytes>(
+    lanes: u64,
+    before: u128,
+    learned: &mut Learned,
+    decoder: &mut Decoder,
+    source: &mut S,
+) -> Result<u128, Stop>
+    requires { S.failed source.old + 1 < 2 ^ 64 }
+    ensures stopped { IsTrue (has_stopped decoder.old) → IsErr result ×
+        (decoder.new ≡ decoder.old) × (source.new ≡ source.old) }
+    ensures stops { IsTrue (has_stopped decoder.new) ↔ IsErr result }
+    ensures same { OnOk result (S.failed source.new ≡ S.failed source.old) }
+    ensures counted { has_stopped decoder.old ≡ false →
+        OnErr result (S.failed source.new ≡ S.failed source.old + 1) }
+    ensures ok { IfOk result (λ past. AlongMore (Pulls S.gives S.failed) source.old source.new
+        lanes before decoder.old learned.old 2 past decoder.new learned.new) }
+    ensures err { OnErr result (StopsMore (Pulls S.gives S.failed) source.old source.new
+        lanes before decoder.old learned.old 2 decoder.new) }
+{
+    let past = decode_one(lanes, before, learned, decoder, source)?;
+    decode_one(lanes >> 16, past, learned, decoder, source)
+}
+
+/// Decodes four pixels.
+#[inline(always)]
+fn decode_four<S: CodeBytes>(
+    lanes: u64,
+    before: u128,
+    learned: &mut Learned,
+    decoder: &mut Decoder,
+    source: &mut S,
+) -> Result<u128, Stop>
+    requires { S.failed source.old + 1 < 2 ^ 64 }
+    ensures stopped { IsTrue (has_stopped decoder.old) → IsErr result ×
+        (decoder.new ≡ decoder.old) × (source.new ≡ source.old) }
+    ensures stops { IsTrue (has_stopped decoder.new) ↔ IsErr result }
+    ensures same { OnOk result (S.failed source.new ≡ S.failed source.old) }
+    ensures counted { has_stopped decoder.old ≡ false →
+        OnErr result (S.failed source.new ≡ S.failed source.old + 1) }
+    ensures ok { IfOk result (λ past. AlongMore (Pulls S.gives S.failed) source.old source.new
+        lanes before decoder.old learned.old 4 past decoder.new learned.new) }
+    ensures err { OnErr result (StopsMore (Pulls S.gives S.failed) source.old source.new
+        lanes before decoder.old learned.old 4 decoder.new) }
+{
+    let past = decode_two(lanes, before, learned, decoder, source)?;
+    decode_two(lanes >> 32, past, learned, decoder, source)
+}
+
+/// Decodes the pixels of a byte, the contexts of four at once.
+#[inline(always)]
+fn decode_eight<S: CodeBytes>(
+    shape: Shape,
+    second_bytes: u32,
+    above_bytes: u32,
+    before: u128,
+    learned: &mut Learned,
+    decoder: &mut Decoder,
+    source: &mut S,
+) -> Result<u128, Stop>
+    requires count { S.failed source.old + 1 < 2 ^ 64 }
+    requires template { shape.two_line ≡ false }
+    ensures stopped { IsTrue (has_stopped decoder.old) → IsErr result ×
+        (decoder.new ≡ decoder.old) × (source.new ≡ source.old) }
+    ensures stops { IsTrue (has_stopped decoder.new) ↔ IsErr result }
+    ensures same { OnOk result (S.failed source.new ≡ S.failed source.old) }
+    ensures counted { has_stopped decoder.old ≡ false →
+        OnErr result (S.failed source.new ≡ S.failed source.old + 1) }
+    ensures ok { IfOk result (λ past. Along (Pulls S.gives S.failed) source.old source.new
+        (shape_mode shape) 0 second_bytes above_bytes before
+        decoder.old learned.old 8 past decoder.new learned.new) }
+    ensures err { OnErr result (StopsAlong (Pulls S.gives S.failed) source.old source.new
+        (shape_mode shape) 0 second_bytes above_bytes before
+        decoder.old learned.old 8 decoder.new) }
+{
+    let first = first_around(second_bytes, above_bytes);
+    let half = decode_four(first, before, learned, decoder, source)?;
+    let last = last_around(second_bytes, above_bytes);
+    decode_four(last, half, learned, decoder, source)
+}
+
+/// Decodes n pixels of a byte, the contexts of four at once where tables have them.
+#[inline(always)]
+fn decode_plain<S: CodeBytes, const TWO_LINE: bool, const MOVED: bool>(
+    shape: Shape,
+    offset: u8,
+    second_bytes: u32,
+    above_bytes: u32,
+    before: u128,
+    n: u32,
+    learned: &mut Learned,
+    decoder: &mut Decoder,
+    source: &mut S,
+) -> Result<u128, Stop>
+    requires count { S.failed source.old + 1 < 2 ^ 64 }
+    requires offset { offset ≤ 127 }
+    requires template { TWO_LINE ≡ shape.two_line }
+    requires moved { MOVED ≡ is_moved offset }
+    requires second { second_bytes < 2 ^ 24 }
+    requires above { above_bytes < 2 ^ 24 }
+    requires some { 1 ≤ n }
+    requires few { n ≤ 8 }
+    ensures stopped { IsTrue (has_stopped decoder.old) → IsErr result ×
+        (decoder.new ≡ decoder.old) × (source.new ≡ source.old) }
+    ensures stops { IsTrue (has_stopped decoder.new) ↔ IsErr result }
+    ensures same { OnOk result (S.failed source.new ≡ S.failed source.old) }
+    ensures counted { has_stopped decoder.old ≡ false →
+        OnErr result (S.failed source.new ≡ S.failed source.old + 1) }
+    ensures ok { IfOk result (λ past. Along (Pulls S.gives S.failed) source.old source.new
+        (shape_mode shape) offset second_bytes above_bytes before
+        decoder.old learned.old n past decoder.new learned.new) }
+    ensures err { OnErr result (StopsAlong (Pulls S.gives S.failed) source.old source.new
+        (shape_mode shape) offset second_bytes above_bytes before
+        decoder.old learned.old n decoder.new) }
+{
+    if has_lanes::<TWO_LINE, MOVED>(shape, offset, n) {
+        decode_eight(
+            shape,
+            second_bytes,
+            above_bytes,
+            before,
+            learned,
+            decoder,
+            source,
+        )
+    } else {
+        decode_byte::<_, TWO_LINE, MOVED>(
+            shape,
+            offset,
+            second_bytes,
+            above_bytes,
+            before,
+            n,
+            learned,
+            decoder,
+            source,
+        )
+    }
 }
 
 /// Decodes a byte in one step, if it is `byte` and its pixels all stand among pixels of their own
@@ -157,7 +326,7 @@ fn decode_step<S: CodeBytes, const TWO_LINE: bool, const MOVED: bool>(
     ) {
         Ok(past_eight::<MOVED>(before, byte))
     } else {
-        decode_byte::<_, TWO_LINE, MOVED>(
+        decode_plain::<_, TWO_LINE, MOVED>(
             shape,
             offset,
             second_bytes,

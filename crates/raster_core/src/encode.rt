@@ -6,7 +6,7 @@ ghost use Rattle.qm_core.specs.Encoder.{EncoderIsAt, event_count, has_failed};
 ghost use Rattle.qm_core.specs.Place.{Place};
 ghost use Rattle.qm_core.specs.Skipping.{has_room};
 ghost use Rattle.raster_core.specs.Events.{Encodes, Fails};
-ghost use Rattle.raster_core.specs.Machine.Encoded.{EncodesByte, FailsByte, SkipsByte, SkipsWhite, EncodesRow, FailsRow};
+ghost use Rattle.raster_core.specs.Machine.Encoded.{EncodesByte, FailsByte, EncodesMore, FailsMore, SkipsByte, SkipsWhite, EncodesRow, FailsRow};
 ghost use Rattle.raster_core.specs.Lines.{Lines, may_be_typical, pseudo_event};
 ghost use Rattle.raster_core.specs.Window.{shape_mode, held, width_of};
 ghost use Rattle.raster_core.specs.Packed.{HasLines, packed_row};
@@ -16,10 +16,11 @@ ghost use Rattle.raster_core.specs.Machine.Uniform.{uniform_event, AreAllOf, Are
 
 use crate::bytes::byte_at;
 use crate::context::{by_template, context_of, flag_context, past_and};
+use crate::lanes::{first_pixels, has_lanes, last_pixels};
 use crate::shape::{Kept, Shape};
 use crate::uniform::{is_blank, is_run, is_white, is_white_above, past_eight, uniform_context};
 use crate::window::Window;
-use qm_core::{CodeSink, CoderFault, Encoder, Learned, MAX_EVENTS};
+use qm_core::{CodeSink, CoderFault, Context, Encoder, Learned, MAX_EVENTS};
 
 /// Encodes the first n pixels of a byte. The registers are those of decoding.
 #[inline(always)]
@@ -75,6 +76,196 @@ fn encode_byte<W: CodeSink, const TWO_LINE: bool, const MOVED: bool>(
         row *= 2;
     }
     Ok(past)
+}
+
+/// Encodes the pixel in the first of these lanes, which have twice the contexts and the pixels.
+#[inline(always)]
+fn encode_one<W: CodeSink>(
+    lanes: u64,
+    learned: &mut Learned,
+    encoder: &mut Encoder,
+    out: &mut W,
+) -> Result<(), CoderFault>
+    requires count { W.failed out.old + 1 < 2 ^ 64 }
+    requires events { event_count encoder.old + 1 ≤ MAX_EVENTS }
+    ensures failed { IsTrue (has_failed encoder.old) → (result ≡ Err CoderFault.Failed) ×
+        (encoder.new ≡ encoder.old) × (out.new ≡ out.old) }
+    ensures fails { IsTrue (has_failed encoder.new) ↔ IsErr result }
+    ensures fault { has_failed encoder.old ≡ false → IsErr result → result ≡ Err CoderFault.Write }
+    ensures events { OnOk result (event_count encoder.new ≡ event_count encoder.old + 1) }
+    ensures same { OnOk result (W.failed out.new ≡ W.failed out.old) }
+    ensures counted { has_failed encoder.old ≡ false →
+        OnErr result (W.failed out.new ≡ W.failed out.old + 1) }
+    ensures ok { OnOk result (EncodesMore W.took out.old out.new lanes encoder.old learned.old
+        1 encoder.new learned.new) }
+    ensures err { has_failed encoder.old ≡ false →
+        OnErr result (FailsMore W.took W.refused out.old out.new lanes encoder.old learned.old
+        1) }
+{
+    let at = (lanes % 0x800) as u16;
+    encoder.put(learned, Context::of(at / 2), at % 2 == 1, out)
+}
+
+/// Encodes the pixels in two lanes.
+#[inline(always)]
+fn encode_two<W: CodeSink>(
+    lanes: u64,
+    learned: &mut Learned,
+    encoder: &mut Encoder,
+    out: &mut W,
+) -> Result<(), CoderFault>
+    requires count { W.failed out.old + 1 < 2 ^ 64 }
+    requires events { event_count encoder.old + 2 ≤ MAX_EVENTS }
+    ensures failed { IsTrue (has_failed encoder.old) → (result ≡ Err CoderFault.Failed) ×
+        (encoder.new ≡ encoder.old) × (out.new ≡ out.old) }
+    ensures fails { IsTrue (has_failed encoder.new) ↔ IsErr result }
+    ensures fault { has_failed encoder.old ≡ false → IsErr result → result ≡ Err CoderFault.Write }
+    ensures events { OnOk result (event_count encoder.new ≡ event_count encoder.old + 2) }
+    ensures same { OnOk result (W.failed out.new ≡ W.failed out.old) }
+    ensures counted { has_failed encoder.old ≡ false →
+        OnErr result (W.failed out.new ≡ W.failed out.old + 1) }
+    ensures ok { OnOk result (EncodesMore W.took out.old out.new lanes encoder.old learned.old
+        2 encoder.new learned.new) }
+    ensures err { has_failed encoder.old ≡ false →
+        OnErr result (FailsMore W.took W.refused out.old out.new lanes encoder.old learned.old
+        2) }
+{
+    encode_one(lanes, learned, encoder, out)?;
+    encode_one(lanes >> 16, learned, encoder, out)
+}
+
+/// Encodes the pixels in four lanes.
+#[inline(always)]
+fn encode_four<W: CodeSink>(
+    lanes: u64,
+    learned: &mut Learned,
+    encoder: &mut Encoder,
+    out: &mut W,
+) -> Result<(), CoderFault>
+    requires count { W.failed out.old + 1 < 2 ^ 64 }
+    requires events { event_count encoder.old + 4 ≤ MAX_EVENTS }
+    ensures failed { IsTrue (has_failed encoder.old) → (result ≡ Err CoderFault.Failed) ×
+        (encoder.new ≡ encoder.old) × (out.new ≡ out.old) }
+    ensures fails { IsTrue (has_failed encoder.new) ↔ IsErr result }
+    ensures fault { has_failed encoder.old ≡ false → IsErr result → result ≡ Err CoderFault.Write }
+    ensures events { OnOk result (event_count encoder.new ≡ event_count encoder.old + 4) }
+    ensures same { OnOk result (W.failed out.new ≡ W.failed out.old) }
+    ensures counted { has_failed encoder.old ≡ false →
+        OnErr result (W.failed out.new ≡ W.failed out.old + 1) }
+    ensures ok { OnOk result (EncodesMore W.took out.old out.new lanes encoder.old learned.old
+        4 encoder.new learned.new) }
+    ensures err { has_failed encoder.old ≡ false →
+        OnErr result (FailsMore W.took W.refused out.old out.new lanes encoder.old learned.old
+        4) }
+{
+    encode_two(lanes, learned, encoder, out)?;
+    encode_two(lanes >> 32, learned, encoder, out)
+}
+
+/// Encodes the pixels of a byte, the contexts of four at once.
+#[inline(always)]
+fn encode_eight<W: CodeSink>(
+    shape: Shape,
+    second_bytes: u32,
+    above_bytes: u32,
+    byte: u8,
+    before: u128,
+    learned: &mut Learned,
+    encoder: &mut Encoder,
+    out: &mut W,
+) -> Result<u128, CoderFault>
+    requires count { W.failed out.old + 1 < 2 ^ 64 }
+    requires template { shape.two_line ≡ false }
+    requires events { event_count encoder.old + 8 ≤ MAX_EVENTS }
+    ensures failed { IsTrue (has_failed encoder.old) → (result ≡ Err CoderFault.Failed) ×
+        (encoder.new ≡ encoder.old) × (out.new ≡ out.old) }
+    ensures fails { IsTrue (has_failed encoder.new) ↔ IsErr result }
+    ensures fault { has_failed encoder.old ≡ false → IsErr result → result ≡ Err CoderFault.Write }
+    ensures events { OnOk result (event_count encoder.new ≡ event_count encoder.old + 8) }
+    ensures same { OnOk result (W.failed out.new ≡ W.failed out.old) }
+    ensures counted { has_failed encoder.old ≡ false →
+        OnErr result (W.failed out.new ≡ W.failed out.old + 1) }
+    ensures ok { IfOk result (λ past. EncodesByte W.took out.old out.new (shape_mode shape) 0
+        second_bytes above_bytes byte before
+        encoder.old learned.old 8 past encoder.new learned.new) }
+    ensures err { has_failed encoder.old ≡ false →
+        OnErr result (FailsByte W.took W.refused out.old out.new (shape_mode shape) 0
+        second_bytes above_bytes byte before
+        encoder.old learned.old 8) }
+{
+    let row = (before % 256) as u32 * 256 + u32::from(byte);
+    let first = first_pixels(second_bytes, above_bytes, row);
+    encode_four(first, learned, encoder, out)?;
+    let last = last_pixels(second_bytes, above_bytes, row);
+    encode_four(last, learned, encoder, out)?;
+    Ok(past_eight::<false>(before, byte))
+}
+
+/// Encodes the first n pixels of a byte, the contexts of four at once where tables have them.
+#[inline(always)]
+fn encode_plain<W: CodeSink, const TWO_LINE: bool, const MOVED: bool>(
+    shape: Shape,
+    offset: u8,
+    second_bytes: u32,
+    above_bytes: u32,
+    byte: u8,
+    before: u128,
+    n: u32,
+    learned: &mut Learned,
+    encoder: &mut Encoder,
+    out: &mut W,
+) -> Result<u128, CoderFault>
+    requires count { W.failed out.old + 1 < 2 ^ 64 }
+    requires offset { offset ≤ 127 }
+    requires template { TWO_LINE ≡ shape.two_line }
+    requires moved { MOVED ≡ is_moved offset }
+    requires second { second_bytes < 2 ^ 24 }
+    requires above { above_bytes < 2 ^ 24 }
+    requires some { 1 ≤ n }
+    requires few { n ≤ 8 }
+    requires events { event_count encoder.old + n ≤ MAX_EVENTS }
+    ensures failed { IsTrue (has_failed encoder.old) → (result ≡ Err CoderFault.Failed) ×
+        (encoder.new ≡ encoder.old) × (out.new ≡ out.old) }
+    ensures fails { IsTrue (has_failed encoder.new) ↔ IsErr result }
+    ensures fault { has_failed encoder.old ≡ false → IsErr result → result ≡ Err CoderFault.Write }
+    ensures events { OnOk result (event_count encoder.new ≡ event_count encoder.old + n) }
+    ensures same { OnOk result (W.failed out.new ≡ W.failed out.old) }
+    ensures counted { has_failed encoder.old ≡ false →
+        OnErr result (W.failed out.new ≡ W.failed out.old + 1) }
+    ensures ok { IfOk result (λ past. EncodesByte W.took out.old out.new (shape_mode shape) offset
+        second_bytes above_bytes byte before
+        encoder.old learned.old n past encoder.new learned.new) }
+    ensures err { has_failed encoder.old ≡ false →
+        OnErr result (FailsByte W.took W.refused out.old out.new (shape_mode shape) offset
+        second_bytes
+        above_bytes byte before
+        encoder.old learned.old n) }
+{
+    if has_lanes::<TWO_LINE, MOVED>(shape, offset, n) {
+        encode_eight(
+            shape,
+            second_bytes,
+            above_bytes,
+            byte,
+            before,
+            learned,
+            encoder,
+            out,
+        )
+    } else {
+        encode_byte::<_, TWO_LINE, MOVED>(
+            shape,
+            offset,
+            second_bytes,
+            above_bytes,
+            byte,
+            before,
+            n,
+            learned,
+            encoder,
+            out,
+        )
+    }
 }
 
 /// Encodes a byte in one step, where its pixels all stand among pixels of their own colour, and no
@@ -169,7 +360,7 @@ fn encode_step<W: CodeSink, const TWO_LINE: bool, const MOVED: bool>(
     ) {
         Ok(past_eight::<MOVED>(before, byte))
     } else {
-        encode_byte::<_, TWO_LINE, MOVED>(
+        encode_plain::<_, TWO_LINE, MOVED>(
             shape,
             offset,
             second_bytes,

@@ -9,6 +9,7 @@ mod context;
 mod counted;
 mod decode;
 mod encode;
+mod lanes;
 mod shape;
 mod tally;
 mod uniform;

@@ -12,6 +12,7 @@ use Rattle.raster_core.specs.Lines.{Lines, Mode, pixel_events}
 use Rattle.raster_core.specs.Machine.Registers.{bit, before, past_bits}
 use Rattle.raster_core.specs.Events.{Decodes, Stops}
 use Rattle.raster_core.specs.Packed.{packed_row}
+use Rattle.raster_core.specs.Machine.Lanes.{HasAround}
 use Rattle.raster_core.specs.Machine.Uniform.{uniform_event, StaysUniform, AreWhite}
 
 -- the lines with another current row
@@ -57,6 +58,22 @@ StopsAlong {S} pull old new mode offset second above past d learned n d' =
     PixelsSoFar pull from old mode offset first s answers lines done past d learned →
     second ≡ before lines.second (length done + 16) 24 → above ≡ before lines.above (length done + 16) 24 →
     PixelsStop pull from new mode offset first s answers lines (length done + n) d'
+
+-- Pixels more were decoded of a byte, to whose contexts the rows above give these lanes: with three lines, and the
+-- adaptive pixel in its nominal place.
+abbrev pub AlongMore : {S : Type 0} (pull : S → Pulled → S → Type 0) (mid new : S) (lanes past : ℕ) (d : Decoder) (learned : List Estimate)
+    (count past' : ℕ) (d' : Decoder) (learned' : List Estimate) → Type 0
+AlongMore {S} pull mid new lanes past d learned count past' d' learned' =
+    (typical : Bool) (old : S) (second above past₀ : ℕ) (d₀ : Decoder) (learned₀ : List Estimate) (n : ℕ) → n + count ≤ 8 → HasAround lanes second above n count →
+    Along pull old mid (record { two_line = false; typical = typical }) 0 second above past₀ d₀ learned₀ n past d learned →
+    Along pull old new (record { two_line = false; typical = typical }) 0 second above past₀ d₀ learned₀ (n + count) past' d' learned'
+
+-- the source stopped at one of them
+abbrev pub StopsMore : {S : Type 0} (pull : S → Pulled → S → Type 0) (mid new : S) (lanes past : ℕ) (d : Decoder) (learned : List Estimate) (count : ℕ) (d' : Decoder) → Type 0
+StopsMore {S} pull mid new lanes past d learned count d' =
+    (typical : Bool) (old : S) (second above past₀ : ℕ) (d₀ : Decoder) (learned₀ : List Estimate) (n : ℕ) → n + count ≤ 8 → HasAround lanes second above n count →
+    Along pull old mid (record { two_line = false; typical = typical }) 0 second above past₀ d₀ learned₀ n past d learned →
+    StopsAlong pull old new (record { two_line = false; typical = typical }) 0 second above past₀ d₀ learned₀ 8 d'
 
 -- A byte of one colour was decoded in one step, with no byte asked for: each of its pixels stands in the context of that colour.
 pub record SkipsAlong (mode : Mode) (offset second above byte past : ℕ) (d : Decoder) (learned : List Estimate) (d' : Decoder) : Type 0 where

@@ -1,4 +1,4 @@
-use Rattle.std.proofs.Common.{◌≡◌, false, arith, refl, sym, ◌∙◌, subst, ◌*◌, ◌/◌, ◌^◌, ◌<◌, ◌%◌, ap}
+use Rattle.std.proofs.Common.{◌+◌, ◌≡◌, false, arith, refl, sym, ◌∙◌, subst, ◌*◌, ◌/◌, ◌^◌, ◌<◌, ◌%◌, ap}
 use Rattle.std.specs.Prelude.{nat_eq}
 use Rattle.qm_core.specs.Encoder.{has_failed}
 use Rattle.raster_core.specs.Lines.{context_at}
@@ -30,7 +30,7 @@ returns-in_err-put-clause-err g c = λ going.
     exit_err c.from_residual.result _
     (byte_fails g.W.CodeSink.took g.W.CodeSink.refused g.W.CodeSink.failed c.args.out.now c.loop-j.out c.put.new.out (shape_mode c.args.shape) c.args.offset c.args.second_bytes c.args.above_bytes c.args.byte c.args.before c.args.encoder.now c.args.learned.now
     c.loop-j._j c.args.n c.loop-j.past c.loop-j.encoder c.put.new.self c.loop-j.learned c.put.new.learned c.context_of-cx.result.number (nat_eq (c.loop-j.row / 2 ^ 7 % 2) 1) c.put.result _
-    (omega arith) c.loop-j-test.true c.in_err-put.was c.loop-j.invariant.same (ap (λ z. nat_eq (z / 2 ^ 7 % 2) 1) c.loop-j.invariant.row) (λ lines x r. subst (λ t. c.context_of-cx.result.number ≡ context_at (record { two_line = t; typical = c.args.shape.typical }) lines c.args.offset x) c.requires.template (c.context_of-cx.ensures c.args.shape.typical lines x (subst (λ z. AreAt lines c.args.offset c.loop-j.second z c.loop-j.past x) (sym c.loop-j.invariant.above) (subst (λ z. AreAt lines c.args.offset z (c.args.above_bytes / 2 ^ 6 * 2 ^ c.loop-j._j) c.loop-j.past x) (sym c.loop-j.invariant.second) r))))
+    (omega arith) c.loop-j-test.true c.in_err-put.was (ap (λ z. nat_eq (z / 2 ^ 7 % 2) 1) c.loop-j.invariant.row) (λ lines x r b past. subst (λ t. c.context_of-cx.result.number ≡ context_at (record { two_line = t; typical = c.args.shape.typical }) lines c.args.offset (x + c.loop-j._j)) c.requires.template (c.context_of-cx.ensures c.args.shape.typical lines (x + c.loop-j._j) (subst (λ z. AreAt lines c.args.offset c.loop-j.second z c.loop-j.past (x + c.loop-j._j)) (sym c.loop-j.invariant.above) (subst (λ z. AreAt lines c.args.offset z (c.args.above_bytes / 2 ^ 6 * 2 ^ c.loop-j._j) c.loop-j.past (x + c.loop-j._j)) (sym c.loop-j.invariant.second) r))))
     (λ p pushed h. c.put.ensures.put p pushed (c.loop-j.invariant.going ∙ going) h) c.loop-j.invariant.along)
 
 pub loop-j-preserved : goal.loop-j-preserved
@@ -50,7 +50,7 @@ loop-j-preserved g c =
       row_small = grows _ _ _ c.loop-j.invariant.row_small;
       along = byte_next g.W.CodeSink.took g.W.CodeSink.refused g.W.CodeSink.failed c.args.out.now c.loop-j.out c.put.new.out (shape_mode c.args.shape) c.args.offset c.args.second_bytes c.args.above_bytes c.args.byte c.args.before c.args.encoder.now c.args.learned.now
           c.loop-j._j c.loop-j.past _ c.loop-j.encoder c.put.new.self c.loop-j.learned c.put.new.learned c.context_of-cx.result.number (nat_eq (c.loop-j.row / 2 ^ 7 % 2) 1) c.put.result
-          (omega arith) c.in_ok-put.was (c.past_and-past.ensures c.args.offset c.requires.moved) (ap (λ z. nat_eq (z / 2 ^ 7 % 2) 1) c.loop-j.invariant.row) (λ lines x r. subst (λ t. c.context_of-cx.result.number ≡ context_at (record { two_line = t; typical = c.args.shape.typical }) lines c.args.offset x) c.requires.template (c.context_of-cx.ensures c.args.shape.typical lines x (subst (λ z. AreAt lines c.args.offset c.loop-j.second z c.loop-j.past x) (sym c.loop-j.invariant.above) (subst (λ z. AreAt lines c.args.offset z (c.args.above_bytes / 2 ^ 6 * 2 ^ c.loop-j._j) c.loop-j.past x) (sym c.loop-j.invariant.second) r))))
+          (omega arith) c.in_ok-put.was (c.past_and-past.ensures c.args.offset c.requires.moved) (ap (λ z. nat_eq (z / 2 ^ 7 % 2) 1) c.loop-j.invariant.row) (λ lines x r b past. subst (λ t. c.context_of-cx.result.number ≡ context_at (record { two_line = t; typical = c.args.shape.typical }) lines c.args.offset (x + c.loop-j._j)) c.requires.template (c.context_of-cx.ensures c.args.shape.typical lines (x + c.loop-j._j) (subst (λ z. AreAt lines c.args.offset c.loop-j.second z c.loop-j.past (x + c.loop-j._j)) (sym c.loop-j.invariant.above) (subst (λ z. AreAt lines c.args.offset z (c.args.above_bytes / 2 ^ 6 * 2 ^ c.loop-j._j) c.loop-j.past (x + c.loop-j._j)) (sym c.loop-j.invariant.second) r))))
           (λ p pushed h. c.put.ensures.put p pushed going h) c.loop-j.invariant.along;
     }
 

@@ -13,5 +13,5 @@ returns-then-skip_byte-clause-ok g c =
 
 pub returns-else-skip_byte-clause-ok : goal.returns-else-skip_byte-clause-ok
 returns-else-skip_byte-clause-ok g c =
-    subst (λ d. IfOk c.encode_byte.result (λ past. EncodesByte g.W.CodeSink.took c.args.out.now c.encode_byte.new.out (shape_mode c.args.shape) c.args.offset c.args.second_bytes c.args.above_bytes c.args.byte c.args.before d c.args.learned.now c.args.n past c.encode_byte.new.encoder c.encode_byte.new.learned))
-    (c.skip_byte.ensures.unchanged c.if-skip_byte.false) c.encode_byte.ensures.ok
+    subst (λ d. IfOk c.encode_plain.result (λ past. EncodesByte g.W.CodeSink.took c.args.out.now c.encode_plain.new.out (shape_mode c.args.shape) c.args.offset c.args.second_bytes c.args.above_bytes c.args.byte c.args.before d c.args.learned.now c.args.n past c.encode_plain.new.encoder c.encode_plain.new.learned))
+    (c.skip_byte.ensures.unchanged c.if-skip_byte.false) c.encode_plain.ensures.ok

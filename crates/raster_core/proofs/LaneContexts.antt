@@ -1,0 +1,68 @@
+-- Contexts from lanes are those of the coordinates.
+use Rattle.std.proofs.Common.{◌≡◌, ℕ, ◌+◌, ◌-◌, ◌*◌, ◌/◌, ◌%◌, ◌^◌, ◌<◌, ◌≤◌, Bool, true, false, List, refl, sym, ◌∙◌, ap, arith, subst, zero-add, add-zero}
+use Rattle.qm_core.specs.Place.{Estimate}
+use Rattle.qm_core.specs.declared.source.Pulled.{Pulled}
+use Rattle.qm_core.specs.declared.decoder.Decoder.{Decoder}
+use Rattle.raster_core.specs.Lines.{Lines, Mode, context_at}
+use Rattle.raster_core.specs.Machine.Registers.{AreAt}
+use Rattle.raster_core.specs.Machine.Lanes.{lane, around, HasAround}
+use Rattle.raster_core.specs.Machine.Decoded.{Along, StopsAlong, AlongMore, StopsMore}
+use Rattle.raster_core.proofs.Contexts.{three_line_nominal}
+use Rattle.raster_core.proofs.LaneTables.{later_lane}
+
+-- the context of a pixel
+
+parts : (lanes s a : ℕ) → s < 8 → a < 32 → lanes / 1 % 2 ^ 16 ≡ s * 128 + a * 4 → lanes % 0x400 / 4 * 4 ≡ s * 128 + a * 4
+parts lanes s a hs ha h = omega arith
+
+pub lane_context : (typical : Bool) (lanes second above n past cx : ℕ) → HasAround lanes second above n 1 → cx ≡ lanes % 0x400 / 4 * 4 + past % 4 →
+    (lines : Lines) (x : ℕ) → AreAt lines 0 (second / 2 ^ 7 * 2 ^ n) (above / 2 ^ 6 * 2 ^ n) past x → cx ≡ context_at (record { two_line = false; typical = typical }) lines 0 x
+lane_context typical lanes second above n past cx has cx_is lines x r =
+    let z : n + 0 ≡ n = omega arith in
+    let here : lane lanes 0 ≡ around second above n = has 0 (omega arith) ∙ ap (λ k. around second above k) z in
+    let p = parts lanes (second / 2 ^ 7 * 2 ^ n / 2 ^ 7 % 8) (above / 2 ^ 6 * 2 ^ n / 2 ^ 7 % 32) (omega arith) (omega arith) here in
+    cx_is ∙ (ap (λ z. z + past % 4) p ∙ three_line_nominal lines (second / 2 ^ 7 * 2 ^ n) (above / 2 ^ 6 * 2 ^ n) past x r)
+
+-- pixels after pixels
+
+has_later : (lanes second above n i k : ℕ) → HasAround lanes second above n (i + k) → HasAround (lanes / 2 ^ (16 * i)) second above (n + i) k
+has_later lanes second above n i k has = λ j few.
+    let e : n + (i + j) ≡ (n + i) + j = omega arith in
+    later_lane lanes i j ∙ (has (i + j) (omega arith) ∙ ap (λ m. around second above m) e)
+
+pub more_then : {S : Type 0} (pull : S → Pulled → S → Type 0) (a b c : S) (lanes p : ℕ) (d : Decoder) (l : List Estimate) (i p' : ℕ) (d' : Decoder) (l' : List Estimate) (k p'' : ℕ) (d'' : Decoder) (l'' : List Estimate) →
+    AlongMore pull a b lanes p d l i p' d' l' → AlongMore pull b c (lanes / 2 ^ (16 * i)) p' d' l' k p'' d'' l'' → AlongMore pull a c lanes p d l (i + k) p'' d'' l''
+more_then {S} pull a b c lanes p d l i p' d' l' k p'' d'' l'' first then = λ typical old second above past₀ d₀ learned₀ n few has so_far.
+    let e : (n + i) + k ≡ n + (i + k) = omega arith in
+    subst (λ m. Along pull old c (record { two_line = false; typical = typical }) 0 second above past₀ d₀ learned₀ m p'' d'' l'') e
+    (then typical old second above past₀ d₀ learned₀ (n + i) (omega arith) (has_later lanes second above n i k has)
+    (first typical old second above past₀ d₀ learned₀ n (omega arith) (λ j less. has j (omega arith)) so_far))
+
+pub stops_first : {S : Type 0} (pull : S → Pulled → S → Type 0) (a b : S) (lanes p : ℕ) (d : Decoder) (l : List Estimate) (i k : ℕ) (d' : Decoder) → i ≤ k →
+    StopsMore pull a b lanes p d l i d' → StopsMore pull a b lanes p d l k d'
+stops_first {S} pull a b lanes p d l i k d' h stops = λ typical old second above past₀ d₀ learned₀ n few has so_far.
+    stops typical old second above past₀ d₀ learned₀ n (omega arith) (λ j less. has j (omega arith)) so_far
+
+pub stops_then : {S : Type 0} (pull : S → Pulled → S → Type 0) (a b c : S) (lanes p : ℕ) (d : Decoder) (l : List Estimate) (i p' : ℕ) (d' : Decoder) (l' : List Estimate) (k : ℕ) (d'' : Decoder) →
+    AlongMore pull a b lanes p d l i p' d' l' → StopsMore pull b c (lanes / 2 ^ (16 * i)) p' d' l' k d'' → StopsMore pull a c lanes p d l (i + k) d''
+stops_then {S} pull a b c lanes p d l i p' d' l' k d'' first then = λ typical old second above past₀ d₀ learned₀ n few has so_far.
+    then typical old second above past₀ d₀ learned₀ (n + i) (omega arith) (has_later lanes second above n i k has)
+    (first typical old second above past₀ d₀ learned₀ n (omega arith) (λ j less. has j (omega arith)) so_far)
+
+-- pixels of a byte
+
+pub along_at : {S : Type 0} (pull : S → Pulled → S → Type 0) (old a b : S) (mode : Mode) (lanes second above past₀ : ℕ) (d₀ : Decoder) (learned₀ : List Estimate) (n p : ℕ) (d : Decoder) (l : List Estimate) (k p' : ℕ) (d' : Decoder) (l' : List Estimate) →
+    mode.two_line ≡ false → n + k ≤ 8 → HasAround lanes second above n k → Along pull old a mode 0 second above past₀ d₀ learned₀ n p d l → AlongMore pull a b lanes p d l k p' d' l' →
+    Along pull old b mode 0 second above past₀ d₀ learned₀ (n + k) p' d' l'
+along_at {S} pull old a b mode lanes second above past₀ d₀ learned₀ n p d l k p' d' l' three few has so_far more =
+    let same : record { two_line = false; typical = mode.typical } ≡ mode = ap (λ t. record { two_line = t; typical = mode.typical }) (sym three) in
+    subst (λ m. Along pull old b m 0 second above past₀ d₀ learned₀ (n + k) p' d' l') same
+    (more mode.typical old second above past₀ d₀ learned₀ n few has (subst (λ m. Along pull old a m 0 second above past₀ d₀ learned₀ n p d l) (sym same) so_far))
+
+pub stops_at : {S : Type 0} (pull : S → Pulled → S → Type 0) (old a b : S) (mode : Mode) (lanes second above past₀ : ℕ) (d₀ : Decoder) (learned₀ : List Estimate) (n p : ℕ) (d : Decoder) (l : List Estimate) (k : ℕ) (d' : Decoder) →
+    mode.two_line ≡ false → n + k ≤ 8 → HasAround lanes second above n k → Along pull old a mode 0 second above past₀ d₀ learned₀ n p d l → StopsMore pull a b lanes p d l k d' →
+    StopsAlong pull old b mode 0 second above past₀ d₀ learned₀ 8 d'
+stops_at {S} pull old a b mode lanes second above past₀ d₀ learned₀ n p d l k d' three few has so_far more =
+    let same : record { two_line = false; typical = mode.typical } ≡ mode = ap (λ t. record { two_line = t; typical = mode.typical }) (sym three) in
+    subst (λ m. StopsAlong pull old b m 0 second above past₀ d₀ learned₀ 8 d') same
+    (more mode.typical old second above past₀ d₀ learned₀ n few has (subst (λ m. Along pull old a m 0 second above past₀ d₀ learned₀ n p d l) (sym same) so_far))

@@ -1,0 +1,192 @@
+-- Lanes of 16 bits, and the tables that fill them.
+use Rattle.std.proofs.Common.{◌≡◌, ℕ, zero, suc, ◌+◌, ◌-◌, ◌*◌, ◌/◌, ◌%◌, ◌^◌, ◌<◌, ◌≤◌, Bool, true, false, ◌&&◌, List, [], ◌∷◌, length, get_or, eqb, leb, arith, refl, sym, ◌∙◌, ap, rules, add-zero, zero-add, Ok, Err}
+use Rattle.std.specs.Prelude.{Result, IfOk, OnOk, OnErr}
+use Rattle.std.proofs.lemmas.Bool.{eqb-true, leb-true}
+use Rattle.std.proofs.Math.Nat.{div-div-eq-div-mul}
+use Rattle.std.proofs.lemmas.Nat.{pow-add}
+use Rattle.raster_core.specs.declared.lanes.TheConstants.{SECOND_LANES, ABOVE_LANES, ROW_LANES}
+use Rattle.raster_core.specs.Machine.Lanes.{lane, second_lane, above_lane, row_lane, around, own}
+
+-- ---- what holds of a result
+
+pub if_ok : {T E : Type 0} (r : Result T E) (P Q : T → Type 0) → ((x : T) → P x → Q x) → IfOk r P → IfOk r Q
+if_ok (Ok x) P Q f h = f x h
+if_ok (Err e) P Q f h = h
+
+pub on_err : {T E : Type 0} (r : Result T E) {P Q : Type 0} → (P → Q) → OnErr r P → OnErr r Q
+on_err (Ok x) f h = h
+on_err (Err e) f h = f h
+
+pub ok_then : {E : Type 0} (r : Result (Unit {0}) E) {P : Type 0} → (r ≡ Ok tt → P) → OnOk r P
+ok_then (Ok tt) f = f refl
+ok_then (Err e) f = tt
+
+pub err_then : {T E : Type 0} (r : Result T E) {P : Type 0} → ((e : E) → r ≡ Err e → P) → OnErr r P
+err_then (Ok x) f = tt
+err_then (Err e) f = f e refl
+
+pub on_ok : {T E : Type 0} (r : Result T E) {P Q : Type 0} → (P → Q) → OnOk r P → OnOk r Q
+on_ok (Ok x) f h = f h
+on_ok (Err e) f h = h
+
+-- ---- lanes of a sum
+
+next_lane : (c j : ℕ) → lane c (suc j) ≡ lane (c / 2 ^ 16) j
+next_lane c j =
+    let e : 16 * suc j ≡ 16 + 16 * j = omega arith in
+    let p : 2 ^ (16 * suc j) ≡ 2 ^ 16 * 2 ^ (16 * j) = ap (λ k. 2 ^ k) e ∙ pow-add 2 16 (16 * j) in
+    ap (λ z. z % 2 ^ 16) (ap (λ z. c / z) p ∙ sym (div-div-eq-div-mul c (2 ^ 16) (2 ^ (16 * j))))
+
+pub later_lane : (lanes i j : ℕ) → lane (lanes / 2 ^ (16 * i)) j ≡ lane lanes (i + j)
+later_lane lanes i j =
+    let e : 16 * (i + j) ≡ 16 * i + 16 * j = omega arith in
+    let p : 2 ^ (16 * (i + j)) ≡ 2 ^ (16 * i) * 2 ^ (16 * j) = ap (λ k. 2 ^ k) e ∙ pow-add 2 (16 * i) (16 * j) in
+    ap (λ z. z % 2 ^ 16) (div-div-eq-div-mul lanes (2 ^ (16 * i)) (2 ^ (16 * j)) ∙ ap (λ z. lanes / z) (sym p))
+
+pub sum_lane : (a b j : ℕ) → ((i : ℕ) → i ≤ j → lane a i + lane b i < 2 ^ 16) → lane (a + b) j ≡ lane a j + lane b j
+sum_lane a b zero small = let s : a / 1 % 2 ^ 16 + b / 1 % 2 ^ 16 < 2 ^ 16 = small 0 (omega arith) in let e : (a + b) / 1 % 2 ^ 16 ≡ a / 1 % 2 ^ 16 + b / 1 % 2 ^ 16 = omega arith in e
+sum_lane a b (suc j) small =
+    let s : a / 1 % 2 ^ 16 + b / 1 % 2 ^ 16 < 2 ^ 16 = small 0 (omega arith) in
+    let e : (a + b) / 2 ^ 16 ≡ a / 2 ^ 16 + b / 2 ^ 16 = omega arith in
+    next_lane (a + b) j ∙ (ap (λ z. lane z j) e
+    ∙ (sum_lane (a / 2 ^ 16) (b / 2 ^ 16) j (λ i l. let t : lane a (suc i) + lane b (suc i) < 2 ^ 16 = small (suc i) (omega (arith, l)) in omega (arith, t, next_lane a i, next_lane b i))
+    ∙ (ap (λ z. z + lane (b / 2 ^ 16) j) (sym (next_lane a j)) ∙ ap (λ z. lane a (suc j) + z) (sym (next_lane b j)))))
+
+pub sum_is : (a b : ℕ) (f g : ℕ → ℕ) (j : ℕ) → j < 4 → ((i : ℕ) → i < 4 → lane a i ≡ f i) → ((i : ℕ) → i < 4 → lane b i ≡ g i) → ((i : ℕ) → i < 4 → f i + g i < 2 ^ 16) → lane (a + b) j ≡ f j + g j
+sum_is a b f g j few fa gb small =
+    sum_lane a b j (λ i l. let k : i < 4 = omega arith in let s = small i k in let p : lane a i ≡ f i = fa i k in let q : lane b i ≡ g i = gb i k in rw (p, q) s)
+    ∙ (ap (λ z. z + lane b j) (fa j few) ∙ ap (λ z. f j + z) (gb j few))
+
+-- ---- the tables
+
+-- an entry has these four lanes, and is small
+pub fits : (ℕ → ℕ → ℕ) → ℕ → ℕ → Bool
+fits f w e =
+    eqb (lane e 0) (f w 0) && eqb (lane e 1) (f w 1) && eqb (lane e 2) (f w 2) && eqb (lane e 3) (f w 3)
+    && leb e (2 ^ 58)
+
+pub all_from : (ℕ → ℕ → ℕ) → ℕ → List ℕ → Bool
+unfolding fits
+all_from f k [] = true
+all_from f k (e ∷ es) = fits f k e && all_from f (k + 1) es
+
+second_fits : all_from second_lane 0 SECOND_LANES ≡ true
+unfolding all_from fits
+second_fits = refl
+
+above_fits : all_from above_lane 0 ABOVE_LANES ≡ true
+unfolding all_from fits
+above_fits = refl
+
+row_fits : all_from row_lane 0 ROW_LANES ≡ true
+unfolding all_from fits
+row_fits = refl
+
+and_left : (a b : Bool) → (a && b) ≡ true → a ≡ true
+and_left true b h = refl
+and_left false b h = h
+
+and_right : (a b : Bool) → (a && b) ≡ true → b ≡ true
+and_right true b h = h
+and_right false b h = cc
+
+fits_at : (f : ℕ → ℕ → ℕ) (k : ℕ) (es : List ℕ) → all_from f k es ≡ true → (i : ℕ) → i < length es → fits f (k + i) (get_or es i 0) ≡ true
+unfolding all_from
+fits_at f k [] h i l = absurd (omega arith)
+fits_at f k (e ∷ es) h zero l = rw add-zero (and_left _ _ h)
+fits_at f k (e ∷ es) h (suc i) l =
+    let e1 : k + suc i ≡ (k + 1) + i = omega arith in
+    rw e1 (fits_at f (k + 1) es (and_right _ _ h) i (omega arith))
+
+-- what an entry says
+pub record Says (f : ℕ → ℕ → ℕ) (w e : ℕ) : Type 0 where
+  pub lanes : (j : ℕ) → j < 4 → lane e j ≡ f w j
+  pub small : e ≤ 2 ^ 58
+
+says : (f : ℕ → ℕ → ℕ) (w e : ℕ) → fits f w e ≡ true → Says f w e
+unfolding fits
+says f w e h =
+    let a = and_left _ _ h in
+    let b = and_left _ _ a in
+    let c = and_left _ _ b in
+    record {
+      lanes = four (eqb-true _ _ (and_left _ _ c)) (eqb-true _ _ (and_right _ _ c)) (eqb-true _ _ (and_right _ _ b)) (eqb-true _ _ (and_right _ _ a));
+      small = leb-true _ _ (and_right _ _ h);
+    }
+  where
+    four : lane e 0 ≡ f w 0 → lane e 1 ≡ f w 1 → lane e 2 ≡ f w 2 → lane e 3 ≡ f w 3 → (j : ℕ) → j < 4 → lane e j ≡ f w j
+    four h0 h1 h2 h3 zero l = h0
+    four h0 h1 h2 h3 (suc zero) l = h1
+    four h0 h1 h2 h3 (suc (suc zero)) l = h2
+    four h0 h1 h2 h3 (suc (suc (suc zero))) l = h3
+    four h0 h1 h2 h3 (suc (suc (suc (suc j)))) l = absurd (omega arith)
+
+pub second_says : (w : ℕ) → w < 64 → Says second_lane w (get_or SECOND_LANES w 0)
+second_says w h = says second_lane w _ (rw zero-add at (fits_at second_lane 0 SECOND_LANES second_fits w h))
+
+pub above_says : (w : ℕ) → w < 256 → Says above_lane w (get_or ABOVE_LANES w 0)
+above_says w h = says above_lane w _ (rw zero-add at (fits_at above_lane 0 ABOVE_LANES above_fits w h))
+
+pub row_says : (w : ℕ) → w < 64 → Says row_lane w (get_or ROW_LANES w 0)
+row_says w h = says row_lane w _ (rw zero-add at (fits_at row_lane 0 ROW_LANES row_fits w h))
+
+-- ---- the windows of a byte's first four pixels and of its last
+
+pub first_second : (s j : ℕ) → j < 4 → s / 2 ^ 11 % 64 * 2 ^ j / 8 % 8 ≡ s / 2 ^ 7 * 2 ^ j / 2 ^ 7 % 8
+first_second s zero h = omega arith
+first_second s (suc zero) h = omega arith
+first_second s (suc (suc zero)) h = omega arith
+first_second s (suc (suc (suc zero))) h = omega arith
+first_second s (suc (suc (suc (suc j)))) h = absurd (omega arith)
+
+pub first_above : (a j : ℕ) → j < 4 → a / 2 ^ 10 % 256 * 2 ^ j / 8 % 32 ≡ a / 2 ^ 6 * 2 ^ j / 2 ^ 7 % 32
+first_above a zero h = omega arith
+first_above a (suc zero) h = omega arith
+first_above a (suc (suc zero)) h = omega arith
+first_above a (suc (suc (suc zero))) h = omega arith
+first_above a (suc (suc (suc (suc j)))) h = absurd (omega arith)
+
+pub first_row : (r j : ℕ) → j < 4 → r / 2 ^ 4 % 64 * 2 ^ j / 8 % 8 ≡ own r j
+first_row r zero h = omega arith
+first_row r (suc zero) h = omega arith
+first_row r (suc (suc zero)) h = omega arith
+first_row r (suc (suc (suc zero))) h = omega arith
+first_row r (suc (suc (suc (suc j)))) h = absurd (omega arith)
+
+pub last_second : (s j : ℕ) → j < 4 → s / 2 ^ 7 % 64 * 2 ^ j / 8 % 8 ≡ s / 2 ^ 7 * 2 ^ (4 + j) / 2 ^ 7 % 8
+last_second s zero h = omega arith
+last_second s (suc zero) h = omega arith
+last_second s (suc (suc zero)) h = omega arith
+last_second s (suc (suc (suc zero))) h = omega arith
+last_second s (suc (suc (suc (suc j)))) h = absurd (omega arith)
+
+pub last_above : (a j : ℕ) → j < 4 → a / 2 ^ 6 % 256 * 2 ^ j / 8 % 32 ≡ a / 2 ^ 6 * 2 ^ (4 + j) / 2 ^ 7 % 32
+last_above a zero h = omega arith
+last_above a (suc zero) h = omega arith
+last_above a (suc (suc zero)) h = omega arith
+last_above a (suc (suc (suc zero))) h = omega arith
+last_above a (suc (suc (suc (suc j)))) h = absurd (omega arith)
+
+pub last_row : (r j : ℕ) → j < 4 → r % 64 * 2 ^ j / 8 % 8 ≡ own r (4 + j)
+last_row r zero h = omega arith
+last_row r (suc zero) h = omega arith
+last_row r (suc (suc zero)) h = omega arith
+last_row r (suc (suc (suc zero))) h = omega arith
+last_row r (suc (suc (suc (suc j)))) h = absurd (omega arith)
+
+pub first_around_is : (s a j : ℕ) → j < 4 → second_lane (s / 2 ^ 11 % 64) j + above_lane (a / 2 ^ 10 % 256) j ≡ around s a (0 + j)
+first_around_is s a j h = let z : 0 + j ≡ j = omega arith in rw z (ap (λ z. z * 128 + above_lane (a / 2 ^ 10 % 256) j) (first_second s j h) ∙ ap (λ z. s / 2 ^ 7 * 2 ^ j / 2 ^ 7 % 8 * 128 + z * 4) (first_above a j h))
+
+first_row_at : (r j : ℕ) → j < 4 → row_lane (r / 2 ^ 4 % 64) j ≡ own r (0 + j)
+first_row_at r j h = let z : 0 + j ≡ j = omega arith in rw z (first_row r j h)
+
+pub first_pixels_are : (s a r j : ℕ) → j < 4 → 2 * (second_lane (s / 2 ^ 11 % 64) j + above_lane (a / 2 ^ 10 % 256) j) + row_lane (r / 2 ^ 4 % 64) j ≡ 2 * around s a (0 + j) + own r (0 + j)
+first_pixels_are s a r j h =
+    ap (λ z. 2 * z + row_lane (r / 2 ^ 4 % 64) j) (first_around_is s a j h) ∙ ap (λ z. 2 * around s a (0 + j) + z) (first_row_at r j h)
+
+pub last_around_is : (s a j : ℕ) → j < 4 → second_lane (s / 2 ^ 7 % 64) j + above_lane (a / 2 ^ 6 % 256) j ≡ around s a (4 + j)
+last_around_is s a j h = ap (λ z. z * 128 + above_lane (a / 2 ^ 6 % 256) j) (last_second s j h) ∙ ap (λ z. s / 2 ^ 7 * 2 ^ (4 + j) / 2 ^ 7 % 8 * 128 + z * 4) (last_above a j h)
+
+pub last_pixels_are : (s a r j : ℕ) → j < 4 → 2 * (second_lane (s / 2 ^ 7 % 64) j + above_lane (a / 2 ^ 6 % 256) j) + row_lane (r % 64) j ≡ 2 * around s a (4 + j) + own r (4 + j)
+last_pixels_are s a r j h =
+    ap (λ z. 2 * z + row_lane (r % 64) j) (last_around_is s a j h) ∙ ap (λ z. 2 * around s a (4 + j) + z) (last_row r j h)

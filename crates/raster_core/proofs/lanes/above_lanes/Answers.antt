@@ -1,0 +1,9 @@
+use Rattle.std.proofs.Common.{arith}
+use Rattle.raster_core.proofs.LaneTables.{above_says}
+use Rattle.raster_core.proofs.lanes.above_lanes.Goals as goal
+
+pub returns-clause-lanes : goal.returns-clause-lanes
+returns-clause-lanes c = (above_says c.args.window c.requires).lanes
+
+pub returns-clause-small : goal.returns-clause-small
+returns-clause-small c = (above_says c.args.window c.requires).small
