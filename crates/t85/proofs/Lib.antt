@@ -1,0 +1,11 @@
+pub mod Bytes
+pub mod Delivery
+pub mod Digits
+pub mod Headers
+pub mod Lines
+pub mod Meaning
+pub mod Placed
+pub mod RawRows
+pub mod Rowed
+pub mod Stored
+pub mod Taken

@@ -1,0 +1,160 @@
+-- From what the encoder leaves of a room to what stands in the lent memory.
+use Rattle.std.proofs.Common.{◌≡◌, ◌≤◌, ◌<◌, ◌^◌, ◌==◌, ◌⊎◌, inl, inr, ℕ, true, false, nat_lt, Bor, List, [], ◌∷◌, ◌++◌, length, take, Option, Some, None, Result, Ok, Err, refl, sym, ap, ◌∙◌, subst, arith, append-nil, append_assoc, true≢false}
+use Rattle.std.specs.Prelude.{is_some, option_to_list, option_map, unwrap_or}
+use Rattle.std.specs.Option.{option_map_or}
+use Rattle.std.specs.Io.KnownBytes.{Consumes}
+use Rattle.std.proofs.lemmas.Bool.Decides.{nat_tests}
+use Rattle.std.proofs.lemmas.List.{take-take}
+use Rattle.std.proofs.Math.Seq.{take-length}
+use Rattle.pbm_core.specs.Device.{between}
+use Rattle.pbm_core.specs.Pbm.{bytes_of_row}
+use Rattle.pbm_core.specs.declared.fault.PbmFault.TheVariants.{Truncated, BadDigit, Read as PbmRead}
+use Rattle.pbm_core.specs.declared.form.Form.TheVariants.{Raw}
+use Rattle.raster_core.specs.Raster.{Raster, IsRaster}
+use Rattle.t85_core.specs.declared.fault.Fault.{Fault}
+use Rattle.t85_core.specs.declared.fault.Fault.TheVariants.{Write, AnnouncedLow, Pbm}
+use Rattle.t85_core.specs.declared.options.Options.{Options}
+use Rattle.t85_core.specs.Encode.{Encode, WritesCodeFront, BeginsWith, raster_of}
+use Rattle.t85_core.specs.Jbg.{Settings, AreSettings, IsAnnounced, is_low, jbg}
+use Rattle.t85_core.specs.Laws.{CodeDenotes}
+use Rattle.t85_core.specs.Options.{settings_of}
+use Rattle.t85.specs.Delivered.{status_of, IsFull}
+use Rattle.t85.specs.Encoded.{WritesCode}
+use Rattle.t85.proofs.Delivery.{none_failed, fits_in, full_of}
+use Rattle.t85.proofs.RawRows.{RowsOf, rows_of, ends_within, first_rows}
+
+comment_fits : (o : Option (Bor (List ℕ))) → option_map_or (λ c. length c.now) o 0 < 2 ^ 32 → length (unwrap_or (option_map (λ c. c.now) o) []) < 2 ^ 32
+comment_fits None fits = fits
+comment_fits (Some c) fits = fits
+
+announced_small : (o : Option ℕ) → option_map_or (λ n. n) o 0 < 2 ^ 32 → unwrap_or o 0 < 2 ^ 32
+announced_small None fits = fits
+announced_small (Some n) fits = fits
+
+-- what options say is in its ranges
+pub are_settings : (o : Options) → AreSettings (settings_of o)
+are_settings o = record {
+  options_to = o.no_reserved_bit;
+  no_low_bit = o.no_low_bit;
+  no_layer_bit = ap (λ n. n == 1) o.no_layer_bit;
+  stripe_from = o.some_rows;
+  stripe_to = o.not_too_many;
+  offset_to = o.in_range;
+  announced_to = announced_small o.announced o.announced_fits;
+  comment_to = comment_fits o.comment o.comment_fits;
+}
+
+not_low : (a b : ℕ) → nat_lt a b ≡ false → b ≤ a
+not_low a b e = grind (arith, nat_tests)
+
+module _ (s : Settings) (width height' : ℕ) (body memory : List ℕ) (len : ℕ) (low : is_low s height' ≡ false) where
+  by_fault : (in_new : Option (List ℕ)) (f : Fault) → len ≤ length memory →
+      Encode s Raw width height' (between (Some body) in_new 0 0) (between (Some []) (Some (take len memory ++ [])) 0 0) (Err f) → WritesCode s width height' body memory len (status_of (Err f))
+  by_fault in_new (Pbm Truncated) within d =
+      let w = d.short Truncated (λ e. absurd (let bot : ⊥ = cc in bot)) refl in
+      inr (record {
+        rows = w.rows;
+        rest = w.rest;
+        holds = w.holds;
+        few = w.few;
+        part = w.part;
+        writes = inl (record { text = w.text; begun = w.begun; fits = fits_in w.text 36 memory len 36 (sym (append-nil (take len memory)) ∙ w.appends) within refl });
+      })
+  by_fault in_new (Pbm PbmRead) within d = absurd (omega (arith, d.reads))
+  by_fault in_new (Pbm BadDigit) within d =
+      let w = d.short BadDigit (λ e. absurd (let bot : ⊥ = cc in bot)) refl in
+      let same : BadDigit ≡ Truncated = w.part.shows.1 in
+      absurd (let bot : ⊥ = cc in bot)
+  by_fault in_new Write within d = absurd (omega (arith, d.writes))
+  by_fault in_new AnnouncedLow within d = absurd (true≢false (sym (d.low refl).0 ∙ low))
+  by_fault in_new f within d = absurd (d.among (λ e. absurd (let bot : ⊥ = cc in bot)))
+
+  by_answer : (in_new : Option (List ℕ)) (answer : Result (Unit {0}) Fault) → len ≤ length memory →
+      Encode s Raw width height' (between (Some body) in_new 0 0) (between (Some []) (Some (take len memory ++ [])) 0 0) answer → WritesCode s width height' body memory len (status_of answer)
+  by_answer in_new (Ok u) within d =
+      let w = d.whole in
+      inl (record {
+        rows = w.rows;
+        rest = w.rest;
+        holds = w.holds;
+        many = w.many;
+        denotes = w.denotes;
+        delivers = inl (fits_in (jbg s (raster_of width w.rows)) 0 memory len 0 (sym (append-nil (take len memory)) ∙ w.appends) within refl);
+      })
+  by_answer in_new (Err f) within d = by_fault in_new f within d
+
+  pub stored : (old : List ℕ) (in_new : Option (List ℕ)) (answer : Result (Unit {0}) Fault) (spilled : Option ℕ) (before failures : ℕ) → old ≡ [] → before ≡ 0 → is_some spilled ≡ false →
+      (0 < failures → is_some spilled ≡ true) → len ≤ length memory →
+      Encode s Raw width height' (between (Some body) in_new 0 0) (between (Some old) (Some (take len memory ++ option_to_list spilled)) before failures) answer →
+      WritesCode s width height' body memory len (status_of answer)
+  stored old in_new answer (Some b) before failures empty fresh none full within d = absurd (true≢false none)
+  stored old in_new answer None before failures empty fresh none full within d =
+      let D : List ℕ → ℕ → ℕ → Type 0 = λ start m n. Encode s Raw width height' (between (Some body) in_new 0 0) (between (Some start) (Some (take len memory ++ [])) m n) answer in
+      let e : D [] before failures = subst (λ l. D l before failures) empty d in
+      let f : D [] 0 failures = subst (λ m. D [] m failures) fresh e in
+      by_answer in_new answer within (subst (λ n. D [] 0 n) (none_failed failures false none full) f)
+
+  module _ (law : CodeDenotes) (proper : AreSettings s) (width_from : 1 ≤ width) (width_to : width ≤ 2 ^ 20) (height_from : 1 ≤ height') (height_to : height' < 2 ^ 32) (all : len ≡ length memory) (b : ℕ) where
+    -- the memory is full of the code of each raster that begins with the rows that are there
+    each : (given left : List ℕ) → body ≡ given ++ left → WritesCodeFront s Raw width height' given (Some []) (Some (take len memory ++ b ∷ [])) → (held : RowsOf width height' body) →
+        (raster : Raster) → BeginsWith width height' held.rows raster → IsFull (jbg s raster) memory len 18
+    each given left taken w held raster begins =
+        let same : w.holds.front ++ (w.rest ++ left) ≡ held.holds.front ++ held.rest =
+        sym (append_assoc w.holds.front w.rest left) ∙ ap (λ l. l ++ left) (sym w.holds.bytes_are) ∙ sym taken ∙ held.holds.bytes_are in
+        let few : length w.rows ≤ height' = w.few in
+        let ends = elim held.ends as (λ _. (length w.rows ≤ length held.rows) ⊎ (length held.rest < bytes_of_row width)) [ inl many ↦ inl (omega arith) | inr some ↦ inr some.1 ] in
+        let first = first_rows width w.rows held.rows w.holds.front (w.rest ++ left) held.holds.front held.rest same w.holds.are_rows held.holds.are_rows ends in
+        let begun = w.begins raster (record {
+          proper = begins.proper;
+          width_is = begins.width_is;
+          height_is = begins.height_is;
+          first = sym (take-take (length w.rows) (length held.rows) raster.rows first.0) ∙ ap (take (length w.rows)) begins.first ∙ first.1;
+        }) in
+        full_of (jbg s raster) memory b begun.rest len (begun.bytes_are ∙ ap (λ l. l ++ begun.rest) (sym w.appends)) all
+
+    is_raster : (held : RowsOf width height' body) → length held.rows ≡ height' → IsRaster (raster_of width held.rows)
+    is_raster held many = record { width_from = width_from; width_to = width_to; height_from = omega arith; height_to = omega arith; rows = held.wide }
+
+    filled : (given left : List ℕ) → body ≡ given ++ left → WritesCodeFront s Raw width height' given (Some []) (Some (take len memory ++ b ∷ [])) → (held : RowsOf width height' body) →
+        WritesCode s width height' body memory len 18
+    filled given left taken w held = elim held.ends [
+      | inl many ↦
+          let raster : Raster = raster_of width held.rows in
+          let is : IsRaster raster = is_raster held many in
+          let begins : BeginsWith width height' held.rows raster = record { proper = is; width_is = refl; height_is = many; first = take-length held.rows } in
+          inl (record {
+            rows = held.rows;
+            rest = held.rest;
+            holds = held.holds;
+            many = many;
+            denotes = law s raster proper is (subst (λ n. IsAnnounced s n) (sym many) (not_low (unwrap_or s.announced height') height' low));
+            delivers = inr (each given left taken w held raster begins);
+          })
+      | inr few ↦
+          inr (record {
+            rows = held.rows;
+            rest = held.rest;
+            holds = held.holds;
+            few = few.0;
+            part = ends_within width held.rest few.1;
+            writes = inr (record {
+              longer = λ raster begins. (each given left taken w held raster begins).longer;
+              stands = λ raster begins. (each given left taken w held raster begins).stands;
+              written_is = all;
+              answer_is = refl;
+            });
+          })
+    ]
+
+    begun : (in_new : Option (List ℕ)) (given : List ℕ) → Consumes (Some body) in_new given → WritesCodeFront s Raw width height' given (Some []) (Some (take len memory ++ b ∷ [])) →
+        WritesCode s width height' body memory len 18
+    begun None given taken w = absurd taken
+    begun (Some left) given taken w = filled given left taken w (rows_of width height' body)
+
+  pub overfull : (law : CodeDenotes) (proper : AreSettings s) → 1 ≤ width → width ≤ 2 ^ 20 → 1 ≤ height' → height' < 2 ^ 32 → (old : List ℕ) (in_new : Option (List ℕ)) (answer : Result (Unit {0}) Fault) (spilled : Option ℕ) (before failures : ℕ) →
+      old ≡ [] → is_some spilled ≡ true → (is_some spilled ≡ true → len ≡ length memory) →
+      Encode s Raw width height' (between (Some body) in_new 0 0) (between (Some old) (Some (take len memory ++ option_to_list spilled)) before failures) answer → WritesCode s width height' body memory len 18
+  overfull law proper wf wt hf ht old in_new answer None before failures empty some last d = absurd (true≢false (sym some))
+  overfull law proper wf wt hf ht old in_new answer (Some b) before failures empty some last d =
+      begun law proper wf wt hf ht (last some) b in_new d.front.0 d.front.1
+      (subst (λ l. WritesCodeFront s Raw width height' d.front.0 (Some l) (Some (take len memory ++ b ∷ []))) empty d.front.2)

@@ -1,0 +1,23 @@
+-- How long a stream may come to be.
+use Rattle.std.specs.Prelude.{ℕ, ◌+◌, ◌*◌, ◌==◌, ◌||◌, nat_lt, if◌then◌else◌, ◌≡◌, ◌≤◌, ◌<◌, ◌^◌, List, [], length, unwrap_or}
+use Rattle.raster_core.specs.Raster.{Raster, IsRaster, height}
+use Rattle.t85_core.specs.Grammar.{stripe_count}
+use Rattle.t85_core.specs.Jbg.{jbg}
+use Rattle.t85.specs.declared.options.T85Options.{T85Options}
+use Rattle.t85.specs.Encoded.{comment_asked, settings_asked}
+
+-- the bytes of the comment that is asked for
+abbrev pub comment_length : T85Options → ℕ → ℕ
+comment_length choice comment_len = if choice.has_comment then comment_len else 0
+
+-- what is answered: 0 for what an encoding call refuses, else the most bytes that a stream may have
+abbrev pub bound_told : T85Options → ℕ → ℕ → ℕ → ℕ
+bound_told choice width height' held =
+    if nat_lt 1048576 width || ((choice.stripe_rows == 0) || nat_lt 4294967295 held) then 0
+    else 34 + held + 14 * stripe_count height' choice.stripe_rows + 4 * (height' * (width + 1))
+
+-- So many bytes are enough for the stream of each raster of this size, with each comment of this length.
+abbrev pub IsBound : T85Options → ℕ → ℕ → ℕ → ℕ → Type 0
+IsBound choice width height' comment_len bound =
+    (comment : List ℕ) (raster : Raster) → length comment ≡ comment_len → length (unwrap_or (comment_asked choice comment) []) < 2 ^ 32 → 1 ≤ choice.stripe_rows
+    → IsRaster raster → raster.width ≡ width → height raster ≡ height' → length (jbg (settings_asked choice comment) raster) ≤ bound

@@ -1,0 +1,38 @@
+-- What stands in lent memory after a text was to be written there.
+use Rattle.std.specs.Prelude.{ℕ, ◌≡◌, ◌≤◌, ◌<◌, ◌⊎◌, List, length, take, Option, Some, None, Result, Ok, Err}
+use Rattle.t85_core.specs.declared.fault.Fault.{Fault}
+use Rattle.t85_core.specs.Fault.{fault_number}
+
+-- the status that tells a fault, or that there is none
+abbrev pub told : Option Fault → ℕ
+told None = 0
+told (Some fault) = fault_number fault
+
+-- the status of an answer of the engine
+abbrev pub status_of : Result (Unit {0}) Fault → ℕ
+status_of (Ok u) = 0
+status_of (Err fault) = fault_number fault
+
+-- The text fits, and stands there, and the status is this one.
+pub record Fits (text : List ℕ) (status : ℕ) (memory : List ℕ) (written answer : ℕ) : Type 0 where
+  pub fits : length text ≤ length memory
+  pub written_is : written ≡ length text
+  pub stands : take written memory ≡ text
+  pub answer_is : answer ≡ status
+
+-- The text is longer than the memory, which holds as much of it as there is room for.
+pub record IsFull (text memory : List ℕ) (written answer : ℕ) : Type 0 where
+  pub longer : length memory < length text
+  pub written_is : written ≡ length memory
+  pub stands : memory ≡ take (length memory) text
+  pub answer_is : answer ≡ 18
+
+-- A text was to be written, and this status told.
+abbrev pub Delivers : List ℕ → ℕ → List ℕ → ℕ → ℕ → Type 0
+Delivers text status memory written answer = Fits text status memory written answer ⊎ IsFull text memory written answer
+
+-- A call was refused with this status, before anything was written.
+pub record Refuses (status : ℕ) (old new : List ℕ) (written answer : ℕ) : Type 0 where
+  pub answer_is : answer ≡ status
+  pub nothing : written ≡ 0
+  pub kept : new ≡ old

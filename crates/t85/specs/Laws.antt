@@ -1,0 +1,49 @@
+-- What the answer 0 means, in the words of the engine's definitions.
+use Rattle.std.specs.Prelude.{ℕ, ◌≡◌, List, take, flat_map}
+use Rattle.std.specs.Int.{div_ceil}
+use Rattle.pbm_core.specs.Image.{HoldsRows}
+use Rattle.pbm_core.specs.declared.form.Form.TheVariants.{Raw}
+use Rattle.raster_core.specs.Packed.{packed_row}
+use Rattle.raster_core.specs.Raster.{Raster, height}
+use Rattle.t85_core.specs.Denotes.{Denotes}
+use Rattle.t85_core.specs.Jbg.{jbg}
+use Rattle.t85_core.specs.Outcome.{pbm_text}
+use Rattle.t85.specs.declared.options.T85Options.{T85Options}
+use Rattle.t85.specs.Decoded.{Decodes}
+use Rattle.t85.specs.DecodedRows.{DecodesRows}
+use Rattle.t85.specs.Encoded.{Encodes, settings_asked}
+use Rattle.t85.specs.Lined.{lined}
+
+-- the one raster that a stream denotes
+pub record IsOnly (stream : List ℕ) (raster : Raster) : Type 0 where
+  pub denotes : Denotes stream raster
+  pub only : (other : Raster) → Denotes stream other → other ≡ raster
+
+-- the image of the one raster that the stream denotes is written
+abbrev pub DecodedIsImage : Type 0
+DecodedIsImage =
+    (stream : List ℕ) (limit window : ℕ) (old new : List ℕ) (written : ℕ) → Decodes stream limit window old new written 0
+    → (raster : Raster) × IsOnly stream raster × (take written new ≡ pbm_text raster)
+
+-- its rows are
+abbrev pub DecodedAreRows : Type 0
+DecodedAreRows =
+    (stream : List ℕ) (limit stride window : ℕ) (old new : List ℕ) (written : ℕ) → DecodesRows stream limit stride window old new written 0
+    → (raster : Raster) × IsOnly stream raster × (written ≡ height raster)
+    × (lined (height raster) (div_ceil raster.width 8) stride new ≡ flat_map packed_row raster.rows)
+
+-- The stream is the code of the rows that were lent, and these are the one raster that it denotes: so it is decoded as them
+-- again, whatever the limit, the window and the room are that let it.
+pub record IsStreamOf (choice : T85Options) (comment : List ℕ) (width height' stride : ℕ) (rows stream : List ℕ) : Type 0 where
+  pub raster : Raster
+  pub rest : List ℕ
+  pub holds : HoldsRows Raw (lined height' (div_ceil width 8) stride rows) width raster.rows rest
+  pub width_is : raster.width ≡ width
+  pub height_is : height raster ≡ height'
+  pub stream_is : stream ≡ jbg (settings_asked choice comment) raster
+  pub is_only : IsOnly stream raster
+
+abbrev pub EncodedIsStream : Type 0
+EncodedIsStream =
+    (choice : T85Options) (comment : List ℕ) (width height' stride window : ℕ) (rows old new : List ℕ) (written : ℕ) → Encodes choice comment width height' stride window rows old new written 0
+    → IsStreamOf choice comment width height' stride rows (take written new)

@@ -1,0 +1,11 @@
+pub mod Bound
+pub mod Decoded
+pub mod DecodedRows
+pub mod Delivered
+pub mod Encoded
+pub mod Header
+pub mod Laws
+pub mod Lined
+pub mod LinedOutput
+pub mod Message
+pub mod Summary

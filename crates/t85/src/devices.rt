@@ -1,0 +1,114 @@
+//! Lent memory as devices.
+
+ghost use Rattle.std.specs.Prelude.{◌≡◌, ◌≤◌, ◌<◌, ◌-◌, ◌^◌, ◌++◌, Some, None, length, take, is_some, true, option_to_list};
+ghost use Rattle.pbm_core.specs.Device.{one_more_flush};
+
+use pbm_core::{DeviceFailed, Input, Output};
+
+/// Bytes that are all there.
+#[derive(Drop)]
+pub struct Whole<'a> {
+    pub rest: &'a [u8],
+}
+
+impl Input for Whole<'_> {
+    ghost remaining = { λ s. Some s.rest.now };
+
+    ghost failures = { λ _. 0 };
+
+    ghost left = { λ s. length s.rest.now };
+
+    fn failures(&self) -> u64 {
+        0
+    }
+
+    fn left(&self) -> u64 {
+        self.rest.len() as u64
+    }
+
+    fn read(&mut self, buf: &mut [u8]) -> Result<usize, DeviceFailed> {
+        let count = buf.len().min(self.rest.len());
+        let (front, rest) = self.rest.split_at(count);
+        buf[..count].copy_from_slice(front);
+        self.rest = rest;
+        Ok(count)
+    }
+}
+
+/// Room for bytes. Where it is full it takes one byte more, which is dropped at the end, and then fails: so a text that is
+/// longer than the room is told from one that just fits.
+#[derive(Drop)]
+pub struct Room<'a> {
+    pub bytes: &'a mut [u8],
+    pub len: usize,
+    /// The first byte that found no room.
+    pub spilled: Option<u8>,
+    pub flushed: bool,
+    /// How often a flush was asked for, modulo 2^64.
+    pub flushes: u64,
+    pub failures: u64,
+    ghost within: { len ≤ length bytes.now },
+    ghost spilled_last: { is_some spilled ≡ true → len ≡ length bytes.now },
+    ghost full: { 0 < failures → is_some spilled ≡ true },
+}
+
+impl<'a> Room<'a> {
+    pub fn new(bytes: &'a mut [u8]) -> Room<'a>
+        ensures empty { result.len ≡ 0 }
+        ensures room { result.bytes ≡ bytes.entry }
+        ensures unspilled { result.spilled ≡ None }
+        ensures failures { result.failures ≡ 0 }
+    {
+        Room {
+            bytes,
+            len: 0,
+            spilled: None,
+            flushed: false,
+            flushes: 0,
+            failures: 0,
+        }
+    }
+}
+
+impl Output for Room<'_> {
+    ghost contents = { λ s. Some (take s.len s.bytes.now ++ option_to_list s.spilled) };
+
+    ghost target = { λ s. s.bytes.ghost_name };
+
+    ghost failures = { λ s. s.failures };
+
+    ghost flushed = { λ s. s.flushed };
+
+    ghost flushes = { λ s. s.flushes };
+
+    fn failures(&self) -> u64 {
+        self.failures
+    }
+
+    fn write(&mut self, buf: &[u8]) -> Result<usize, DeviceFailed> {
+        if buf.is_empty() {
+            return Ok(0);
+        }
+        let count = buf.len().min(self.bytes.len() - self.len);
+        if count > 0 {
+            let end = self.len + count;
+            self.bytes[self.len..end].copy_from_slice(&buf[..count]);
+            self.len = end;
+            self.flushed = false;
+            return Ok(count);
+        }
+        if self.spilled.is_some() {
+            self.failures += 1;
+            return Err(DeviceFailed);
+        }
+        self.spilled = Some(buf[0]);
+        self.flushed = false;
+        Ok(1)
+    }
+
+    fn flush(&mut self) -> Result<(), DeviceFailed> {
+        self.flushes = self.flushes.wrapping_add(1);
+        self.flushed = true;
+        Ok(())
+    }
+}

@@ -1,0 +1,17 @@
+//! What the answers of the calls mean.
+
+ghost use Rattle.t85.specs.Laws.{DecodedAreRows, DecodedIsImage, EncodedIsStream};
+
+use t85_core::laws::rasters;
+
+/// What the answer 0 means.
+pub fn answers()
+    // `t85_decode` has written the image of the one raster that the stream denotes.
+    ensures image { DecodedIsImage }
+    // `t85_decode_rows` has written its rows.
+    ensures rows { DecodedAreRows }
+    // `t85_encode` has written a stream that denotes one raster of this size.
+    ensures stream { EncodedIsStream }
+{
+    rasters();
+}

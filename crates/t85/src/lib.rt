@@ -1,0 +1,46 @@
+//! The engine for a C caller: whole images between memory that the caller lends.
+//!
+//! A call keeps nothing, takes no memory of its own, and leaves nothing behind but what it writes.
+#![tactic(auto)]
+
+mod decoding;
+mod decoding_rows;
+mod devices;
+mod encoding;
+mod header;
+pub mod laws;
+mod lined_input;
+mod lined_output;
+mod message;
+mod opened;
+mod options;
+mod summary;
+#[cfg(test)]
+mod tests;
+
+ghost use Rattle.std.specs.Prelude.{◌≡◌};
+ghost use Rattle.t85.specs.Decoded.{window_bytes};
+
+pub use crate::decoding::t85_decode;
+pub use crate::decoding_rows::t85_decode_rows;
+pub use crate::encoding::{t85_encode, t85_encode_bound};
+pub use crate::header::{T85Header, t85_header};
+pub use crate::message::t85_message;
+pub use crate::options::T85Options;
+pub use crate::summary::{T85Summary, t85_info};
+
+/// The version of the library: a byte each for the first, second and third number.
+#[unsafe(no_mangle)]
+pub extern "C" fn t85_version() -> u32
+    ensures { result ≡ 0x01_00_00 }
+{
+    0x01_00_00
+}
+
+/// How many bytes of window a call wants for images of this width.
+#[unsafe(no_mangle)]
+pub extern "C" fn t85_window_bytes(width: u32) -> usize
+    ensures { result ≡ window_bytes width }
+{
+    raster_core::window_bytes(width)
+}

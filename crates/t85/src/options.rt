@@ -1,0 +1,51 @@
+//! What a C caller chooses for a stream.
+
+ghost use Rattle.std.specs.Prelude.{◌≡◌, IfOk, MatchResult, None, Some};
+ghost use Rattle.t85_core.specs.Options.{refusal_of, settings_of};
+ghost use Rattle.t85.specs.Encoded.{comment_asked, settings_asked};
+
+use t85_core::{Fault, Options};
+
+/// What a C caller chooses for a stream.
+#[repr(C)]
+#[derive(Clone, Copy)]
+pub struct T85Options {
+    /// The version of this struct: 1.
+    pub version: u32,
+    /// The options byte of the header: 64 for the template of two lines, 32 for a height that may change, 8 for typical
+    /// prediction, summed.
+    pub options: u32,
+    /// The rows of a stripe.
+    pub stripe_rows: u32,
+    /// The greatest offset of the adaptive template pixel.
+    pub most_offset: u32,
+    /// A height to announce, which the image may stay below.
+    pub announced_height: u32,
+    /// Whether it is announced.
+    pub announces_height: bool,
+    /// Whether each stripe begins anew, and ends in a reset.
+    pub reset: bool,
+    /// Whether the comment stands in the stream.
+    pub has_comment: bool,
+}
+
+/// The choices, where they are accepted.
+pub fn accept<'a>(choice: &T85Options, comment: &'a [u8]) -> Result<Options<'a>, Fault>
+    ensures judged { MatchResult result
+        (λ _. refusal_of choice.now.options choice.now.stripe_rows choice.now.most_offset
+        (comment_asked choice.now comment.now) ≡ None)
+        (λ fault. refusal_of choice.now.options choice.now.stripe_rows choice.now.most_offset
+        (comment_asked choice.now comment.now) ≡ Some fault) }
+    ensures held { IfOk result (λ o. settings_of o ≡ settings_asked choice.now comment.now) }
+{
+    let comment = choice.has_comment.then_some(comment);
+    let announced = choice.announces_height.then_some(choice.announced_height);
+    Options::new(
+        choice.options,
+        choice.stripe_rows,
+        choice.most_offset,
+        announced,
+        choice.reset,
+        comment,
+    )
+}

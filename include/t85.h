@@ -1,0 +1,211 @@
+/* JBIG1 (ITU-T T.82) in the fax profile T.85: whole images between buffers that the caller lends.
+
+   The manual page t85(3) says the same at length, and docs/FORMAT.md has the bytes of a stream.
+
+   What the caller owes, at each call:
+   - No pointer is null, also with a length of 0. T85_NOTHING is a pointer that may be passed there,
+     and t85_or_nothing turns a pointer that may be null into one.
+   - Each pointer points to as many bytes as its length says, PTRDIFF_MAX at most; a struct
+     stands where its type may stand.
+   - No two buffers of a call overlap, and what is written to overlaps nothing: not a struct, not
+     `written`.
+   - A `bool` is 0 or 1. (One that was copied from elsewhere by memcpy may be neither.)
+   - Nobody else writes to what is lent while a call runs, or reads what it writes. Where this is
+     kept, no call reads or writes outside of what it was lent, whatever the bytes are.
+
+   No call takes memory, keeps a pointer, or has state: calls may run in several threads at once. */
+#ifndef T85_H
+#define T85_H
+
+#include <stdbool.h>
+#include <stddef.h>
+#include <stdint.h>
+
+#ifdef __cplusplus
+extern "C" {
+#endif
+
+#if defined(__GNUC__)
+#define T85_NO_NULL __attribute__((nonnull))
+#else
+#define T85_NO_NULL
+#endif
+
+/* This header's version: 65536 times the major, 256 times the minor number, and the patch. */
+#define T85_VERSION 0x010000
+
+/* Rows of an image have so many bytes: eight pixels a byte, the leftmost in the highest bit, 1 for
+   black. Bits after the last pixel are ignored when read, and written as 0. */
+static inline size_t t85_row_bytes(uint32_t width)
+{
+    return (size_t)(width / 8) + (width % 8 != 0);
+}
+
+/* A pointer for a length of 0. Nothing is read from it or written to it. */
+#define T85_NOTHING ((uint8_t *)1)
+
+/* The pointer, or T85_NOTHING where it is null: for a length that is 0 then. */
+static inline const uint8_t *t85_or_nothing(const void *bytes)
+{
+    return bytes ? (const uint8_t *)bytes : (const uint8_t *)T85_NOTHING;
+}
+
+/* A status is 0, or the number of a fault. Of a stream the first from the front is reported. */
+enum {
+    T85_OK = 0,
+
+    /* The header of a stream. */
+    T85_SHORT_HEADER = 1,   /* header is shorter than 20 bytes */
+    T85_RESERVED_BITS = 2,  /* reserved bits of the header are set */
+    T85_LAYERS = 3,         /* differential layers are not supported */
+    T85_PLANES = 4,         /* number of planes is not one */
+    T85_ZERO_SIZE = 5,      /* width, height or stripe length is zero */
+    T85_TOO_WIDE = 6,       /* wider than T85_MOST_WIDTH */
+    T85_MOVE_RANGE = 7,     /* adaptive pixel range is above T85_MOST_OFFSET */
+    T85_PRIVATE_TABLE = 8,  /* private prediction table is not supported */
+
+    /* What comes after it. */
+    T85_TRUNCATED = 9,      /* the stream ends too early */
+    T85_BAD_ESCAPE = 10,    /* unexpected escape code */
+    T85_ABORTED = 11,       /* image was aborted */
+    T85_MOVE_REFUSED = 12,  /* adaptive pixel move is not allowed */
+    T85_SECOND_MOVE = 13,   /* second adaptive pixel move in a stripe */
+    T85_LENGTH_REFUSED = 14, /* new height is not allowed */
+    T85_SECOND_LENGTH = 15, /* second new height */
+
+    /* What was lent, and the most rows. */
+    T85_NO_ROOM = 18,       /* the output is longer than its room */
+    T85_SHORT_WINDOW = 19,  /* the window is shorter than t85_window_bytes(width) */
+    T85_TOO_MANY_ROWS = 24, /* image has more rows than max_rows */
+    T85_SHORT_STRIDE = 51,  /* the stride is shorter than a row */
+
+    /* What the encoder was asked for. */
+    T85_OPTION_BITS = 20,   /* options have a bit outside the three below */
+    T85_STRIPE_ZERO = 21,   /* stripe_rows is 0 */
+    T85_OFFSET_LARGE = 22,  /* most_offset is above T85_MOST_OFFSET */
+    T85_ANNOUNCED_LOW = 23, /* announced_height is below the image's height */
+    T85_COMMENT_LONG = 26,  /* the comment has 2^32 bytes or more */
+    T85_NO_PIXELS = 33,     /* width or height is 0 */
+    T85_IMAGE_WIDE = 34,    /* wider than T85_MOST_WIDTH */
+    T85_ROWS_MISSING = 36,  /* rows_len is too little for the image */
+    T85_OTHER_VERSION = 50  /* the options are of another version */
+};
+
+#define T85_MOST_WIDTH 1048576
+#define T85_MOST_OFFSET 127
+
+/* Bits of `options`, of t85_options and of a stream's header. */
+#define T85_TWO_LINES 0x40u       /* LRLTWO: the template of two lines */
+#define T85_VARIABLE_HEIGHT 0x20u /* VLENGTH: the height may be given after the header */
+#define T85_TYPICAL 0x08u         /* TPBON: typical prediction */
+
+#define T85_OPTIONS_VERSION 1
+
+/* What the caller chooses for a stream. Begin with T85_OPTIONS, so that a field you don't set has
+   its default. */
+typedef struct {
+    uint32_t version;          /* T85_OPTIONS_VERSION */
+    uint32_t options;          /* T85_TWO_LINES, T85_VARIABLE_HEIGHT and T85_TYPICAL, summed */
+    uint32_t stripe_rows;      /* rows of a stripe, 1 at least */
+    uint32_t most_offset;      /* of the adaptive template pixel, 0 to T85_MOST_OFFSET */
+    uint32_t announced_height; /* the header's height, read where announces_height */
+    bool announces_height;
+    bool reset;                /* each stripe begins anew, and ends in SDRST */
+    bool has_comment;          /* the stream gets the comment of the call, an empty one too */
+} t85_options;
+
+/* What the command pbmtojbg85 takes without options. */
+#define T85_OPTIONS {T85_OPTIONS_VERSION, T85_TYPICAL, 128, 0, 0, false, false, false}
+
+/* What the header of a stream says. Where T85_VARIABLE_HEIGHT is among the options, `height` is the
+   most that it may come to. */
+typedef struct {
+    uint32_t width, height, stripe_rows, most_offset, options;
+} t85_header_fields;
+
+/* The same, and what was found after it. */
+typedef struct {
+    uint32_t width, height, stripe_rows, most_offset, options;
+    uint32_t image_height; /* the height in use */
+    uint32_t entities;     /* data entities, which are the stripes */
+    uint64_t moves;        /* moves of the adaptive template pixel */
+    uint64_t comments;     /* counted up to UINT64_MAX */
+} t85_summary;
+
+/* The library's version, as T85_VERSION has it for the header. */
+uint32_t t85_version(void);
+
+/* Bytes of the window that images of this width want: three rows. What stands in a window means
+   nothing before a call and after it. */
+size_t t85_window_bytes(uint32_t width);
+
+/* Reads a stream's header. 0, and `fields` has what it says; or 1 to 8, and it is as it was. */
+T85_NO_NULL uint8_t t85_header(const uint8_t *stream, size_t len, t85_header_fields *fields);
+
+/* Reads a stream without decoding it. 0, and `summary` has what was found; or 1 to 15, and it is as
+   it was. */
+T85_NO_NULL uint8_t t85_info(const uint8_t *stream, size_t len, t85_summary *summary);
+
+/* Writes the stream of an image.
+
+   Row y of the image begins at rows + y * stride, and has t85_row_bytes(width) bytes. `comment` is
+   read where has_comment says so.
+
+   (height - 1) * stride + t85_row_bytes(width) bytes of rows are enough. The room after *written
+   may hold anything after the call.
+
+   0: the first *written bytes of `stream` are the whole stream.
+   T85_NO_ROOM: the room is full, *written is stream_room, and it holds a beginning of the stream.
+   T85_ROWS_MISSING: *written bytes hold the header, each stripe whose rows are all there, and a
+   beginning of the next.
+   Others, with nothing written, *written being 0, by the first that applies: 50; 20, 21, 22, 26;
+   33, 34; 51; 23; 19. */
+T85_NO_NULL uint8_t t85_encode(uint32_t width, uint32_t height, const uint8_t *rows,
+                               size_t rows_len, size_t stride, const t85_options *options,
+                               const uint8_t *comment, size_t comment_len, uint8_t *window,
+                               size_t window_len, uint8_t *stream, size_t stream_room,
+                               size_t *written);
+
+/* Bytes that are enough for the stream of any image of this size, with these options and a comment of
+   this length; 0 where t85_encode refuses the width, the rows of a stripe or the comment.
+
+   That is about four bytes a pixel, and far more than images take: begin with a room that is likely
+   to do, and double it after T85_NO_ROOM. */
+T85_NO_NULL uint64_t t85_encode_bound(uint32_t width, uint32_t height, const t85_options *options,
+                                      size_t comment_len);
+
+/* Writes the image of a stream as a raw PBM: "P4", LF, width, a space, height, LF, and the rows
+   without gaps. An image of more than max_rows rows is refused; UINT32_MAX refuses none.
+
+   22 bytes and the height times t85_row_bytes(width) are always room enough, whether the height is
+   the header's or less. The room after *written may hold anything after the call.
+
+   0: the first *written bytes of `image` are the whole file.
+   9 to 15: *written bytes hold the header with the full height, and each row that the bytes before
+   the fault determine.
+   T85_NO_ROOM: that has no room. It is full, *written is image_room, and it holds a beginning of
+   what would be written, at 0 or at a fault.
+   Others, with nothing written, *written being 0, by the first that applies: 1 to 8; 24; 19. */
+T85_NO_NULL uint8_t t85_decode(const uint8_t *stream, size_t len, uint32_t max_rows,
+                               uint8_t *window, size_t window_len, uint8_t *image,
+                               size_t image_room, size_t *written);
+
+/* The same, with the rows alone: row y begins at rows + y * stride. Bytes between two rows stay as
+   they were.
+
+   *rows_written is the number of rows that stand there whole, at each status; at T85_NO_ROOM as
+   many as fit. A stride below t85_row_bytes(width) is refused with T85_SHORT_STRIDE, which comes
+   after 24 and before 19. */
+T85_NO_NULL uint8_t t85_decode_rows(const uint8_t *stream, size_t len, uint32_t max_rows,
+                                    size_t stride, uint8_t *window, size_t window_len,
+                                    uint8_t *rows, size_t rows_room, uint32_t *rows_written);
+
+/* Writes what a status means in English, without a line feed and without a zero byte: as much of it
+   as there is room for. Gives the length of the whole text. */
+T85_NO_NULL size_t t85_message(uint8_t status, uint8_t *text, size_t room);
+
+#ifdef __cplusplus
+}
+#endif
+
+#endif
