@@ -1,0 +1,556 @@
+/* Calls the library as a C program does, and compares with files that the commands in bin/ wrote.
+     clib encode IMAGE.pbm STREAM OPTIONS ROWS OFFSET ANNOUNCED|- RESET COMMENT|-
+     clib decode STREAM IMAGE.pbm INFO       INFO is what `jbgtopbm85 --info` wrote
+     clib cuts STREAM FOLDER                 FOLDER/N is what `jbgtopbm85` wrote of the first N bytes, FOLDER/N.text its
+                                             message without its name, or `done`
+     clib missing IMAGE.pbm FOLDER           FOLDER/N is what `pbmtojbg85` wrote of the image's first N bytes of rows
+     clib faults IMAGE.pbm                   what each call refuses
+     clib rooms STREAM IMAGE.pbm INFO        as decode, with every room from 0 to the whole
+   Each buffer that is lent ends at a page that can't be touched, and in a second round begins behind
+   one. An output of fewer than 1,000 bytes is tried with every room, a longer one with some. */
+#define _GNU_SOURCE
+#include "t85.h"
+
+#include <stdarg.h>
+#include <stdio.h>
+#include <stdlib.h>
+#include <string.h>
+#include <sys/mman.h>
+#include <unistd.h>
+
+#define FILL 0xA5
+
+typedef struct {
+    uint8_t *bytes;
+    size_t len;
+} buffer;
+
+static const char *about = "";
+static bool at_front;
+/* Outputs of fewer bytes are tried with every room. */
+static size_t most = 1000;
+
+static void fail(const char *format, ...)
+{
+    va_list list;
+    va_start(list, format);
+    fprintf(stderr, "FAILED: %s: ", about);
+    vfprintf(stderr, format, list);
+    fputc('\n', stderr);
+    exit(1);
+}
+
+/* Bytes between two pages that can't be touched, as an anonymous mapping that takes memory where it is written to. */
+static buffer lend(size_t len)
+{
+    size_t page = (size_t)sysconf(_SC_PAGESIZE), middle = (len + page - 1) / page * page;
+    uint8_t *base = mmap(NULL, middle + 2 * page, PROT_NONE,
+                         MAP_PRIVATE | MAP_ANONYMOUS | MAP_NORESERVE, -1, 0);
+    buffer lent = {NULL, len};
+    if (base == MAP_FAILED || (middle && mprotect(base + page, middle, PROT_READ | PROT_WRITE)))
+        fail("no memory for %zu bytes", len);
+    lent.bytes = at_front ? base + page : base + page + middle - len;
+    return lent;
+}
+
+static void give_back(buffer lent)
+{
+    size_t page = (size_t)sysconf(_SC_PAGESIZE), middle = (lent.len + page - 1) / page * page;
+    uint8_t *base = at_front ? lent.bytes - page : lent.bytes + lent.len - middle - page;
+    munmap(base, middle + 2 * page);
+}
+
+static buffer copied(const void *bytes, size_t len)
+{
+    buffer lent = lend(len);
+    memcpy(lent.bytes, bytes, len);
+    return lent;
+}
+
+/* A buffer whose bytes tell whether they were written. */
+static buffer filled(size_t len)
+{
+    buffer lent = lend(len);
+    memset(lent.bytes, FILL, len);
+    return lent;
+}
+
+static buffer read_file(const char *name)
+{
+    buffer file = {NULL, 0};
+    FILE *from = fopen(name, "rb");
+    if (!from || fseek(from, 0, SEEK_END))
+        fail("%s can't be read", name);
+    file.len = (size_t)ftell(from);
+    file.bytes = malloc(file.len + 1);
+    rewind(from);
+    if (fread(file.bytes, 1, file.len, from) != file.len)
+        fail("%s can't be read", name);
+    fclose(from);
+    file.bytes[file.len] = 0;
+    return file;
+}
+
+/* The rows of a raw PBM without a comment. */
+static buffer rows_of(buffer file, uint32_t *width, uint32_t *height)
+{
+    int front = 0;
+    buffer rows;
+    if (sscanf((const char *)file.bytes, "P4 %u %u%n", width, height, &front) != 2)
+        fail("no raw PBM");
+    rows.bytes = file.bytes + front + 1;
+    rows.len = file.len - (size_t)front - 1;
+    return rows;
+}
+
+/* Whether the first bytes of a room are as wanted. */
+static void is_beginning(const char *call, buffer room, size_t written, buffer whole)
+{
+    if (written > room.len || written > whole.len)
+        fail("%s: %zu bytes written to a room of %zu, of %zu", call, written, room.len, whole.len);
+    if (memcmp(room.bytes, whole.bytes, written))
+        fail("%s: other bytes, with a room of %zu", call, room.len);
+}
+
+static size_t next_room(size_t room, size_t whole)
+{
+    if (whole < most || room < 60 || room + 3 >= whole)
+        return room + 1;
+    return room + whole / 5 < whole - 3 ? room + whole / 5 : whole - 3;
+}
+
+/* An image with gaps behind its rows, the last row's left out. */
+static buffer spread(buffer rows, size_t row, size_t stride)
+{
+    size_t count = rows.len / row, y;
+    buffer wide = filled(count ? (count - 1) * stride + row : 0);
+    for (y = 0; y < count; y++)
+        memcpy(wide.bytes + y * stride, rows.bytes + y * row, row);
+    return wide;
+}
+
+static void encode_in(uint32_t width, uint32_t height, buffer rows, size_t stride,
+                      const t85_options *options, buffer comment, buffer whole, size_t room)
+{
+    buffer window = lend(t85_window_bytes(width)), stream = filled(room);
+    size_t written = 77;
+    uint8_t status =
+        t85_encode(width, height, rows.bytes, rows.len, stride, options, comment.bytes, comment.len,
+                   window.bytes, window.len, stream.bytes, stream.len, &written);
+    if (status != (room < whole.len ? T85_NO_ROOM : T85_OK) ||
+        written != (room < whole.len ? room : whole.len))
+        fail("t85_encode: status %d and %zu bytes of %zu, with a room of %zu", status, written,
+             whole.len, room);
+    is_beginning("t85_encode", stream, written, whole);
+    give_back(stream);
+    give_back(window);
+}
+
+static void encode(char **words)
+{
+    buffer image = read_file(words[0]), whole = read_file(words[1]), rows, wide, lent, comment;
+    t85_options options = T85_OPTIONS;
+    uint32_t width, height;
+    size_t row, room;
+    options.options = (uint32_t)atol(words[2]);
+    options.stripe_rows = (uint32_t)atol(words[3]);
+    options.most_offset = (uint32_t)atol(words[4]);
+    options.announces_height = strcmp(words[5], "-") != 0;
+    options.announced_height = (uint32_t)atol(words[5]);
+    options.reset = atoi(words[6]) != 0;
+    options.has_comment = strcmp(words[7], "-") != 0;
+    comment = options.has_comment ? copied(words[7], strlen(words[7])) : lend(0);
+    rows = rows_of(image, &width, &height);
+    row = t85_row_bytes(width);
+    lent = copied(rows.bytes, rows.len);
+    for (room = 0; room <= whole.len; room = next_room(room, whole.len))
+        encode_in(width, height, lent, row, &options, comment, whole, room);
+    encode_in(width, height, lent, row, &options, comment, whole, whole.len + 1000);
+    if (t85_encode_bound(width, height, &options, comment.len) < whole.len)
+        fail("t85_encode_bound: below %zu", whole.len);
+    wide = spread(rows, row, row + 5);
+    encode_in(width, height, wide, row + 5, &options, comment, whole, whole.len);
+    give_back(wide);
+    give_back(lent);
+    give_back(comment);
+}
+
+static void decode_in(buffer stream, size_t window_len, uint8_t wanted, buffer whole, size_t room)
+{
+    buffer window = lend(window_len), image = filled(room);
+    size_t written = 77;
+    uint8_t status = t85_decode(stream.bytes, stream.len, UINT32_MAX, window.bytes, window.len,
+                                image.bytes, image.len, &written);
+    if (status != (room < whole.len ? T85_NO_ROOM : wanted) ||
+        written != (room < whole.len ? room : whole.len))
+        fail("t85_decode: status %d and %zu bytes of %zu, with a room of %zu", status, written,
+             whole.len, room);
+    is_beginning("t85_decode", image, written, whole);
+    give_back(image);
+    give_back(window);
+}
+
+/* The rows of an image of `width` pixels with a stride, in a room of so many bytes, of which `rows` can be had. */
+static void decode_rows_in(buffer stream, uint32_t width, uint8_t wanted, buffer rows,
+                           size_t stride, size_t room)
+{
+    size_t row = t85_row_bytes(width), count = rows.len / row, fit, y, i;
+    buffer window = lend(t85_window_bytes(width)), image = filled(room);
+    uint32_t written = 77;
+    uint8_t status = t85_decode_rows(stream.bytes, stream.len, UINT32_MAX, stride, window.bytes,
+                                     window.len, image.bytes, image.len, &written);
+    fit = room < row ? 0 : (room - row) / stride + 1;
+    if (fit > count)
+        fit = count;
+    if (status != (fit < count ? T85_NO_ROOM : wanted) || written != fit)
+        fail(
+            "t85_decode_rows: status %d and %u rows of %zu, with a stride of %zu and a room of %zu",
+            status, written, count, stride, room);
+    for (y = 0; y < fit; y++) {
+        if (memcmp(image.bytes + y * stride, rows.bytes + y * row, row))
+            fail("t85_decode_rows: row %zu is another, with a stride of %zu", y, stride);
+        for (i = row; i < stride && y * stride + i < room; i++)
+            if (image.bytes[y * stride + i] != FILL)
+                fail("t85_decode_rows: a byte between rows %zu and %zu was touched", y, y + 1);
+    }
+    give_back(image);
+    give_back(window);
+}
+
+static void is_info(buffer stream, buffer line)
+{
+    char said[200];
+    t85_summary summary;
+    t85_header_fields fields;
+    uint8_t status = t85_info(stream.bytes, stream.len, &summary);
+    if (status != T85_OK)
+        fail("t85_info: status %d", status);
+    sprintf(said, "%u %u %u %u %u %u %u %llu %llu\n", summary.width, summary.height,
+            summary.stripe_rows, summary.most_offset, summary.options, summary.image_height,
+            summary.entities, (unsigned long long)summary.moves,
+            (unsigned long long)summary.comments);
+    if (strcmp(said, (const char *)line.bytes))
+        fail("t85_info: %s", said);
+    status = t85_header(stream.bytes, stream.len, &fields);
+    if (status != T85_OK || fields.width != summary.width || fields.height != summary.height ||
+        fields.stripe_rows != summary.stripe_rows || fields.most_offset != summary.most_offset ||
+        fields.options != summary.options)
+        fail("t85_header: status %d, or other fields than t85_info has", status);
+}
+
+static void decode(char **words)
+{
+    buffer file = read_file(words[0]), whole = read_file(words[1]), line = read_file(words[2]),
+           rows;
+    buffer stream = copied(file.bytes, file.len);
+    uint32_t width, height;
+    size_t row, room, all;
+    rows = rows_of(whole, &width, &height);
+    row = t85_row_bytes(width);
+    for (room = 0; room <= whole.len; room = next_room(room, whole.len))
+        decode_in(stream, t85_window_bytes(width), T85_OK, whole, room);
+    decode_in(stream, t85_window_bytes(width) + 100, T85_OK, whole, whole.len + 100);
+    for (room = 0; room <= rows.len; room = next_room(room, rows.len))
+        decode_rows_in(stream, width, T85_OK, rows, row, room);
+    all = (height - 1) * (row + 3) + row;
+    for (room = 0; room <= all; room = next_room(room, all))
+        decode_rows_in(stream, width, T85_OK, rows, row + 3, room);
+    decode_rows_in(stream, width, T85_OK, rows, row + 3, all + 3);
+    is_info(stream, line);
+    give_back(stream);
+}
+
+static void rooms(char **words)
+{
+    most = SIZE_MAX;
+    decode(words);
+}
+
+/* The status with a text, which ends in a line feed. */
+static uint8_t status_of(buffer text)
+{
+    unsigned status;
+    uint8_t said[200];
+    for (status = 0; status < 256; status++) {
+        size_t len = t85_message((uint8_t)status, said, sizeof said);
+        if (len + 1 == text.len && !memcmp(said, text.bytes, len))
+            return (uint8_t)status;
+    }
+    fail("no status is %s", text.bytes);
+    return 0;
+}
+
+/* A beginning of a stream, beside what the command wrote of it. */
+static void cut(buffer stream, const char *folder, size_t count)
+{
+    char name[4096];
+    buffer lent = copied(stream.bytes, count), whole, text, rows;
+    t85_header_fields fields;
+    uint32_t width, height;
+    uint8_t status;
+    size_t room;
+    sprintf(name, "%s/%zu", folder, count);
+    whole = read_file(name);
+    sprintf(name, "%s/%zu.text", folder, count);
+    text = read_file(name);
+    status = t85_header(lent.bytes, count, &fields);
+    room = status ? 1000 : 22 + fields.height * t85_row_bytes(fields.width);
+    if (status != (count < 20 ? T85_SHORT_HEADER : T85_OK))
+        fail("t85_header: status %d of %zu bytes", status, count);
+    status = status_of(text);
+    decode_in(lent, count < 20 ? 0 : t85_window_bytes(fields.width), status, whole, room);
+    if (count >= 20) {
+        rows = rows_of(whole, &width, &height);
+        decode_rows_in(lent, width, status, rows, t85_row_bytes(width), room);
+    }
+    give_back(lent);
+    free(whole.bytes);
+    free(text.bytes);
+}
+
+static void cuts(char **words)
+{
+    buffer stream = read_file(words[0]);
+    char name[4096];
+    size_t count, found = 0;
+    for (count = 0; count < stream.len; count++) {
+        sprintf(name, "%s/%zu", words[1], count);
+        if (access(name, R_OK) == 0) {
+            found++;
+            cut(stream, words[1], count);
+        }
+    }
+    if (!found)
+        fail("no beginnings in %s", words[1]);
+}
+
+static void missing(char **words)
+{
+    buffer image = read_file(words[0]), whole, rows, lent, window, stream;
+    t85_options options = T85_OPTIONS;
+    uint32_t width, height;
+    char name[4096];
+    size_t count, written;
+    uint8_t status;
+    rows = rows_of(image, &width, &height);
+    for (count = 0; count < rows.len; count++) {
+        sprintf(name, "%s/%zu", words[1], count);
+        if (access(name, R_OK))
+            continue;
+        whole = read_file(name);
+        lent = copied(rows.bytes, count);
+        window = lend(t85_window_bytes(width));
+        stream = filled(whole.len + 1000);
+        status = t85_encode(width, height, lent.bytes, count, t85_row_bytes(width), &options,
+                            T85_NOTHING, 0, window.bytes, window.len, stream.bytes, stream.len,
+                            &written);
+        if (status != T85_ROWS_MISSING || written != whole.len)
+            fail("t85_encode: status %d and %zu bytes of %zu, with %zu bytes of rows", status,
+                 written, whole.len, count);
+        is_beginning("t85_encode", stream, written, whole);
+        give_back(stream);
+        give_back(window);
+        give_back(lent);
+        free(whole.bytes);
+    }
+}
+
+/* A call of t85_encode that has to be refused with nothing written. */
+static void refused(uint8_t wanted, uint32_t width, uint32_t height, size_t stride,
+                    const t85_options *options, size_t comment_len, size_t window_len, buffer rows)
+{
+    buffer window = lend(window_len), stream = lend(100), comment = lend(comment_len);
+    size_t written = 77;
+    uint8_t status =
+        t85_encode(width, height, rows.bytes, rows.len, stride, options, comment.bytes, comment.len,
+                   window.bytes, window.len, stream.bytes, stream.len, &written);
+    if (status != wanted || written)
+        fail("t85_encode: status %d and %zu bytes where %d was wanted", status, written, wanted);
+    give_back(comment);
+    give_back(stream);
+    give_back(window);
+}
+
+static void encoder_faults(buffer rows, uint32_t width, uint32_t height)
+{
+    size_t row = t85_row_bytes(width), three = t85_window_bytes(width);
+    t85_options options = T85_OPTIONS;
+    size_t window;
+    refused(T85_NO_PIXELS, 0, height, row, &options, 0, three, rows);
+    refused(T85_NO_PIXELS, width, 0, row, &options, 0, three, rows);
+    refused(T85_IMAGE_WIDE, T85_MOST_WIDTH + 1, height, T85_MOST_WIDTH, &options, 0,
+            3 * T85_MOST_WIDTH, rows);
+    refused(T85_IMAGE_WIDE, UINT32_MAX, height, UINT32_MAX, &options, 0, 3 * T85_MOST_WIDTH, rows);
+    refused(T85_SHORT_STRIDE, width, height, row - 1, &options, 0, three, rows);
+    refused(T85_SHORT_STRIDE, width, height, 0, &options, 0, three, rows);
+    for (window = 0; window < three; window++)
+        refused(T85_SHORT_WINDOW, width, height, row, &options, 0, window, rows);
+    options.version = 0;
+    refused(T85_OTHER_VERSION, width, height, row, &options, 0, three, rows);
+    options.version = T85_OPTIONS_VERSION + 1;
+    refused(T85_OTHER_VERSION, width, height, row, &options, 0, three, rows);
+    options.version = T85_OPTIONS_VERSION;
+    for (options.options = 0; options.options < 2000; options.options++)
+        if (options.options & ~(T85_TWO_LINES | T85_VARIABLE_HEIGHT | T85_TYPICAL))
+            refused(T85_OPTION_BITS, width, height, row, &options, 0, three, rows);
+    options.options = T85_TYPICAL;
+    options.stripe_rows = 0;
+    refused(T85_STRIPE_ZERO, width, height, row, &options, 0, three, rows);
+    options.stripe_rows = 1;
+    options.most_offset = T85_MOST_OFFSET + 1;
+    refused(T85_OFFSET_LARGE, width, height, row, &options, 0, three, rows);
+    options.most_offset = T85_MOST_OFFSET;
+    options.announces_height = true;
+    for (options.announced_height = 0; options.announced_height < height;
+         options.announced_height++)
+        refused(T85_ANNOUNCED_LOW, width, height, row, &options, 0, three, rows);
+    options.announces_height = false;
+    options.has_comment = true;
+    refused(T85_COMMENT_LONG, width, height, row, &options, (size_t)1 << 32, three, rows);
+}
+
+/* A call of t85_decode and of t85_decode_rows that have to be refused with nothing written. */
+static void unread(uint8_t wanted, buffer stream, uint32_t max_rows, size_t stride,
+                   size_t window_len)
+{
+    buffer window = lend(window_len), image = lend(100000);
+    size_t written = 77;
+    uint32_t rows = 77;
+    uint8_t status;
+    if (stride == SIZE_MAX) {
+        status = t85_decode(stream.bytes, stream.len, max_rows, window.bytes, window.len,
+                            image.bytes, image.len, &written);
+        if (status != wanted || written)
+            fail("t85_decode: status %d and %zu bytes where %d was wanted", status, written,
+                 wanted);
+        stride = 100000;
+    }
+    status = t85_decode_rows(stream.bytes, stream.len, max_rows, stride, window.bytes, window.len,
+                             image.bytes, image.len, &rows);
+    if (status != wanted || rows)
+        fail("t85_decode_rows: status %d and %u rows where %d was wanted", status, rows, wanted);
+    give_back(image);
+    give_back(window);
+}
+
+static void decoder_faults(buffer rows, uint32_t width, uint32_t height)
+{
+    size_t row = t85_row_bytes(width), three = t85_window_bytes(width), window, stride;
+    t85_options options = T85_OPTIONS;
+    buffer all = lend(100000), stream, lines = lend(three);
+    uint32_t limit;
+    if (t85_encode(width, height, rows.bytes, rows.len, row, &options, T85_NOTHING, 0, lines.bytes,
+                   three, all.bytes, all.len, &all.len))
+        fail("t85_encode");
+    stream = copied(all.bytes, all.len);
+    for (limit = 0; limit < height; limit++)
+        unread(T85_TOO_MANY_ROWS, stream, limit, SIZE_MAX, three);
+    for (window = 0; window < three; window++)
+        unread(T85_SHORT_WINDOW, stream, UINT32_MAX, SIZE_MAX, window);
+    for (stride = 0; stride < row; stride++)
+        unread(T85_SHORT_STRIDE, stream, UINT32_MAX, stride, three);
+    give_back(stream);
+}
+
+/* Strides at which no second row can lie in memory. */
+static void far_rows(buffer rows, uint32_t width, uint32_t height)
+{
+    static const size_t strides[] = {SIZE_MAX, SIZE_MAX / 2 + 1, SIZE_MAX / 4 + 1, (size_t)1 << 33};
+    size_t row = t85_row_bytes(width), i, written;
+    t85_options options = T85_OPTIONS;
+    buffer window = lend(t85_window_bytes(width)), stream = lend(100000), image = filled(rows.len);
+    uint32_t count;
+    uint8_t status;
+    if (t85_encode(width, height, rows.bytes, rows.len, row, &options, T85_NOTHING, 0, window.bytes,
+                   window.len, stream.bytes, stream.len, &stream.len))
+        fail("t85_encode");
+    for (i = 0; i < sizeof strides / sizeof *strides; i++) {
+        buffer code = lend(100000);
+        status = t85_encode(width, height, rows.bytes, rows.len, strides[i], &options, T85_NOTHING,
+                            0, window.bytes, window.len, code.bytes, code.len, &written);
+        if (status != T85_ROWS_MISSING || written < 20)
+            fail("t85_encode: status %d with a stride of %zu", status, strides[i]);
+        status = t85_decode_rows(stream.bytes, stream.len, UINT32_MAX, strides[i], window.bytes,
+                                 window.len, image.bytes, image.len, &count);
+        if (status != T85_NO_ROOM || count != 1 || memcmp(image.bytes, rows.bytes, row))
+            fail("t85_decode_rows: status %d and %u rows with a stride of %zu", status, count,
+                 strides[i]);
+        give_back(code);
+    }
+}
+
+static void bounds(void)
+{
+    t85_options options = T85_OPTIONS;
+    if (t85_encode_bound(T85_MOST_WIDTH, UINT32_MAX, &options, 0) == 0
+        || t85_encode_bound(T85_MOST_WIDTH + 1, 1, &options, 0) != 0
+        || t85_encode_bound(8, 8, &options, SIZE_MAX) != t85_encode_bound(8, 8, &options, 0))
+        fail("t85_encode_bound");
+    options.has_comment = true;
+    if (t85_encode_bound(8, 8, &options, (size_t)1 << 32) != 0
+        || t85_encode_bound(8, 8, &options, UINT32_MAX) <= UINT32_MAX)
+        fail("t85_encode_bound with a comment");
+    options.stripe_rows = 0;
+    if (t85_encode_bound(8, 8, &options, 0) != 0)
+        fail("t85_encode_bound of no stripes");
+}
+
+static void messages(void)
+{
+    unsigned status;
+    uint8_t whole[200];
+    size_t len, room, written;
+    for (status = 0; status < 256; status++) {
+        len = t85_message((uint8_t)status, whole, sizeof whole);
+        if (len == 0 || len > sizeof whole)
+            fail("t85_message: %zu bytes of status %u", len, status);
+        for (room = 0; room <= len + 3; room++) {
+            buffer text = filled(room), wanted = {whole, len};
+            written = t85_message((uint8_t)status, text.bytes, room);
+            if (written != len)
+                fail("t85_message: %zu of %zu bytes of status %u", written, len, status);
+            is_beginning("t85_message", text, room < len ? room : len, wanted);
+            give_back(text);
+        }
+    }
+}
+
+static void faults(char **words)
+{
+    buffer image = read_file(words[0]), rows;
+    uint32_t width, height;
+    if (t85_version() != T85_VERSION)
+        fail("t85_version: %x", t85_version());
+    if (t85_window_bytes(0) != 0 || t85_window_bytes(1) != 3 || t85_window_bytes(8) != 3 ||
+        t85_window_bytes(9) != 6 || t85_window_bytes(T85_MOST_WIDTH) != 3 * 131072 ||
+        t85_window_bytes(UINT32_MAX) != (size_t)3 * 536870912)
+        fail("t85_window_bytes");
+    rows = rows_of(image, &width, &height);
+    rows = copied(rows.bytes, rows.len);
+    encoder_faults(rows, width, height);
+    decoder_faults(rows, width, height);
+    far_rows(rows, width, height);
+    bounds();
+    messages();
+}
+
+int main(int count, char **words)
+{
+    static const struct {
+        const char *name;
+        void (*run)(char **);
+        int words;
+    } parts[] = {{"encode", encode, 8}, {"decode", decode, 3},   {"rooms", rooms, 3},
+                 {"cuts", cuts, 2},     {"missing", missing, 2}, {"faults", faults, 1}};
+    size_t i;
+    for (i = 0; i < sizeof parts / sizeof *parts; i++)
+        if (count == parts[i].words + 2 && !strcmp(words[1], parts[i].name)) {
+            about = words[2];
+            parts[i].run(words + 2);
+            at_front = true;
+            parts[i].run(words + 2);
+            return 0;
+        }
+    fprintf(stderr, "clib: look at the head of tests/clib.c\n");
+    return 2;
+}

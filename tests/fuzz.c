@@ -1,0 +1,398 @@
+/* Calls the library with streams that libFuzzer makes, and stops where a call breaks its word, or where JBIG-KIT's library
+   reads another image than t85_decode, both having accepted the stream. What is read is encoded again, by both.
+   What the calls are lent lies between pages that can't be touched: at the end of its place, or at the front. */
+#define _GNU_SOURCE
+#include "t85.h"
+
+#include <jbig85.h>
+#include <stdio.h>
+#include <stdlib.h>
+#include <string.h>
+#include <sys/mman.h>
+
+#define PAGE 4096
+#define PLACE ((size_t)512 << 10)
+#define FILL 0xA5
+
+#define CHECK(claim) ((claim) ? (void)0 : broken(#claim, __LINE__))
+
+size_t LLVMFuzzerMutate(uint8_t *data, size_t size, size_t most);
+
+typedef struct {
+    uint8_t *base, *bytes;
+    size_t len;
+} place;
+
+static place stream, window, image, rows, again, code, theirs, comment;
+static uint64_t dice;
+static bool at_front;
+
+static void broken(const char *claim, int line)
+{
+    fprintf(stderr, "line %d: not so: %s\n", line, claim);
+    abort();
+}
+
+/* A number below `count`, from a sequence that the input fixes. */
+static uint32_t roll(uint32_t count)
+{
+    dice = dice * 6364136223846793005u + 1442695040888963407u;
+    return (uint32_t)(dice >> 33) % count;
+}
+
+/* Lends so many bytes of a place. */
+static void lend(place *of, size_t len)
+{
+    if (!of->base) {
+        of->base = mmap(NULL, PLACE + 2 * PAGE, PROT_NONE, MAP_PRIVATE | MAP_ANONYMOUS, -1, 0);
+        if (of->base == MAP_FAILED || mprotect(of->base + PAGE, PLACE, PROT_READ | PROT_WRITE))
+            broken("memory", __LINE__);
+    }
+    CHECK(len <= PLACE);
+    of->bytes = of->base + PAGE + (at_front ? 0 : PLACE - len);
+    of->len = len;
+}
+
+static uint8_t decode(place *to, uint32_t max_rows, size_t *written)
+{
+    *written = SIZE_MAX;
+    return t85_decode(stream.bytes, stream.len, max_rows, window.bytes, window.len, to->bytes, to->len, written);
+}
+
+static uint8_t decode_rows(uint32_t max_rows, size_t stride, uint32_t *count)
+{
+    *count = UINT32_MAX;
+    return t85_decode_rows(stream.bytes, stream.len, max_rows, stride, window.bytes, window.len, rows.bytes, rows.len,
+                           count);
+}
+
+/* What t85_decode wrote, in a room that is too little. */
+static void in_less_room(size_t written)
+{
+    size_t less;
+    lend(&again, roll((uint32_t)written));
+    CHECK(decode(&again, UINT32_MAX, &less) == T85_NO_ROOM);
+    CHECK(less == again.len && !memcmp(again.bytes, image.bytes, less));
+}
+
+/* The rows behind the PBM's header, as t85_decode_rows gives them with a stride. */
+static void as_rows(uint8_t status, const uint8_t *packed, size_t row, size_t count)
+{
+    size_t stride = row + roll(9), all = count ? (count - 1) * stride + row : 0, fit = count, y, i;
+    uint32_t written;
+    if (all + 8 > PLACE)
+        return;
+    lend(&rows, roll(2) ? all + roll(9) : roll((uint32_t)all + 1));
+    if (rows.len < all)
+        fit = rows.len < row ? 0 : (rows.len - row) / stride + 1;
+    memset(rows.bytes, FILL, rows.len);
+    CHECK(decode_rows(UINT32_MAX, stride, &written) == (fit < count ? T85_NO_ROOM : status));
+    CHECK(written == fit);
+    for (y = 0; y < fit; y++) {
+        CHECK(!memcmp(rows.bytes + y * stride, packed + y * row, row));
+        for (i = y * stride + row; i < (y + 1) * stride && i < rows.len; i++)
+            CHECK(rows.bytes[i] == FILL);
+    }
+}
+
+typedef struct {
+    size_t row;
+    uint32_t count;
+} their_rows;
+
+static int take_row(const struct jbg85_dec_state *state, unsigned char *start, size_t len, unsigned long y, void *to)
+{
+    their_rows *taken = to;
+    (void)state;
+    if (len != taken->row || (y + 1) * len > PLACE)
+        return 1;
+    memcpy(theirs.bytes + y * len, start, len);
+    if (y + 1 > taken->count)
+        taken->count = (uint32_t)y + 1;
+    return 0;
+}
+
+/* JBIG-KIT's image, where it accepts the stream, too. */
+static void as_theirs(const uint8_t *packed, uint32_t width, uint32_t height)
+{
+    static uint8_t lines[3 * T85_MOST_WIDTH / 8];
+    struct jbg85_dec_state state;
+    their_rows taken = {t85_row_bytes(width), 0};
+    size_t count;
+    int told, late;
+    lend(&theirs, PLACE);
+    jbg85_dec_init(&state, lines, 3 * taken.row, take_row, &taken);
+    told = jbg85_dec_in(&state, stream.bytes, stream.len, &count);
+    if (told == JBG_EAGAIN)
+        told = jbg85_dec_end(&state);
+    if (told != JBG_EOK || getenv("FUZZ_ALONE"))
+        return;
+    /* It hands on rows before it has seen the height behind them, and loses some where that follows the last row; and it
+       takes a height behind the last row that follows a move, or a fault, where t85_decode looks no further. */
+    late = stream.bytes[19] & T85_VARIABLE_HEIGHT;
+    if (jbg85_dec_getheight(&state) > height ||
+        (!late && (jbg85_dec_getheight(&state) < height || taken.count != height)) ||
+        memcmp(theirs.bytes, packed, taken.row * (taken.count < height ? taken.count : height))) {
+        fprintf(stderr, "JBIG-KIT: %lu rows, %u of them written; here %u\n", jbg85_dec_getheight(&state), taken.count,
+                height);
+        CHECK(!"the image that JBIG-KIT reads");
+    }
+}
+
+static void put(unsigned char *start, size_t len, void *to)
+{
+    size_t *count = to;
+    CHECK(*count + len <= PLACE);
+    memcpy(theirs.bytes + *count, start, len);
+    *count += len;
+}
+
+/* The stream of an image by JBIG-KIT's encoder. */
+static size_t encoded_by_theirs(const uint8_t *packed, uint32_t width, uint32_t height, const t85_options *options)
+{
+    struct jbg85_enc_state state;
+    size_t row = t85_row_bytes(width), count = 0;
+    uint32_t y;
+    unsigned char *at = (unsigned char *)packed;
+    lend(&theirs, PLACE);
+    jbg85_enc_init(&state, width, height, put, &count);
+    jbg85_enc_options(&state, (int)options->options, options->stripe_rows, (int)options->most_offset);
+    for (y = 0; y < height; y++, at += row)
+        jbg85_enc_lineout(&state, at, y > 0 ? at - row : NULL, y > 1 ? at - 2 * row : NULL);
+    return count;
+}
+
+/* What JBIG-KIT's encoder makes of an image is read as that image, and is no shorter where the adaptive pixel can't move. */
+static void theirs_again(uint32_t width, uint32_t height, const t85_options *options, size_t written)
+{
+    size_t row = t85_row_bytes(width), count = encoded_by_theirs(rows.bytes, width, height, options), back;
+    CHECK(options->most_offset || written <= count);
+    lend(&stream, count);
+    memmove(stream.bytes, theirs.bytes, count);
+    lend(&image, 22 + row * height);
+    CHECK(decode(&image, UINT32_MAX, &back) == T85_OK);
+    CHECK(!memcmp(image.bytes + back - row * height, rows.bytes, row * height));
+}
+
+/* Encodes an image with options of any kind, in a room that is enough, and in one that is too little. Its rows come back,
+   from JBIG-KIT's decoder, too. */
+static void encode_again(const uint8_t *packed, uint32_t width, uint32_t height)
+{
+    t85_options options = T85_OPTIONS;
+    size_t row = t85_row_bytes(width), written, less;
+    options.options = roll(2) * T85_TYPICAL + roll(2) * T85_TWO_LINES;
+    options.stripe_rows = 1 + roll(roll(2) ? 4 : 200);
+    options.most_offset = roll(2) ? 0 : roll(128);
+    options.reset = roll(4) == 0;
+    options.announces_height = roll(4) == 0;
+    options.announced_height = height + roll(3) * roll(100);
+    options.has_comment = roll(4) == 0;
+    lend(&comment, roll(20));
+    lend(&rows, row * height);
+    memmove(rows.bytes, packed, row * height);
+    lend(&code, PLACE);
+    CHECK(t85_encode(width, height, rows.bytes, rows.len, row, &options, comment.bytes, comment.len, window.bytes,
+                     window.len, code.bytes, code.len, &written) == T85_OK);
+    CHECK(written <= t85_encode_bound(width, height, &options, comment.len));
+    lend(&again, roll((uint32_t)written));
+    CHECK(t85_encode(width, height, rows.bytes, rows.len, row, &options, comment.bytes, comment.len, window.bytes,
+                     window.len, again.bytes, again.len, &less) == T85_NO_ROOM);
+    CHECK(less == again.len && !memcmp(again.bytes, code.bytes, less));
+    lend(&stream, written);
+    memmove(stream.bytes, code.bytes, written);
+    lend(&image, 22 + row * height);
+    CHECK(decode(&image, UINT32_MAX, &less) == T85_OK);
+    CHECK(!memcmp(image.bytes + less - row * height, rows.bytes, row * height));
+    as_theirs(rows.bytes, width, height);
+    if (!options.reset && !options.announces_height && !options.has_comment)
+        theirs_again(width, height, &options, written);
+}
+
+/* libFuzzer keeps an input that sets a counter which no other did, as if it were a line of code that is new. */
+__attribute__((section("__libfuzzer_extra_counters"))) static uint8_t counters[1 << 14];
+
+static unsigned size_class(uint64_t number)
+{
+    return number < 4 ? (unsigned)number : 4 + (number >= 16) + (number >= 200);
+}
+
+static void tell(uint8_t info, uint8_t status, size_t count, const t85_summary *summary)
+{
+    unsigned kind = status & 31;
+    kind = kind * 7 + size_class(count);
+    counters[kind]++;
+    kind = (summary->options & 0x68u) + (info & 7u) + 300;
+    counters[kind]++;
+    if (info == T85_OK) {
+        kind = size_class(summary->moves) * 7 + size_class(summary->comments);
+        kind = kind * 7 + size_class(summary->entities);
+        kind = kind * 4 + (summary->image_height != summary->height) * 2u + (summary->options & T85_TYPICAL ? 1u : 0u);
+        counters[1024 + kind]++;
+    }
+}
+
+/* The PBM's header that t85_decode wrote, its height being that of the stream. Gives its length. */
+static size_t pbm_header(size_t written, const t85_header_fields *fields, uint8_t info, const t85_summary *summary,
+                         uint32_t *height)
+{
+    char text[30];
+    uint32_t width;
+    size_t front = written < 22 ? written : 22;
+    memcpy(text, image.bytes, front);
+    text[front] = 0;
+    CHECK(sscanf(text, "P4\n%u %u", &width, height) == 2);
+    sprintf(text, "P4\n%u %u\n", width, *height);
+    front = strlen(text);
+    CHECK(written >= front && !memcmp(image.bytes, text, front));
+    CHECK(width == fields->width && *height >= 1 && *height <= fields->height);
+    if (info == T85_OK)
+        CHECK(summary->width == width && summary->height == fields->height && summary->image_height == *height);
+    if (!(fields->options & T85_VARIABLE_HEIGHT))
+        CHECK(*height == fields->height);
+    return front;
+}
+
+/* A stream with a header: t85_decode says what t85_info says, and each other call what t85_decode says. */
+static void decoded(const t85_header_fields *fields, uint8_t info, const t85_summary *summary)
+{
+    size_t row = t85_row_bytes(fields->width), written, other, front, count;
+    uint32_t height;
+    uint8_t status;
+    lend(&window, 3 * row - 1);
+    lend(&image, roll(50) ? 20000 : PLACE);
+    CHECK(decode(&image, UINT32_MAX, &written) == T85_SHORT_WINDOW && written == 0);
+    lend(&window, 3 * row);
+    status = decode(&image, UINT32_MAX, &written);
+    if (status == T85_NO_ROOM) {
+        CHECK(written == image.len);
+        return;
+    }
+    CHECK(status == info && written <= image.len);
+    front = pbm_header(written, fields, info, summary, &height);
+    count = (written - front) / row;
+    CHECK((written - front) % row == 0 && (status == T85_OK ? count == height : count <= height));
+    tell(info, status, count, summary);
+    in_less_room(written);
+    as_rows(status, image.bytes + front, row, count);
+    CHECK(decode(&image, height, &other) == status && other == written);
+    lend(&again, PLACE);
+    CHECK(decode(&again, roll(2) ? height - 1 : roll(height), &other) == T85_TOO_MANY_ROWS && other == 0);
+    if (status == T85_OK) {
+        as_theirs(image.bytes + front, fields->width, height);
+        if (row * height < 10000)
+            encode_again(image.bytes + front, fields->width, height);
+    }
+}
+
+int LLVMFuzzerTestOneInput(const uint8_t *data, size_t size)
+{
+    t85_header_fields fields;
+    t85_summary summary = {0};
+    uint8_t head, info;
+    size_t written, i;
+    if (size > PLACE)
+        return 0;
+    dice = 85;
+    for (i = 0; i < size; i++)
+        dice = (dice ^ data[i]) * 1099511628211u;
+    at_front = roll(2);
+    lend(&stream, size);
+    memcpy(stream.bytes, data, size);
+    head = t85_header(stream.bytes, size, &fields);
+    info = t85_info(stream.bytes, size, &summary);
+    CHECK(head <= T85_PRIVATE_TABLE && info <= T85_SECOND_LENGTH);
+    counters[700 + head]++;
+    if (head != T85_OK) {
+        lend(&window, 0);
+        lend(&image, 0);
+        CHECK(info == head && decode(&image, roll(9), &written) == head && written == 0);
+        return 0;
+    }
+    CHECK(fields.width >= 1 && fields.width <= T85_MOST_WIDTH && fields.height >= 1 && fields.stripe_rows >= 1 &&
+          fields.most_offset <= T85_MOST_OFFSET);
+    decoded(&fields, info, &summary);
+    return 0;
+}
+
+/* A fresh stream of a small image, some of its rows alike. */
+static size_t fresh(uint8_t *data, size_t most)
+{
+    uint32_t width = 1 + roll(roll(3) ? 40 : 300), height = 1 + roll(20), y;
+    t85_options options = T85_OPTIONS;
+    size_t row = t85_row_bytes(width), i, written = 0;
+    uint8_t pixels[20 * 40], lines[3 * 40];
+    if (most < 20)
+        return 0;
+    for (y = 0; y < height; y++)
+        for (i = 0; i < row; i++)
+            pixels[y * row + i] =
+                y && roll(2) ? pixels[(y - 1) * row + i] : (uint8_t)(roll(2) ? roll(256) : roll(2) * 255);
+    options.options = roll(2) * T85_TYPICAL + roll(2) * T85_TWO_LINES + roll(2) * T85_VARIABLE_HEIGHT;
+    options.stripe_rows = 1 + roll(height + 2);
+    options.most_offset = roll(128);
+    options.reset = roll(2);
+    options.has_comment = roll(2);
+    options.announces_height = roll(2);
+    options.announced_height = height + roll(9);
+    CHECK(t85_encode(width, height, pixels, height * row, row, &options, pixels, roll(5), lines, 3 * row, data, most,
+                     &written) %
+              T85_NO_ROOM ==
+          0);
+    return written;
+}
+
+static size_t insert(uint8_t *data, size_t size, size_t most, size_t at, const uint8_t *bytes, size_t count)
+{
+    if (size + count > most || at > size)
+        return size;
+    memmove(data + at + count, data + at, size - at);
+    memcpy(data + at, bytes, count);
+    return size + count;
+}
+
+/* A segment at the front of the stream's body, behind an end marker, or anywhere. */
+static size_t with_segment(uint8_t *data, size_t size, size_t most)
+{
+    uint8_t segment[12] = {0xff, (uint8_t)(2 + roll(7)), 0, 0, 0, (uint8_t)roll(12), (uint8_t)roll(12), 0};
+    size_t at = 20 < size ? 20 : size, count = segment[1] == 6   ? 8
+                                               : segment[1] == 5 ? 6
+                                               : segment[1] == 7 ? 6 + segment[5]
+                                                                 : 2;
+    uint32_t skipped = roll(8);
+    for (; skipped && at + 1 < size; at++)
+        if (data[at] == 0xff && (data[at + 1] == 2 || data[at + 1] == 3) && --skipped == 0) {
+            at += 2;
+            break;
+        }
+    if (roll(8) == 0 && size)
+        at = roll((uint32_t)size);
+    return insert(data, size, most, at, segment, count < sizeof segment ? count : sizeof segment);
+}
+
+size_t LLVMFuzzerCustomMutator(uint8_t *data, size_t size, size_t most, unsigned seed)
+{
+    dice = dice * 31 + seed;
+    if (size < 20 || roll(30) == 0)
+        size = fresh(data, most);
+    switch (roll(6)) {
+    case 0:
+        return with_segment(data, size, most);
+    case 1: /* a number of the header */
+        if (size >= 20)
+            data[4 + roll(16)] = (uint8_t)(roll(2) ? roll(8) : roll(256));
+        return size;
+    case 2: /* the height, or the rows of a stripe, small */
+        if (size >= 20) {
+            size_t at = 8 + 4 * roll(2);
+            memset(data + at, 0, 3);
+            data[at + 3] = (uint8_t)roll(20);
+        }
+        return size;
+    case 3: /* the body alone */
+        return size > 20 ? 20 + LLVMFuzzerMutate(data + 20, size - 20, most - 20) : size;
+    case 4: /* an end */
+        return size > 20 && roll(4) == 0 ? 20 + roll((uint32_t)(size - 20)) : with_segment(data, size, most);
+    default:
+        return LLVMFuzzerMutate(data, size, most);
+    }
+}
