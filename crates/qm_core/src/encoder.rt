@@ -8,7 +8,7 @@ ghost use Rattle.qm_core.specs.Sink.{Writes};
 
 use crate::batch::{Batch, Tail};
 use crate::context::Context;
-use crate::entries::{Entry, entry_of};
+use crate::entries::{Entry, cost_of, entry_of};
 use crate::learned::Learned;
 use crate::sink::{CodeSink, SinkFault};
 use crate::skipping::left_of;
@@ -196,22 +196,13 @@ fn write_both<W: CodeSink>(first: Batch, second: Batch, out: &mut W) -> Result<(
     }
 }
 
-/// Whether a pixel is the one that a cell favours.
+/// Whether a pixel of this cost changes nothing but the size.
 #[inline(always)]
-fn favours(cell: u8, pixel: bool) -> bool
-    ensures { result ≡ same pixel (estimate cell).pixel }
+fn is_quiet(cost: u32, span: u32, floor: u32) -> bool
+    ensures enough { result ≡ true → floor + cost ≤ span }
+    ensures short { result ≡ false → span < floor + cost }
 {
-    (cell % 2 + u8::from(pixel)) % 2 == 0
-}
-
-/// Whether a pixel changes nothing but the size.
-#[inline(always)]
-fn is_quiet(is_favoured: bool, lower: u32, floor: u32) -> bool
-    ensures favoured { result ≡ true → is_favoured ≡ true }
-    ensures large { result ≡ true → floor ≤ lower }
-    ensures small { result ≡ false → is_favoured ≡ true → lower < floor }
-{
-    is_favoured && lower >= floor
+    cost <= span && span - cost >= floor
 }
 
 /// The floor of an encoder.
@@ -311,12 +302,10 @@ impl Encoder {
             (record { place = p; learned = learned.old }) pushed
             cx.number pixel self.new learned.new result }
     {
-        let cell = learned.cell(cx);
-        let entry = entry_of(cell);
-        let lower = self.span - entry.span;
-        let is_favoured = favours(cell, pixel);
-        if is_quiet(is_favoured, lower, self.floor) {
-            self.span = lower;
+        let cell = learned.cell_of(cx, pixel);
+        let cost = cost_of(cell);
+        if is_quiet(cost, self.span, self.floor) {
+            self.span -= cost;
             self.events += 1;
             return Ok(());
         }
@@ -324,7 +313,10 @@ impl Encoder {
             return Err(CoderFault::Failed);
         }
         self.events += 1;
-        learned.set(cx, next_cell(is_favoured, entry));
+        let entry = entry_of(cell);
+        let is_favoured = cell % 2 == 0;
+        let lower = self.span - entry.span;
+        learned.set_of(cx, pixel, next_cell(is_favoured, entry));
         let is_lower = is_lower(is_favoured, lower, entry.span);
         if is_lower {
             return self.go(self.low, lower, out);

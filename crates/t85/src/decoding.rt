@@ -27,7 +27,7 @@ pub fn status_of(answer: &Result<(), Fault>) -> u8
 /// Writes the image of a stream as a raw PBM, of so many rows at most. A stream may give its height late.
 ///
 /// Answers 0, or the first of these: 1 to 8 where the header is refused; 24 where the image has more than `max_rows`
-/// rows; 19 where the window is shorter than `t85_window_bytes` of the width; 9 to 16 where the stream is broken, and
+/// rows; 19 where the window is shorter than `t85_window_bytes` of the width; 9 to 15 where the stream is broken, and
 /// then the header and the rows are written that what came before fixes. It is 18 where what is to be written is longer
 /// than `image`, which is then full of a beginning.
 ///
