@@ -690,27 +690,35 @@ fn code_of_model(
     out.bytes
 }
 
-/// Whether three rows without order have the code that the model gives, and come back from it.
+/// Whether three rows have the code that the model gives, and come back from it, with three lines
+/// and with two.
 fn meets_model(
     rt: &impl Abort,
     alloc: Global,
-    shape: Shape,
+    width: u32,
     offset: u8,
+    rows: [&[u8]; 3],
 ) -> Result<bool, AllocError> {
-    let first = row_of(alloc, shape.width, 1)?;
-    let second = row_of(alloc, shape.width, 2)?;
-    let third = row_of(alloc, shape.width, 3)?;
-    let rows = [first.as_slice(), second.as_slice(), third.as_slice()];
-    let expected = code_of_model(rt, alloc, shape, offset, rows);
-    is_code(rt, alloc, shape, offset, expected.as_slice(), &rows)
+    for &two_line in &[false, true] {
+        let shape = shape(width, two_line, false);
+        let expected = code_of_model(rt, alloc, shape, offset, rows);
+        if !is_code(rt, alloc, shape, offset, expected.as_slice(), &rows)? {
+            return Ok(false);
+        }
+    }
+    Ok(true)
 }
 
-/// Rows of this width meet the model, with three lines and with two.
+/// Rows of this width without order meet the model.
 fn meet_model(rt: &impl Abort, alloc: Global, width: u32, offset: u8) -> Result<(), AllocError> {
-    for &two_line in &[false, true] {
-        let met = meets_model(rt, alloc, shape(width, two_line, false), offset)?;
-        assert!(rt; met, "at {width}, {offset}");
-    }
+    let first = row_of(alloc, width, 1)?;
+    let second = row_of(alloc, width, 2)?;
+    let third = row_of(alloc, width, 3)?;
+    let rows = [first.as_slice(), second.as_slice(), third.as_slice()];
+    assert!(rt;
+        meets_model(rt, alloc, width, offset, rows)?,
+        "at {width}, {offset}"
+    );
     Ok(())
 }
 
@@ -735,6 +743,35 @@ fn widest_meets_the_model(rt: HostRuntime) -> Result<(), Fail> {
 fn offsets_meet_the_model(rt: HostRuntime) -> Result<(), Fail> {
     for offset in 1..128u8 {
         meet_model(&rt, rt.alloc(), 150, offset)?;
+    }
+    Ok(())
+}
+
+/// A black row with one white pixel, if that lies in it, and white padding.
+fn black_row(alloc: Global, width: u32, white: u32) -> Result<Vec<u8>, AllocError> {
+    let mut bytes = vec![in alloc; 0u8; width.div_ceil(8) as usize]?;
+    for x in 0..width {
+        if let Some(byte) = bytes.get_mut((x / 8) as usize) {
+            if x != white {
+                *byte |= 0x80u8 >> (x % 8);
+            }
+        }
+    }
+    Ok(bytes)
+}
+
+/// Three black rows, long enough for runs of 64, and the same with a white pixel in the middle of
+/// one of them; in the nominal place and in moved ones.
+#[test]
+fn black_rows_meet_the_model(rt: HostRuntime) -> Result<(), Fail> {
+    for &(width, offset) in &[(1203, 0), (1200, 9), (1203, 127)] {
+        let whole = black_row(rt.alloc(), width, width)?;
+        let broken = black_row(rt.alloc(), width, width / 2)?;
+        let (w, b) = (whole.as_slice(), broken.as_slice());
+        for rows in [[w, w, w], [w, w, b], [w, b, w], [b, w, w]] {
+            let met = meets_model(&rt, rt.alloc(), width, offset, rows)?;
+            assert!(rt; met, "at {width}, {offset}");
+        }
     }
     Ok(())
 }

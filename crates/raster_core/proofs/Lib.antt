@@ -20,8 +20,8 @@ pub mod Choosing
 pub mod Colours
 pub mod Skips
 pub mod SkipsAlong
-pub mod Whites
+pub mod Filled
 pub mod LaneTables
-pub mod WhitesAlong
+pub mod FilledAlong
 pub mod LaneContexts
 pub mod LanePixels

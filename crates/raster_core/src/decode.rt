@@ -7,19 +7,19 @@ ghost use Rattle.qm_core.specs.Place.{Place};
 ghost use Rattle.qm_core.specs.Skipping.{CanSkip};
 ghost use Rattle.qm_core.specs.Decoder.{DecoderIsAt, has_stopped};
 ghost use Rattle.qm_core.specs.declared.source.Pulled.{Pulled};
-ghost use Rattle.raster_core.specs.Machine.Decoded.{Along, StopsAlong, AlongMore, StopsMore, SkipsAlong, SkipsWhiteAlong, RowAlong, RowStops};
+ghost use Rattle.raster_core.specs.Machine.Decoded.{Along, StopsAlong, AlongMore, StopsMore, SkipsAlong, SkipsFilledAlong, RowAlong, RowStops};
 ghost use Rattle.raster_core.specs.Lines.{Lines};
 ghost use Rattle.raster_core.specs.Window.{shape_mode, held, width_of};
 ghost use Rattle.raster_core.specs.Packed.{HasLines, SameAbove};
-ghost use Rattle.raster_core.specs.Machine.Registers.{bit, is_moved};
+ghost use Rattle.raster_core.specs.Machine.Registers.{bit, is_moved, past_bits};
 ghost use Rattle.raster_core.specs.Row.{FirstDecoded, FirstStopped, RowDecoded};
-ghost use Rattle.raster_core.specs.Machine.Uniform.{uniform_event, AreAllOf, AreWhite};
+ghost use Rattle.raster_core.specs.Machine.Uniform.{uniform_event, colour_of, filled, AreAllOf, AreFilled};
 
 use crate::bytes::byte_at;
 use crate::context::{by_template, context_of, flag_context, past_and};
 use crate::lanes::{first_around, has_lanes, last_around};
 use crate::shape::{Kept, Shape};
-use crate::uniform::{is_blank, is_run, is_white_above, past_eight, uniform_context, whiten};
+use crate::uniform::{is_all_above, is_filled, is_run, paint, past_eight, uniform_context};
 use crate::window::Window;
 use qm_core::{CodeBytes, Context, Decoder, Learned, Stop, laws};
 
@@ -340,10 +340,11 @@ fn decode_step<S: CodeBytes, const TWO_LINE: bool, const MOVED: bool>(
     }
 }
 
-/// Decodes eight bytes in one step, where they are white and below white ones, and no byte of the
-/// code is wanted. Else it does nothing. What stands before them has to be white.
+/// Decodes eight bytes in one step, where they are of a colour and below bytes of it, and no byte of
+/// the code is wanted. Else it does nothing. What stands before them has to be of the colour.
 #[inline(always)]
 fn skip_word(
+    colour: bool,
     above: &[u8],
     second: &[u8],
     i: usize,
@@ -356,24 +357,25 @@ fn skip_word(
     ensures going { result ≡ true → has_stopped decoder.old ≡ false }
     ensures unchanged { result ≡ false → decoder.new ≡ decoder.old }
     ensures inside { result ≡ true → 64 < left }
-    ensures skipped { result ≡ true → SkipsWhiteAlong above.now second.now i 8 decoder.old
-        learned.now decoder.new }
+    ensures skipped { result ≡ true → SkipsFilledAlong colour above.now second.now i 8
+        decoder.old learned.now decoder.new }
     ensures taken { (p : Place) (answers : List Pulled) → DecoderIsAt decoder.old p answers →
         64 < left → i + 9 ≤ length above.now → i + 9 ≤ length second.now →
-        AreWhite above.now (i + 1) 8 → AreWhite second.now (i + 1) 8 →
+        AreFilled colour above.now (i + 1) 8 → AreFilled colour second.now (i + 1) 8 →
         CanSkip decoder.old (record { place = p; learned = learned.now }) answers
-        (uniform_event false) 64 → result ≡ true }
+        (uniform_event colour) 64 → result ≡ true }
 {
-    if is_white_above(above, second, i, left) {
-        decoder.skip(learned, uniform_context(false), false, 64)
+    if is_all_above(colour, above, second, i, left) {
+        decoder.skip(learned, uniform_context(colour), colour, 64)
     } else {
         false
     }
 }
 
-/// Decodes white bytes by eights, and says how many eights, as long as that can be.
+/// Decodes bytes of a colour by eights, and says how many eights, as long as that can be.
 #[inline(never)]
 fn skip_words(
+    colour: bool,
     above: &[u8],
     second: &[u8],
     i: usize,
@@ -387,13 +389,13 @@ fn skip_words(
     ensures going { 1 ≤ result → has_stopped decoder.old ≡ false }
     ensures unchanged { result ≡ 0 → decoder.new ≡ decoder.old }
     ensures inside { 64 * result < left }
-    ensures skipped { SkipsWhiteAlong above.now second.now i (8 * result) decoder.old learned.now
-        decoder.new }
+    ensures skipped { SkipsFilledAlong colour above.now second.now i (8 * result) decoder.old
+        learned.now decoder.new }
 {
     let mut words = 0u32;
     let mut at = i;
     let mut rest = left;
-    'words: while skip_word(above, second, at, rest, learned, decoder) {
+    'words: while skip_word(colour, above, second, at, rest, learned, decoder) {
         words += 1;
         at += 8;
         rest -= 64;
@@ -401,9 +403,9 @@ fn skip_words(
     words
 }
 
-/// The same after white pixels alone, and writes the white bytes; else it decodes nothing.
+/// The same after pixels of one colour alone, and writes the bytes; else it decodes nothing.
 #[inline(always)]
-fn skip_blank(
+fn skip_filled<const MOVED: bool>(
     current: &mut [u8],
     above: &[u8],
     second: &[u8],
@@ -422,17 +424,20 @@ fn skip_blank(
     ensures going { 1 ≤ result → has_stopped decoder.old ≡ false }
     ensures unchanged { result ≡ 0 → decoder.new ≡ decoder.old }
     ensures inside { 64 * result < left }
-    ensures second { 1 ≤ result → second_bytes ≡ 0 }
-    ensures above { 1 ≤ result → above_bytes ≡ 0 }
-    ensures before { 1 ≤ result → before ≡ 0 }
-    ensures white { (k : ℕ) → i ≤ k → k < i + 8 * result → slice_index current.new k ≡ 0 }
+    ensures second { 1 ≤ result → second_bytes ≡ filled (colour_of above_bytes) 24 }
+    ensures above { 1 ≤ result → above_bytes ≡ filled (colour_of above_bytes) 24 }
+    ensures before { 1 ≤ result → (offset : ℕ) → MOVED ≡ is_moved offset →
+        before ≡ filled (colour_of above_bytes) (past_bits offset) }
+    ensures filled { (k : ℕ) → i ≤ k → k < i + 8 * result →
+        slice_index current.new k ≡ bit (colour_of above_bytes) * 255 }
     ensures kept { (k : ℕ) → k < i → slice_index current.new k ≡ slice_index current.old k }
-    ensures skipped { SkipsWhiteAlong above.now second.now i (8 * result) decoder.old learned.now
-        decoder.new }
+    ensures skipped { SkipsFilledAlong (colour_of above_bytes) above.now second.now i (8 * result)
+        decoder.old learned.now decoder.new }
 {
-    if is_blank(second_bytes, above_bytes, before) {
-        let words = skip_words(above, second, i, left, learned, decoder);
-        whiten(current, i, i + 8 * words as usize);
+    let colour = above_bytes == 0xFF_FFFF;
+    if is_filled::<MOVED>(colour, second_bytes, above_bytes, before) {
+        let words = skip_words(colour, above, second, i, left, learned, decoder);
+        paint(current, colour, i, i + 8 * words as usize);
         words
     } else {
         0
@@ -475,7 +480,7 @@ fn decode_bytes<S: CodeBytes, const TWO_LINE: bool, const MOVED: bool>(
     let mut left = shape.width;
     let mut i = 0;
     'bytes: while left >= 8 {
-        let words = skip_blank(
+        let words = skip_filled::<MOVED>(
             current,
             above,
             second,

@@ -6,19 +6,21 @@ ghost use Rattle.qm_core.specs.Encoder.{EncoderIsAt, event_count, has_failed};
 ghost use Rattle.qm_core.specs.Place.{Place};
 ghost use Rattle.qm_core.specs.Skipping.{has_room};
 ghost use Rattle.raster_core.specs.Events.{Encodes, Fails};
-ghost use Rattle.raster_core.specs.Machine.Encoded.{EncodesByte, FailsByte, EncodesMore, FailsMore, SkipsByte, SkipsWhite, EncodesRow, FailsRow};
+ghost use Rattle.raster_core.specs.Machine.Encoded.{EncodesByte, FailsByte, EncodesMore, FailsMore, SkipsByte, SkipsFilled, EncodesRow, FailsRow};
 ghost use Rattle.raster_core.specs.Lines.{Lines, may_be_typical, pseudo_event};
 ghost use Rattle.raster_core.specs.Window.{shape_mode, held, width_of};
 ghost use Rattle.raster_core.specs.Packed.{HasLines, packed_row};
-ghost use Rattle.raster_core.specs.Machine.Registers.{bit, is_moved};
+ghost use Rattle.raster_core.specs.Machine.Registers.{bit, is_moved, past_bits};
 ghost use Rattle.raster_core.specs.Row.{RowEncoded};
-ghost use Rattle.raster_core.specs.Machine.Uniform.{uniform_event, AreAllOf, AreWhite};
+ghost use Rattle.raster_core.specs.Machine.Uniform.{uniform_event, colour_of, filled, AreAllOf, AreFilled};
 
 use crate::bytes::byte_at;
 use crate::context::{by_template, context_of, flag_context, past_and};
 use crate::lanes::{first_pixels, has_lanes, last_pixels};
 use crate::shape::{Kept, Shape};
-use crate::uniform::{is_blank, is_run, is_white, is_white_above, past_eight, uniform_context};
+use crate::uniform::{
+    byte_of, is_all, is_all_above, is_filled, is_run, past_eight, uniform_context,
+};
 use crate::window::Window;
 use qm_core::{CodeSink, CoderFault, Context, Encoder, Learned, MAX_EVENTS};
 
@@ -375,10 +377,11 @@ fn encode_step<W: CodeSink, const TWO_LINE: bool, const MOVED: bool>(
     }
 }
 
-/// Encodes eight bytes in one step, where they are white and below white ones, and no byte of the
-/// code comes of it. Else it does nothing. What stands before them has to be white.
+/// Encodes eight bytes in one step, where they are of a colour and below bytes of it, and no byte of
+/// the code comes of it. Else it does nothing. What stands before them has to be of the colour.
 #[inline(always)]
 fn skip_word(
+    colour: bool,
     current: &[u8],
     above: &[u8],
     second: &[u8],
@@ -394,25 +397,26 @@ fn skip_word(
     ensures unchanged { result ≡ false → encoder.new ≡ encoder.old }
     ensures inside { result ≡ true → 64 < left }
     ensures events { result ≡ true → event_count encoder.new ≡ event_count encoder.old + 64 }
-    ensures skipped { result ≡ true → SkipsWhite current.now above.now second.now i 8 encoder.old
-        learned.now encoder.new }
+    ensures skipped { result ≡ true → SkipsFilled colour current.now above.now second.now i 8
+        encoder.old learned.now encoder.new }
     ensures taken { (p : Place) (pushed : List ℕ) → has_failed encoder.old ≡ false →
         EncoderIsAt encoder.old p pushed → 64 < left → i + 8 ≤ length current.now →
-        i + 9 ≤ length above.now → i + 9 ≤ length second.now → AreWhite current.now i 8 →
-        AreWhite above.now (i + 1) 8 → AreWhite second.now (i + 1) 8 →
-        IsTrue (has_room (record { place = p; learned = learned.now }) (uniform_event false) 64) →
+        i + 9 ≤ length above.now → i + 9 ≤ length second.now → AreFilled colour current.now i 8 →
+        AreFilled colour above.now (i + 1) 8 → AreFilled colour second.now (i + 1) 8 →
+        IsTrue (has_room (record { place = p; learned = learned.now }) (uniform_event colour) 64) →
         result ≡ true }
 {
-    if is_white_above(above, second, i, left) && is_white(current, i) {
-        encoder.skip(learned, uniform_context(false), false, 64)
+    if is_all_above(colour, above, second, i, left) && is_all(colour, current, i) {
+        encoder.skip(learned, uniform_context(colour), colour, 64)
     } else {
         false
     }
 }
 
-/// Encodes white bytes by eights, and says how many eights, as long as that can be.
+/// Encodes bytes of a colour by eights, and says how many eights, as long as that can be.
 #[inline(never)]
 fn skip_words(
+    colour: bool,
     current: &[u8],
     above: &[u8],
     second: &[u8],
@@ -429,13 +433,13 @@ fn skip_words(
     ensures unchanged { result ≡ 0 → encoder.new ≡ encoder.old }
     ensures inside { 64 * result < left }
     ensures events { event_count encoder.new ≡ event_count encoder.old + 64 * result }
-    ensures skipped { SkipsWhite current.now above.now second.now i (8 * result) encoder.old
-        learned.now encoder.new }
+    ensures skipped { SkipsFilled colour current.now above.now second.now i (8 * result)
+        encoder.old learned.now encoder.new }
 {
     let mut words = 0u32;
     let mut at = i;
     let mut rest = left;
-    'words: while skip_word(current, above, second, at, rest, learned, encoder) {
+    'words: while skip_word(colour, current, above, second, at, rest, learned, encoder) {
         words += 1;
         at += 8;
         rest -= 64;
@@ -443,9 +447,9 @@ fn skip_words(
     words
 }
 
-/// The same after white pixels alone; else it encodes nothing.
+/// The same after pixels of one colour alone; else it encodes nothing.
 #[inline(always)]
-fn skip_blank(
+fn skip_filled<const MOVED: bool>(
     current: &[u8],
     above: &[u8],
     second: &[u8],
@@ -466,14 +470,18 @@ fn skip_blank(
     ensures unchanged { result ≡ 0 → encoder.new ≡ encoder.old }
     ensures inside { 64 * result < left }
     ensures events { event_count encoder.new ≡ event_count encoder.old + 64 * result }
-    ensures second { 1 ≤ result → second_bytes ≡ 0 }
-    ensures above { 1 ≤ result → above_bytes ≡ 0 }
-    ensures before { 1 ≤ result → before ≡ 0 }
-    ensures skipped { SkipsWhite current.now above.now second.now i (8 * result) encoder.old
-        learned.now encoder.new }
+    ensures second { 1 ≤ result → second_bytes ≡ filled (colour_of above_bytes) 24 }
+    ensures above { 1 ≤ result → above_bytes ≡ filled (colour_of above_bytes) 24 }
+    ensures before { 1 ≤ result → (offset : ℕ) → MOVED ≡ is_moved offset →
+        before ≡ filled (colour_of above_bytes) (past_bits offset) }
+    ensures skipped { SkipsFilled (colour_of above_bytes) current.now above.now second.now i
+        (8 * result) encoder.old learned.now encoder.new }
 {
-    if current[i] == 0 && is_blank(second_bytes, above_bytes, before) {
-        skip_words(current, above, second, i, left, learned, encoder)
+    let colour = above_bytes == 0xFF_FFFF;
+    if current[i] == byte_of(colour)
+        && is_filled::<MOVED>(colour, second_bytes, above_bytes, before)
+    {
+        skip_words(colour, current, above, second, i, left, learned, encoder)
     } else {
         0
     }
@@ -521,7 +529,7 @@ fn encode_bytes<W: CodeSink, const TWO_LINE: bool, const MOVED: bool>(
     let mut left = shape.width;
     let mut i = 0;
     'bytes: while left >= 8 {
-        let words = skip_blank(
+        let words = skip_filled::<MOVED>(
             current,
             above,
             second,

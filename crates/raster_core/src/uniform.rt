@@ -3,7 +3,7 @@
 ghost use Rattle.std.specs.Prelude.{◌≡◌, ℕ, ◌+◌, ◌-◌, ◌*◌, ◌/◌, ◌%◌, ◌^◌, ◌≤◌, ◌<◌, IsTrue, length, nat_eq, slice_index, true};
 ghost use Rattle.raster_core.specs.Lines.{Lines, Mode};
 ghost use Rattle.raster_core.specs.Machine.Registers.{before, bit, is_moved, past_bits};
-ghost use Rattle.raster_core.specs.Machine.Uniform.{uniform_context, AreAllOf, AreWhite, StaysUniform};
+ghost use Rattle.raster_core.specs.Machine.Uniform.{filled, uniform_context, AreAllOf, AreFilled, StaysUniform};
 
 use qm_core::Context;
 
@@ -106,23 +106,63 @@ pub(crate) fn past_eight<const MOVED: bool>(past: u128, byte: u8) -> u128
     }
 }
 
-/// Whether the registers of a byte hold white pixels alone.
+/// A byte of a colour.
 #[inline(always)]
-pub(crate) fn is_blank(second_bytes: u32, above_bytes: u32, past: u128) -> bool
-    ensures second { IsTrue result → second_bytes ≡ 0 }
-    ensures above { IsTrue result → above_bytes ≡ 0 }
-    ensures past { IsTrue result → past ≡ 0 }
-    ensures all { second_bytes ≡ 0 → above_bytes ≡ 0 → past ≡ 0 → result ≡ true }
+pub(crate) fn byte_of(colour: bool) -> u8
+    ensures { result ≡ bit colour * 255 }
 {
-    second_bytes == 0 && above_bytes == 0 && past == 0
+    if colour { 255 } else { 0 }
 }
 
-/// Whether eight bytes of a row are white and none of them lies after its last.
+/// A register of a row above, all of a colour.
 #[inline(always)]
-pub(crate) fn is_white(row: &[u8], i: usize) -> bool
+fn register_of(colour: bool) -> u32
+    ensures { result ≡ filled colour 24 }
+{
+    if colour { 0xFF_FFFF } else { 0 }
+}
+
+/// The register of the pixels before the next one, all of a colour.
+#[inline(always)]
+fn past_of<const MOVED: bool>(colour: bool) -> u128
+    ensures { (offset : ℕ) → MOVED ≡ is_moved offset → result ≡ filled colour (past_bits offset) }
+{
+    if colour {
+        if MOVED {
+            u128::MAX
+        } else {
+            u128::from(u64::MAX)
+        }
+    } else {
+        0
+    }
+}
+
+/// Whether the registers of a byte hold pixels of a colour alone.
+#[inline(always)]
+pub(crate) fn is_filled<const MOVED: bool>(
+    colour: bool,
+    second_bytes: u32,
+    above_bytes: u32,
+    past: u128,
+) -> bool
+    ensures second { IsTrue result → second_bytes ≡ filled colour 24 }
+    ensures above { IsTrue result → above_bytes ≡ filled colour 24 }
+    ensures past { IsTrue result → (offset : ℕ) → MOVED ≡ is_moved offset →
+        past ≡ filled colour (past_bits offset) }
+    ensures all { (offset : ℕ) → MOVED ≡ is_moved offset → second_bytes ≡ filled colour 24 →
+        above_bytes ≡ filled colour 24 → past ≡ filled colour (past_bits offset) → result ≡ true }
+{
+    let all = register_of(colour);
+    second_bytes == all && above_bytes == all && past == past_of::<MOVED>(colour)
+}
+
+/// Whether eight bytes of a row are of a colour and none of them lies after its last.
+#[inline(always)]
+pub(crate) fn is_all(colour: bool, row: &[u8], i: usize) -> bool
     requires { i < 2 ^ 33 }
-    ensures white { IsTrue result → AreWhite row.now i 8 }
-    ensures all { i + 8 ≤ length row.now → AreWhite row.now i 8 → result ≡ true }
+    ensures filled { IsTrue result → AreFilled colour row.now i 8 }
+    ensures all { i + 8 ≤ length row.now → AreFilled colour row.now i 8 → result ≡ true }
 {
     if i + 8 <= row.len() {
         let first = u32::from(row[i])
@@ -133,35 +173,37 @@ pub(crate) fn is_white(row: &[u8], i: usize) -> bool
             + u32::from(row[i + 5])
             + u32::from(row[i + 6])
             + u32::from(row[i + 7]);
-        first + last == 0
+        first + last == if colour { 2040 } else { 0 }
     } else {
         false
     }
 }
 
 /// Whether more than eight bytes are left of a row, and what the contexts of the next eight read of
-/// the two rows above, from the next byte of those on, is white.
+/// the two rows above, from the next byte of those on, is of a colour.
 #[inline(always)]
-pub(crate) fn is_white_above(above: &[u8], second: &[u8], i: usize, left: u32) -> bool
+pub(crate) fn is_all_above(colour: bool, above: &[u8], second: &[u8], i: usize, left: u32) -> bool
     requires { i < 2 ^ 32 }
     ensures inside { IsTrue result → 64 < left }
-    ensures above { IsTrue result → AreWhite above.now (i + 1) 8 }
-    ensures second { IsTrue result → AreWhite second.now (i + 1) 8 }
+    ensures above { IsTrue result → AreFilled colour above.now (i + 1) 8 }
+    ensures second { IsTrue result → AreFilled colour second.now (i + 1) 8 }
     ensures all { 64 < left → i + 9 ≤ length above.now → i + 9 ≤ length second.now →
-        AreWhite above.now (i + 1) 8 → AreWhite second.now (i + 1) 8 → result ≡ true }
+        AreFilled colour above.now (i + 1) 8 → AreFilled colour second.now (i + 1) 8 →
+        result ≡ true }
 {
-    left > 64 && is_white(above, i + 1) && is_white(second, i + 1)
+    left > 64 && is_all(colour, above, i + 1) && is_all(colour, second, i + 1)
 }
 
-/// Makes the bytes of a row from one place to another white.
+/// Makes the bytes of a row from one place to another those of a colour.
 #[inline(always)]
-pub(crate) fn whiten(row: &mut [u8], from: usize, to: usize)
+pub(crate) fn paint(row: &mut [u8], colour: bool, from: usize, to: usize)
     requires from { from ≤ to }
     requires to { to ≤ length row.old }
-    ensures inside { (k : ℕ) → from ≤ k → k < to → slice_index row.new k ≡ 0 }
+    ensures inside { (k : ℕ) → from ≤ k → k < to → slice_index row.new k ≡ bit colour * 255 }
     ensures before { (k : ℕ) → k < from → slice_index row.new k ≡ slice_index row.old k }
 {
+    let byte = byte_of(colour);
     for k in from..to {
-        row[k] = 0;
+        row[k] = byte;
     }
 }

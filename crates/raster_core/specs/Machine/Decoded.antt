@@ -13,7 +13,7 @@ use Rattle.raster_core.specs.Machine.Registers.{bit, before, past_bits}
 use Rattle.raster_core.specs.Events.{Decodes, Stops}
 use Rattle.raster_core.specs.Packed.{packed_row}
 use Rattle.raster_core.specs.Machine.Lanes.{HasAround}
-use Rattle.raster_core.specs.Machine.Uniform.{uniform_event, StaysUniform, AreWhite}
+use Rattle.raster_core.specs.Machine.Uniform.{uniform_event, StaysUniform, AreFilled}
 
 -- the lines with another current row
 abbrev pub with_row : Lines → List Bool → Lines
@@ -87,14 +87,14 @@ pub record SkipsAlong (mode : Mode) (offset second above byte past : ℕ) (d : D
       × DecoderIsAt d' (after (record { place = p; learned = learned }) (replicate 8 (uniform_event colour))).place answers
       × (heard_of answers ≡ More → wanted_bytes p.doublings ≤ length (bytes_of answers))
 
--- `count` white bytes from byte i on, below white bytes up to the one after them, were decoded in one step, with no byte asked for.
-pub record SkipsWhiteAlong (above second : List ℕ) (i count : ℕ) (d : Decoder) (learned : List Estimate) (d' : Decoder) : Type 0 where
-  pub above_white : AreWhite above (i + 1) count
-  pub second_white : AreWhite second (i + 1) count
+-- `count` bytes of a colour from byte i on, below bytes of it up to the one after them, were decoded in one step, with no byte asked for.
+pub record SkipsFilledAlong (colour : Bool) (above second : List ℕ) (i count : ℕ) (d : Decoder) (learned : List Estimate) (d' : Decoder) : Type 0 where
+  pub above_filled : AreFilled colour above (i + 1) count
+  pub second_filled : AreFilled colour second (i + 1) count
   pub none : count ≡ 0 → d' ≡ d
   pub decoded : (p : Place) (answers : List Pulled) → DecoderIsAt d p answers →
-      IsRun (record { place = p; learned = learned }) (uniform_event false) (8 * count)
-      × DecoderIsAt d' (after (record { place = p; learned = learned }) (replicate (8 * count) (uniform_event false))).place answers
+      IsRun (record { place = p; learned = learned }) (uniform_event colour) (8 * count)
+      × DecoderIsAt d' (after (record { place = p; learned = learned }) (replicate (8 * count) (uniform_event colour))).place answers
       × (1 ≤ count → heard_of answers ≡ More → wanted_bytes p.doublings ≤ length (bytes_of answers))
 
 -- The bytes of a row have been decoded up to byte i.

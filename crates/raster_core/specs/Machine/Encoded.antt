@@ -9,7 +9,7 @@ use Rattle.raster_core.specs.Lines.{Lines, Mode, numbers_from, context_at}
 use Rattle.raster_core.specs.Machine.Registers.{bit, before, past_bits}
 use Rattle.raster_core.specs.Packed.{packed_row}
 use Rattle.raster_core.specs.Machine.Lanes.{HasPixels}
-use Rattle.raster_core.specs.Machine.Uniform.{uniform_event, StaysUniform, AreWhite}
+use Rattle.raster_core.specs.Machine.Uniform.{uniform_event, StaysUniform, AreFilled}
 use Rattle.raster_core.specs.Events.{Encodes, Fails}
 
 -- the first x pixels of the row in their contexts
@@ -76,14 +76,14 @@ pub record SkipsByte (mode : Mode) (offset second above byte past : ℕ) (e : En
       IsRun (record { place = p; learned = learned }) (uniform_event colour) 8
       × EncoderIsAt e' (after (record { place = p; learned = learned }) (replicate 8 (uniform_event colour))).place pushed
 
--- `count` white bytes from byte i on, below white bytes up to the one after them, were encoded in one step, with no byte of the code
-pub record SkipsWhite (current above second : List ℕ) (i count : ℕ) (e : Encoder) (learned : List Estimate) (e' : Encoder) : Type 0 where
-  pub row_white : AreWhite current i count
-  pub above_white : AreWhite above (i + 1) count
-  pub second_white : AreWhite second (i + 1) count
+-- `count` bytes of a colour from byte i on, below bytes of it up to the one after them, were encoded in one step, with no byte of the code
+pub record SkipsFilled (colour : Bool) (current above second : List ℕ) (i count : ℕ) (e : Encoder) (learned : List Estimate) (e' : Encoder) : Type 0 where
+  pub row_filled : AreFilled colour current i count
+  pub above_filled : AreFilled colour above (i + 1) count
+  pub second_filled : AreFilled colour second (i + 1) count
   pub coded : (p : Place) (pushed : List ℕ) → EncoderIsAt e p pushed →
-      IsRun (record { place = p; learned = learned }) (uniform_event false) (8 * count)
-      × EncoderIsAt e' (after (record { place = p; learned = learned }) (replicate (8 * count) (uniform_event false))).place pushed
+      IsRun (record { place = p; learned = learned }) (uniform_event colour) (8 * count)
+      × EncoderIsAt e' (after (record { place = p; learned = learned }) (replicate (8 * count) (uniform_event colour))).place pushed
 
 -- the bytes of a row are encoded up to byte i
 pub record RowTo {S : Type 0} (took : S → ℕ → S → Type 0) (from to : S) (mode : Mode) (offset : ℕ) (first : List Event)

@@ -1,5 +1,5 @@
 -- Pixels among pixels of their own colour.
-use Rattle.std.specs.Prelude.{ℕ, ◌+◌, ◌-◌, ◌*◌, ◌/◌, ◌%◌, ◌^◌, ◌<◌, ◌≡◌, Bool, true, false, List, slice_index}
+use Rattle.std.specs.Prelude.{ℕ, ◌+◌, ◌-◌, ◌*◌, ◌/◌, ◌%◌, ◌^◌, ◌<◌, ◌≡◌, Bool, true, false, List, nat_eq, slice_index}
 use Rattle.qm_core.specs.Place.{Event}
 use Rattle.raster_core.specs.Raster.{pixel_at}
 use Rattle.raster_core.specs.Lines.{Lines, Mode, context_at}
@@ -27,6 +27,14 @@ pub record AreAllOf (second above past offset : ℕ) (colour : Bool) : Type 0 wh
   pub near : past % 16 ≡ bit colour * 15
   pub far : past / 2 ^ (offset - 8) % 256 ≡ bit colour * 255
 
--- `count` bytes from byte i on are white
-abbrev pub AreWhite : List ℕ → ℕ → ℕ → Type 0
-AreWhite bytes i count = (j : ℕ) → j < count → slice_index bytes (i + j) ≡ 0
+-- n pixels of a colour as a number
+abbrev pub filled : Bool → ℕ → ℕ
+filled colour n = bit colour * (2 ^ n - 1)
+
+-- the colour of a register of pixels, if they are of one colour
+abbrev pub colour_of : ℕ → Bool
+colour_of register = nat_eq register 0xFFFFFF
+
+-- `count` bytes from byte i on are of a colour
+abbrev pub AreFilled : Bool → List ℕ → ℕ → ℕ → Type 0
+AreFilled colour bytes i count = (j : ℕ) → j < count → slice_index bytes (i + j) ≡ bit colour * 255

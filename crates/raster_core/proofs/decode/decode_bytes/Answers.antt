@@ -5,10 +5,11 @@ use Rattle.qm_core.specs.Source.{Pulls}
 use Rattle.qm_core.specs.Decoder.{has_stopped}
 use Rattle.raster_core.specs.Window.{shape_mode}
 use Rattle.raster_core.specs.Machine.Decoded.{Along, StopsAlong}
+use Rattle.raster_core.specs.Machine.Uniform.{colour_of}
 use Rattle.raster_core.proofs.Alongs.{exit_err}
 use Rattle.raster_core.proofs.Joins.{had_not_stopped, has_not_failed, not_both}
 use Rattle.raster_core.proofs.RowBytes.{bytes_none, bytes_next, bytes_stop, bytes_all, wrap, whole}
-use Rattle.raster_core.proofs.WhitesAlong.{bytes_skipped, kept_along}
+use Rattle.raster_core.proofs.FilledAlong.{bytes_skipped, kept_along}
 use Rattle.raster_core.proofs.decode.decode_bytes.Goals as goal
 
 pub bytes-init : goal.bytes-init
@@ -24,31 +25,31 @@ bytes-init g c = record {
 pub returns-in_err-past-clause-err : goal.returns-in_err-past-clause-err
 returns-in_err-past-clause-err g c =
     let inside : 8 * c.bytes.i < c.args.shape.width = omega arith in
-    let same : c.skip_blank-words.new.decoder ≡ c.bytes.decoder = c.skip_blank-words.ensures.unchanged (omega (arith, c.if-words-gt0.false)) in
+    let same : c.skip_filled-words.new.decoder ≡ c.bytes.decoder = c.skip_filled-words.ensures.unchanged (omega (arith, c.if-words-gt0.false)) in
     let along = kept_along (Pulls g.S.CodeBytes.gives g.S.CodeBytes.failed) c.args.source.now c.bytes.source (shape_mode c.args.shape) c.args.offset c.args.above.now c.args.second.now c.args.decoder.now c.args.learned.now
-    c.args.shape.width c.bytes.left c.bytes.i c.bytes.second_bytes c.bytes.above_bytes c.bytes.past c.bytes.current c.skip_blank-words.new.current c.bytes.decoder c.skip_blank-words.new.decoder c.bytes.learned
-    same c.skip_blank-words.ensures.kept c.bytes.invariant.along in
+    c.args.shape.width c.bytes.left c.bytes.i c.bytes.second_bytes c.bytes.above_bytes c.bytes.past c.bytes.current c.skip_filled-words.new.current c.bytes.decoder c.skip_filled-words.new.decoder c.bytes.learned
+    same c.skip_filled-words.ensures.kept c.bytes.invariant.along in
     exit_err c.from_residual.result _
     (bytes_stop (Pulls g.S.CodeBytes.gives g.S.CodeBytes.failed) c.args.source.now c.bytes.source c.decode_step.new.source (shape_mode c.args.shape) c.args.offset c.args.above.now c.args.second.now c.args.decoder.now c.args.learned.now
-    c.args.shape.width c.bytes.left c.bytes.i c.bytes.second_bytes c.bytes.above_bytes c.bytes.past 8 c.skip_blank-words.new.current c.skip_blank-words.new.decoder c.decode_step.new.decoder c.bytes.learned
+    c.args.shape.width c.bytes.left c.bytes.i c.bytes.second_bytes c.bytes.above_bytes c.bytes.past 8 c.skip_filled-words.new.current c.skip_filled-words.new.decoder c.decode_step.new.decoder c.bytes.learned
     c.bytes.invariant.left inside (omega arith) along
-    (subst (λ z. StopsAlong (Pulls g.S.CodeBytes.gives g.S.CodeBytes.failed) c.bytes.source c.decode_step.new.source (shape_mode c.args.shape) c.args.offset (c.bytes.second_bytes % 65536 * 256 + z) (c.bytes.above_bytes % 65536 * 256 + slice_index c.args.above.now (c.bytes.i + 1)) c.bytes.past c.skip_blank-words.new.decoder c.bytes.learned 8 c.decode_step.new.decoder) c.byte_at-in-bytes.ensures.byte
-    (subst (λ z. StopsAlong (Pulls g.S.CodeBytes.gives g.S.CodeBytes.failed) c.bytes.source c.decode_step.new.source (shape_mode c.args.shape) c.args.offset (c.bytes.second_bytes % 65536 * 256 + c.byte_at-in-bytes.result) (c.bytes.above_bytes % 65536 * 256 + z) c.bytes.past c.skip_blank-words.new.decoder c.bytes.learned 8 c.decode_step.new.decoder) c.byte_at.ensures.byte
+    (subst (λ z. StopsAlong (Pulls g.S.CodeBytes.gives g.S.CodeBytes.failed) c.bytes.source c.decode_step.new.source (shape_mode c.args.shape) c.args.offset (c.bytes.second_bytes % 65536 * 256 + z) (c.bytes.above_bytes % 65536 * 256 + slice_index c.args.above.now (c.bytes.i + 1)) c.bytes.past c.skip_filled-words.new.decoder c.bytes.learned 8 c.decode_step.new.decoder) c.byte_at-in-bytes.ensures.byte
+    (subst (λ z. StopsAlong (Pulls g.S.CodeBytes.gives g.S.CodeBytes.failed) c.bytes.source c.decode_step.new.source (shape_mode c.args.shape) c.args.offset (c.bytes.second_bytes % 65536 * 256 + c.byte_at-in-bytes.result) (c.bytes.above_bytes % 65536 * 256 + z) c.bytes.past c.skip_filled-words.new.decoder c.bytes.learned 8 c.decode_step.new.decoder) c.byte_at.ensures.byte
     c.in_err-past.ensures.err)))
 
 pub bytes-preserved-then-words-gt0 : goal.bytes-preserved-then-words-gt0
 bytes-preserved-then-words-gt0 g c =
-    let inside : 8 * (c.bytes.i + 8 * c.skip_blank-words.result) < c.args.shape.width = omega (arith, c.bytes.invariant.left, c.skip_blank-words.ensures.inside) in
-    let left : c.bytes.left - 64 * c.skip_blank-words.result ≡ c.args.shape.width - 8 * (c.bytes.i + 8 * c.skip_blank-words.result) = omega (arith, c.bytes.invariant.left, c.skip_blank-words.ensures.inside) in
+    let inside : 8 * (c.bytes.i + 8 * c.skip_filled-words.result) < c.args.shape.width = omega (arith, c.bytes.invariant.left, c.skip_filled-words.ensures.inside) in
+    let left : c.bytes.left - 64 * c.skip_filled-words.result ≡ c.args.shape.width - 8 * (c.bytes.i + 8 * c.skip_filled-words.result) = omega (arith, c.bytes.invariant.left, c.skip_filled-words.ensures.inside) in
     let along = bytes_skipped (Pulls g.S.CodeBytes.gives g.S.CodeBytes.failed) c.args.source.now c.bytes.source (shape_mode c.args.shape) c.args.offset c.args.above.now c.args.second.now c.args.decoder.now c.args.learned.now
-    c.args.shape.width c.bytes.left (c.bytes.left - 64 * c.skip_blank-words.result) c.bytes.i (8 * c.skip_blank-words.result) c.bytes.second_bytes c.bytes.above_bytes c.bytes.past c.bytes.current c.skip_blank-words.new.current c.bytes.decoder c.skip_blank-words.new.decoder c.bytes.learned
-    c.requires.offset c.bytes.invariant.left (omega (arith, inside)) (omega (arith, c.skip_blank-words.ensures.inside)) (omega arith) (omega (arith, c.if-words-gt0.true))
-    (c.skip_blank-words.ensures.second c.if-words-gt0.true) (c.skip_blank-words.ensures.above c.if-words-gt0.true) (c.skip_blank-words.ensures.before c.if-words-gt0.true) (c.skip_blank-words.ensures.going c.if-words-gt0.true)
-    c.skip_blank-words.ensures.white c.skip_blank-words.ensures.kept c.skip_blank-words.ensures.skipped c.bytes.invariant.along in
+    c.args.shape.width c.bytes.left (c.bytes.left - 64 * c.skip_filled-words.result) c.bytes.i (8 * c.skip_filled-words.result) c.bytes.second_bytes c.bytes.above_bytes c.bytes.past c.bytes.current c.skip_filled-words.new.current c.bytes.decoder c.skip_filled-words.new.decoder c.bytes.learned (colour_of c.bytes.above_bytes)
+    c.requires.offset c.bytes.invariant.left (omega (arith, inside)) (omega (arith, c.skip_filled-words.ensures.inside)) (omega arith) (omega (arith, c.if-words-gt0.true))
+    (c.skip_filled-words.ensures.second c.if-words-gt0.true) (c.skip_filled-words.ensures.above c.if-words-gt0.true) (c.skip_filled-words.ensures.before c.if-words-gt0.true c.args.offset c.requires.moved) (c.skip_filled-words.ensures.going c.if-words-gt0.true)
+    c.skip_filled-words.ensures.filled c.skip_filled-words.ensures.kept c.skip_filled-words.ensures.skipped c.bytes.invariant.along in
     record {
       same = c.bytes.invariant.same;
-      going = c.skip_blank-words.ensures.stopped ∙ c.bytes.invariant.going;
-      stuck = λ t. absurd (not_both (has_stopped c.args.decoder.now) t (sym c.bytes.invariant.going ∙ c.skip_blank-words.ensures.going (omega (arith, c.if-words-gt0.true))));
+      going = c.skip_filled-words.ensures.stopped ∙ c.bytes.invariant.going;
+      stuck = λ t. absurd (not_both (has_stopped c.args.decoder.now) t (sym c.bytes.invariant.going ∙ c.skip_filled-words.ensures.going (omega (arith, c.if-words-gt0.true))));
       left = left;
       along = along;
     }
@@ -56,12 +57,12 @@ bytes-preserved-then-words-gt0 g c =
 pub bytes-preserved : goal.bytes-preserved
 bytes-preserved g c =
     let inside : 8 * c.bytes.i < c.args.shape.width = omega arith in
-    let same : c.skip_blank-words.new.decoder ≡ c.bytes.decoder = c.skip_blank-words.ensures.unchanged (omega (arith, c.if-words-gt0.false)) in
+    let same : c.skip_filled-words.new.decoder ≡ c.bytes.decoder = c.skip_filled-words.ensures.unchanged (omega (arith, c.if-words-gt0.false)) in
     let along = kept_along (Pulls g.S.CodeBytes.gives g.S.CodeBytes.failed) c.args.source.now c.bytes.source (shape_mode c.args.shape) c.args.offset c.args.above.now c.args.second.now c.args.decoder.now c.args.learned.now
-    c.args.shape.width c.bytes.left c.bytes.i c.bytes.second_bytes c.bytes.above_bytes c.bytes.past c.bytes.current c.skip_blank-words.new.current c.bytes.decoder c.skip_blank-words.new.decoder c.bytes.learned
-    same c.skip_blank-words.ensures.kept c.bytes.invariant.along in
-    let going : has_stopped c.skip_blank-words.new.decoder ≡ false = had_not_stopped (has_stopped c.skip_blank-words.new.decoder) c.decode_step.result c.in_ok-past.past (λ t. (c.decode_step.ensures.stopped t).0) c.in_ok-past.was in
-    let was : has_stopped c.args.decoder.now ≡ false = sym c.bytes.invariant.going ∙ (sym c.skip_blank-words.ensures.stopped ∙ going) in
+    c.args.shape.width c.bytes.left c.bytes.i c.bytes.second_bytes c.bytes.above_bytes c.bytes.past c.bytes.current c.skip_filled-words.new.current c.bytes.decoder c.skip_filled-words.new.decoder c.bytes.learned
+    same c.skip_filled-words.ensures.kept c.bytes.invariant.along in
+    let going : has_stopped c.skip_filled-words.new.decoder ≡ false = had_not_stopped (has_stopped c.skip_filled-words.new.decoder) c.decode_step.result c.in_ok-past.past (λ t. (c.decode_step.ensures.stopped t).0) c.in_ok-past.was in
+    let was : has_stopped c.args.decoder.now ≡ false = sym c.bytes.invariant.going ∙ (sym c.skip_filled-words.ensures.stopped ∙ going) in
     record {
       same = c.in_ok-past.ensures.same ∙ c.bytes.invariant.same;
       going = has_not_failed (has_stopped c.decode_step.new.decoder) c.decode_step.result c.in_ok-past.past c.decode_step.ensures.stops c.in_ok-past.was ∙ sym was;
@@ -69,10 +70,10 @@ bytes-preserved g c =
       left = omega arith;
       along = rw (c.byte_at.ensures.byte, c.byte_at-in-bytes.ensures.byte)
           (bytes_next (Pulls g.S.CodeBytes.gives g.S.CodeBytes.failed) c.args.source.now c.bytes.source c.decode_step.new.source (shape_mode c.args.shape) c.args.offset c.args.above.now c.args.second.now c.args.decoder.now c.args.learned.now
-          c.args.shape.width c.bytes.left c.bytes.i c.bytes.second_bytes c.bytes.above_bytes c.bytes.past c.in_ok-past.past 8 (c.in_ok-past.past % 256) c.skip_blank-words.new.current c.skip_blank-words.new.decoder c.decode_step.new.decoder c.bytes.learned c.decode_step.new.learned
+          c.args.shape.width c.bytes.left c.bytes.i c.bytes.second_bytes c.bytes.above_bytes c.bytes.past c.in_ok-past.past 8 (c.in_ok-past.past % 256) c.skip_filled-words.new.current c.skip_filled-words.new.decoder c.decode_step.new.decoder c.bytes.learned c.decode_step.new.learned
           c.bytes.invariant.left inside (omega arith) (omega arith) (whole c.in_ok-past.past) along
-          (subst (λ z. Along (Pulls g.S.CodeBytes.gives g.S.CodeBytes.failed) c.bytes.source c.decode_step.new.source (shape_mode c.args.shape) c.args.offset (c.bytes.second_bytes % 65536 * 256 + z) (c.bytes.above_bytes % 65536 * 256 + slice_index c.args.above.now (c.bytes.i + 1)) c.bytes.past c.skip_blank-words.new.decoder c.bytes.learned 8 c.in_ok-past.past c.decode_step.new.decoder c.decode_step.new.learned) c.byte_at-in-bytes.ensures.byte
-          (subst (λ z. Along (Pulls g.S.CodeBytes.gives g.S.CodeBytes.failed) c.bytes.source c.decode_step.new.source (shape_mode c.args.shape) c.args.offset (c.bytes.second_bytes % 65536 * 256 + c.byte_at-in-bytes.result) (c.bytes.above_bytes % 65536 * 256 + z) c.bytes.past c.skip_blank-words.new.decoder c.bytes.learned 8 c.in_ok-past.past c.decode_step.new.decoder c.decode_step.new.learned) c.byte_at.ensures.byte
+          (subst (λ z. Along (Pulls g.S.CodeBytes.gives g.S.CodeBytes.failed) c.bytes.source c.decode_step.new.source (shape_mode c.args.shape) c.args.offset (c.bytes.second_bytes % 65536 * 256 + z) (c.bytes.above_bytes % 65536 * 256 + slice_index c.args.above.now (c.bytes.i + 1)) c.bytes.past c.skip_filled-words.new.decoder c.bytes.learned 8 c.in_ok-past.past c.decode_step.new.decoder c.decode_step.new.learned) c.byte_at-in-bytes.ensures.byte
+          (subst (λ z. Along (Pulls g.S.CodeBytes.gives g.S.CodeBytes.failed) c.bytes.source c.decode_step.new.source (shape_mode c.args.shape) c.args.offset (c.bytes.second_bytes % 65536 * 256 + c.byte_at-in-bytes.result) (c.bytes.above_bytes % 65536 * 256 + z) c.bytes.past c.skip_filled-words.new.decoder c.bytes.learned 8 c.in_ok-past.past c.decode_step.new.decoder c.decode_step.new.learned) c.byte_at.ensures.byte
           c.in_ok-past.ensures.ok)));
     }
 
