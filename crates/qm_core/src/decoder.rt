@@ -221,19 +221,19 @@ impl Decoder {
             }
             self.narrow(self.code, lower);
             if lower < entry.span {
-                learned.set(cx, entry.other);
+                learned.set(cx, entry.other, entry.other_turned);
                 !favoured
             } else {
-                learned.set(cx, entry.favoured);
+                learned.set(cx, entry.favoured, entry.favoured_turned);
                 favoured
             }
         } else {
             self.narrow(self.code - lower, entry.span);
             if lower < entry.span {
-                learned.set(cx, entry.favoured);
+                learned.set(cx, entry.favoured, entry.favoured_turned);
                 favoured
             } else {
-                learned.set(cx, entry.other);
+                learned.set(cx, entry.other, entry.other_turned);
                 !favoured
             }
         }

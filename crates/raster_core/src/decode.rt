@@ -434,6 +434,10 @@ fn skip_filled<const MOVED: bool>(
     ensures skipped { SkipsFilledAlong (colour_of above_bytes) above.now second.now i (8 * result)
         decoder.old learned.now decoder.new }
 {
+    // Most bytes that are in no run end here.
+    if second_bytes != above_bytes {
+        return 0;
+    }
     let colour = above_bytes == 0xFF_FFFF;
     if is_filled::<MOVED>(colour, second_bytes, above_bytes, before) {
         let words = skip_words(colour, above, second, i, left, learned, decoder);

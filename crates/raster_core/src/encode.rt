@@ -477,6 +477,10 @@ fn skip_filled<const MOVED: bool>(
     ensures skipped { SkipsFilled (colour_of above_bytes) current.now above.now second.now i
         (8 * result) encoder.old learned.now encoder.new }
 {
+    // Most bytes that are in no run end here.
+    if second_bytes != above_bytes {
+        return 0;
+    }
     let colour = above_bytes == 0xFF_FFFF;
     if current[i] == byte_of(colour)
         && is_filled::<MOVED>(colour, second_bytes, above_bytes, before)
