@@ -1,6 +1,6 @@
 //! The decoder.
 
-ghost use Rattle.std.specs.Prelude.{◌≡◌, ◌≢◌, ◌+◌, ◌-◌, ◌*◌, ◌%◌, ◌^◌, ◌≤◌, ◌<◌, ◌↔◌, false, IsTrue, IsErr, OnOk, OnErr};
+ghost use Rattle.std.specs.Prelude.{◌≡◌, ◌≢◌, ◌+◌, ◌-◌, ◌*◌, ◌%◌, ◌^◌, ◌≤◌, ◌<◌, ◌↔◌, false, nat_eq, IsTrue, IsErr, OnOk, OnErr};
 ghost use Rattle.qm_core.specs.declared.source.Heard.TheVariants.{Stopped};
 
 use crate::context::Context;
@@ -85,7 +85,7 @@ impl Decoder {
         if self.bits < 16 {
             self.fill(source)?;
         }
-        Ok(self.decide(learned, cx))
+        Ok(self.decide(learned, cx) == 1)
     }
 
     /// Takes `count` times the favoured pixel of a context, where the bits that are there show that all
@@ -196,24 +196,25 @@ impl Decoder {
         self.bits += 8;
     }
 
-    /// The pixel, with at least 16 bits there.
+    /// The pixel, 1 for black, with at least 16 bits there. A number needs no masking where branches meet, as a bool does.
     #[inline(always)]
-    fn decide(&mut self, learned: &mut Learned, cx: Context) -> bool
+    fn decide(&mut self, learned: &mut Learned, cx: Context) -> u8
         requires { 16 ≤ self.old.bits }
         ensures heard { self.new.heard ≡ self.old.heard }
         ensures bits { self.new.bits ≤ self.old.bits }
         ensures place { (p : Place) (b : List ℕ) → Registers self.old.code self.old.span
             self.old.bits p b →
             Registers self.new.code self.new.span self.new.bits
-            (step (record { place = p; learned = learned.old }) cx.number result).place b }
+            (step (record { place = p; learned = learned.old }) cx.number
+            (nat_eq result 1)).place b }
         ensures learned { (p : Place) → self.old.span ≡ 128 * p.size →
             learned.new ≡ (step (record { place = p; learned = learned.old }) cx.number
-            result).learned }
+            (nat_eq result 1)).learned }
     {
         let cell = learned.cell(cx);
         let entry = entry_of(cell);
         let lower = self.span - entry.span;
-        let favoured = cell % 2 == 1;
+        let favoured = cell % 2;
         if self.code < lower {
             if lower >= 0x40_0000 {
                 self.span = lower;
@@ -222,7 +223,7 @@ impl Decoder {
             self.narrow(self.code, lower);
             if lower < entry.span {
                 learned.set(cx, entry.other, entry.other_turned);
-                !favoured
+                1 - favoured
             } else {
                 learned.set(cx, entry.favoured, entry.favoured_turned);
                 favoured
@@ -234,7 +235,7 @@ impl Decoder {
                 favoured
             } else {
                 learned.set(cx, entry.other, entry.other_turned);
-                !favoured
+                1 - favoured
             }
         }
     }

@@ -1,4 +1,4 @@
-use Rattle.std.proofs.Common.{◌≤◌, List, [], ◌++◌, append-nil, sym}
+use Rattle.std.proofs.Common.{◌≤◌, nat_eq, List, [], ◌++◌, append-nil, sym}
 use Rattle.qm_core.specs.Source.{Pulls, Gives}
 use Rattle.qm_core.specs.Decoder.{DecoderIsAt}
 use Rattle.qm_core.specs.declared.source.Pulled.{Pulled}
@@ -21,5 +21,5 @@ returns-clause-next g c = λ p answers s.
           ([], sym w.source-is, rw (w.self-is, append-nil) s, rw w.self-is w.if-self-lt16.false)
     ] in
     next_ok (Pulls g.S.CodeBytes.gives g.S.CodeBytes.failed) c.args.source.now c.if-self-lt16.source p c.args.learned.now answers c.args.cx.number
-    ready.0 c.if-self-lt16.self c.decide.new.self c.decide.new.learned c.decide.result ready.1 ready.2 ready.3
+    ready.0 c.if-self-lt16.self c.decide.new.self c.decide.new.learned (nat_eq c.decide.result 1) ready.1 ready.2 ready.3
     c.decide.ensures.heard c.decide.ensures.bits (λ b r. c.decide.ensures.place p b r) (c.decide.ensures.learned p ready.2.registers.size)
