@@ -1,4 +1,5 @@
 # make               builds both programs into bin/, and shows them on a real page
+# make static        both programs again in bin/static/, linked with the C library, and their stored runs
 # make library       builds bin/libt85.a and bin/libt85.so.1.0.0
 # make test          the gate: the documents, every proof, every edit that must fail, every test, runs of the built
 #                    programs; ends in `rt ci`
@@ -47,6 +48,15 @@ build:
 		(cd crates/$$program && rt run -- --help) > bin/$$program.log 2>&1 || { cat bin/$$program.log; exit 1; }; \
 		cp crates/$$program/out/$$program bin/$$program; \
 	done
+
+# What was proved and compiled is linked again, so that no loader is asked: a start takes half the instructions.
+static: build
+	@mkdir -p bin/static
+	@kit=$$(dirname "$$(rt doc)"); for program in $(PROGRAMS); do \
+		$(CC) $(LDFLAGS) -static -o bin/static/$$program crates/$$program/out/$$program.o \
+			"$$kit/c/libos_c.a" "$$kit/c/liblibc_c.a" || exit 1; \
+	done
+	tests/stored bin/static
 
 # So is the library.
 library:
