@@ -61,7 +61,7 @@ byte_none {S} took old mode offset second above byte past e learned = λ from fi
     let z : x ≡ x + 0 = omega arith in
     subst (λ k. EncodedTo took from old mode offset first s pushed lines k past e learned) z h
 
-at_registers : (lines : Lines) (offset second above byte past x n : ℕ) → n < 8 → ByteAt lines second above byte x → past ≡ before lines.row (x + n) (past_bits offset) → AreAt lines offset (second / 2 ^ 7 * 2 ^ n) (above / 2 ^ 6 * 2 ^ n) past (x + n)
+pub at_registers : (lines : Lines) (offset second above byte past x n : ℕ) → n < 8 → ByteAt lines second above byte x → past ≡ before lines.row (x + n) (past_bits offset) → AreAt lines offset (second / 2 ^ 7 * 2 ^ n) (above / 2 ^ 6 * 2 ^ n) past (x + n)
 at_registers lines offset second above byte past x n h b p =
     let e : (x + n) + ((7 - n) + 2) ≡ x + 9 = omega arith in
     let f : (x + n) + ((7 - n) + 3) ≡ x + 10 = omega arith in

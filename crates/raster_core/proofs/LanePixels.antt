@@ -1,14 +1,17 @@
 -- Contexts and pixels from lanes are those of the coordinates.
-use Rattle.std.proofs.Common.{◌≡◌, ℕ, zero, suc, ◌+◌, ◌-◌, ◌*◌, ◌/◌, ◌%◌, ◌^◌, ◌<◌, ◌≤◌, Bool, true, false, List, refl, sym, ◌∙◌, ap, arith, subst}
+use Rattle.std.proofs.Common.{◌≡◌, ℕ, zero, suc, ◌+◌, ◌-◌, ◌*◌, ◌/◌, ◌%◌, ◌^◌, ◌<◌, ◌≤◌, Bool, true, false, cond, List, refl, sym, ◌∙◌, ap, arith, subst}
+use Rattle.std.specs.Prelude.{◌==◌}
+use Rattle.std.proofs.lemmas.Bool.Decides.{nat_tests}
 use Rattle.qm_core.specs.Place.{Estimate}
+use Rattle.raster_core.specs.Raster.{pixel_at, pixel_left}
 use Rattle.qm_core.specs.declared.encoder.Encoder.{Encoder}
-use Rattle.raster_core.specs.Lines.{Lines, Mode, context_at}
-use Rattle.raster_core.specs.Machine.Registers.{AreAt, before}
-use Rattle.raster_core.specs.Machine.Lanes.{lane, around, own, HasPixels}
-use Rattle.raster_core.specs.Machine.Encoded.{ByteAt, EncodesByte, FailsByte, EncodesMore, FailsMore}
+use Rattle.raster_core.specs.Lines.{Lines, Mode, adaptive, context_at}
+use Rattle.raster_core.specs.Machine.Registers.{AreAt, before, bit, past_bits}
+use Rattle.raster_core.specs.Machine.Lanes.{lane, around, moved_around, near, own, HasFar, HasPixels}
+use Rattle.raster_core.specs.Machine.Encoded.{ByteAt, AreBeside, EncodesByte, FailsByte, EncodesMore, FailsMore}
 use Rattle.raster_core.proofs.Before.{before_split, before_div, before_part, low_part}
-use Rattle.raster_core.proofs.Contexts.{three_line_nominal}
-use Rattle.raster_core.proofs.Encodings.{byte_shifted}
+use Rattle.raster_core.proofs.Contexts.{three_line_nominal, three_line_moved}
+use Rattle.raster_core.proofs.Encodings.{byte_shifted, at_registers}
 use Rattle.raster_core.proofs.LaneTables.{later_lane}
 
 -- the context of a pixel, and the pixel
@@ -16,13 +19,13 @@ use Rattle.raster_core.proofs.LaneTables.{later_lane}
 parts : (lanes v o : ℕ) → v ≤ 1020 → o < 8 → lanes / 1 % 2 ^ 16 ≡ 2 * v + o → (lanes % 0x800 / 2 ≡ v + o / 2) × (lanes % 0x800 % 2 ≡ o % 2)
 parts lanes v o hv ho h = (omega arith, omega arith)
 
-first_lane : (lanes second above row n : ℕ) → HasPixels lanes second above row n 1 → lane lanes 0 ≡ 2 * around second above n + own row n
-first_lane lanes second above row n has =
+first_lane : (lanes : ℕ) (beside : ℕ → ℕ) (row n : ℕ) → HasPixels lanes beside row n 1 → lane lanes 0 ≡ 2 * beside n + own row n
+first_lane lanes beside row n has =
     let z : n + 0 ≡ n = omega arith in
-    has 0 (omega arith) ∙ ap (λ k. 2 * around second above k + own row k) z
+    has 0 (omega arith) ∙ ap (λ k. 2 * beside k + own row k) z
 
-lane_parts : (lanes second above row n : ℕ) → HasPixels lanes second above row n 1 → (lanes % 0x800 / 2 ≡ around second above n + own row n / 2) × (lanes % 0x800 % 2 ≡ own row n % 2)
-lane_parts lanes second above row n has = parts lanes (around second above n) (own row n) (omega arith) (omega arith) (first_lane lanes second above row n has)
+lane_parts : (lanes : ℕ) (beside : ℕ → ℕ) (row n : ℕ) → beside n ≤ 1020 → HasPixels lanes beside row n 1 → (lanes % 0x800 / 2 ≡ beside n + own row n / 2) × (lanes % 0x800 % 2 ≡ own row n % 2)
+lane_parts lanes beside row n small has = parts lanes (beside n) (own row n) small (omega arith) (first_lane lanes beside row n has)
 
 bit_of_byte : (p byte n : ℕ) → n < 8 → own (p * 256 + byte) n % 2 ≡ byte * 2 ^ n / 2 ^ 7 % 2
 bit_of_byte p byte zero h = omega arith
@@ -35,68 +38,91 @@ bit_of_byte p byte (suc (suc (suc (suc (suc (suc zero)))))) h = omega arith
 bit_of_byte p byte (suc (suc (suc (suc (suc (suc (suc zero))))))) h = omega arith
 bit_of_byte p byte (suc (suc (suc (suc (suc (suc (suc (suc n)))))))) h = absurd (omega arith)
 
-pub lane_pixel : (lanes second above past₀ byte n : ℕ) → n < 8 → HasPixels lanes second above (past₀ % 256 * 256 + byte) n 1 → lanes % 0x800 % 2 ≡ byte * 2 ^ n / 2 ^ 7 % 2
-lane_pixel lanes second above past₀ byte n few has = (lane_parts lanes second above (past₀ % 256 * 256 + byte) n has).1 ∙ bit_of_byte (past₀ % 256) byte n few
+pub lane_pixel : (lanes : ℕ) (beside : ℕ → ℕ) (past₀ byte n : ℕ) → n < 8 → beside n ≤ 1020 → HasPixels lanes beside (past₀ % 256 * 256 + byte) n 1 → lanes % 0x800 % 2 ≡ byte * 2 ^ n / 2 ^ 7 % 2
+lane_pixel lanes beside past₀ byte n few small has = (lane_parts lanes beside (past₀ % 256 * 256 + byte) n small has).1 ∙ bit_of_byte (past₀ % 256) byte n few
 
 -- the two pixels before, in a register of two bytes
-own_before : (row : List Bool) (past₀ byte past x n : ℕ) → n < 8 → past₀ ≡ before row x 64 → byte ≡ before row (x + 8) 8 → past ≡ before row (x + n) 64 → own (past₀ % 256 * 256 + byte) n / 2 ≡ past % 4
-own_before row past₀ byte past x n few p₀ b p =
+own_before : (row : List Bool) (offset past₀ byte past x n : ℕ) → n < 8 → past₀ ≡ before row x (past_bits offset) → byte ≡ before row (x + 8) 8 → past ≡ before row (x + n) (past_bits offset) → own (past₀ % 256 * 256 + byte) n / 2 ≡ past % 4
+own_before row offset past₀ byte past x n few p₀ b p =
     let register : past₀ % 256 * 256 + byte ≡ before row (x + 8) 16 =
-    ap (λ z. z * 256 + byte) (low_part row past₀ x 0 8 p₀ (omega arith)) ∙ (ap (λ z. before row x 8 * 256 + z) b ∙ sym (before_split row x 8 8)) in
+    ap (λ z. z * 256 + byte) (low_part row past₀ x offset 8 p₀ (omega arith)) ∙ (ap (λ z. before row x 8 * 256 + z) b ∙ sym (before_split row x 8 8)) in
     let place : x + 8 ≡ ((x + n) + 1) + (7 - n) = omega arith in
     let size : 16 ≡ ((6 + n) + 3) + (7 - n) = omega arith in
     let three : own (past₀ % 256 * 256 + byte) n ≡ before row ((x + n) + 1) 3 =
     ap (λ z. z % 8) (byte_shifted (past₀ % 256 * 256 + byte) n few) ∙ (ap (λ z. z / 2 ^ (7 - n) % 8) (register ∙ (ap (λ y. before row y 16) place ∙ ap (λ k. before row (((x + n) + 1) + (7 - n)) k) size)) ∙ before_part row ((x + n) + 1) (6 + n) 3 (7 - n)) in
-    ap (λ z. z / 2) three ∙ (before_div row (x + n) 2 1 ∙ sym (low_part row past (x + n) 0 2 p (omega arith)))
+    ap (λ z. z / 2) three ∙ (before_div row (x + n) 2 1 ∙ sym (low_part row past (x + n) offset 2 p (omega arith)))
 
-pub pixels_context : (typical : Bool) (lanes second above past₀ byte n past cx : ℕ) → n < 8 → HasPixels lanes second above (past₀ % 256 * 256 + byte) n 1 → cx ≡ lanes % 0x800 / 2 →
-    (lines : Lines) (x : ℕ) → AreAt lines 0 (second / 2 ^ 7 * 2 ^ n) (above / 2 ^ 6 * 2 ^ n) past (x + n) → ByteAt lines second above byte x → past₀ ≡ before lines.row x 64 →
-    cx ≡ context_at (record { two_line = false; typical = typical }) lines 0 (x + n)
-pixels_context typical lanes second above past₀ byte n past cx few has cx_is lines x r b p₀ =
-    cx_is ∙ ((lane_parts lanes second above (past₀ % 256 * 256 + byte) n has).0
-    ∙ (ap (λ z. around second above n + z) (own_before lines.row past₀ byte past x n few p₀ b.byte_is r.past_is)
-    ∙ three_line_nominal lines (second / 2 ^ 7 * 2 ^ n) (above / 2 ^ 6 * 2 ^ n) past (x + n) r))
+pub pixels_context : (typical : Bool) (lanes : ℕ) (beside : ℕ → ℕ) (offset second above past₀ byte n cx : ℕ) → n < 8 → AreBeside beside offset second above byte past₀ → HasPixels lanes beside (past₀ % 256 * 256 + byte) n 1 → cx ≡ lanes % 0x800 / 2 →
+    (lines : Lines) (x : ℕ) → ByteAt lines second above byte x → past₀ ≡ before lines.row x (past_bits offset) →
+    cx ≡ context_at (record { two_line = false; typical = typical }) lines offset (x + n)
+pixels_context typical lanes beside offset second above past₀ byte n cx few are has cx_is lines x b p₀ =
+    cx_is ∙ ((lane_parts lanes beside (past₀ % 256 * 256 + byte) n (are.small n) has).0 ∙ are.contexts typical lines x n few b p₀)
+
+-- what stands beside the two pixels before a pixel
+
+pub beside_nominal : (far second above byte past₀ : ℕ) → AreBeside (near false second above far) 0 second above byte past₀
+beside_nominal far second above byte past₀ = record {
+  small = λ j. omega arith;
+  contexts = λ typical lines x j few b p₀.
+      let past = before lines.row (x + j) 64 in
+      ap (λ z. around second above j + z) (own_before lines.row 0 past₀ byte past x j few p₀ b.byte_is refl)
+      ∙ three_line_nominal lines (second / 2 ^ 7 * 2 ^ j) (above / 2 ^ 6 * 2 ^ j) past (x + j) (at_registers lines 0 second above byte past x j few b refl);
+}
+
+pub beside_moved : (t far second above byte past₀ : ℕ) → HasFar far (suc t) past₀ byte → AreBeside (near true second above far) (suc t) second above byte past₀
+beside_moved t far second above byte past₀ has = record {
+  small = λ j. omega arith;
+  contexts = λ typical lines x j few b p₀.
+      let past = before lines.row (x + j) 128 in
+      let r : AreAt lines (suc t) (second / 2 ^ 7 * 2 ^ j) (above / 2 ^ 6 * 2 ^ j) past (x + j) = at_registers lines (suc t) second above byte past x j few b refl in
+      let test : (suc t == 0) ≡ false = grind (arith, nat_tests) in
+      let adaptive_is : far * 2 ^ j / 2 ^ 7 % 2 ≡ bit (adaptive lines (suc t) (x + j)) =
+      has lines.row x j p₀ b.byte_is few ∙ ap (λ v. bit (cond v (pixel_at lines.above ((x + j) + 2)) (pixel_left lines.row (x + j) (suc t)))) (sym test) in
+      ap (λ z. moved_around second above far j + z) (own_before lines.row (suc t) past₀ byte past x j few p₀ b.byte_is refl)
+      ∙ (ap (λ z. second / 2 ^ 7 * 2 ^ j / 2 ^ 7 % 8 * 128 + above / 2 ^ 6 * 2 ^ j / 2 ^ 8 % 16 * 8 + z * 4 + past % 4) adaptive_is
+      ∙ three_line_moved lines (suc t) (second / 2 ^ 7 * 2 ^ j) (above / 2 ^ 6 * 2 ^ j) past (x + j) r);
+}
 
 -- pixels after pixels
 
-has_later : (lanes second above row n i k : ℕ) → HasPixels lanes second above row n (i + k) → HasPixels (lanes / 2 ^ (16 * i)) second above row (n + i) k
-has_later lanes second above row n i k has = λ j few.
+has_later : (lanes : ℕ) (beside : ℕ → ℕ) (row n i k : ℕ) → HasPixels lanes beside row n (i + k) → HasPixels (lanes / 2 ^ (16 * i)) beside row (n + i) k
+has_later lanes beside row n i k has = λ j few.
     let e : n + (i + j) ≡ (n + i) + j = omega arith in
-    later_lane lanes i j ∙ (has (i + j) (omega arith) ∙ ap (λ m. 2 * around second above m + own row m) e)
+    later_lane lanes i j ∙ (has (i + j) (omega arith) ∙ ap (λ m. 2 * beside m + own row m) e)
 
 pub more_then : {S : Type 0} (took : S → ℕ → S → Type 0) (a b c : S) (lanes : ℕ) (d : Encoder) (l : List Estimate) (i : ℕ) (d' : Encoder) (l' : List Estimate) (k : ℕ) (d'' : Encoder) (l'' : List Estimate) →
     EncodesMore took a b lanes d l i d' l' → EncodesMore took b c (lanes / 2 ^ (16 * i)) d' l' k d'' l'' → EncodesMore took a c lanes d l (i + k) d'' l''
-more_then {S} took a b c lanes d l i d' l' k d'' l'' first then = λ typical old second above byte past₀ e₀ learned₀ n past few has so_far.
+more_then {S} took a b c lanes d l i d' l' k d'' l'' first then = λ typical beside old offset second above byte past₀ e₀ learned₀ n past few are has so_far.
     let e : (n + i) + k ≡ n + (i + k) = omega arith in
-    let half = first typical old second above byte past₀ e₀ learned₀ n past (omega arith) (λ j less. has j (omega arith)) so_far in
-    let whole = then typical old second above byte past₀ e₀ learned₀ (n + i) half.0 (omega arith) (has_later lanes second above (past₀ % 256 * 256 + byte) n i k has) half.1 in
-    (whole.0, subst (λ m. EncodesByte took old c (record { two_line = false; typical = typical }) 0 second above byte past₀ e₀ learned₀ m whole.0 d'' l'') e whole.1)
+    let half = first typical beside old offset second above byte past₀ e₀ learned₀ n past (omega arith) are (λ j less. has j (omega arith)) so_far in
+    let whole = then typical beside old offset second above byte past₀ e₀ learned₀ (n + i) half.0 (omega arith) are (has_later lanes beside (past₀ % 256 * 256 + byte) n i k has) half.1 in
+    (whole.0, subst (λ m. EncodesByte took old c (record { two_line = false; typical = typical }) offset second above byte past₀ e₀ learned₀ m whole.0 d'' l'') e whole.1)
 
 pub fails_first : {S : Type 0} (took : S → ℕ → S → Type 0) (refused : S → S → Type 0) (a b : S) (lanes : ℕ) (d : Encoder) (l : List Estimate) (i k : ℕ) → i ≤ k →
     FailsMore took refused a b lanes d l i → FailsMore took refused a b lanes d l k
-fails_first {S} took refused a b lanes d l i k h fails = λ typical old second above byte past₀ e₀ learned₀ n past few has so_far.
-    fails typical old second above byte past₀ e₀ learned₀ n past (omega arith) (λ j less. has j (omega arith)) so_far
+fails_first {S} took refused a b lanes d l i k h fails = λ typical beside old offset second above byte past₀ e₀ learned₀ n past few are has so_far.
+    fails typical beside old offset second above byte past₀ e₀ learned₀ n past (omega arith) are (λ j less. has j (omega arith)) so_far
 
 pub fails_then : {S : Type 0} (took : S → ℕ → S → Type 0) (refused : S → S → Type 0) (a b c : S) (lanes : ℕ) (d : Encoder) (l : List Estimate) (i : ℕ) (d' : Encoder) (l' : List Estimate) (k : ℕ) →
     EncodesMore took a b lanes d l i d' l' → FailsMore took refused b c (lanes / 2 ^ (16 * i)) d' l' k → FailsMore took refused a c lanes d l (i + k)
-fails_then {S} took refused a b c lanes d l i d' l' k first then = λ typical old second above byte past₀ e₀ learned₀ n past few has so_far.
-    let half = first typical old second above byte past₀ e₀ learned₀ n past (omega arith) (λ j less. has j (omega arith)) so_far in
-    then typical old second above byte past₀ e₀ learned₀ (n + i) half.0 (omega arith) (has_later lanes second above (past₀ % 256 * 256 + byte) n i k has) half.1
+fails_then {S} took refused a b c lanes d l i d' l' k first then = λ typical beside old offset second above byte past₀ e₀ learned₀ n past few are has so_far.
+    let half = first typical beside old offset second above byte past₀ e₀ learned₀ n past (omega arith) are (λ j less. has j (omega arith)) so_far in
+    then typical beside old offset second above byte past₀ e₀ learned₀ (n + i) half.0 (omega arith) are (has_later lanes beside (past₀ % 256 * 256 + byte) n i k has) half.1
 
 -- pixels of a byte
 
-pub encodes_at : {S : Type 0} (took : S → ℕ → S → Type 0) (old a b : S) (mode : Mode) (lanes second above byte past₀ : ℕ) (e₀ : Encoder) (learned₀ : List Estimate) (n p : ℕ) (d : Encoder) (l : List Estimate) (k : ℕ) (d' : Encoder) (l' : List Estimate) →
-    mode.two_line ≡ false → n + k ≤ 8 → HasPixels lanes second above (past₀ % 256 * 256 + byte) n k → EncodesByte took old a mode 0 second above byte past₀ e₀ learned₀ n p d l → EncodesMore took a b lanes d l k d' l' →
-    (p' : ℕ) × EncodesByte took old b mode 0 second above byte past₀ e₀ learned₀ (n + k) p' d' l'
-encodes_at {S} took old a b mode lanes second above byte past₀ e₀ learned₀ n p d l k d' l' three few has so_far more =
+pub encodes_at : {S : Type 0} (took : S → ℕ → S → Type 0) (old a b : S) (mode : Mode) (lanes : ℕ) (beside : ℕ → ℕ) (offset second above byte past₀ : ℕ) (e₀ : Encoder) (learned₀ : List Estimate) (n p : ℕ) (d : Encoder) (l : List Estimate) (k : ℕ) (d' : Encoder) (l' : List Estimate) →
+    mode.two_line ≡ false → n + k ≤ 8 → AreBeside beside offset second above byte past₀ → HasPixels lanes beside (past₀ % 256 * 256 + byte) n k → EncodesByte took old a mode offset second above byte past₀ e₀ learned₀ n p d l → EncodesMore took a b lanes d l k d' l' →
+    (p' : ℕ) × EncodesByte took old b mode offset second above byte past₀ e₀ learned₀ (n + k) p' d' l'
+encodes_at {S} took old a b mode lanes beside offset second above byte past₀ e₀ learned₀ n p d l k d' l' three few are has so_far more =
     let same : record { two_line = false; typical = mode.typical } ≡ mode = ap (λ t. record { two_line = t; typical = mode.typical }) (sym three) in
-    let t = more mode.typical old second above byte past₀ e₀ learned₀ n p few has (subst (λ m. EncodesByte took old a m 0 second above byte past₀ e₀ learned₀ n p d l) (sym same) so_far) in
-    (t.0, subst (λ m. EncodesByte took old b m 0 second above byte past₀ e₀ learned₀ (n + k) t.0 d' l') same t.1)
+    let t = more mode.typical beside old offset second above byte past₀ e₀ learned₀ n p few are has (subst (λ m. EncodesByte took old a m offset second above byte past₀ e₀ learned₀ n p d l) (sym same) so_far) in
+    (t.0, subst (λ m. EncodesByte took old b m offset second above byte past₀ e₀ learned₀ (n + k) t.0 d' l') same t.1)
 
-pub fails_at : {S : Type 0} (took : S → ℕ → S → Type 0) (refused : S → S → Type 0) (old a b : S) (mode : Mode) (lanes second above byte past₀ : ℕ) (e₀ : Encoder) (learned₀ : List Estimate) (n p : ℕ) (d : Encoder) (l : List Estimate) (k : ℕ) →
-    mode.two_line ≡ false → n + k ≤ 8 → HasPixels lanes second above (past₀ % 256 * 256 + byte) n k → EncodesByte took old a mode 0 second above byte past₀ e₀ learned₀ n p d l → FailsMore took refused a b lanes d l k →
-    FailsByte took refused old b mode 0 second above byte past₀ e₀ learned₀ 8
-fails_at {S} took refused old a b mode lanes second above byte past₀ e₀ learned₀ n p d l k three few has so_far more =
+pub fails_at : {S : Type 0} (took : S → ℕ → S → Type 0) (refused : S → S → Type 0) (old a b : S) (mode : Mode) (lanes : ℕ) (beside : ℕ → ℕ) (offset second above byte past₀ : ℕ) (e₀ : Encoder) (learned₀ : List Estimate) (n p : ℕ) (d : Encoder) (l : List Estimate) (k : ℕ) →
+    mode.two_line ≡ false → n + k ≤ 8 → AreBeside beside offset second above byte past₀ → HasPixels lanes beside (past₀ % 256 * 256 + byte) n k → EncodesByte took old a mode offset second above byte past₀ e₀ learned₀ n p d l → FailsMore took refused a b lanes d l k →
+    FailsByte took refused old b mode offset second above byte past₀ e₀ learned₀ 8
+fails_at {S} took refused old a b mode lanes beside offset second above byte past₀ e₀ learned₀ n p d l k three few are has so_far more =
     let same : record { two_line = false; typical = mode.typical } ≡ mode = ap (λ t. record { two_line = t; typical = mode.typical }) (sym three) in
-    subst (λ m. FailsByte took refused old b m 0 second above byte past₀ e₀ learned₀ 8) same
-    (more mode.typical old second above byte past₀ e₀ learned₀ n p few has (subst (λ m. EncodesByte took old a m 0 second above byte past₀ e₀ learned₀ n p d l) (sym same) so_far))
+    subst (λ m. FailsByte took refused old b m offset second above byte past₀ e₀ learned₀ 8) same
+    (more mode.typical beside old offset second above byte past₀ e₀ learned₀ n p few are has (subst (λ m. EncodesByte took old a m offset second above byte past₀ e₀ learned₀ n p d l) (sym same) so_far))

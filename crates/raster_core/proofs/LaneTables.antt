@@ -4,8 +4,8 @@ use Rattle.std.specs.Prelude.{Result, IfOk, OnOk, OnErr}
 use Rattle.std.proofs.lemmas.Bool.{eqb-true, leb-true}
 use Rattle.std.proofs.Math.Nat.{div-div-eq-div-mul}
 use Rattle.std.proofs.lemmas.Nat.{pow-add}
-use Rattle.raster_core.specs.declared.lanes.TheConstants.{SECOND_LANES, ABOVE_LANES, ROW_LANES}
-use Rattle.raster_core.specs.Machine.Lanes.{lane, second_lane, above_lane, row_lane, around, own}
+use Rattle.raster_core.specs.declared.lanes.TheConstants.{SECOND_LANES, ABOVE_LANES, MOVED_ABOVE_LANES, FAR_LANES, ROW_LANES}
+use Rattle.raster_core.specs.Machine.Lanes.{lane, second_lane, above_lane, moved_above_lane, far_lane, row_lane, around, moved_around, own}
 
 -- ---- what holds of a result
 
@@ -78,6 +78,14 @@ above_fits : all_from above_lane 0 ABOVE_LANES ≡ true
 unfolding all_from fits
 above_fits = refl
 
+moved_above_fits : all_from moved_above_lane 0 MOVED_ABOVE_LANES ≡ true
+unfolding all_from fits
+moved_above_fits = refl
+
+far_fits : all_from far_lane 0 FAR_LANES ≡ true
+unfolding all_from fits
+far_fits = refl
+
 row_fits : all_from row_lane 0 ROW_LANES ≡ true
 unfolding all_from fits
 row_fits = refl
@@ -127,6 +135,12 @@ second_says w h = says second_lane w _ (rw zero-add at (fits_at second_lane 0 SE
 pub above_says : (w : ℕ) → w < 256 → Says above_lane w (get_or ABOVE_LANES w 0)
 above_says w h = says above_lane w _ (rw zero-add at (fits_at above_lane 0 ABOVE_LANES above_fits w h))
 
+pub moved_above_says : (w : ℕ) → w < 128 → Says moved_above_lane w (get_or MOVED_ABOVE_LANES w 0)
+moved_above_says w h = says moved_above_lane w _ (rw zero-add at (fits_at moved_above_lane 0 MOVED_ABOVE_LANES moved_above_fits w h))
+
+pub far_says : (w : ℕ) → w < 16 → Says far_lane w (get_or FAR_LANES w 0)
+far_says w h = says far_lane w _ (rw zero-add at (fits_at far_lane 0 FAR_LANES far_fits w h))
+
 pub row_says : (w : ℕ) → w < 64 → Says row_lane w (get_or ROW_LANES w 0)
 row_says w h = says row_lane w _ (rw zero-add at (fits_at row_lane 0 ROW_LANES row_fits w h))
 
@@ -173,6 +187,43 @@ last_row r (suc zero) h = omega arith
 last_row r (suc (suc zero)) h = omega arith
 last_row r (suc (suc (suc zero))) h = omega arith
 last_row r (suc (suc (suc (suc j)))) h = absurd (omega arith)
+
+pub first_moved : (a j : ℕ) → j < 4 → a / 2 ^ 11 % 128 * 2 ^ j / 8 % 16 ≡ a / 2 ^ 6 * 2 ^ j / 2 ^ 8 % 16
+first_moved a zero h = omega arith
+first_moved a (suc zero) h = omega arith
+first_moved a (suc (suc zero)) h = omega arith
+first_moved a (suc (suc (suc zero))) h = omega arith
+first_moved a (suc (suc (suc (suc j)))) h = absurd (omega arith)
+
+pub last_moved : (a j : ℕ) → j < 4 → a / 2 ^ 7 % 128 * 2 ^ j / 8 % 16 ≡ a / 2 ^ 6 * 2 ^ (4 + j) / 2 ^ 8 % 16
+last_moved a zero h = omega arith
+last_moved a (suc zero) h = omega arith
+last_moved a (suc (suc zero)) h = omega arith
+last_moved a (suc (suc (suc zero))) h = omega arith
+last_moved a (suc (suc (suc (suc j)))) h = absurd (omega arith)
+
+pub first_far : (a j : ℕ) → j < 4 → a / 2 ^ 4 % 16 * 2 ^ j / 8 % 2 ≡ a * 2 ^ j / 2 ^ 7 % 2
+first_far a zero h = omega arith
+first_far a (suc zero) h = omega arith
+first_far a (suc (suc zero)) h = omega arith
+first_far a (suc (suc (suc zero))) h = omega arith
+first_far a (suc (suc (suc (suc j)))) h = absurd (omega arith)
+
+pub last_far : (a j : ℕ) → j < 4 → a % 16 * 2 ^ j / 8 % 2 ≡ a * 2 ^ (4 + j) / 2 ^ 7 % 2
+last_far a zero h = omega arith
+last_far a (suc zero) h = omega arith
+last_far a (suc (suc zero)) h = omega arith
+last_far a (suc (suc (suc zero))) h = omega arith
+last_far a (suc (suc (suc (suc j)))) h = absurd (omega arith)
+
+pub first_moved_are : (s a f r j : ℕ) → j < 4 → 2 * (second_lane (s / 2 ^ 11 % 64) j + moved_above_lane (a / 2 ^ 11 % 128) j + far_lane (f / 2 ^ 4 % 16) j) + row_lane (r / 2 ^ 4 % 64) j ≡ 2 * moved_around s a f (0 + j) + own r (0 + j)
+first_moved_are s a f r j h =
+    let z : 0 + j ≡ j = omega arith in
+    rw (z, first_second s j h, first_moved a j h, first_far f j h, first_row r j h) refl
+
+pub last_moved_are : (s a f r j : ℕ) → j < 4 → 2 * (second_lane (s / 2 ^ 7 % 64) j + moved_above_lane (a / 2 ^ 7 % 128) j + far_lane (f % 16) j) + row_lane (r % 64) j ≡ 2 * moved_around s a f (4 + j) + own r (4 + j)
+last_moved_are s a f r j h =
+    rw (last_second s j h, last_moved a j h, last_far f j h, last_row r j h) refl
 
 pub first_around_is : (s a j : ℕ) → j < 4 → second_lane (s / 2 ^ 11 % 64) j + above_lane (a / 2 ^ 10 % 256) j ≡ around s a (0 + j)
 first_around_is s a j h = let z : 0 + j ≡ j = omega arith in rw z (ap (λ z. z * 128 + above_lane (a / 2 ^ 10 % 256) j) (first_second s j h) ∙ ap (λ z. s / 2 ^ 7 * 2 ^ j / 2 ^ 7 % 8 * 128 + z * 4) (first_above a j h))

@@ -7,6 +7,7 @@ pub mod Causal
 pub mod Alongs
 pub mod Packed
 pub mod RowBytes
+pub mod FarPixels
 pub mod Firsts
 pub mod RowsDone
 pub mod Encodings

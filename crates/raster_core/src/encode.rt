@@ -16,7 +16,7 @@ ghost use Rattle.raster_core.specs.Machine.Uniform.{uniform_event, colour_of, fi
 
 use crate::bytes::byte_at;
 use crate::context::{by_template, context_of, flag_context, past_and};
-use crate::lanes::{first_pixels, has_lanes, last_pixels};
+use crate::lanes::{far_of, first_pixels, has_pixels, last_pixels};
 use crate::shape::{Kept, Shape};
 use crate::uniform::{
     byte_of, is_all, is_all_above, is_filled, is_run, past_eight, uniform_context,
@@ -166,8 +166,9 @@ fn encode_four<W: CodeSink>(
 
 /// Encodes the pixels of a byte, the contexts of four at once.
 #[inline(always)]
-fn encode_eight<W: CodeSink>(
+fn encode_eight<W: CodeSink, const MOVED: bool>(
     shape: Shape,
+    offset: u8,
     second_bytes: u32,
     above_bytes: u32,
     byte: u8,
@@ -178,6 +179,8 @@ fn encode_eight<W: CodeSink>(
 ) -> Result<u128, CoderFault>
     requires count { W.failed out.old + 1 < 2 ^ 64 }
     requires template { shape.two_line ≡ false }
+    requires offset { offset ≤ 127 }
+    requires moved { MOVED ≡ is_moved offset }
     requires events { event_count encoder.old + 8 ≤ MAX_EVENTS }
     ensures failed { IsTrue (has_failed encoder.old) → (result ≡ Err CoderFault.Failed) ×
         (encoder.new ≡ encoder.old) × (out.new ≡ out.old) }
@@ -187,20 +190,21 @@ fn encode_eight<W: CodeSink>(
     ensures same { OnOk result (W.failed out.new ≡ W.failed out.old) }
     ensures counted { has_failed encoder.old ≡ false →
         OnErr result (W.failed out.new ≡ W.failed out.old + 1) }
-    ensures ok { IfOk result (λ past. EncodesByte W.took out.old out.new (shape_mode shape) 0
+    ensures ok { IfOk result (λ past. EncodesByte W.took out.old out.new (shape_mode shape) offset
         second_bytes above_bytes byte before
         encoder.old learned.old 8 past encoder.new learned.new) }
     ensures err { has_failed encoder.old ≡ false →
-        OnErr result (FailsByte W.took W.refused out.old out.new (shape_mode shape) 0
+        OnErr result (FailsByte W.took W.refused out.old out.new (shape_mode shape) offset
         second_bytes above_bytes byte before
         encoder.old learned.old 8) }
 {
     let row = (before % 256) as u32 * 256 + u32::from(byte);
-    let first = first_pixels(second_bytes, above_bytes, row);
+    let far = far_of::<MOVED>(offset, before, byte);
+    let first = first_pixels::<MOVED>(second_bytes, above_bytes, far, row);
     encode_four(first, learned, encoder, out)?;
-    let last = last_pixels(second_bytes, above_bytes, row);
+    let last = last_pixels::<MOVED>(second_bytes, above_bytes, far, row);
     encode_four(last, learned, encoder, out)?;
-    Ok(past_eight::<false>(before, byte))
+    Ok(past_eight::<MOVED>(before, byte))
 }
 
 /// Encodes the first n pixels of a byte, the contexts of four at once where tables have them.
@@ -243,9 +247,10 @@ fn encode_plain<W: CodeSink, const TWO_LINE: bool, const MOVED: bool>(
         above_bytes byte before
         encoder.old learned.old n) }
 {
-    if has_lanes::<TWO_LINE, MOVED>(shape, offset, n) {
-        encode_eight(
+    if has_pixels::<TWO_LINE>(shape, n) {
+        encode_eight::<_, MOVED>(
             shape,
+            offset,
             second_bytes,
             above_bytes,
             byte,

@@ -1,8 +1,9 @@
-//! Contexts of four pixels at once, with three lines and the adaptive pixel in its nominal place.
+//! Contexts of four pixels at once, with three lines.
 
 ghost use Rattle.std.specs.Prelude.{ℕ, ◌≡◌, ◌+◌, ◌*◌, ◌^◌, ◌<◌, ◌≤◌, false, true};
 ghost use Rattle.raster_core.specs.Machine.Registers.{is_moved};
-ghost use Rattle.raster_core.specs.Machine.Lanes.{lane, second_lane, above_lane, row_lane, HasAround, HasPixels};
+ghost use Rattle.raster_core.specs.Machine.Lanes.{lane, second_lane, above_lane, moved_above_lane, far_lane, row_lane, near, HasAround, HasFar, HasPixels};
+ghost use Rattle.raster_core.specs.Machine.Encoded.{AreBeside};
 
 use crate::shape::Shape;
 
@@ -17,6 +18,17 @@ macro_rules! second_table {
 /// What eight pixels of the row above give to four contexts: five of them each.
 macro_rules! above_table {
     ($($window:literal)*) => { [$(($window * STEPS) >> 1 & 0x007C_007C_007C_007C),*] };
+}
+
+/// What seven pixels of the row above give to four contexts, the adaptive pixel moved: four of them
+/// each.
+macro_rules! moved_above_table {
+    ($($window:literal)*) => { [$(($window * STEPS) & 0x0078_0078_0078_0078),*] };
+}
+
+/// Four adaptive pixels in four contexts.
+macro_rules! far_table {
+    ($($window:literal)*) => { [$(($window * STEPS) >> 1 & 0x0004_0004_0004_0004),*] };
 }
 
 /// Four of six pixels of a row, each after the two before it.
@@ -44,6 +56,17 @@ static ABOVE_LANES: [u64; 256] = above_table!(
     240 241 242 243 244 245 246 247 248 249 250 251 252 253 254 255
 );
 
+static MOVED_ABOVE_LANES: [u64; 128] = moved_above_table!(
+    0 1 2 3 4 5 6 7 8 9 10 11 12 13 14 15 16 17 18 19 20 21 22 23
+    24 25 26 27 28 29 30 31 32 33 34 35 36 37 38 39 40 41 42 43 44 45 46 47
+    48 49 50 51 52 53 54 55 56 57 58 59 60 61 62 63 64 65 66 67 68 69 70 71
+    72 73 74 75 76 77 78 79 80 81 82 83 84 85 86 87 88 89 90 91 92 93 94 95
+    96 97 98 99 100 101 102 103 104 105 106 107 108 109 110 111 112 113 114 115 116 117 118 119
+    120 121 122 123 124 125 126 127
+);
+
+static FAR_LANES: [u64; 16] = far_table!(0 1 2 3 4 5 6 7 8 9 10 11 12 13 14 15);
+
 static ROW_LANES: [u64; 64] = row_table!(
     0 1 2 3 4 5 6 7 8 9 10 11 12 13 14 15 16 17 18 19 20 21 22 23
     24 25 26 27 28 29 30 31 32 33 34 35 36 37 38 39 40 41 42 43 44 45 46 47
@@ -70,6 +93,26 @@ fn above_lanes(window: u32) -> u64
     ABOVE_LANES[window as usize]
 }
 
+/// The lanes of a window of seven pixels of the row above.
+#[inline(always)]
+fn moved_above_lanes(window: u32) -> u64
+    requires { window < 128 }
+    ensures lanes { (j : ℕ) → j < 4 → lane result j ≡ moved_above_lane window j }
+    ensures small { result ≤ 2 ^ 58 }
+{
+    MOVED_ABOVE_LANES[window as usize]
+}
+
+/// The lanes of four adaptive pixels.
+#[inline(always)]
+fn far_lanes(window: u32) -> u64
+    requires { window < 16 }
+    ensures lanes { (j : ℕ) → j < 4 → lane result j ≡ far_lane window j }
+    ensures small { result ≤ 2 ^ 58 }
+{
+    FAR_LANES[window as usize]
+}
+
 /// The lanes of a window of six pixels of the row.
 #[inline(always)]
 fn row_lanes(window: u32) -> u64
@@ -92,7 +135,35 @@ fn both_lanes(second_window: u32, above_window: u32) -> u64
     second_lanes(second_window) + above_lanes(above_window)
 }
 
-/// The same twice, and the lanes of a window of the row.
+/// The lanes of windows of both rows above and of adaptive pixels.
+#[inline(always)]
+fn moved_lanes(second_window: u32, above_window: u32, far_window: u32) -> u64
+    requires second { second_window < 64 }
+    requires above { above_window < 128 }
+    requires far { far_window < 16 }
+    ensures lanes { (j : ℕ) → j < 4 → lane result j ≡ second_lane second_window j +
+        moved_above_lane above_window j + far_lane far_window j }
+    ensures small { result ≤ 2 ^ 60 }
+{
+    second_lanes(second_window) + moved_above_lanes(above_window) + far_lanes(far_window)
+}
+
+/// Those lanes twice, and the lanes of a window of the row.
+#[inline(always)]
+fn moved_pixel_lanes(second_window: u32, above_window: u32, far_window: u32, row_window: u32) -> u64
+    requires second { second_window < 64 }
+    requires above { above_window < 128 }
+    requires far { far_window < 16 }
+    requires row { row_window < 64 }
+    ensures { (j : ℕ) → j < 4 → lane result j ≡
+        2 * (second_lane second_window j + moved_above_lane above_window j + far_lane far_window j)
+        + row_lane row_window j }
+{
+    let moved = moved_lanes(second_window, above_window, far_window);
+    moved + moved + row_lanes(row_window)
+}
+
+/// The lanes of windows of both rows above twice, and the lanes of a window of the row.
 #[inline(always)]
 fn pixel_lanes(second_window: u32, above_window: u32, row_window: u32) -> u64
     requires second { second_window < 64 }
@@ -121,28 +192,84 @@ pub(crate) fn last_around(second_bytes: u32, above_bytes: u32) -> u64
     both_lanes((second_bytes >> 7) % 64, (above_bytes >> 6) % 256)
 }
 
-/// Twice the contexts of a byte's first four pixels, and these, where `row` has the byte and the one
-/// before it.
+/// The moved adaptive pixels of a byte's eight pixels, the first highest.
 #[inline(always)]
-pub(crate) fn first_pixels(second_bytes: u32, above_bytes: u32, row: u32) -> u64
-    ensures { HasPixels result second_bytes above_bytes row 0 4 }
+fn far_pixels(offset: u8, past: u128, byte: u8) -> u32
+    requires some { 1 ≤ offset }
+    requires offset { offset ≤ 127 }
+    ensures { HasFar result offset past byte }
 {
-    pixel_lanes(
-        (second_bytes >> 11) % 64,
-        (above_bytes >> 10) % 256,
-        (row >> 4) % 64,
-    )
+    if offset < 8 {
+        ((past % 256) as u32 * 256 + byte as u32) >> offset
+    } else {
+        ((past >> (offset - 8)) % 256) as u32
+    }
+}
+
+/// The same where the adaptive pixel is moved, and else nothing.
+#[inline(always)]
+pub(crate) fn far_of<const MOVED: bool>(offset: u8, past: u128, byte: u8) -> u32
+    requires offset { offset ≤ 127 }
+    requires moved { MOVED ≡ is_moved offset }
+    ensures { (second above : ℕ) →
+        AreBeside (near MOVED second above result) offset second above byte past }
+{
+    if MOVED {
+        far_pixels(offset, past, byte)
+    } else {
+        0
+    }
+}
+
+/// Twice the contexts of a byte's first four pixels, and these, where `row` has the byte and the one
+/// before it, and `far` the adaptive pixels if they are moved.
+#[inline(always)]
+pub(crate) fn first_pixels<const MOVED: bool>(
+    second_bytes: u32,
+    above_bytes: u32,
+    far: u32,
+    row: u32,
+) -> u64
+    ensures { HasPixels result (near MOVED second_bytes above_bytes far) row 0 4 }
+{
+    let second_window = (second_bytes >> 11) % 64;
+    let row_window = (row >> 4) % 64;
+    if MOVED {
+        let above_window = (above_bytes >> 11) % 128;
+        return moved_pixel_lanes(second_window, above_window, (far >> 4) % 16, row_window);
+    }
+    pixel_lanes(second_window, (above_bytes >> 10) % 256, row_window)
 }
 
 /// The same for its last four.
 #[inline(always)]
-pub(crate) fn last_pixels(second_bytes: u32, above_bytes: u32, row: u32) -> u64
-    ensures { HasPixels result second_bytes above_bytes row 4 4 }
+pub(crate) fn last_pixels<const MOVED: bool>(
+    second_bytes: u32,
+    above_bytes: u32,
+    far: u32,
+    row: u32,
+) -> u64
+    ensures { HasPixels result (near MOVED second_bytes above_bytes far) row 4 4 }
 {
-    pixel_lanes((second_bytes >> 7) % 64, (above_bytes >> 6) % 256, row % 64)
+    let second_window = (second_bytes >> 7) % 64;
+    if MOVED {
+        let above_window = (above_bytes >> 7) % 128;
+        return moved_pixel_lanes(second_window, above_window, far % 16, row % 64);
+    }
+    pixel_lanes(second_window, (above_bytes >> 6) % 256, row % 64)
 }
 
-/// Whether n pixels are those of a byte whose contexts the tables have.
+/// Whether n pixels are those of a byte, and coded with three lines.
+#[inline(always)]
+pub(crate) fn has_pixels<const TWO_LINE: bool>(shape: Shape, n: u32) -> bool
+    requires template { TWO_LINE ≡ shape.two_line }
+    ensures three { result ≡ true → shape.two_line ≡ false }
+    ensures whole { result ≡ true → n ≡ 8 }
+{
+    n == 8 && !TWO_LINE
+}
+
+/// The same, and the adaptive pixel in its nominal place.
 #[inline(always)]
 pub(crate) fn has_lanes<const TWO_LINE: bool, const MOVED: bool>(
     shape: Shape,

@@ -1,5 +1,5 @@
 -- What encoding the pixels of a row leaves, on the way.
-use Rattle.std.specs.Prelude.{ℕ, ◌+◌, ◌*◌, ◌%◌, ◌≡◌, ◌<◌, ◌≤◌, Bool, false, List, ◌++◌, map, replicate}
+use Rattle.std.specs.Prelude.{ℕ, ◌+◌, ◌*◌, ◌/◌, ◌%◌, ◌≡◌, ◌<◌, ◌≤◌, Bool, false, List, ◌++◌, map, replicate}
 use Rattle.qm_core.specs.Place.{Place, State, Event, Estimate, after}
 use Rattle.qm_core.specs.Encoder.{EncoderIsAt}
 use Rattle.qm_core.specs.Skipping.{IsRun}
@@ -8,7 +8,7 @@ use Rattle.raster_core.specs.Raster.{pixel_at}
 use Rattle.raster_core.specs.Lines.{Lines, Mode, numbers_from, context_at}
 use Rattle.raster_core.specs.Machine.Registers.{bit, before, past_bits}
 use Rattle.raster_core.specs.Packed.{packed_row}
-use Rattle.raster_core.specs.Machine.Lanes.{HasPixels}
+use Rattle.raster_core.specs.Machine.Lanes.{own, HasPixels}
 use Rattle.raster_core.specs.Machine.Uniform.{uniform_event, StaysUniform, AreFilled}
 use Rattle.raster_core.specs.Events.{Encodes, Fails}
 
@@ -51,20 +51,27 @@ FailsByte {S} took refused old new mode offset second above byte past e learned 
     EncodedTo took from old mode offset first s pushed lines x past e learned → ByteAt lines second above byte x →
     FailedTo took refused from new mode offset first s pushed lines (x + n)
 
--- Pixels more were encoded of a byte, whose contexts and pixels these lanes have: with three lines, and the adaptive pixel
--- in its nominal place.
+-- with three lines, what the contexts of a byte's pixels have beside the two pixels before each
+pub record AreBeside (beside : ℕ → ℕ) (offset second above byte past : ℕ) : Type 0 where
+  pub small : (j : ℕ) → beside j ≤ 1020
+  pub contexts : (typical : Bool) (lines : Lines) (x j : ℕ) → j < 8 → ByteAt lines second above byte x → past ≡ before lines.row x (past_bits offset) →
+      beside j + own (past % 256 * 256 + byte) j / 2 ≡ context_at (record { two_line = false; typical = typical }) lines offset (x + j)
+
+-- pixels more were encoded of a byte, whose contexts and pixels these lanes have, with three lines
 abbrev pub EncodesMore : {S : Type 0} (took : S → ℕ → S → Type 0) (mid new : S) (lanes : ℕ) (e : Encoder) (learned : List Estimate) (count : ℕ) (e' : Encoder) (learned' : List Estimate) → Type 0
 EncodesMore {S} took mid new lanes e learned count e' learned' =
-    (typical : Bool) (old : S) (second above byte past₀ : ℕ) (e₀ : Encoder) (learned₀ : List Estimate) (n past : ℕ) → n + count ≤ 8 → HasPixels lanes second above (past₀ % 256 * 256 + byte) n count →
-    EncodesByte took old mid (record { two_line = false; typical = typical }) 0 second above byte past₀ e₀ learned₀ n past e learned →
-    (past' : ℕ) × EncodesByte took old new (record { two_line = false; typical = typical }) 0 second above byte past₀ e₀ learned₀ (n + count) past' e' learned'
+    (typical : Bool) (beside : ℕ → ℕ) (old : S) (offset second above byte past₀ : ℕ) (e₀ : Encoder) (learned₀ : List Estimate) (n past : ℕ) → n + count ≤ 8 →
+    AreBeside beside offset second above byte past₀ → HasPixels lanes beside (past₀ % 256 * 256 + byte) n count →
+    EncodesByte took old mid (record { two_line = false; typical = typical }) offset second above byte past₀ e₀ learned₀ n past e learned →
+    (past' : ℕ) × EncodesByte took old new (record { two_line = false; typical = typical }) offset second above byte past₀ e₀ learned₀ (n + count) past' e' learned'
 
 -- the sink refused a byte at one of them
 abbrev pub FailsMore : {S : Type 0} (took : S → ℕ → S → Type 0) (refused : S → S → Type 0) (mid new : S) (lanes : ℕ) (e : Encoder) (learned : List Estimate) (count : ℕ) → Type 0
 FailsMore {S} took refused mid new lanes e learned count =
-    (typical : Bool) (old : S) (second above byte past₀ : ℕ) (e₀ : Encoder) (learned₀ : List Estimate) (n past : ℕ) → n + count ≤ 8 → HasPixels lanes second above (past₀ % 256 * 256 + byte) n count →
-    EncodesByte took old mid (record { two_line = false; typical = typical }) 0 second above byte past₀ e₀ learned₀ n past e learned →
-    FailsByte took refused old new (record { two_line = false; typical = typical }) 0 second above byte past₀ e₀ learned₀ 8
+    (typical : Bool) (beside : ℕ → ℕ) (old : S) (offset second above byte past₀ : ℕ) (e₀ : Encoder) (learned₀ : List Estimate) (n past : ℕ) → n + count ≤ 8 →
+    AreBeside beside offset second above byte past₀ → HasPixels lanes beside (past₀ % 256 * 256 + byte) n count →
+    EncodesByte took old mid (record { two_line = false; typical = typical }) offset second above byte past₀ e₀ learned₀ n past e learned →
+    FailsByte took refused old new (record { two_line = false; typical = typical }) offset second above byte past₀ e₀ learned₀ 8
 
 -- a byte of one colour was encoded in one step, with no byte of the code: each of its pixels stands in the context of that colour
 pub record SkipsByte (mode : Mode) (offset second above byte past : ℕ) (e : Encoder) (learned : List Estimate) (e' : Encoder) : Type 0 where

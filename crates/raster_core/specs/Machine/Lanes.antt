@@ -1,14 +1,32 @@
--- Contexts of four pixels at once, each in 16 bits of a number, the first lowest: with three lines, and the adaptive
--- pixel in its nominal place.
-use Rattle.std.specs.Prelude.{ℕ, ◌+◌, ◌*◌, ◌/◌, ◌%◌, ◌^◌, ◌<◌, ◌≡◌}
+-- Contexts of four pixels at once, each in 16 bits of a number, the first lowest, with three lines.
+use Rattle.std.specs.Prelude.{ℕ, ◌+◌, ◌*◌, ◌/◌, ◌%◌, ◌^◌, ◌<◌, ◌≡◌, Bool, true, false, List}
+use Rattle.raster_core.specs.Raster.{pixel_left}
+use Rattle.raster_core.specs.Machine.Registers.{bit, before}
 
 -- 16 bits of a number
 abbrev pub lane : ℕ → ℕ → ℕ
 lane lanes j = lanes / 2 ^ (16 * j) % 2 ^ 16
 
--- What the rows above give to the context of pixel j of a byte. The registers are those of decoding.
+-- What the rows above give to the context of pixel j of a byte, the adaptive pixel in its nominal place. The registers
+-- are those of decoding.
 abbrev pub around : ℕ → ℕ → ℕ → ℕ
 around second above j = second / 2 ^ 7 * 2 ^ j / 2 ^ 7 % 8 * 128 + above / 2 ^ 6 * 2 ^ j / 2 ^ 7 % 32 * 4
+
+-- a number has the moved adaptive pixels of a byte's eight pixels, the first highest
+abbrev pub HasFar : ℕ → ℕ → ℕ → ℕ → Type 0
+HasFar far offset past byte =
+    (row : List Bool) (x j : ℕ) → past ≡ before row x 128 → byte ≡ before row (x + 8) 8 → j < 8 →
+    far * 2 ^ j / 2 ^ 7 % 2 ≡ bit (pixel_left row (x + j) offset)
+
+-- what the rows above and these adaptive pixels give to the context of pixel j
+abbrev pub moved_around : ℕ → ℕ → ℕ → ℕ → ℕ
+moved_around second above far j =
+    second / 2 ^ 7 * 2 ^ j / 2 ^ 7 % 8 * 128 + above / 2 ^ 6 * 2 ^ j / 2 ^ 8 % 16 * 8 + far * 2 ^ j / 2 ^ 7 % 2 * 4
+
+-- what the context of pixel j has beside the two pixels before it, the adaptive pixel moved or not
+abbrev pub near : Bool → ℕ → ℕ → ℕ → ℕ → ℕ
+near false second above far j = around second above j
+near true second above far j = moved_around second above far j
 
 -- the two pixels before pixel j of a byte and the pixel, in a register of the byte and the one before it
 abbrev pub own : ℕ → ℕ → ℕ
@@ -24,12 +42,19 @@ above_lane window j = window * 2 ^ j / 8 % 32 * 4
 abbrev pub row_lane : ℕ → ℕ → ℕ
 row_lane window j = window * 2 ^ j / 8 % 8
 
+-- with a moved adaptive pixel: of seven pixels of the row above, of four adaptive pixels
+abbrev pub moved_above_lane : ℕ → ℕ → ℕ
+moved_above_lane window j = window * 2 ^ j / 8 % 16 * 8
+
+abbrev pub far_lane : ℕ → ℕ → ℕ
+far_lane window j = window * 2 ^ j / 8 % 2 * 4
+
 -- so many lanes have what the rows above give to the contexts of the pixels from this one on
 abbrev pub HasAround : ℕ → ℕ → ℕ → ℕ → ℕ → Type 0
 HasAround lanes second above from count =
     (j : ℕ) → j < count → lane lanes j ≡ around second above (from + j)
 
--- so many lanes have twice the contexts of the pixels from this one on, and the pixels
-abbrev pub HasPixels : ℕ → ℕ → ℕ → ℕ → ℕ → ℕ → Type 0
-HasPixels lanes second above row from count =
-    (j : ℕ) → j < count → lane lanes j ≡ 2 * around second above (from + j) + own row (from + j)
+-- so many lanes have twice the contexts of the pixels from this one on, which have this near them, and the pixels
+abbrev pub HasPixels : ℕ → (ℕ → ℕ) → ℕ → ℕ → ℕ → Type 0
+HasPixels lanes beside row from count =
+    (j : ℕ) → j < count → lane lanes j ≡ 2 * beside (from + j) + own row (from + j)
