@@ -7,6 +7,7 @@
 # make library-test  the library beside the programs, as C and Python call it, and installed
 # make manuals       checks the manual pages
 # make interop       exchanges streams with JBIG-KIT's programs, and compares the images
+# make charts        has programs and library code the test charts of the CCITT, beside JBIG-KIT's programs
 # make fuzz          calls the library with random streams for FUZZ_SECONDS, beside JBIG-KIT's library
 # make bench         measures beside JBIG-KIT and netpbm; no test is timed
 # make against       compares with another build of both programs, in the folder OTHER
@@ -78,6 +79,7 @@ documents:
 	tools/references
 	tools/model --check
 	tools/clauses
+	tools/names
 	tools/prose
 	tools/interface
 
@@ -105,6 +107,15 @@ manuals:
 interop: build
 	tests/interop bin
 
+# The charts are fetched, since they may not be kept.
+bin/charts:
+	bench/charts $@
+
+charts: build library bin/charts
+	tests/library bin bin/charts/*.pbm
+	tests/python bin bin/charts/*.pbm
+	tests/interop bin bin/charts/*.pbm
+
 fuzz: library
 	tests/fuzz bin $(FUZZ_SECONDS)
 
@@ -112,13 +123,13 @@ fuzz: library
 against: build
 	tests/against bin $(OTHER)
 
-bench: build library
+bench: build library bin/charts
 	bench/info bin/jbgtopbm85
 	bench/decode bin/jbgtopbm85
 	bench/encode bin/pbmtojbg85
 	bench/plain bin/pbmtojbg85
-	bench/classes bin bench/classes.svg
-	bench/library bin
+	bench/classes bin bench/classes.svg bin/charts/*.pbm
+	bench/library bin bin/charts/*.pbm
 
 # What is in bin/ is installed; what is not there is built first.
 install: install-programs install-library
@@ -176,5 +187,5 @@ endif
 clean:
 	rm -rf bin crates/*/out
 
-.PHONY: show build library documents test turns library-test manuals interop fuzz against bench install \
+.PHONY: show build library documents test turns library-test manuals interop charts fuzz against bench install \
 	install-programs install-library uninstall clean

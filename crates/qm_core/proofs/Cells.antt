@@ -5,23 +5,23 @@ use Rattle.std.proofs.lemmas.Nat.{and_mask}
 use Rattle.std.proofs.lemmas.List.{get_or-map, map-set}
 use Rattle.qm_core.specs.Place.{Estimate, same}
 use Rattle.qm_core.specs.Machine.{estimate}
-use Rattle.qm_core.specs.Cells.{estimate_from, turned, evens, odds, ArePaired}
+use Rattle.qm_core.specs.Cells.{estimate_from, turned_cell, evens, odds, ArePaired}
 
 -- ---- a cell as the other pixel sees it
 
-pub xor_one : (cell : ℕ) → bit_xor cell 1 ≡ turned cell
+pub xor_one : (cell : ℕ) → bit_xor cell 1 ≡ turned_cell cell
 xor_one cell =
     let whole = xor_add_and cell 1 in
     let last = and_mask cell 1 in
     omega (arith, whole, last)
 
-pub turned_twice : (cell : ℕ) → turned (turned cell) ≡ cell
+pub turned_twice : (cell : ℕ) → turned_cell (turned_cell cell) ≡ cell
 turned_twice cell = omega arith
 
-turned_row : (cell : ℕ) → turned cell / 2 ≡ cell / 2
+turned_row : (cell : ℕ) → turned_cell cell / 2 ≡ cell / 2
 turned_row cell = omega arith
 
-turned_last : (cell : ℕ) → turned cell % 2 ≡ 1 - cell % 2
+turned_last : (cell : ℕ) → turned_cell cell % 2 ≡ 1 - cell % 2
 turned_last cell = omega arith
 
 none_is_not_one : (m : ℕ) → m < 2 → nat_eq m 0 ≡ not (nat_eq m 1)
@@ -49,11 +49,11 @@ from_estimate pixel cell = rw (none_is_not_one (cell % 2) (omega arith)) refl
 pub white_sees : (cell : ℕ) → estimate_from false cell ≡ estimate cell
 white_sees cell = from_estimate false cell ∙ rw (not_twice (nat_eq (cell % 2) 1)) refl
 
-pub seen_turned : (cell : ℕ) → estimate_from true (turned cell) ≡ estimate cell
+pub seen_turned : (cell : ℕ) → estimate_from true (turned_cell cell) ≡ estimate cell
 seen_turned cell = rw (turned_row cell, turned_last cell, other_is_one (cell % 2) (omega arith)) refl
 
-pub turned_seen : (cell : ℕ) → estimate (turned cell) ≡ estimate_from true cell
-turned_seen cell = sym (seen_turned (turned cell)) ∙ ap (estimate_from true) (turned_twice cell)
+pub turned_seen : (cell : ℕ) → estimate (turned_cell cell) ≡ estimate_from true cell
+turned_seen cell = sym (seen_turned (turned_cell cell)) ∙ ap (estimate_from true) (turned_twice cell)
 
 pub favoured_seen : (pixel : Bool) (cell : ℕ) → nat_eq (cell % 2) 0 ≡ same pixel (estimate_from pixel cell).pixel
 favoured_seen pixel cell = sym (same_twice pixel (nat_eq (cell % 2) 0))
@@ -141,7 +141,7 @@ seen false l k place e long few paired white black =
 seen true l k place e long few paired white black =
     let inside : k < length (evens l) = half l k (omega (arith, long, few)) in
     ap (λ i. estimate_from true (get_or l i 0)) (black refl)
-    ∙ (ap (estimate_from true) (sym (get_odd l k 0) ∙ (ap (λ r. get_or r k 0) paired ∙ get_or-map turned (evens l) k 0 0 inside))
+    ∙ (ap (estimate_from true) (sym (get_odd l k 0) ∙ (ap (λ r. get_or r k 0) paired ∙ get_or-map turned_cell (evens l) k 0 0 inside))
     ∙ (seen_turned (get_or (evens l) k 0) ∙ sym (get_or-map estimate (evens l) k 0 e inside)))
 
 -- both cells are set
@@ -150,18 +150,18 @@ pub record IsSet (pixel : Bool) (l : List ℕ) (k cell : ℕ) (l' : List ℕ) : 
   pub view : map estimate (evens l') ≡ set (map estimate (evens l)) k (estimate_from pixel cell)
 
 pub set_both : (pixel : Bool) (l : List ℕ) (k a b cell other : ℕ) → ArePaired l → (pixel ≡ false → a ≡ 2 * k) → (pixel ≡ true → a ≡ 2 * k + 1) →
-    (not pixel ≡ false → b ≡ 2 * k) → (not pixel ≡ true → b ≡ 2 * k + 1) → other ≡ turned cell → IsSet pixel l k cell (set (set l a cell) b other)
+    (not pixel ≡ false → b ≡ 2 * k) → (not pixel ≡ true → b ≡ 2 * k + 1) → other ≡ turned_cell cell → IsSet pixel l k cell (set (set l a cell) b other)
 set_both false l k a b cell other paired a-white a-black b-white b-black is =
-    let e : evens (set (set l (2 * k) cell) (2 * k + 1) (turned cell)) ≡ set (evens l) k cell = evens_of_odd _ k _ ∙ evens_of_even l k cell in
-    let o : odds (set (set l (2 * k) cell) (2 * k + 1) (turned cell)) ≡ set (odds l) k (turned cell) = odds_of_odd _ k _ ∙ ap (λ r. set r k (turned cell)) (odds_of_even l k cell) in
+    let e : evens (set (set l (2 * k) cell) (2 * k + 1) (turned_cell cell)) ≡ set (evens l) k cell = evens_of_odd _ k _ ∙ evens_of_even l k cell in
+    let o : odds (set (set l (2 * k) cell) (2 * k + 1) (turned_cell cell)) ≡ set (odds l) k (turned_cell cell) = odds_of_odd _ k _ ∙ ap (λ r. set r k (turned_cell cell)) (odds_of_even l k cell) in
     rw (a-white refl, b-black refl, is) (record {
-      paired = o ∙ (ap (λ r. set r k (turned cell)) paired ∙ (sym (map-set turned (evens l) k cell) ∙ ap (map turned) (sym e)));
+      paired = o ∙ (ap (λ r. set r k (turned_cell cell)) paired ∙ (sym (map-set turned_cell (evens l) k cell) ∙ ap (map turned_cell) (sym e)));
       view = ap (map estimate) e ∙ (map-set estimate (evens l) k cell ∙ ap (λ x. set (map estimate (evens l)) k x) (sym (white_sees cell)));
     })
 set_both true l k a b cell other paired a-white a-black b-white b-black is =
-    let e : evens (set (set l (2 * k + 1) cell) (2 * k) (turned cell)) ≡ set (evens l) k (turned cell) = evens_of_even _ k _ ∙ ap (λ r. set r k (turned cell)) (evens_of_odd l k cell) in
-    let o : odds (set (set l (2 * k + 1) cell) (2 * k) (turned cell)) ≡ set (odds l) k cell = odds_of_even _ k _ ∙ odds_of_odd l k cell in
+    let e : evens (set (set l (2 * k + 1) cell) (2 * k) (turned_cell cell)) ≡ set (evens l) k (turned_cell cell) = evens_of_even _ k _ ∙ ap (λ r. set r k (turned_cell cell)) (evens_of_odd l k cell) in
+    let o : odds (set (set l (2 * k + 1) cell) (2 * k) (turned_cell cell)) ≡ set (odds l) k cell = odds_of_even _ k _ ∙ odds_of_odd l k cell in
     rw (a-black refl, b-white refl, is) (record {
-      paired = o ∙ (ap (λ r. set r k cell) paired ∙ (ap (λ x. set (map turned (evens l)) k x) (sym (turned_twice cell)) ∙ (sym (map-set turned (evens l) k (turned cell)) ∙ ap (map turned) (sym e))));
-      view = ap (map estimate) e ∙ (map-set estimate (evens l) k (turned cell) ∙ ap (λ x. set (map estimate (evens l)) k x) (turned_seen cell));
+      paired = o ∙ (ap (λ r. set r k cell) paired ∙ (ap (λ x. set (map turned_cell (evens l)) k x) (sym (turned_twice cell)) ∙ (sym (map-set turned_cell (evens l) k (turned_cell cell)) ∙ ap (map turned_cell) (sym e))));
+      view = ap (map estimate) e ∙ (map-set estimate (evens l) k (turned_cell cell) ∙ ap (λ x. set (map estimate (evens l)) k x) (turned_seen cell));
     })

@@ -7,8 +7,8 @@ abbrev pub estimate_from : Bool → ℕ → Estimate
 estimate_from pixel cell = record { row = cell / 2; pixel = same pixel (nat_eq (cell % 2) 0) }
 
 -- the same estimate as the other pixel sees it
-abbrev pub turned : ℕ → ℕ
-turned cell = cell + 1 - 2 * (cell % 2)
+abbrev pub turned_cell : ℕ → ℕ
+turned_cell cell = cell + 1 - 2 * (cell % 2)
 
 -- every other number of a list, from the first on and from the second on
 abbrev pub evens : List ℕ → List ℕ
@@ -23,4 +23,4 @@ odds (a ∷ b ∷ rest) = b ∷ odds rest
 
 -- each cell of a black pixel stands behind that of a white one, and they say the same
 abbrev pub ArePaired : List ℕ → Type 0
-ArePaired cells = odds cells ≡ map turned (evens cells)
+ArePaired cells = odds cells ≡ map turned_cell (evens cells)

@@ -10,7 +10,7 @@ use Rattle.t85_core.specs.Decode.{Decode, WritesImageFront}
 use Rattle.t85_core.specs.Failures.{CountsFault, failed_reads, failed_writes}
 use Rattle.t85_core.specs.Laws.{HasOutcome}
 use Rattle.t85_core.specs.Outcome.{IsOutcome}
-use Rattle.t85.specs.Delivered.{told, status_of, Fits, IsFull}
+use Rattle.t85.specs.Delivered.{fault_status, answer_status, Fits, IsFull}
 
 -- what an empty room holds
 pub emptied : (len : ℕ) (memory : List ℕ) (spilled : Option ℕ) → len ≡ 0 → spilled ≡ None → take len memory ++ option_to_list spilled ≡ []
@@ -50,15 +50,15 @@ full_of text memory b rest len is all =
 
 module _ (h : Fields) (height : ℕ) (body : List ℕ) (in_new : Option (List ℕ)) (o : HasOutcome h height body) (old : List ℕ) where
   -- what an output has taken that has not failed is the outcome, and this is told
-  pub held : (taken : List ℕ) (answer : Result (Unit {0}) Fault) → Decode h height (between (Some body) in_new 0 0) (between (Some old) (Some taken) 0 0) answer → (taken ≡ old ++ o.text) × (status_of answer ≡ told o.fault)
+  pub held : (taken : List ℕ) (answer : Result (Unit {0}) Fault) → Decode h height (between (Some body) in_new 0 0) (between (Some old) (Some taken) 0 0) answer → (taken ≡ old ++ o.text) × (answer_status answer ≡ fault_status o.fault)
   held taken (Ok u) d =
       let w = d.whole in
       let same = o.only None _ (w.raster, w.denotes, refl) in
-      (w.appends ∙ ap (λ l. old ++ l) same.1, ap told same.0)
+      (w.appends ∙ ap (λ l. old ++ l) same.1, ap fault_status same.0)
   held taken (Err f) d =
       let w = d.broken (unread f d.reads) (unfailed f d.writes) in
       let same = o.only (Some f) _ (w.rows, w.fixes, refl) in
-      (w.appends ∙ ap (λ l. old ++ l) same.1, ap told same.0)
+      (w.appends ∙ ap (λ l. old ++ l) same.1, ap fault_status same.0)
 
   -- whatever happened, it is a beginning of the outcome
   pub begins : (taken : List ℕ) → WritesImageFront h height (Some body) in_new (Some old) (Some taken) → (front : List ℕ) × (rest : List ℕ) × (taken ≡ old ++ front) × (o.text ≡ front ++ rest)
@@ -69,13 +69,13 @@ module _ (h : Fields) (height : ℕ) (body : List ℕ) (in_new : Option (List �
 
 module _ (h : Fields) (height : ℕ) (body memory : List ℕ) (len : ℕ) (old : List ℕ) (in_new : Option (List ℕ)) (answer : Result (Unit {0}) Fault) (o : HasOutcome h height body) (empty : old ≡ []) where
   pub unspilled : (spilled : Option ℕ) (before failures : ℕ) → before ≡ 0 → is_some spilled ≡ false → (0 < failures → is_some spilled ≡ true) → len ≤ length memory →
-      Decode h height (between (Some body) in_new 0 0) (between (Some old) (Some (take len memory ++ option_to_list spilled)) before failures) answer → Fits o.text (told o.fault) memory len (status_of answer)
+      Decode h height (between (Some body) in_new 0 0) (between (Some old) (Some (take len memory ++ option_to_list spilled)) before failures) answer → Fits o.text (fault_status o.fault) memory len (answer_status answer)
   unspilled (Some b) before failures fresh none full within d = absurd (true≢false none)
   unspilled None before failures fresh none full within d =
       let D : ℕ → ℕ → Type 0 = λ m n. Decode h height (between (Some body) in_new 0 0) (between (Some old) (Some (take len memory ++ [])) m n) answer in
       let f : D 0 failures = subst (λ m. D m failures) fresh d in
       let stands = held h height body in_new o old (take len memory ++ []) answer (subst (λ n. D 0 n) (none_failed failures false none full) f) in
-      fits_in o.text (told o.fault) memory len (status_of answer) (sym (append-nil (take len memory)) ∙ stands.0 ∙ ap (λ l. l ++ o.text) empty) within stands.1
+      fits_in o.text (fault_status o.fault) memory len (answer_status answer) (sym (append-nil (take len memory)) ∙ stands.0 ∙ ap (λ l. l ++ o.text) empty) within stands.1
 
   pub spilled_over : (spilled : Option ℕ) (before failures : ℕ) → is_some spilled ≡ true → (is_some spilled ≡ true → len ≡ length memory) →
       Decode h height (between (Some body) in_new 0 0) (between (Some old) (Some (take len memory ++ option_to_list spilled)) before failures) answer → IsFull o.text memory len 18

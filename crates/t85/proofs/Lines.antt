@@ -1,7 +1,7 @@
 -- Rows that stand some way apart.
 use Rattle.std.proofs.Common.{◌≡◌, ◌≢◌, ◌≤◌, ◌-◌, ◌++◌, ℕ, zero, suc, List, [], ◌∷◌, length, take, drop, min, refl, sym, ap, ◌∙◌, arith}
 use Rattle.std.proofs.lemmas.Grind.{common_steps}
-use Rattle.t85.specs.Lined.{lined}
+use Rattle.t85.specs.Delivered.{lined}
 
 take_nil : (n : ℕ) (l : List ℕ) → l ≡ [] → take n l ≡ []
 take_nil n l none = grind (arith, common_steps)

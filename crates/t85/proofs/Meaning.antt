@@ -16,11 +16,10 @@ use Rattle.t85_core.specs.Fault.{fault_number}
 use Rattle.t85_core.specs.Laws.{OneRasterOfStream, HasOutcome}
 use Rattle.t85_core.specs.Outcome.{IsOutcome, pbm_rows}
 use Rattle.t85.specs.Decoded.{Opens}
-use Rattle.t85.specs.DecodedRows.{WritesRows}
-use Rattle.t85.specs.Delivered.{told}
-use Rattle.t85.specs.Encoded.{WritesCode, WritesAll, or_else, status_if, refusal_told, settings_asked}
+use Rattle.t85.specs.DecodedRows.{DeliversRows}
+use Rattle.t85.specs.Delivered.{fault_status, lined}
+use Rattle.t85.specs.Encoded.{DeliversCode, DeliversAll, or_else, status_if, refusal_told, settings_chosen}
 use Rattle.t85.specs.declared.options.T85Options.{T85Options}
-use Rattle.t85.specs.Lined.{lined}
 use Rattle.t85.specs.Laws.{IsOnly, IsStreamOf, DecodedIsImage, DecodedAreRows, EncodedIsStream}
 use Rattle.t85.proofs.Rowed.{length_rows}
 
@@ -54,7 +53,7 @@ some_status VariableHeight is = omega arith
 some_status CommentLong is = omega arith
 some_status (Pbm fault) is = omega arith
 
-whole : (fault : Option Fault) → 0 ≡ told fault → fault ≡ None
+whole : (fault : Option Fault) → 0 ≡ fault_status fault → fault ≡ None
 whole None is = refl
 whole (Some f) is = absurd (some_status f is)
 
@@ -66,7 +65,7 @@ module _ (one : OneRasterOfStream) (stream : List ℕ) (o : Opens stream) where
       let denotes : Denotes stream raster = record { header = o.header; header_of = o.header_of; height = o.height; height_is = o.height_is; denotes = d } in
       record { denotes = denotes; only = λ other also. one stream raster other denotes also }
 
-  denoted : (r : HasOutcome o.header o.height (drop 20 stream)) → 0 ≡ told r.fault → IsOutcome o.header o.height (drop 20 stream) None r.text
+  denoted : (r : HasOutcome o.header o.height (drop 20 stream)) → 0 ≡ fault_status r.fault → IsOutcome o.header o.height (drop 20 stream) None r.text
   denoted r is = subst (λ f. IsOutcome o.header o.height (drop 20 stream) f r.text) (whole r.fault is) r.is
 
 pub decoded_image : OneRasterOfStream → DecodedIsImage
@@ -84,8 +83,8 @@ decoded_image one stream limit window old new written d = elim d [
 ]
 
 -- rows that give the same bytes are as many
-rows_same : (one : OneRasterOfStream) (stream : List ℕ) (o : Opens stream) (stride : ℕ) (old new : List ℕ) (written : ℕ) (w : WritesRows o.header o.height (drop 20 stream) stride old new written 0) →
-    written ≡ length w.rows → lined (length w.rows) (div_ceil o.header.xd 8) stride new ≡ flat_map packed_row w.rows → 0 ≡ told w.outcome.fault →
+rows_same : (one : OneRasterOfStream) (stream : List ℕ) (o : Opens stream) (stride : ℕ) (old new : List ℕ) (written : ℕ) (w : DeliversRows o.header o.height (drop 20 stream) stride old new written 0) →
+    written ≡ length w.rows → lined (length w.rows) (div_ceil o.header.xd 8) stride new ≡ flat_map packed_row w.rows → 0 ≡ fault_status w.outcome.fault →
     (raster : Raster) × IsOnly stream raster × (written ≡ height raster) × (lined (height raster) (div_ceil raster.width 8) stride new ≡ flat_map packed_row raster.rows)
 rows_same one stream o stride old new written w count stood is =
     let found = denoted one stream o w.outcome is in
@@ -147,7 +146,7 @@ module _ (one : OneRasterOfStream) (choice : T85Options) (comment : List ℕ) (w
   abbrev body : List ℕ
   body = lined height' (div_ceil width 8) stride rows
 
-  all_written : WritesAll (settings_asked choice comment) width height' body new written 0 → IsStreamOf choice comment width height' stride rows (take written new)
+  all_written : DeliversAll (settings_chosen choice comment) width height' body new written 0 → IsStreamOf choice comment width height' stride rows (take written new)
   all_written w = elim w.delivers [
     | inl fits ↦
         let raster : Raster = raster_of width w.rows in
@@ -164,7 +163,7 @@ module _ (one : OneRasterOfStream) (choice : T85Options) (comment : List ℕ) (w
     | inr full ↦ absurd (omega (arith, full.answer_is))
   ]
 
-  code_written : WritesCode (settings_asked choice comment) width height' body new written 0 → IsStreamOf choice comment width height' stride rows (take written new)
+  code_written : DeliversCode (settings_chosen choice comment) width height' body new written 0 → IsStreamOf choice comment width height' stride rows (take written new)
   code_written (inl w) = all_written w
   code_written (inr w) = elim w.writes [ inl begun ↦ absurd (omega (arith, begun.fits.answer_is)) | inr full ↦ absurd (omega (arith, full.answer_is)) ]
 

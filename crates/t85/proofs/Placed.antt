@@ -3,7 +3,7 @@ use Rattle.std.proofs.Common.{◌≡◌, ◌≤◌, ◌<◌, ◌+◌, ◌-◌, �
 use Rattle.std.proofs.lemmas.Grind.{common_steps}
 use Rattle.std.proofs.lemmas.List.{take-take, drop-take, drop-drop, take-append-le, length-take-le}
 use Rattle.std.proofs.Math.Seq.{take-append_seam, drop-append_seam, take-append-add, drop-append-add}
-use Rattle.t85.specs.Lined.{lined, outside}
+use Rattle.t85.specs.Delivered.{lined, outside}
 
 -- these bytes put over those from a place on
 abbrev pub place : List ℕ → ℕ → List ℕ → List ℕ

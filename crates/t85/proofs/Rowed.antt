@@ -17,9 +17,8 @@ use Rattle.t85_core.specs.Decode.{Decode}
 use Rattle.t85_core.specs.Header.{Fields}
 use Rattle.t85_core.specs.Laws.{HasOutcome}
 use Rattle.t85_core.specs.Outcome.{IsOutcome, pbm_rows}
-use Rattle.t85.specs.DecodedRows.{HaveRoom, FitsRows, IsFullOfRows, WritesRows}
-use Rattle.t85.specs.Delivered.{told, status_of}
-use Rattle.t85.specs.Lined.{lined, outside}
+use Rattle.t85.specs.DecodedRows.{HaveRoom, FitsRows, IsFullOfRows, DeliversRows}
+use Rattle.t85.specs.Delivered.{fault_status, answer_status, lined, outside}
 use Rattle.t85.specs.LinedOutput.{taken, taken_rows}
 use Rattle.t85.proofs.Delivery.{held, begins, none_failed}
 use Rattle.t85.proofs.Placed.{length_outside, first_of}
@@ -229,7 +228,7 @@ module _ (h : Fields) (height : ℕ) (body : List ℕ) (in_new : Option (List �
         (length_outside row stride k.apart fit bytes' bytes long)
 
     rows_put : (rows : List (List Bool)) (answer : ℕ) → o.text ≡ pbm_rows h.xd height rows → AllByRecursion (λ r. length r ≡ h.xd) rows → outside fit row stride bytes' ≡ out →
-        FitsRows rows (told o.fault) fit row stride bytes' y' answer ⊎ IsFullOfRows rows fit row stride bytes' y' answer → WritesRows h height body stride bytes bytes' y' answer
+        FitsRows rows (fault_status o.fault) fit row stride bytes' y' answer ⊎ IsFullOfRows rows fit row stride bytes' y' answer → DeliversRows h height body stride bytes bytes' y' answer
     rows_put rows answer are wide kept delivers = record {
       outcome = o;
       rows = rows;
@@ -238,7 +237,7 @@ module _ (h : Fields) (height : ℕ) (body : List ℕ) (in_new : Option (List �
       fit = fit;
       room = subst (λ r. HaveRoom height r stride (length bytes) fit) row_is room;
       kept = subst (λ r. outside fit r stride bytes' ≡ outside fit r stride bytes) row_is kept;
-      delivers = subst (λ r. FitsRows rows (told o.fault) fit r stride bytes' y' answer ⊎ IsFullOfRows rows fit r stride bytes' y' answer) row_is delivers;
+      delivers = subst (λ r. FitsRows rows (fault_status o.fault) fit r stride bytes' y' answer ⊎ IsFullOfRows rows fit r stride bytes' y' answer) row_is delivers;
     }
 
     module _ (row' stride' fit' skip' : ℕ) (k : Kept row' stride' fit' skip' at' y' x' bytes' head' spilled') where
@@ -261,18 +260,18 @@ module _ (h : Fields) (height : ℕ) (body : List ℕ) (in_new : Option (List �
           record { kept = now; stays = both.0; is = both.1 }
 
       pub rows_fit : (before failures : ℕ) (answer : Result (Unit {0}) Fault) → before ≡ 0 → is_some spilled' ≡ false → (0 < failures → is_some spilled' ≡ true) →
-          Decode h height (between (Some body) in_new 0 0) (between (Some old) (Some new) before failures) answer → WritesRows h height body stride bytes bytes' y' (status_of answer)
+          Decode h height (between (Some body) in_new 0 0) (between (Some old) (Some new) before failures) answer → DeliversRows h height body stride bytes bytes' y' (answer_status answer)
       rows_fit before failures answer fresh none full d =
           let D : ℕ → ℕ → Type 0 = λ m n. Decode h height (between (Some body) in_new 0 0) (between (Some old) (Some new) m n) answer in
           let f : D 0 failures = subst (λ m. D m failures) fresh d in
           let stood = held h height body in_new o old new answer (subst (λ n. D 0 n) (none_failed failures (is_some spilled') none full) f) in
           let rows = rows_in h height body o.fault o.text o.is in
           let s = same_output o.text stood.0 in
-          rows_put rows.rows (status_of answer) rows.text_is rows.wide s.stays
-          (inl (fits_rows h.xd height row stride fit skip at' y' x' bytes' head' spilled' s.kept row_is skip_is rows.rows rows.wide (told o.fault) (status_of answer) stood.1 (unsome spilled' none) (s.is ∙ rows.text_is)))
+          rows_put rows.rows (answer_status answer) rows.text_is rows.wide s.stays
+          (inl (fits_rows h.xd height row stride fit skip at' y' x' bytes' head' spilled' s.kept row_is skip_is rows.rows rows.wide (fault_status o.fault) (answer_status answer) stood.1 (unsome spilled' none) (s.is ∙ rows.text_is)))
 
       pub rows_fill : (before failures : ℕ) (answer : Result (Unit {0}) Fault) (b : ℕ) → spilled' ≡ Some b →
-          Decode h height (between (Some body) in_new 0 0) (between (Some old) (Some new) before failures) answer → WritesRows h height body stride bytes bytes' y' 18
+          Decode h height (between (Some body) in_new 0 0) (between (Some old) (Some new) before failures) answer → DeliversRows h height body stride bytes bytes' y' 18
       rows_fill before failures answer b some d =
           let w = begins h height body in_new o old new d.front in
           let rows = rows_in h height body o.fault o.text o.is in

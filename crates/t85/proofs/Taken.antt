@@ -4,7 +4,7 @@ use Rattle.std.specs.Prelude.{is_some, option_to_list}
 use Rattle.std.proofs.lemmas.List.{drop-drop}
 use Rattle.std.proofs.lemmas.Slice.{take-put_mid}
 use borrow.Rule.Slice.PartMut.{put_mid}
-use Rattle.t85.specs.Lined.{lined, outside}
+use Rattle.t85.specs.Delivered.{lined, outside}
 use Rattle.t85.specs.LinedOutput.{taken}
 use Rattle.t85.proofs.Placed.{place, placed_outside, placed_lined, length_placed}
 

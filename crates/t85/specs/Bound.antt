@@ -4,7 +4,7 @@ use Rattle.raster_core.specs.Raster.{Raster, IsRaster, height}
 use Rattle.t85_core.specs.Grammar.{stripe_count}
 use Rattle.t85_core.specs.Jbg.{jbg}
 use Rattle.t85.specs.declared.options.T85Options.{T85Options}
-use Rattle.t85.specs.Encoded.{comment_asked, settings_asked}
+use Rattle.t85.specs.Encoded.{comment_chosen, settings_chosen}
 
 -- the bytes of the comment that is asked for
 abbrev pub comment_length : T85Options → ℕ → ℕ
@@ -19,5 +19,5 @@ bound_told choice width height' held =
 -- So many bytes are enough for the stream of each raster of this size, with each comment of this length.
 abbrev pub IsBound : T85Options → ℕ → ℕ → ℕ → ℕ → Type 0
 IsBound choice width height' comment_len bound =
-    (comment : List ℕ) (raster : Raster) → length comment ≡ comment_len → length (unwrap_or (comment_asked choice comment) []) < 2 ^ 32 → 1 ≤ choice.stripe_rows
-    → IsRaster raster → raster.width ≡ width → height raster ≡ height' → length (jbg (settings_asked choice comment) raster) ≤ bound
+    (comment : List ℕ) (raster : Raster) → length comment ≡ comment_len → length (unwrap_or (comment_chosen choice comment) []) < 2 ^ 32 → 1 ≤ choice.stripe_rows
+    → IsRaster raster → raster.width ≡ width → height raster ≡ height' → length (jbg (settings_chosen choice comment) raster) ≤ bound

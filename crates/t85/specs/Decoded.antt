@@ -6,7 +6,7 @@ use Rattle.t85_core.specs.Fault.{fault_number}
 use Rattle.t85_core.specs.Header.{Fields, HeaderOf, header_fault}
 use Rattle.t85_core.specs.Height.{IsHeight}
 use Rattle.t85_core.specs.Laws.{HasOutcome}
-use Rattle.t85.specs.Delivered.{told, Delivers, Refuses}
+use Rattle.t85.specs.Delivered.{fault_status, Delivers, Refuses}
 
 -- a stream whose header is accepted, and its height
 pub record Opens (stream : List ℕ) : Type 0 where
@@ -20,7 +20,7 @@ abbrev pub window_bytes : ℕ → ℕ
 window_bytes width = 3 * div_ceil width 8
 
 -- the header is refused, by this fault
-pub record RefusesHeader (stream : List ℕ) (old new : List ℕ) (written answer : ℕ) : Type 0 where
+pub record RefusesByHeader (stream : List ℕ) (old new : List ℕ) (written answer : ℕ) : Type 0 where
   pub fault : Fault
   pub is : header_fault stream ≡ Some fault
   pub refuses : Refuses (fault_number fault) old new written answer
@@ -39,21 +39,21 @@ pub record RefusesWindow (stream : List ℕ) (limit window : ℕ) (old new : Lis
   pub refuses : Refuses 19 old new written answer
 
 -- The outcome of a body is written: the image that it denotes, or its fault, and the rows that it fixes.
-pub record WritesText (h : Fields) (height : ℕ) (body memory : List ℕ) (written answer : ℕ) : Type 0 where
+pub record DeliversText (h : Fields) (height : ℕ) (body memory : List ℕ) (written answer : ℕ) : Type 0 where
   pub outcome : HasOutcome h height body
-  pub delivers : Delivers outcome.text (told outcome.fault) memory written answer
+  pub delivers : Delivers outcome.text (fault_status outcome.fault) memory written answer
 
 -- so it is of a stream that is not refused
-pub record WritesOutcome (stream : List ℕ) (limit window : ℕ) (image : List ℕ) (written answer : ℕ) : Type 0 where
+pub record DeliversOutcome (stream : List ℕ) (limit window : ℕ) (image : List ℕ) (written answer : ℕ) : Type 0 where
   pub opens : Opens stream
   pub within : opens.height ≤ limit
   pub enough : window_bytes opens.header.xd ≤ window
-  pub writes : WritesText opens.header opens.height (drop 20 stream) image written answer
+  pub writes : DeliversText opens.header opens.height (drop 20 stream) image written answer
 
 -- what `t85_decode` leaves
-abbrev pub Decodes : List ℕ → ℕ → ℕ → List ℕ → List ℕ → ℕ → ℕ → Type 0
-Decodes stream limit window old new written answer =
-    RefusesHeader stream old new written answer
+abbrev pub DecodesImage : List ℕ → ℕ → ℕ → List ℕ → List ℕ → ℕ → ℕ → Type 0
+DecodesImage stream limit window old new written answer =
+    RefusesByHeader stream old new written answer
     ⊎ RefusesHeight stream limit old new written answer
     ⊎ RefusesWindow stream limit window old new written answer
-    ⊎ WritesOutcome stream limit window new written answer
+    ⊎ DeliversOutcome stream limit window new written answer

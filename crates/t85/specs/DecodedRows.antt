@@ -6,9 +6,8 @@ use Rattle.raster_core.specs.Packed.{packed_row}
 use Rattle.t85_core.specs.Header.{Fields}
 use Rattle.t85_core.specs.Laws.{HasOutcome}
 use Rattle.t85_core.specs.Outcome.{pbm_rows}
-use Rattle.t85.specs.Decoded.{Opens, window_bytes, RefusesHeader, RefusesHeight}
-use Rattle.t85.specs.Delivered.{told, Refuses}
-use Rattle.t85.specs.Lined.{lined, outside}
+use Rattle.t85.specs.Decoded.{Opens, window_bytes, RefusesByHeader, RefusesHeight}
+use Rattle.t85.specs.Delivered.{fault_status, Refuses, lined, outside}
 
 -- So many rows have room, each `stride` bytes behind the one before: all that are wanted, or no more would have.
 pub record HaveRoom (wanted row stride room fit : ℕ) : Type 0 where
@@ -32,7 +31,7 @@ pub record IsFullOfRows (rows : List (List Bool)) (fit row stride : ℕ) (memory
 
 -- The rows of the outcome of a body are written: of the image that it denotes, or those that it fixes before its fault.
 -- What stands outside of the rows that have room stays.
-pub record WritesRows (h : Fields) (height : ℕ) (body : List ℕ) (stride : ℕ) (old new : List ℕ) (written answer : ℕ) : Type 0 where
+pub record DeliversRows (h : Fields) (height : ℕ) (body : List ℕ) (stride : ℕ) (old new : List ℕ) (written answer : ℕ) : Type 0 where
   pub outcome : HasOutcome h height body
   pub rows : List (List Bool)
   pub rows_are : outcome.text ≡ pbm_rows h.xd height rows
@@ -40,7 +39,7 @@ pub record WritesRows (h : Fields) (height : ℕ) (body : List ℕ) (stride : �
   pub fit : ℕ
   pub room : HaveRoom height (div_ceil h.xd 8) stride (length old) fit
   pub kept : outside fit (div_ceil h.xd 8) stride new ≡ outside fit (div_ceil h.xd 8) stride old
-  pub delivers : FitsRows rows (told outcome.fault) fit (div_ceil h.xd 8) stride new written answer ⊎ IsFullOfRows rows fit (div_ceil h.xd 8) stride new written answer
+  pub delivers : FitsRows rows (fault_status outcome.fault) fit (div_ceil h.xd 8) stride new written answer ⊎ IsFullOfRows rows fit (div_ceil h.xd 8) stride new written answer
 
 -- the rows would overlap
 pub record RefusesStride (stream : List ℕ) (limit stride : ℕ) (old new : List ℕ) (written answer : ℕ) : Type 0 where
@@ -58,18 +57,18 @@ pub record RefusesRowsWindow (stream : List ℕ) (limit stride window : ℕ) (ol
   pub refuses : Refuses 19 old new written answer
 
 -- the rows of a stream that is not refused
-pub record WritesOutcomeRows (stream : List ℕ) (limit stride window : ℕ) (old new : List ℕ) (written answer : ℕ) : Type 0 where
+pub record DeliversOutcomeRows (stream : List ℕ) (limit stride window : ℕ) (old new : List ℕ) (written answer : ℕ) : Type 0 where
   pub opens : Opens stream
   pub within : opens.height ≤ limit
   pub apart : div_ceil opens.header.xd 8 ≤ stride
   pub enough : window_bytes opens.header.xd ≤ window
-  pub writes : WritesRows opens.header opens.height (drop 20 stream) stride old new written answer
+  pub writes : DeliversRows opens.header opens.height (drop 20 stream) stride old new written answer
 
 -- what `t85_decode_rows` leaves
 abbrev pub DecodesRows : List ℕ → ℕ → ℕ → ℕ → List ℕ → List ℕ → ℕ → ℕ → Type 0
 DecodesRows stream limit stride window old new written answer =
-    RefusesHeader stream old new written answer
+    RefusesByHeader stream old new written answer
     ⊎ RefusesHeight stream limit old new written answer
     ⊎ RefusesStride stream limit stride old new written answer
     ⊎ RefusesRowsWindow stream limit stride window old new written answer
-    ⊎ WritesOutcomeRows stream limit stride window old new written answer
+    ⊎ DeliversOutcomeRows stream limit stride window old new written answer

@@ -1,17 +1,27 @@
--- What stands in lent memory after a text was to be written there.
-use Rattle.std.specs.Prelude.{ℕ, ◌≡◌, ◌≤◌, ◌<◌, ◌⊎◌, List, length, take, Option, Some, None, Result, Ok, Err}
+-- What stands in lent memory: rows some way apart, and what there is after a text was to be written.
+use Rattle.std.specs.Prelude.{ℕ, zero, suc, ◌≡◌, ◌≤◌, ◌<◌, ◌⊎◌, List, [], ◌++◌, length, take, drop, Option, Some, None, Result, Ok, Err}
 use Rattle.t85_core.specs.declared.fault.Fault.{Fault}
 use Rattle.t85_core.specs.Fault.{fault_number}
 
+-- the bytes of so many rows, one row after the other; each begins so many bytes behind the one before, and the last may be cut
+abbrev pub lined : ℕ → ℕ → ℕ → List ℕ → List ℕ
+lined zero row stride bytes = []
+lined (suc n) row stride bytes = take row bytes ++ lined n row stride (drop stride bytes)
+
+-- what stands between so many rows, and behind them
+abbrev pub outside : ℕ → ℕ → ℕ → List ℕ → List ℕ
+outside zero row stride bytes = bytes
+outside (suc n) row stride bytes = drop row (take stride bytes) ++ outside n row stride (drop stride bytes)
+
 -- the status that tells a fault, or that there is none
-abbrev pub told : Option Fault → ℕ
-told None = 0
-told (Some fault) = fault_number fault
+abbrev pub fault_status : Option Fault → ℕ
+fault_status None = 0
+fault_status (Some fault) = fault_number fault
 
 -- the status of an answer of the engine
-abbrev pub status_of : Result (Unit {0}) Fault → ℕ
-status_of (Ok u) = 0
-status_of (Err fault) = fault_number fault
+abbrev pub answer_status : Result (Unit {0}) Fault → ℕ
+answer_status (Ok u) = 0
+answer_status (Err fault) = fault_number fault
 
 -- The text fits, and stands there, and the status is this one.
 pub record Fits (text : List ℕ) (status : ℕ) (memory : List ℕ) (written answer : ℕ) : Type 0 where

@@ -12,21 +12,20 @@ use Rattle.t85_core.specs.Jbg.{Settings, is_low, jbg}
 use Rattle.t85_core.specs.Options.{refusal_of}
 use Rattle.t85.specs.declared.options.T85Options.{T85Options}
 use Rattle.t85.specs.Decoded.{window_bytes}
-use Rattle.t85.specs.Delivered.{Delivers, Fits, Refuses}
-use Rattle.t85.specs.Lined.{lined}
+use Rattle.t85.specs.Delivered.{Delivers, Fits, Refuses, lined}
 
 -- what a caller asks for
-abbrev pub comment_asked : T85Options → List ℕ → Option (List ℕ)
-comment_asked choice comment = if choice.has_comment then Some comment else None
+abbrev pub comment_chosen : T85Options → List ℕ → Option (List ℕ)
+comment_chosen choice comment = if choice.has_comment then Some comment else None
 
-abbrev pub settings_asked : T85Options → List ℕ → Settings
-settings_asked choice comment = record {
+abbrev pub settings_chosen : T85Options → List ℕ → Settings
+settings_chosen choice comment = record {
   options = choice.options;
   stripe_rows = choice.stripe_rows;
   most_offset = choice.most_offset;
   announced = if choice.announces_height then Some choice.announced_height else None;
   reset = choice.reset;
-  comment = comment_asked choice comment;
+  comment = comment_chosen choice comment;
 }
 
 -- this status, or else the next
@@ -42,15 +41,15 @@ status_if test status = if test then Some status else None
 abbrev pub refusal_told : T85Options → List ℕ → ℕ → ℕ → ℕ → ℕ → Option ℕ
 refusal_told choice comment width height stride window =
     or_else (status_if (not (choice.version == 1)) 50)
-    (or_else (option_map fault_number (refusal_of choice.options choice.stripe_rows choice.most_offset (comment_asked choice comment)))
+    (or_else (option_map fault_number (refusal_of choice.options choice.stripe_rows choice.most_offset (comment_chosen choice comment)))
     (or_else (status_if ((width == 0) || (height == 0)) 33)
     (or_else (status_if (nat_lt 1048576 width) 34)
     (or_else (status_if (nat_lt stride (div_ceil width 8)) 51)
-    (or_else (status_if (is_low (settings_asked choice comment) height) 23)
+    (or_else (status_if (is_low (settings_chosen choice comment) height) 23)
     (status_if (nat_lt window (window_bytes width)) 19))))))
 
 -- All rows were there: the code of their raster is written, and it denotes them.
-pub record WritesAll (s : Settings) (width height : ℕ) (body memory : List ℕ) (written answer : ℕ) : Type 0 where
+pub record DeliversAll (s : Settings) (width height : ℕ) (body memory : List ℕ) (written answer : ℕ) : Type 0 where
   pub rows : List (List Bool)
   pub rest : List ℕ
   pub holds : HoldsRows Raw body width rows rest
@@ -72,7 +71,7 @@ pub record IsFullOfEach (s : Settings) (width height : ℕ) (rows : List (List B
   pub answer_is : answer ≡ 18
 
 -- Rows were missing.
-pub record WritesSome (s : Settings) (width height : ℕ) (body memory : List ℕ) (written answer : ℕ) : Type 0 where
+pub record DeliversSome (s : Settings) (width height : ℕ) (body memory : List ℕ) (written answer : ℕ) : Type 0 where
   pub rows : List (List Bool)
   pub rest : List ℕ
   pub holds : HoldsRows Raw body width rows rest
@@ -81,8 +80,8 @@ pub record WritesSome (s : Settings) (width height : ℕ) (body memory : List �
   pub writes : FitsBegun s width height rows memory written answer ⊎ IsFullOfEach s width height rows memory written answer
 
 -- so it is of rows that follow one another
-abbrev pub WritesCode : Settings → ℕ → ℕ → List ℕ → List ℕ → ℕ → ℕ → Type 0
-WritesCode s width height body memory written answer = WritesAll s width height body memory written answer ⊎ WritesSome s width height body memory written answer
+abbrev pub DeliversCode : Settings → ℕ → ℕ → List ℕ → List ℕ → ℕ → ℕ → Type 0
+DeliversCode s width height body memory written answer = DeliversAll s width height body memory written answer ⊎ DeliversSome s width height body memory written answer
 
 -- what a refused call leaves
 pub record RefusesJob (choice : T85Options) (comment : List ℕ) (width height stride window : ℕ) (old new : List ℕ) (written answer : ℕ) : Type 0 where
@@ -91,12 +90,12 @@ pub record RefusesJob (choice : T85Options) (comment : List ℕ) (width height s
   pub refuses : Refuses status old new written answer
 
 -- and one that is not refused
-pub record WritesStream (choice : T85Options) (comment : List ℕ) (width height stride window : ℕ) (rows memory : List ℕ) (written answer : ℕ) : Type 0 where
+pub record DeliversStream (choice : T85Options) (comment : List ℕ) (width height stride window : ℕ) (rows memory : List ℕ) (written answer : ℕ) : Type 0 where
   pub accepted : refusal_told choice comment width height stride window ≡ None
-  pub writes : WritesCode (settings_asked choice comment) width height (lined height (div_ceil width 8) stride rows) memory written answer
+  pub writes : DeliversCode (settings_chosen choice comment) width height (lined height (div_ceil width 8) stride rows) memory written answer
 
 -- what `t85_encode` leaves
-abbrev pub Encodes : T85Options → List ℕ → ℕ → ℕ → ℕ → ℕ → List ℕ → List ℕ → List ℕ → ℕ → ℕ → Type 0
-Encodes choice comment width height stride window rows old new written answer =
+abbrev pub EncodesImage : T85Options → List ℕ → ℕ → ℕ → ℕ → ℕ → List ℕ → List ℕ → List ℕ → ℕ → ℕ → Type 0
+EncodesImage choice comment width height stride window rows old new written answer =
     RefusesJob choice comment width height stride window old new written answer
-    ⊎ WritesStream choice comment width height stride window rows new written answer
+    ⊎ DeliversStream choice comment width height stride window rows new written answer

@@ -9,10 +9,10 @@ use Rattle.t85_core.specs.Denotes.{Denotes}
 use Rattle.t85_core.specs.Jbg.{jbg}
 use Rattle.t85_core.specs.Outcome.{pbm_text}
 use Rattle.t85.specs.declared.options.T85Options.{T85Options}
-use Rattle.t85.specs.Decoded.{Decodes}
+use Rattle.t85.specs.Decoded.{DecodesImage}
 use Rattle.t85.specs.DecodedRows.{DecodesRows}
-use Rattle.t85.specs.Encoded.{Encodes, settings_asked}
-use Rattle.t85.specs.Lined.{lined}
+use Rattle.t85.specs.Encoded.{EncodesImage, settings_chosen}
+use Rattle.t85.specs.Delivered.{lined}
 
 -- the one raster that a stream denotes
 pub record IsOnly (stream : List ℕ) (raster : Raster) : Type 0 where
@@ -22,7 +22,7 @@ pub record IsOnly (stream : List ℕ) (raster : Raster) : Type 0 where
 -- the image of the one raster that the stream denotes is written
 abbrev pub DecodedIsImage : Type 0
 DecodedIsImage =
-    (stream : List ℕ) (limit window : ℕ) (old new : List ℕ) (written : ℕ) → Decodes stream limit window old new written 0
+    (stream : List ℕ) (limit window : ℕ) (old new : List ℕ) (written : ℕ) → DecodesImage stream limit window old new written 0
     → (raster : Raster) × IsOnly stream raster × (take written new ≡ pbm_text raster)
 
 -- its rows are
@@ -40,10 +40,10 @@ pub record IsStreamOf (choice : T85Options) (comment : List ℕ) (width height' 
   pub holds : HoldsRows Raw (lined height' (div_ceil width 8) stride rows) width raster.rows rest
   pub width_is : raster.width ≡ width
   pub height_is : height raster ≡ height'
-  pub stream_is : stream ≡ jbg (settings_asked choice comment) raster
+  pub stream_is : stream ≡ jbg (settings_chosen choice comment) raster
   pub is_only : IsOnly stream raster
 
 abbrev pub EncodedIsStream : Type 0
 EncodedIsStream =
-    (choice : T85Options) (comment : List ℕ) (width height' stride window : ℕ) (rows old new : List ℕ) (written : ℕ) → Encodes choice comment width height' stride window rows old new written 0
+    (choice : T85Options) (comment : List ℕ) (width height' stride window : ℕ) (rows old new : List ℕ) (written : ℕ) → EncodesImage choice comment width height' stride window rows old new written 0
     → IsStreamOf choice comment width height' stride rows (take written new)

@@ -1,11 +1,13 @@
-pub mod Bound
+-- What stands in lent memory, and what each call answers and leaves.
+pub mod Delivered
+pub mod Header
+pub mod Summary
 pub mod Decoded
 pub mod DecodedRows
-pub mod Delivered
 pub mod Encoded
-pub mod Header
-pub mod Laws
-pub mod Lined
-pub mod LinedOutput
+pub mod Bound
 pub mod Message
-pub mod Summary
+-- Laws: what the answer 0 means.
+pub mod Laws
+-- How it is proved.
+pub mod LinedOutput

@@ -1,6 +1,6 @@
 -- What an output of rows has taken.
 use Rattle.std.specs.Prelude.{ℕ, ◌+◌, ◌*◌, List, ◌∷◌, ◌++◌, length, take, Option, option_to_list}
-use Rattle.t85.specs.Lined.{lined, outside}
+use Rattle.t85.specs.Delivered.{lined, outside}
 
 -- a head, and then rows
 abbrev pub taken_rows : (row stride fit : ℕ) (bytes head : List ℕ) (at y x : ℕ) → Option ℕ → List ℕ

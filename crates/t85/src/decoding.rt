@@ -2,8 +2,8 @@
 
 ghost use Rattle.std.specs.Prelude.{◌≡◌, ◌≤◌, None, length};
 ghost use Rattle.t85_core.specs.Options.{fields_of};
-ghost use Rattle.t85.specs.Decoded.{Decodes, WritesText, window_bytes as window_of};
-ghost use Rattle.t85.specs.Delivered.{status_of};
+ghost use Rattle.t85.specs.Decoded.{DecodesImage, DeliversText, window_bytes as window_of};
+ghost use Rattle.t85.specs.Delivered.{answer_status};
 
 use crate::devices::{Room, Whole};
 use crate::opened::open;
@@ -15,8 +15,8 @@ use t85_core::{Fault, Header, decode};
 pub const FULL: u8 = 18;
 
 /// The status of an answer of the engine.
-pub fn status_of(answer: &Result<(), Fault>) -> u8
-    ensures { result ≡ status_of answer.now }
+pub fn answer_status(answer: &Result<(), Fault>) -> u8
+    ensures { result ≡ answer_status answer.now }
 {
     match answer {
         Ok(()) => 0,
@@ -40,7 +40,7 @@ pub extern "C" fn t85_decode(
     image: &mut [u8],
     written: &mut usize,
 ) -> u8
-    ensures { Decodes stream.now max_rows (length window.old) image.old image.new written.new
+    ensures { DecodesImage stream.now max_rows (length window.old) image.old image.new written.new
         result }
 {
     *written = 0;
@@ -77,7 +77,7 @@ fn fill_image(
     requires window { length window.old ≡ window_of header.now.xd }
     requires from { 1 ≤ height }
     requires to { height ≤ header.now.yd }
-    ensures { WritesText (fields_of header.now) height body.now image.new written.new result }
+    ensures { DeliversText (fields_of header.now) height body.now image.new written.new result }
 {
     let mut room = Room::new(image);
     let status = write_image(header, height, body, window, &mut room);
@@ -99,7 +99,7 @@ fn write_image(
     requires fresh { room.old.failures ≡ 0 }
     requires empty { room.old.len ≡ 0 }
     requires unspilled { room.old.spilled ≡ None }
-    ensures writes { WritesText (fields_of header.now) height body.now room.new.bytes.now
+    ensures writes { DeliversText (fields_of header.now) height body.now room.new.bytes.now
         room.new.len result }
     ensures same_reference { room.new.bytes.ghost_name ≡ room.old.bytes.ghost_name }
 {
@@ -111,5 +111,5 @@ fn write_image(
     if room.spilled.is_some() {
         return FULL;
     }
-    status_of(&answer)
+    answer_status(&answer)
 }

@@ -6,9 +6,9 @@ ghost use Rattle.std.specs.Int.{div_ceil};
 ghost use Rattle.pbm_core.specs.Pbm.{header_text};
 ghost use Rattle.t85_core.specs.Options.{fields_of};
 ghost use Rattle.t85.specs.Decoded.{window_bytes as window_of};
-ghost use Rattle.t85.specs.DecodedRows.{DecodesRows, HaveRoom, WritesRows};
+ghost use Rattle.t85.specs.DecodedRows.{DecodesRows, HaveRoom, DeliversRows};
 
-use crate::decoding::{FULL, status_of};
+use crate::decoding::{FULL, answer_status};
 use crate::devices::Whole;
 use crate::encoding::SHORT_STRIDE;
 use crate::lined_output::LinedOutput;
@@ -79,7 +79,7 @@ fn fill_rows(
     requires window { length window.old ≡ window_of header.now.xd }
     requires from { 1 ≤ height }
     requires to { height ≤ header.now.yd }
-    ensures { WritesRows (fields_of header.now) height body.now stride rows.old rows.new
+    ensures { DeliversRows (fields_of header.now) height body.now stride rows.old rows.new
         rows_written.new result }
 {
     let row = row_bytes(header.xd);
@@ -145,7 +145,7 @@ fn write_rows(
     requires unspilled { output.old.spilled ≡ None }
     requires room { HaveRoom height output.old.row output.old.stride (length output.old.bytes.now)
         output.old.fit }
-    ensures writes { WritesRows (fields_of header.now) height body.now output.old.stride
+    ensures writes { DeliversRows (fields_of header.now) height body.now output.old.stride
         output.old.bytes.now output.new.bytes.now output.new.y result }
     ensures same_reference { output.new.bytes.ghost_name ≡ output.old.bytes.ghost_name }
 {
@@ -157,5 +157,5 @@ fn write_rows(
     if output.spilled.is_some() {
         return FULL;
     }
-    status_of(&answer)
+    answer_status(&answer)
 }

@@ -6,10 +6,10 @@ ghost use Rattle.t85_core.specs.Options.{settings_of};
 ghost use Rattle.t85_core.specs.Jbg.{is_low};
 ghost use Rattle.t85.specs.Bound.{IsBound, bound_told, comment_length};
 ghost use Rattle.t85.specs.Decoded.{window_bytes as window_of};
-ghost use Rattle.t85.specs.Encoded.{Encodes, WritesCode, refusal_told, settings_asked};
-ghost use Rattle.t85.specs.Lined.{lined};
+ghost use Rattle.t85.specs.Encoded.{EncodesImage, DeliversCode, refusal_told, settings_chosen};
+ghost use Rattle.t85.specs.Delivered.{lined};
 
-use crate::decoding::{FULL, status_of};
+use crate::decoding::{FULL, answer_status};
 use crate::devices::Room;
 use crate::lined_input::LinedInput;
 use crate::options::{T85Options, accept};
@@ -54,7 +54,7 @@ pub extern "C" fn t85_encode(
     stream: &mut [u8],
     written: &mut usize,
 ) -> u8
-    ensures { Encodes choice.now comment.now width height stride (length window.old) rows.now
+    ensures { EncodesImage choice.now comment.now width height stride (length window.old) rows.now
         stream.old stream.new written.new result }
 {
     *written = 0;
@@ -113,7 +113,7 @@ fn judge<'a>(
         (λ status. refusal_told choice.now comment.now width height stride window ≡ Some status) }
     ensures width { IfOk result (λ job. job.0.width ≡ width) }
     ensures height { IfOk result (λ job. job.0.height ≡ height) }
-    ensures held { IfOk result (λ job. settings_of job.1 ≡ settings_asked choice.now comment.now) }
+    ensures held { IfOk result (λ job. settings_of job.1 ≡ settings_chosen choice.now comment.now) }
     ensures apart { IfOk result (λ _. div_ceil width 8 ≤ stride) }
     ensures not_low { IfOk result (λ job. is_low (settings_of job.1) height ≡ false) }
     ensures enough { IfOk result (λ _. window_of width ≤ window) }
@@ -156,7 +156,7 @@ fn fill_stream(
     requires window { length window.old ≡ window_of size.width }
     requires apart { div_ceil size.width 8 ≤ stride }
     requires not_low { is_low (settings_of options.now) size.height ≡ false }
-    ensures { WritesCode (settings_of options.now) size.width size.height
+    ensures { DeliversCode (settings_of options.now) size.width size.height
         (lined size.height (div_ceil size.width 8) stride rows.now) stream.new written.new
         result }
 {
@@ -181,7 +181,7 @@ fn write_stream(
     requires fresh { room.old.failures ≡ 0 }
     requires empty { room.old.len ≡ 0 }
     requires unspilled { room.old.spilled ≡ None }
-    ensures writes { WritesCode (settings_of options.now) size.width size.height
+    ensures writes { DeliversCode (settings_of options.now) size.width size.height
         (lined size.height (div_ceil size.width 8) stride rows.now) room.new.bytes.now
         room.new.len result }
     ensures same_reference { room.new.bytes.ghost_name ≡ room.old.bytes.ghost_name }
@@ -194,5 +194,5 @@ fn write_stream(
     if room.spilled.is_some() {
         return FULL;
     }
-    status_of(&answer)
+    answer_status(&answer)
 }

@@ -1,7 +1,7 @@
 //! Rows that stand some way apart, as an input.
 
 ghost use Rattle.std.specs.Prelude.{◌≡◌, ◌≤◌, ◌<◌, ◌+◌, ◌++◌, [], Some, length};
-ghost use Rattle.t85.specs.Lined.{lined};
+ghost use Rattle.t85.specs.Delivered.{lined};
 
 use pbm_core::{DeviceFailed, Input};
 

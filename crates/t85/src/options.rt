@@ -2,7 +2,7 @@
 
 ghost use Rattle.std.specs.Prelude.{◌≡◌, IfOk, MatchResult, None, Some};
 ghost use Rattle.t85_core.specs.Options.{refusal_of, settings_of};
-ghost use Rattle.t85.specs.Encoded.{comment_asked, settings_asked};
+ghost use Rattle.t85.specs.Encoded.{comment_chosen, settings_chosen};
 
 use t85_core::{Fault, Options};
 
@@ -33,10 +33,10 @@ pub struct T85Options {
 pub fn accept<'a>(choice: &T85Options, comment: &'a [u8]) -> Result<Options<'a>, Fault>
     ensures judged { MatchResult result
         (λ _. refusal_of choice.now.options choice.now.stripe_rows choice.now.most_offset
-        (comment_asked choice.now comment.now) ≡ None)
+        (comment_chosen choice.now comment.now) ≡ None)
         (λ fault. refusal_of choice.now.options choice.now.stripe_rows choice.now.most_offset
-        (comment_asked choice.now comment.now) ≡ Some fault) }
-    ensures held { IfOk result (λ o. settings_of o ≡ settings_asked choice.now comment.now) }
+        (comment_chosen choice.now comment.now) ≡ Some fault) }
+    ensures held { IfOk result (λ o. settings_of o ≡ settings_chosen choice.now comment.now) }
 {
     let comment = choice.has_comment.then_some(comment);
     let announced = choice.announces_height.then_some(choice.announced_height);

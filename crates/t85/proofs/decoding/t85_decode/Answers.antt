@@ -1,6 +1,6 @@
 use Rattle.std.proofs.Common.{inl, inr, subst, refl, arith}
 use Rattle.t85_core.specs.Options.{fields_of}
-use Rattle.t85.specs.Decoded.{WritesText}
+use Rattle.t85.specs.Decoded.{DeliversText}
 use Rattle.t85.proofs.decoding.t85_decode.Goals as goal
 
 pub returns-then-opened-max_rows : goal.returns-then-opened-max_rows
@@ -29,5 +29,5 @@ returns c =
       opens = record { header = fields_of o.header; header_of = c.in-Ok.ensures.accepted; height = o.height; height_is = c.in-Ok.ensures.height };
       within = c.if-opened-max_rows.false;
       enough = omega (arith, c.window_bytes-bytes.ensures, c.if-window-bytes.false);
-      writes = subst (λ body. WritesText (fields_of o.header) o.height body c.fill_image.new.image c.fill_image.new.written c.fill_image.result) c.in-Ok.ensures.body c.fill_image.ensures;
+      writes = subst (λ body. DeliversText (fields_of o.header) o.height body c.fill_image.new.image c.fill_image.new.written c.fill_image.result) c.in-Ok.ensures.body c.fill_image.ensures;
     })))

@@ -14,7 +14,7 @@ returns-clause-writes c =
     out.spilled _ out.failures c.requires.fresh (sym c.is_some.ensures ∙ c.if-is_some.false) out.full out.within c.decode-answer.ensures.outcome in
     record {
       outcome = o;
-      delivers = inl (record { fits = fits.fits; written_is = fits.written_is; stands = fits.stands; answer_is = c.status_of.ensures ∙ fits.answer_is });
+      delivers = inl (record { fits = fits.fits; written_is = fits.written_is; stands = fits.stands; answer_is = c.answer_status.ensures ∙ fits.answer_is });
     }
 
 pub returns-then-is_some-clause-writes : goal.returns-then-is_some-clause-writes
