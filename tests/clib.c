@@ -2,7 +2,8 @@
      clib encode IMAGE.pbm STREAM OPTIONS ROWS OFFSET ANNOUNCED|- RESET COMMENT|-
      clib decode STREAM IMAGE.pbm INFO       INFO is what `jbgtopbm85 --info` wrote
      clib cuts STREAM FOLDER                 FOLDER/N is what `jbgtopbm85` wrote of the first N bytes, FOLDER/N.text its
-                                             message without its name, or `done`
+                                             message without its name, or `done`; FOLDER/N.line and FOLDER/N.line.text
+                                             with --info
      clib missing IMAGE.pbm FOLDER           FOLDER/N is what `pbmtojbg85` wrote of the image's first N bytes of rows
      clib faults IMAGE.pbm                   what each call refuses
      clib rooms STREAM IMAGE.pbm INFO        as decode, with every room from 0 to the whole
@@ -280,32 +281,48 @@ static uint8_t status_of(buffer text)
     return 0;
 }
 
-/* A beginning of a stream, beside what the command wrote of it. */
-static void cut(buffer stream, const char *folder, size_t count)
+/* What the command wrote, and the status with its message. */
+static buffer made(uint8_t *status, const char *folder, size_t count, const char *more)
 {
     char name[4096];
-    buffer lent = copied(stream.bytes, count), whole, text, rows;
-    t85_header_fields fields;
-    uint32_t width, height;
-    uint8_t status;
-    size_t room;
-    sprintf(name, "%s/%zu", folder, count);
+    buffer whole, text;
+    sprintf(name, "%s/%zu%s", folder, count, more);
     whole = read_file(name);
-    sprintf(name, "%s/%zu.text", folder, count);
+    strcat(name, ".text");
     text = read_file(name);
+    *status = status_of(text);
+    free(text.bytes);
+    return whole;
+}
+
+/* A stream or a beginning of one, beside what the command wrote of it. */
+static void cut(buffer stream, const char *folder, size_t count)
+{
+    uint8_t wanted, wanted_info, status;
+    buffer whole = made(&wanted, folder, count, ""),
+           line = made(&wanted_info, folder, count, ".line"), lent = copied(stream.bytes, count),
+           rows;
+    t85_header_fields fields;
+    t85_summary summary;
+    uint32_t width, height;
     status = t85_header(lent.bytes, count, &fields);
-    room = status ? 1000 : 22 + fields.height * t85_row_bytes(fields.width);
-    if (status != (count < 20 ? T85_SHORT_HEADER : T85_OK))
+    if (status != T85_OK && status != wanted)
         fail("t85_header: status %d of %zu bytes", status, count);
-    status = status_of(text);
-    decode_in(lent, count < 20 ? 0 : t85_window_bytes(fields.width), status, whole, room);
-    if (count >= 20) {
+    if (status != T85_OK) {
+        decode_in(lent, 0, status, whole, 1000);
+    } else {
+        size_t room = 22 + fields.height * t85_row_bytes(fields.width);
+        decode_in(lent, t85_window_bytes(fields.width), wanted, whole, room);
         rows = rows_of(whole, &width, &height);
-        decode_rows_in(lent, width, status, rows, t85_row_bytes(width), room);
+        decode_rows_in(lent, width, wanted, rows, t85_row_bytes(width), room);
     }
+    if (wanted_info == T85_OK)
+        is_info(lent, line);
+    else if (t85_info(lent.bytes, count, &summary) != wanted_info)
+        fail("t85_info: not status %d of %zu bytes", wanted_info, count);
     give_back(lent);
     free(whole.bytes);
-    free(text.bytes);
+    free(line.bytes);
 }
 
 static void cuts(char **words)
@@ -313,7 +330,7 @@ static void cuts(char **words)
     buffer stream = read_file(words[0]);
     char name[4096];
     size_t count, found = 0;
-    for (count = 0; count < stream.len; count++) {
+    for (count = 0; count <= stream.len; count++) {
         sprintf(name, "%s/%zu", words[1], count);
         if (access(name, R_OK) == 0) {
             found++;
@@ -321,7 +338,7 @@ static void cuts(char **words)
         }
     }
     if (!found)
-        fail("no beginnings in %s", words[1]);
+        fail("nothing in %s", words[1]);
 }
 
 static void missing(char **words)
