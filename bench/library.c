@@ -1,7 +1,7 @@
-/* One library's work on one image, in one process: library WHAT IMAGE.pbm OFFSET TIMES
-     WHAT    ours-encode, ours-decode, jbg85-encode, jbg85-decode, jbg-encode, jbg-decode
-   Does it so many times, and writes the least time of one in microseconds, and the bytes of the stream. What is decoded
-   is ours or JBIG-KIT's stream of the image, by the options -p 8 -s 128 -m OFFSET; it has to be the image again. */
+/* The work of the library and of both of libjbig's on one image, in turn in one process: library IMAGE.pbm OFFSET ROUNDS
+   Each round has each of the three encode the image, by the options -p 8 -s 128 -m OFFSET, and decode its stream, which has
+   to be the image again. Writes the least time of each in microseconds: two lines, `encode` and `decode`, ours first, then
+   jbg85_* and jbg_*. Under callgrind each work has a dump of its own, with its name. */
 #include "t85.h"
 
 #include <jbig.h>
@@ -10,6 +10,7 @@
 #include <stdlib.h>
 #include <string.h>
 #include <time.h>
+#include <valgrind/callgrind.h>
 
 static uint32_t width, height;
 static size_t row, size, room, count, rows_seen;
@@ -97,11 +98,34 @@ static void jbg_decode(void)
     jbg_dec_free(&state);
 }
 
+static const struct {
+    const char *name;
+    void (*encode)(void), (*decode)(void);
+} libraries[] = {{"ours", ours_encode, ours_decode},
+                 {"jbg85", jbg85_encode, jbg85_decode},
+                 {"jbg", jbg_encode, jbg_decode}};
+enum { LIBRARIES = sizeof libraries / sizeof *libraries };
+
 static double now(void)
 {
     struct timespec time;
     clock_gettime(CLOCK_PROCESS_CPUTIME_ID, &time);
     return (double)time.tv_sec * 1e6 + (double)time.tv_nsec * 1e-3;
+}
+
+/* Does one work; keeps its time, if it is the least, and has callgrind dump its instructions. */
+static void measure(void (*work)(void), double *least, const char *library, const char *direction)
+{
+    char name[32];
+    double begin, taken;
+    snprintf(name, sizeof name, "%s-%s", library, direction);
+    CALLGRIND_ZERO_STATS;
+    begin = now();
+    work();
+    taken = now() - begin;
+    CALLGRIND_DUMP_STATS_AT(name);
+    if (*least == 0 || taken < *least)
+        *least = taken;
 }
 
 static void read_image(const char *name)
@@ -114,7 +138,7 @@ static void read_image(const char *name)
     size = row * height;
     room = 2 * size + 10000;
     rows = malloc(size);
-    back = calloc(size, 1);
+    back = malloc(size);
     stream = malloc(room);
     window = malloc(3 * row);
     if (!rows || !back || !stream || !window || fread(rows, 1, size, file) != size)
@@ -124,32 +148,21 @@ static void read_image(const char *name)
 
 int main(int words, char **word)
 {
-    static const struct {
-        const char *name;
-        void (*before)(void), (*work)(void);
-    } kinds[] = {{"ours-encode", ours_encode, ours_encode},    {"ours-decode", ours_encode, ours_decode},
-                 {"jbg85-encode", jbg85_encode, jbg85_encode}, {"jbg85-decode", jbg85_encode, jbg85_decode},
-                 {"jbg-encode", jbg_encode, jbg_encode},       {"jbg-decode", jbg_encode, jbg_decode}};
-    size_t kind;
-    int times;
-    double least = 1e12;
-    if (words != 5)
+    double encode[LIBRARIES] = {0}, decode[LIBRARIES] = {0};
+    int rounds, at;
+    if (words != 4)
         stop("look at the head of the file");
-    read_image(word[2]);
-    options.most_offset = (uint32_t)atoi(word[3]);
-    for (kind = 0; kind < sizeof kinds / sizeof *kinds && strcmp(word[1], kinds[kind].name); kind++)
-        ;
-    if (kind == sizeof kinds / sizeof *kinds)
-        stop("no such work");
-    kinds[kind].before();
-    for (times = atoi(word[4]); times > 0; times--) {
-        double begin = now(), taken;
-        kinds[kind].work();
-        taken = now() - begin;
-        least = taken < least ? taken : least;
-    }
-    if (strstr(word[1], "decode") && atoi(word[4]) && memcmp(rows, back, size))
-        stop("another image was decoded");
-    printf("%.0f %zu\n", least, count);
+    read_image(word[1]);
+    options.most_offset = (uint32_t)atoi(word[2]);
+    for (rounds = atoi(word[3]); rounds > 0; rounds--)
+        for (at = 0; at < LIBRARIES; at++) {
+            measure(libraries[at].encode, &encode[at], libraries[at].name, "encode");
+            memset(back, 0xA5, size);
+            measure(libraries[at].decode, &decode[at], libraries[at].name, "decode");
+            if (memcmp(rows, back, size))
+                stop("another image was decoded");
+        }
+    printf("encode %.0f %.0f %.0f\n", encode[0], encode[1], encode[2]);
+    printf("decode %.0f %.0f %.0f\n", decode[0], decode[1], decode[2]);
     return 0;
 }
