@@ -5,8 +5,8 @@
    What the caller owes, at each call:
    - No pointer is null, also with a length of 0. T85_NOTHING is a pointer that may be passed there,
      and t85_or_nothing turns a pointer that may be null into one.
-   - Each pointer points to as many bytes as its length says, PTRDIFF_MAX at most; a struct
-     stands where its type may stand.
+   - Each pointer points to as many bytes as its length says, PTRDIFF_MAX at most; a struct is
+     aligned as its type has to be.
    - No two buffers of a call overlap, and what is written to overlaps nothing: not a struct, not
      `written`.
    - A `bool` is 0 or 1. (One that was copied from elsewhere by memcpy may be neither.)
@@ -34,7 +34,7 @@ extern "C" {
 /* This header's version: 65536 times the major, 256 times the minor number, and the patch. */
 #define T85_VERSION 0x010000
 
-/* Rows of an image have so many bytes: eight pixels a byte, the leftmost in the highest bit, 1 for
+/* The bytes of a row of an image: eight pixels a byte, the leftmost in the highest bit, 1 for
    black. Bits after the last pixel are ignored when read, and written as 0. */
 static inline size_t t85_row_bytes(uint32_t width)
 {
@@ -110,7 +110,7 @@ typedef struct {
     uint32_t most_offset;      /* of the adaptive template pixel, 0 to T85_MOST_OFFSET */
     uint32_t announced_height; /* the header's height, read where announces_height */
     bool announces_height;
-    bool reset;                /* each stripe begins anew, and ends in SDRST */
+    bool reset;                /* each stripe begins afresh, ends in SDRST */
     bool has_comment;          /* the stream gets the comment of the call, an empty one too */
 } t85_options;
 
@@ -135,8 +135,8 @@ typedef struct {
 /* The library's version, as T85_VERSION has it for the header. */
 uint32_t t85_version(void);
 
-/* Bytes of the window that images of this width want: three rows. What stands in a window means
-   nothing before a call and after it. */
+/* Bytes of the window that images of this width want: three rows. A window's contents mean nothing
+   before a call and after it. */
 size_t t85_window_bytes(uint32_t width);
 
 /* Reads a stream's header. 0, and `fields` has what it says; or 1 to 8, and it is as it was. */
@@ -193,7 +193,7 @@ T85_NO_NULL uint8_t t85_decode(const uint8_t *stream, size_t len, uint32_t max_r
 /* The same, with the rows alone: row y begins at rows + y * stride. Bytes between two rows stay as
    they were.
 
-   *rows_written is the number of rows that stand there whole, at each status; at T85_NO_ROOM as
+   *rows_written is the number of whole rows that were written, at each status; at T85_NO_ROOM as
    many as fit. A stride below t85_row_bytes(width) is refused with T85_SHORT_STRIDE, which comes
    after 24 and before 19. */
 T85_NO_NULL uint8_t t85_decode_rows(const uint8_t *stream, size_t len, uint32_t max_rows,

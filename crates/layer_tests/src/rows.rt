@@ -569,7 +569,7 @@ fn turns_and_clears(rt: HostRuntime) {
     assert!(rt; has_rows(&window, [[0, 0]; 3]));
 }
 
-/// The pixel of a row that stands so far to the right of x, or so far to the left; white outside of
+/// The pixel of a row that stands this far to the right of x, or this far to the left; white outside of
 /// it.
 pub fn pixel(row: &[u8], width: u32, x: u32, right: u32, left: u32) -> bool {
     let at = x.wrapping_add(right).wrapping_sub(left);

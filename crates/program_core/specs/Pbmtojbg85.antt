@@ -1,4 +1,4 @@
--- The command of `pbmtojbg85`, what the arguments say by it, and what a job asks of the engine.
+-- The command of `pbmtojbg85`, which job the arguments ask for, and what the job asks of the engine.
 use Rattle.std.specs.Prelude.{◌≡◌, ◌⊎◌, ℕ, List, [], ◌∷◌, Some, is_some, true, codes, option_map, string_bytes}
 use Rattle.clap.specs.Words.{App, Kinds, Row, fault_of, Text, first_of, matches_of, new_app, new_rule, with_rule}
 use Rattle.t85_core.specs.Jbg.{Settings}

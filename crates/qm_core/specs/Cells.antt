@@ -21,6 +21,6 @@ odds [] = []
 odds (a ∷ []) = []
 odds (a ∷ b ∷ rest) = b ∷ odds rest
 
--- each cell of a black pixel stands behind that of a white one, and they say the same
+-- each cell of a black pixel comes after that of a white one, and they say the same
 abbrev pub ArePaired : List ℕ → Type 0
 ArePaired cells = odds cells ≡ map turned_cell (evens cells)

@@ -19,7 +19,7 @@ pub record IsRun (s : State) (event : Event) (count : ℕ) : Type 0 where
 abbrev pub upper_size : List Estimate → ℕ → ℕ
 upper_size learned cx = (row_at (estimate_of learned cx).row).size
 
--- whether an event is its context's favoured pixel, and the place has room for so many of it without a doubling
+-- whether an event is its context's favoured pixel, and the place has room for it `count` times without a doubling
 abbrev pub has_room : State → Event → ℕ → Bool
 has_room s event count =
     same event.pixel (estimate_of s.learned event.context).pixel
@@ -32,7 +32,7 @@ WantsNone More bits n held = wanted_bytes n ≤ held
 WantsNone Ended bits n held = 16 ≤ bits
 WantsNone Stopped bits n held = ⊥
 
--- so many events can be passed at once: the place has room, nothing is to be pulled, and the bytes lie after them
+-- `count` such events can be decoded at once: the place has room, nothing is to be pulled, and the bytes lie after them
 pub record CanSkip (d : Decoder) (s : State) (answers : List Pulled) (event : Event) (count : ℕ) : Type 0 where
   pub room : IsTrue (has_room s event count)
   pub ready : WantsNone (heard_of answers) d.bits s.place.doublings (length (bytes_of answers))

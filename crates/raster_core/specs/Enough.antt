@@ -9,6 +9,6 @@ abbrev pub beginnings : State → List Event → List ℕ
 beginnings s [] = []
 beginnings s (e ∷ events) = s.place.doublings ∷ beginnings (step s e.context e.pixel) events
 
--- so many bytes decide each of the events
+-- `count` bytes decide each of the events
 abbrev pub AreEnough : ℕ → State → List Event → Type 0
 AreEnough count s events = AllByRecursion (λ n. wanted_bytes n ≤ count) (beginnings s events)

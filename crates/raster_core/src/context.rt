@@ -62,7 +62,7 @@ pub(crate) fn flag_context(two_line: bool) -> Context
     Context::of(if two_line { 0x195 } else { 0x0e5 })
 }
 
-/// The context of a pixel, with the adaptive pixel wherever it stands.
+/// The context of a pixel, with the adaptive pixel wherever it is.
 #[inline(always)]
 pub(crate) fn context_of<const TWO_LINE: bool, const MOVED: bool>(
     offset: u8,

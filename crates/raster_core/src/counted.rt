@@ -9,8 +9,8 @@ ghost use Rattle.raster_core.specs.Machine.Words.{AgreesAt, AgreesBelowItself, p
 use crate::agreement::{add_all, add_word, held_row};
 use crate::words::{mask_at, word_at};
 
-/// At how many pixels of a row the pixel so far to the left is the same one, for each lag. A row of
-/// at most 1,024 bytes is kept, so that the same row is not counted again.
+/// For each lag, how many pixels of a row equal the one that is `lag` to their left. A row of at most
+/// 1,024 bytes is kept, so that the same row is not counted again.
 #[derive(Drop)]
 pub struct Counted {
     row: [u8; 1024],
@@ -20,7 +20,7 @@ pub struct Counted {
     least: usize,
     most: usize,
     pub(crate) agreed: [u64; 128],
-    /// The same for the adaptive pixel in its nominal place, where the row above is the same row.
+    /// How many equal the adaptive pixel in its nominal place, where the row above is the same row.
     /// It is counted when it is first asked for.
     below_itself: Option<u64>,
     ghost small: { (lag : ℕ) → slice_index agreed lag ≤ 2 ^ 32 },
@@ -136,8 +136,8 @@ fn keep(kept: &mut [u8; 1024], row: &[u8])
     }
 }
 
-/// At how many pixels of a row the pixel so far to the left is the same one, at the lags from
-/// `least` to `most`.
+/// For each lag from `least` to `most`, how many pixels of a row equal the one that is `lag` to their
+/// left.
 fn agreed_in(row: &[u8], width: u32, least: usize, most: usize) -> [u64; 128]
     requires least { 1 ≤ least }
     requires least_small { least < 64 }

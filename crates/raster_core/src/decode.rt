@@ -240,8 +240,8 @@ fn decode_plain<S: CodeBytes, const TWO_LINE: bool, const MOVED: bool>(
     }
 }
 
-/// Decodes a byte in one step, if it is `byte` and its pixels all stand among pixels of their own
-/// colour, and no byte of the code is wanted. Else it does nothing.
+/// Decodes a byte in one step, if it is `byte`, all that its contexts read is of its colour, and no
+/// byte of the code is wanted. Else it does nothing.
 #[inline(always)]
 fn skip_byte<const MOVED: bool>(
     shape: Shape,
@@ -341,7 +341,7 @@ fn decode_step<S: CodeBytes, const TWO_LINE: bool, const MOVED: bool>(
 }
 
 /// Decodes eight bytes in one step, where they are of a colour and below bytes of it, and no byte of
-/// the code is wanted. Else it does nothing. What stands before them has to be of the colour.
+/// the code is wanted. Else it does nothing. What comes before them has to be of the colour.
 #[inline(always)]
 fn skip_word(
     colour: bool,

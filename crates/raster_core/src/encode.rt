@@ -275,8 +275,8 @@ fn encode_plain<W: CodeSink, const TWO_LINE: bool, const MOVED: bool>(
     }
 }
 
-/// Encodes a byte in one step, where its pixels all stand among pixels of their own colour, and no
-/// byte of the code comes of it. Else it does nothing.
+/// Encodes a byte in one step, where all that its contexts read is of its colour, and no byte of the
+/// code comes of it. Else it does nothing.
 #[inline(always)]
 fn skip_byte<const MOVED: bool>(
     shape: Shape,
@@ -383,7 +383,7 @@ fn encode_step<W: CodeSink, const TWO_LINE: bool, const MOVED: bool>(
 }
 
 /// Encodes eight bytes in one step, where they are of a colour and below bytes of it, and no byte of
-/// the code comes of it. Else it does nothing. What stands before them has to be of the colour.
+/// the code comes of it. Else it does nothing. What comes before them has to be of the colour.
 #[inline(always)]
 fn skip_word(
     colour: bool,

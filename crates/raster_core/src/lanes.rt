@@ -7,7 +7,7 @@ ghost use Rattle.raster_core.specs.Machine.Encoded.{AreBeside};
 
 use crate::shape::Shape;
 
-/// A window times this stands in four lanes of 16 bits, a bit further to the left in each.
+/// A window times this is in four lanes of 16 bits, a bit further to the left in each.
 const STEPS: u64 = 0x0008_0004_0002_0001;
 
 /// What six pixels of the row two above give to four contexts: three of them each.

@@ -15,7 +15,7 @@ pub struct Shape {
 /// row before counts as plain.
 #[derive(Clone, Copy)]
 pub struct Kept {
-    /// Where the adaptive pixel stands: so far to the left in the row itself, or in its nominal
+    /// Where the adaptive pixel is: this far to the left in the row itself, or in its nominal
     /// place where it is 0. At most 127.
     pub offset: u8,
     /// Whether the row before was typical.

@@ -6,9 +6,8 @@ use crate::agreement::add_each;
 use crate::counted::Counted;
 use crate::window::Window;
 
-/// For each lag that may be chosen, at how many pixels of the rows so far the pixel so far to the
-/// left is the same one. It keeps counts, and one
-/// row.
+/// For each lag that may be chosen, how many pixels of the rows so far equal the one that is `lag`
+/// to their left. It keeps counts, and one row.
 #[derive(Drop)]
 pub struct Tally {
     two_line: bool,
@@ -16,7 +15,7 @@ pub struct Tally {
     width: u32,
     rows: u32,
     counts: [u64; 128],
-    /// The same for the adaptive pixel as it stood.
+    /// How many equal the adaptive pixel at the offset in use.
     held: u64,
     last: Counted,
     ghost in_reach: { most ≤ 127 },

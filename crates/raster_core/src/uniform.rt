@@ -1,4 +1,4 @@
-//! Bytes whose pixels all stand among pixels of their own colour.
+//! Bytes whose pixels, and all that their contexts read, are of one colour.
 
 ghost use Rattle.std.specs.Prelude.{◌≡◌, ℕ, ◌+◌, ◌-◌, ◌*◌, ◌/◌, ◌%◌, ◌^◌, ◌≤◌, ◌<◌, IsTrue, length, nat_eq, slice_index, true};
 ghost use Rattle.raster_core.specs.Lines.{Lines, Mode};
@@ -65,8 +65,8 @@ fn is_uniform<const MOVED: bool>(
     }
 }
 
-/// Whether eight pixels, if they are those of `byte`, are of one colour, and each stands in the
-/// context of that colour.
+/// Whether eight pixels, if they are those of `byte`, are of one colour, and each has the context of
+/// that colour.
 #[inline(always)]
 pub(crate) fn is_run<const MOVED: bool>(
     offset: u8,

@@ -16,7 +16,7 @@ bound_told choice width height' held =
     if nat_lt 1048576 width || ((choice.stripe_rows == 0) || nat_lt 4294967295 held) then 0
     else 34 + held + 14 * stripe_count height' choice.stripe_rows + 4 * (height' * (width + 1))
 
--- So many bytes are enough for the stream of each raster of this size, with each comment of this length.
+-- This many bytes are enough for the stream of each raster of this size, with each comment of this length.
 abbrev pub IsBound : T85Options → ℕ → ℕ → ℕ → ℕ → Type 0
 IsBound choice width height' comment_len bound =
     (comment : List ℕ) (raster : Raster) → length comment ≡ comment_len → length (unwrap_or (comment_chosen choice comment) []) < 2 ^ 32 → 1 ≤ choice.stripe_rows

@@ -9,20 +9,20 @@ use Rattle.t85_core.specs.Outcome.{pbm_rows}
 use Rattle.t85.specs.Decoded.{Opens, window_bytes, RefusesByHeader, RefusesHeight}
 use Rattle.t85.specs.Delivered.{fault_status, Refuses, lined, outside}
 
--- So many rows have room, each `stride` bytes behind the one before: all that are wanted, or no more would have.
+-- `fit` rows have room, each `stride` bytes after the one before: all that are wanted, or no more would have.
 pub record HaveRoom (wanted row stride room fit : ℕ) : Type 0 where
   pub to : fit ≤ wanted
   pub each : (y : ℕ) → y < fit → y * stride + row ≤ room
   pub most : fit < wanted → room < fit * stride + row
 
--- The rows have room, and stand there, and the status is this one.
+-- The rows have room, and were written, and the status is this one.
 pub record FitsRows (rows : List (List Bool)) (status fit row stride : ℕ) (memory : List ℕ) (written answer : ℕ) : Type 0 where
   pub fits : length rows ≤ fit
   pub written_is : written ≡ length rows
   pub stands : lined (length rows) row stride memory ≡ flat_map packed_row rows
   pub answer_is : answer ≡ status
 
--- There are more rows than have room, and the first of them stand there.
+-- There are more rows than have room, and the first of them were written.
 pub record IsFullOfRows (rows : List (List Bool)) (fit row stride : ℕ) (memory : List ℕ) (written answer : ℕ) : Type 0 where
   pub more : fit < length rows
   pub written_is : written ≡ fit
@@ -30,7 +30,7 @@ pub record IsFullOfRows (rows : List (List Bool)) (fit row stride : ℕ) (memory
   pub answer_is : answer ≡ 18
 
 -- The rows of the outcome of a body are written: of the image that it denotes, or those that it fixes before its fault.
--- What stands outside of the rows that have room stays.
+-- What is outside of the rows that have room is as before.
 pub record DeliversRows (h : Fields) (height : ℕ) (body : List ℕ) (stride : ℕ) (old new : List ℕ) (written answer : ℕ) : Type 0 where
   pub outcome : HasOutcome h height body
   pub rows : List (List Bool)

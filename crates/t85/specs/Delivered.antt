@@ -1,19 +1,19 @@
--- What stands in lent memory: rows some way apart, and what there is after a text was to be written.
+-- What lent memory holds: rows at a stride, and what a call leaves that was to write a text.
 use Rattle.std.specs.Prelude.{ℕ, zero, suc, ◌≡◌, ◌≤◌, ◌<◌, ◌⊎◌, List, [], ◌++◌, length, take, drop, Option, Some, None, Result, Ok, Err}
 use Rattle.t85_core.specs.declared.fault.Fault.{Fault}
 use Rattle.t85_core.specs.Fault.{fault_number}
 
--- the bytes of so many rows, one row after the other; each begins so many bytes behind the one before, and the last may be cut
+-- the bytes of n rows, one row after the other; each begins `stride` bytes after the one before, and the last may be cut
 abbrev pub lined : ℕ → ℕ → ℕ → List ℕ → List ℕ
 lined zero row stride bytes = []
 lined (suc n) row stride bytes = take row bytes ++ lined n row stride (drop stride bytes)
 
--- what stands between so many rows, and behind them
+-- what is between n rows, and after them
 abbrev pub outside : ℕ → ℕ → ℕ → List ℕ → List ℕ
 outside zero row stride bytes = bytes
 outside (suc n) row stride bytes = drop row (take stride bytes) ++ outside n row stride (drop stride bytes)
 
--- the status that tells a fault, or that there is none
+-- the status of a fault, 0 where there is none
 abbrev pub fault_status : Option Fault → ℕ
 fault_status None = 0
 fault_status (Some fault) = fault_number fault
@@ -23,7 +23,7 @@ abbrev pub answer_status : Result (Unit {0}) Fault → ℕ
 answer_status (Ok u) = 0
 answer_status (Err fault) = fault_number fault
 
--- The text fits, and stands there, and the status is this one.
+-- The text fits, and was written, and the status is this one.
 pub record Fits (text : List ℕ) (status : ℕ) (memory : List ℕ) (written answer : ℕ) : Type 0 where
   pub fits : length text ≤ length memory
   pub written_is : written ≡ length text
@@ -37,7 +37,7 @@ pub record IsFull (text memory : List ℕ) (written answer : ℕ) : Type 0 where
   pub stands : memory ≡ take (length memory) text
   pub answer_is : answer ≡ 18
 
--- A text was to be written, and this status told.
+-- A text was to be written, and this status to be answered.
 abbrev pub Delivers : List ℕ → ℕ → List ℕ → ℕ → ℕ → Type 0
 Delivers text status memory written answer = Fits text status memory written answer ⊎ IsFull text memory written answer
 

@@ -1,4 +1,4 @@
--- What is told of a stream's header.
+-- What `t85_header` answers and leaves.
 use Rattle.std.specs.Prelude.{ℕ, ◌≡◌, ◌⊎◌, List, Some}
 use Rattle.t85_core.specs.declared.fault.Fault.{Fault}
 use Rattle.t85_core.specs.Fault.{fault_number}
@@ -8,12 +8,12 @@ use Rattle.t85.specs.declared.header.T85Header.{T85Header}
 abbrev pub fields_told : T85Header → Fields
 fields_told h = record { xd = h.width; yd = h.height; l0 = h.stripe_rows; mx = h.most_offset; options = h.options }
 
--- The header is accepted, and told.
+-- The header is accepted, and its fields are reported.
 pub record TellsHeader (stream : List ℕ) (new : T85Header) (answer : ℕ) : Type 0 where
   pub answer_is : answer ≡ 0
   pub header_of : HeaderOf stream (fields_told new)
 
--- It is refused, by this fault, and nothing is told.
+-- It is refused, by this fault, and nothing is reported.
 pub record KeepsHeader (stream : List ℕ) (old new : T85Header) (answer : ℕ) : Type 0 where
   pub fault : Fault
   pub is : header_fault stream ≡ Some fault

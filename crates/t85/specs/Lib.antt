@@ -1,4 +1,4 @@
--- What stands in lent memory, and what each call answers and leaves.
+-- What each call answers, and what it leaves in lent memory.
 pub mod Delivered
 pub mod Header
 pub mod Summary

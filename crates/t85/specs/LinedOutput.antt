@@ -6,8 +6,8 @@ use Rattle.t85.specs.Delivered.{lined, outside}
 abbrev pub taken_rows : (row stride fit : ℕ) (bytes head : List ℕ) (at y x : ℕ) → Option ℕ → List ℕ
 taken_rows row stride fit bytes head at y x spilled = take at head ++ (take (y * row + x) (lined fit row stride bytes) ++ option_to_list spilled)
 
--- In front of them stands what the output leaves as it is, so that who knows how this grows knows that, too: the length of
--- the memory, how the rows stand there, how long the head is, and what no row takes.
+-- Before them comes what the output leaves as it is, so that who knows how this grows knows that, too: the length of the
+-- memory, the layout of the rows, how long the head is, and the bytes that no row takes.
 abbrev pub taken : (row stride fit skip : ℕ) (bytes head : List ℕ) (at y x : ℕ) → Option ℕ → List ℕ
 taken row stride fit skip bytes head at y x spilled =
     length bytes ∷ row ∷ stride ∷ fit ∷ skip ∷ (outside fit row stride bytes ++ taken_rows row stride fit bytes head at y x spilled)

@@ -1,4 +1,4 @@
--- What is told of a whole stream.
+-- What `t85_info` answers and leaves.
 use Rattle.std.specs.Prelude.{ℕ, ◌≡◌, ◌⊎◌, List, [], ◌∷◌}
 use Rattle.t85_core.specs.declared.fault.Fault.{Fault}
 use Rattle.t85_core.specs.Fault.{fault_number}
@@ -10,12 +10,12 @@ use Rattle.t85.specs.declared.summary.T85Summary.{T85Summary}
 abbrev pub numbers_told : T85Summary → List ℕ
 numbers_told s = s.width ∷ s.height ∷ s.stripe_rows ∷ s.most_offset ∷ s.options ∷ s.image_height ∷ s.entities ∷ s.moves ∷ s.comments ∷ []
 
--- The stream has its parts, and its numbers are told.
+-- The stream has its parts, and its numbers are reported.
 pub record TellsNumbers (stream : List ℕ) (new : T85Summary) (answer : ℕ) : Type 0 where
   pub answer_is : answer ≡ 0
   pub numbers : HasNumbers stream (numbers_told new)
 
--- It has this fault, and nothing is told.
+-- It has this fault, and nothing is reported.
 pub record KeepsNumbers (stream : List ℕ) (old new : T85Summary) (answer : ℕ) : Type 0 where
   pub fault : Fault
   pub has : StreamFault stream fault

@@ -24,7 +24,7 @@ pub fn answer_status(answer: &Result<(), Fault>) -> u8
     }
 }
 
-/// Writes the image of a stream as a raw PBM, of so many rows at most. A stream may give its height late.
+/// Writes the image of a stream, of at most `max_rows` rows, as a raw PBM. A stream may give its height late.
 ///
 /// Answers 0, or the first of these: 1 to 8 where the header is refused; 24 where the image has more than `max_rows`
 /// rows; 19 where the window is shorter than `t85_window_bytes` of the width; 9 to 15 where the stream is broken, and

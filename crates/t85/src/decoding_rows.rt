@@ -18,13 +18,13 @@ use raster_core::{Window, window_bytes};
 use t85_core::laws::outcomes;
 use t85_core::{Fault, Header, decode};
 
-/// Writes the rows of a stream's image, of so many at most. Row y begins `y * stride` bytes after the first; a row has
+/// Writes the rows of a stream's image, at most `max_rows` of them. Row y begins `y * stride` bytes after the first; a row has
 /// a bit a pixel, the first highest, in whole bytes, padded by 0.
 ///
 /// Answers as `t85_decode`, with 51 between 24 and 19 where the stride is shorter than a row. It is 18 where more rows
 /// are to be written than have room, and then the first of them are.
 ///
-/// `rows_written` is how many whole rows stand in `rows`. Rows after them that would have room, and the window, may
+/// `rows_written` is how many whole rows were written to `rows`. Rows after them that would have room, and the window, may
 /// hold anything. What is between rows, and after the last one that has room, stays.
 #[unsafe(no_mangle)]
 pub extern "C" fn t85_decode_rows(

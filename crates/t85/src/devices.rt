@@ -35,8 +35,8 @@ impl Input for Whole<'_> {
     }
 }
 
-/// Room for bytes. Where it is full it takes one byte more, which is dropped at the end, and then fails: so a text that is
-/// longer than the room is told from one that just fits.
+/// Room for bytes. Where it is full it takes one byte more, which is dropped at the end, and then fails: that tells a text
+/// which is longer than the room from one that just fits.
 #[derive(Drop)]
 pub struct Room<'a> {
     pub bytes: &'a mut [u8],

@@ -1,4 +1,4 @@
-//! Rows that stand some way apart, as an input.
+//! Rows at a stride, as an input.
 
 ghost use Rattle.std.specs.Prelude.{◌≡◌, ◌≤◌, ◌<◌, ◌+◌, ◌++◌, [], Some, length};
 ghost use Rattle.t85.specs.Delivered.{lined};

@@ -1,12 +1,12 @@
-//! Rows that stand some way apart, as an output.
+//! Rows at a stride, as an output.
 
 ghost use Rattle.std.specs.Prelude.{◌≡◌, ◌≤◌, ◌<◌, ◌+◌, ◌-◌, ◌*◌, ◌^◌, ◌++◌, ◌∷◌, [], ℕ, Some, None, length, take, is_some, true, false, option_to_list};
 ghost use Rattle.pbm_core.specs.Device.{one_more_flush};
 
 use pbm_core::{DeviceFailed, Output};
 
-/// A head of some bytes, which is dropped at the end, and then room for rows: so many of `row` bytes, each `stride` bytes
-/// after the one before. Where it is full it takes one byte more, and then fails.
+/// A head of some bytes, which is dropped at the end, and then room for `fit` rows of `row` bytes, each `stride` bytes after
+/// the one before. Where it is full it takes one byte more, and then fails.
 #[derive(Drop)]
 pub struct LinedOutput<'a> {
     pub bytes: &'a mut [u8],

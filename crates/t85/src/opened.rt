@@ -9,7 +9,7 @@ use crate::devices::Whole;
 use t85_core::laws::headers;
 use t85_core::{Fault, Header, find_height};
 
-/// The header, the height in use, and what stands after the header.
+/// The header, the height in use, and what comes after the header.
 #[derive(Clone, Copy)]
 pub struct Opened<'a> {
     pub header: Header,

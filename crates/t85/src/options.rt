@@ -23,9 +23,9 @@ pub struct T85Options {
     pub announced_height: u32,
     /// Whether it is announced.
     pub announces_height: bool,
-    /// Whether each stripe begins anew, and ends in a reset.
+    /// Whether each stripe begins again, and ends in a reset.
     pub reset: bool,
-    /// Whether the comment stands in the stream.
+    /// Whether the stream has the comment.
     pub has_comment: bool,
 }
 

@@ -19,7 +19,7 @@ const LATE: &[u8] =
 const TWICE: &[u8] =
     b"\0\0\x01\0\0\0\0\x01\0\0\0\x09\0\0\0\x01\0\0\0\x20\xff\x05\0\0\0\x02\xc0\xff\x02\xff\x05";
 
-/// A stream, what it is told by, and the image or the part of one that is written.
+/// A stream, the status that is answered, and the image or the part of one that is written.
 struct Decoded {
     stream: &'static [u8],
     status: u8,
@@ -109,7 +109,7 @@ static DECODED: [Decoded; 16] = [
     },
 ];
 
-/// What a decoding of so many rows at most answers, and how many bytes it says were written.
+/// What a decoding of at most `max_rows` rows answers, and how many bytes it says were written.
 fn decode(stream: &[u8], max_rows: u32, window: usize, image: &mut [u8]) -> (u8, usize) {
     let mut rows = [0; 24];
     let mut written = 77;
@@ -118,7 +118,7 @@ fn decode(stream: &[u8], max_rows: u32, window: usize, image: &mut [u8]) -> (u8,
     (status, written)
 }
 
-/// Whether an example's image is written into rooms of all sizes, or a beginning of it, and nothing behind that.
+/// Whether an example's image is written into rooms of all sizes, or a beginning of it, and nothing after that.
 fn is_decoded(example: &Decoded) -> bool {
     let whole = example.image.len();
     for size in 0..24 {
@@ -140,7 +140,7 @@ fn streams_are_decoded(rt: HostRuntime) {
     }
 }
 
-/// A stream that ends somewhere, what is told of it, and how many bytes are written.
+/// A stream that ends somewhere, the status that is answered, and how many bytes are written.
 static CUTS: [(usize, u8, usize); 7] = [
     (0, 1, 0),
     (19, 1, 0),
@@ -170,7 +170,7 @@ fn limits_are_told_in_order(rt: HostRuntime) {
     assert!(rt; decode(TWO_ROWS, 2, 3, &mut room) == (0, 9));
 }
 
-/// A stream, where its rows are to go, what is answered, and what then stands in memory that was full of AA.
+/// A stream, where its rows are to go, what is answered, and what is then in memory that was full of AA.
 struct Rows {
     stream: &'static [u8],
     stride: usize,

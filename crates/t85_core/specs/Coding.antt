@@ -27,7 +27,7 @@ move_of (NewLength height ∷ segments) = move_of segments
 move_of (Move row offset ∷ segments) = Some (row, offset)
 move_of (Comment text ∷ segments) = move_of segments
 
--- A raster in stripes of so many rows. Of each stripe: the move of the adaptive pixel in it, at which of its rows
+-- A raster in stripes of `stripe_rows` rows. Of each stripe: the move of the adaptive pixel in it, at which of its rows
 -- and to which offset, and whether it ends in a reset. Of each row: whether it is coded as typical.
 pub record Coding : Type 0 where
   pub raster : Raster

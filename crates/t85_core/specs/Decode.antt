@@ -46,7 +46,7 @@ pub record Decode (h : Fields) (height : ℕ) (input output : Change) (answer : 
   pub reads : CountsBoth input.old.failures input.new.failures answer
   pub writes : CountsWrite output.old.failures output.new.failures answer
 
--- What `find_height` leaves of the input that stands after this header.
+-- What `find_height` leaves of the input after this header.
 pub record FindHeight (h : Fields) (input : Change) (answer : Result ℕ Fault) : Type 0 where
   -- the height of the body
   pub found : IfOk answer (λ height. IfSome input.old.bytes (λ body. IsHeight h body height))

@@ -63,7 +63,7 @@ pub record WritesCodeBegun (s : Settings) (form : Form) (width height' : ℕ) (b
   pub begun : (raster : Raster) → BeginsWith width height' rows raster → HoldsStripes s raster (length rows) text
   pub appends : Appends old new text
 
--- What was written is a beginning of the code of each raster that begins with the rows that stand in these bytes. What
+-- What was written is a beginning of the code of each raster that begins with the rows in these bytes. What
 -- is after them ends within a row.
 pub record WritesCodeFront (s : Settings) (form : Form) (width height' : ℕ) (body : List ℕ) (old new : Option (List ℕ)) : Type 0 where
   pub rows : List (List Bool)

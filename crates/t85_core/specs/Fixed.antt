@@ -9,7 +9,7 @@ use Rattle.t85_core.specs.Refusal.{BodyFault}
 use Rattle.t85_core.specs.Coding.{Coding, HasLegalFlags, events_of, learned_at, begun}
 use Rattle.t85_core.specs.Denotes.{coding_in, EachLies}
 
--- so many bytes decide each pixel of stripe i
+-- `count` bytes decide each pixel of stripe i
 abbrev pub AreEnoughFor : Coding → ℕ → ℕ → Type 0
 AreEnoughFor c i count = AreEnough count (begun (learned_at c i)) (events_of c i)
 

@@ -56,14 +56,14 @@ lengths (NewLength height ∷ segments) = height ∷ lengths segments
 lengths (Move row offset ∷ segments) = lengths segments
 lengths (Comment text ∷ segments) = lengths segments
 
--- A new height stands only where the header allows one, and is from 1 to the header's. A move names a row that a stripe
+-- A new height comes only where the header allows one, and is from 1 to the header's. A move names a row that a stripe
 -- may have, and an offset up to the header's greatest. A comment's length has four bytes.
 abbrev pub IsLegal : Fields → Segment → Type 0
 IsLegal h (NewLength height) = IsTrue (is_variable h) × (1 ≤ height) × (height ≤ h.yd)
 IsLegal h (Move row offset) = (row < h.l0) × (offset ≤ h.mx)
 IsLegal h (Comment text) = length text < 2 ^ 32
 
--- a stripe as it stands in a stream: its segments, the code, and whether it ends in a reset
+-- a stripe of a stream: its segments, the code, and whether it ends in a reset
 pub record Stripe : Type 0 where
   pub segments : List Segment
   pub code : List ℕ
@@ -103,18 +103,18 @@ AreStripes h stripes = AllByRecursion (λ s. IsBegun h s.segments s.code) stripe
 abbrev pub all_segments : List Stripe → List Segment
 all_segments stripes = flat_map (λ s. s.segments) stripes
 
--- A height that may be given after so many data entities: not above the header's, and the last of these entities has a
+-- A height that may be given after n data entities: not above the header's, and the last of these entities has a
 -- row of the image.
 abbrev pub is_valid_length : Fields → ℕ → ℕ → Bool
 is_valid_length h entities height = nat_le 1 height && nat_le height h.yd && nat_lt ((entities - 1) * h.l0) height
 
--- After so many heights the segments give no height but this one, and there is one at most in all.
+-- After `heights` heights the segments give no height but this one, and there is one at most in all.
 pub record GiveOnly (height heights : ℕ) (segments : List Segment) : Type 0 where
   pub one : heights + length (lengths segments) ≤ 1
   pub this : AllByRecursion (λ n. n ≡ height) (lengths segments)
 
 -- The body is as many stripes as the height makes, and then any bytes. A height that is given in it is this one, so it
--- is valid where it stands.
+-- is valid at its place.
 pub record Parts (h : Fields) (height : ℕ) (body : List ℕ) : Type 0 where
   pub stripes : List Stripe
   pub rest : List ℕ

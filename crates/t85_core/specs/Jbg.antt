@@ -99,7 +99,7 @@ coded_stripe c i = record {
   reset = slice_index_or c.resets i false;
 }
 
--- what stands before the first stripe
+-- what comes before the first stripe
 abbrev pub head_of : Settings → ℕ → ℕ → List ℕ
 head_of s width height' = header_bytes (header_of s width height') ++ flat_map segment_bytes (map Comment (option_to_list s.comment))
 
@@ -115,7 +115,7 @@ stripes_of s raster = stripes_up_to s raster (stripe_count (height raster) s.str
 abbrev pub jbg_up_to : Settings → Raster → ℕ → List ℕ
 jbg_up_to s raster n = head_of s raster.width (height raster) ++ stripes_up_to s raster n
 
--- what stands after the last stripe: the height and an empty data entity, where a greater height was announced
+-- what comes after the last stripe: the height and an empty data entity, where a greater height was announced
 abbrev pub ending : Settings → ℕ → List ℕ
 ending s height' = if nat_lt height' (unwrap_or s.announced height') then segment_bytes (NewLength height') ++ marker_bytes s.reset else []
 

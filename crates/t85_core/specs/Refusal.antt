@@ -7,7 +7,7 @@ use Rattle.t85_core.specs.declared.fault.Fault.TheVariants.{Truncated, BadEscape
 use Rattle.t85_core.specs.Header.{Fields, is_variable}
 use Rattle.t85_core.specs.Grammar.{ESC, SDNORM, SDRST, ABORT, NEWLEN, ATMOVE, Stripe, Segment, segment_bytes, is_move, lengths, stripe_bytes, stripe_count, all_segments, is_nil, is_valid_length, IsBegun, AreStripes, GiveOnly}
 
--- Where bytes stand: the height in use, and how many data entities and heights came before them.
+-- The place of bytes: the height in use, and how many data entities and heights came before them.
 pub record Spot : Type 0 where
   pub height : ℕ
   pub entities : ℕ
@@ -21,7 +21,7 @@ spot_behind spot segments = record { height = spot.height; entities = spot.entit
 abbrev pub spot_after : ℕ → List Stripe → Spot
 spot_after height stripes = record { height = height; entities = length stripes; heights = length (lengths (all_segments stripes)) }
 
--- the fault of what stands after FF 05; none after a whole valid height, which is that in use
+-- the fault of what comes after FF 05; none after a whole valid height, which is that in use
 abbrev pub length_fault : Fields → Spot → List ℕ → Option Fault
 length_fault h spot bytes =
     if not (is_variable h) then Some LengthRefused
@@ -35,20 +35,20 @@ length_fault h spot bytes =
 abbrev pub is_legal_move : Fields → List ℕ → Bool
 is_legal_move h bytes = nat_lt (big_number 4 bytes) h.l0 && nat_le (slice_index bytes 4) h.mx && (slice_index bytes 5 == 0)
 
--- the fault of what stands after FF 06; none after a whole legal move
+-- the fault of what comes after FF 06; none after a whole legal move
 abbrev pub move_fault : Fields → ℕ → List ℕ → Option Fault
 move_fault h moves bytes =
     if not (moves == 0) then Some SecondMove
     else if nat_lt (length bytes) 6 then Some Truncated
     else if is_legal_move h bytes then None else Some MoveRefused
 
--- the fault of what stands after FF 07; none after a whole comment
+-- the fault of what comes after FF 07; none after a whole comment
 abbrev pub comment_fault : List ℕ → Option Fault
 comment_fault bytes =
     if nat_lt (length bytes) 4 then Some Truncated
     else if nat_lt (length bytes) (4 + big_number 4 bytes) then Some Truncated else None
 
--- The fault of what stands after FF and this byte, in a stripe that has had so many moves, before its code or in it;
+-- The fault of what comes after FF and this byte, in a stripe that has had `moves` moves, before its code or in it;
 -- none after a code byte FF, an end marker or a whole legal segment.
 abbrev pub escape_fault : Fields → Spot → ℕ → Bool → ℕ → List ℕ → Option Fault
 escape_fault h spot moves in_code escape bytes =
@@ -66,7 +66,7 @@ rest_fault h spot moves in_code [] = Some Truncated
 rest_fault h spot moves in_code (b ∷ []) = if b == ESC then Some Truncated else None
 rest_fault h spot moves in_code (b ∷ escape ∷ bytes) = if b == ESC then escape_fault h spot moves in_code escape bytes else None
 
--- A stripe that stands there and isn't whole is cut into whole legal segments, code bytes and a rest, and the rest has
+-- A stripe that isn't whole is cut into whole legal segments, code bytes and a rest, and the rest has
 -- this fault.
 pub record StripeFault (h : Fields) (spot : Spot) (bytes : List ℕ) (fault : Fault) : Type 0 where
   pub segments : List Segment

@@ -30,7 +30,7 @@ pub record Unwritten (output : Change) : Type 0 where
   pub unfailed : output.new.failures ≡ output.old.failures
 
 -- What writing the image of a body leaves, at this height and within a limit of rows. An image above the limit and want
--- of memory are told before anything is read or written.
+-- of memory are reported before anything is read or written.
 pub record ToPbmAt (h : Fields) (height limit : ℕ) (input output : Change) (flushed : Bool) (answer : Result (Unit {0}) Fault) : Type 0 where
   pub whole : OnOk answer (IfSome input.old.bytes (λ body. WritesRaster h height body output.old.bytes output.new.bytes))
   pub flushed_last : OnOk answer (flushed ≡ true)
@@ -64,7 +64,7 @@ pub record RefusesHeader (input output : Change) (answer : Result (Unit {0}) Fau
   pub header : HeaderEnds input fault
   pub nothing : Unwritten output
 
--- The height is fixed: the body is decoded that stands after the header.
+-- The height is fixed: the body after the header is decoded.
 pub record ToPbmOnce (limit : ℕ) (input output : Change) (flushed : Bool) (answer : Result (Unit {0}) Fault) : Type 0 where
   pub header : Fields
   pub body : Option (List ℕ)
@@ -127,7 +127,7 @@ ReadsAgain header height limit again output flushed answer =
     ⊎ AgainChanged header again output answer
     ⊎ AgainConverts header height limit again output flushed answer
 
--- The height is found in the first reading, which stands after this header, and the image is decoded from the second.
+-- The height is found in the first reading, which is just after this header, and the image is decoded from the second.
 abbrev pub ToPbmBehind : Fields → ℕ → Change → Type 0 → Change → Change → Bool → Result (Unit {0}) Fault → Type 0
 ToPbmBehind header limit input untouched again output flushed answer =
     HeightUnread header input untouched output answer

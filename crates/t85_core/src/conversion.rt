@@ -22,7 +22,7 @@ use pbm_core::{DeviceFailed, Input, Output, read_header};
 use raster_core::{Window, window_bytes};
 use std::alloc::Global;
 
-/// Writes the image of a stream in the PBM format, of so many rows at most. The one memory that it takes is for three
+/// Writes the image of a stream, of at most `max_rows` rows, in the PBM format. The one memory that it takes is for three
 /// rows.
 ///
 /// Where the header says that the height may change, the height is found in the first reading, and the image is decoded
@@ -56,7 +56,7 @@ pub fn to_pbm<R: Input, Second: Input, W: Output>(
     }
 }
 
-/// Writes the image of a stream whose height may change. The first reading stands after the header.
+/// Writes the image of a stream whose height may change. The first reading is just after the header.
 fn convert_again<R: Input, Second: Input, W: Output>(
     alloc: Global,
     header: &Header,
@@ -102,7 +102,7 @@ fn is_same(one: &Header, other: &Header) -> bool
         && one.options == other.options
 }
 
-/// Writes the image of a body at a height. The input stands after the header.
+/// Writes the image of a body at a height. The input is just after the header.
 fn convert<R: Input, W: Output>(
     alloc: Global,
     header: &Header,

@@ -30,7 +30,7 @@ use crate::state::CodingState;
 use pbm_core::{Input, Output, Size, WriteFault, write_header};
 use raster_core::{Shape, Window};
 
-/// Writes the image that a stream denotes. The input stands after the header.
+/// Writes the image that a stream denotes. The input is just after the header.
 ///
 /// After a fault of the stream the rows are written that what came before it fixes.
 pub fn decode<R: Input, W: Output>(

@@ -35,7 +35,7 @@ use crate::state::CodingState;
 use pbm_core::{Form, Input, Output, Size};
 use raster_core::{Shape, Tally, Window};
 
-/// Writes the stream of an image of this size. The input stands after the header of the image.
+/// Writes the stream of an image of this size. The input is just after the header of the image.
 ///
 /// Where rows are missing, what is written is a beginning of the stream of each image that begins with the rows
 /// that came, with each stripe whose rows all came. Each row is read when it is wanted, and nothing after it.
@@ -146,7 +146,7 @@ fn encode_image<R: Input, P: ByteTarget>(
     encode_body(size, form, header.shape(), options, carried, source, target)
 }
 
-/// Writes the stripes, and what stands after them.
+/// Writes the stripes, and what comes after them.
 fn encode_body<R: Input, P: ByteTarget>(
     size: Size,
     form: Form,

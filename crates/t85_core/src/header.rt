@@ -112,7 +112,7 @@ impl Header {
         }
     }
 
-    /// Whether a NEWLEN may stand in the stream: VLENGTH, bit 5 of the options.
+    /// Whether the stream may have a NEWLEN: VLENGTH, bit 5 of the options.
     pub(crate) fn is_variable(&self) -> bool
         ensures { result ≡ has_bit self.now.options 5 }
     {

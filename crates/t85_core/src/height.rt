@@ -33,7 +33,7 @@ struct Skipped {
     height: Option<u32>,
 }
 
-/// What was skipped of a stream: so many data entities with what stands before them, and, where a height came, the
+/// What was skipped of a stream: how many data entities, with what comes before them, and, where a height came, the
 /// segments before that.
 #[derive(Clone, Copy)]
 pub struct Reached {
@@ -43,7 +43,7 @@ pub struct Reached {
     pub height: Option<u32>,
 }
 
-/// Finds the height of the image. The input stands after the header.
+/// Finds the height of the image. The input is just after the header.
 ///
 /// Where the header says that the height may change, the segments are read up to the first valid height; where none
 /// comes, or the stream breaks before it, the height is the header's.
@@ -107,7 +107,7 @@ pub fn find<S: ByteSource>(header: &Header, stream: &mut S) -> Result<Reached, F
     }
 }
 
-/// Skips comments after the last stripe that the header's height makes, and a height where one stands after them.
+/// Skips comments after the last stripe that the header's height makes, and a height where one comes after them.
 fn look<S: ByteSource>(header: &Header, entities: u32, stream: &mut S) -> Result<Option<u32>, Fault>
     requires stream { S.failures stream.old < 2 ^ 64 - 1 }
     requires variable { is_variable (fields_of header.now) ≡ true }
@@ -145,7 +145,7 @@ fn look<S: ByteSource>(header: &Header, entities: u32, stream: &mut S) -> Result
 }
 
 /// Skips stripes from the one number `from` up to `count` in all, or up to a height. Whether one was given before them
-/// is `given`, and whether a move stands before what is left of the first is `moved_before`.
+/// is `given`, and whether a move came before what is left of the first is `moved_before`.
 pub fn skip_stripes<S: ByteSource>(
     header: &Header,
     from: u32,
@@ -202,7 +202,7 @@ pub fn skip_stripes<S: ByteSource>(
     })
 }
 
-/// Skips what is left of a stripe, or of its segments up to a height, after so many data entities.
+/// Skips what is left of a stripe, or of its segments up to a height, after `entities` data entities.
 fn skip_stripe<S: ByteSource>(
     header: &Header,
     entities: u32,

@@ -111,7 +111,7 @@ impl<R: Input> ByteSource for InputBuffer<'_, R> {
     }
 }
 
-/// How many bytes stand before the first FF.
+/// How many bytes come before the first FF.
 fn plain_len(bytes: &[u8]) -> usize
     ensures bound { result ≤ length bytes.now }
     ensures plain { ArePlain (take result bytes.now) }

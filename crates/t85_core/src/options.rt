@@ -20,7 +20,7 @@ pub struct Options<'a> {
     pub announced: Option<u32>,
     /// Whether each stripe ends in a reset.
     pub reset: bool,
-    /// The comment that stands before the first stripe.
+    /// The comment before the first stripe.
     pub comment: Option<&'a [u8]>,
     ghost no_reserved_bit: { options < 128 },
     ghost no_low_bit: { options % 8 ≡ 0 },

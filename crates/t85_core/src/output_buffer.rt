@@ -14,7 +14,7 @@ const SIZE: usize = 4096;
 
 /// Where the bytes of an image or of a stream go.
 pub trait ByteTarget {
-    /// The bytes that it has taken, after those that stood there, where the writer reports them.
+    /// The bytes that it has taken, after those that were there, where the writer reports them.
     ghost text: { Self → Option (List ℕ) };
 
     /// The bytes of these that the writer has still to take.

@@ -15,7 +15,7 @@ use crate::header::Header;
 use crate::input_buffer::{ByteSource, ESCAPE};
 use byteorder::{BigEndian, ByteOrder};
 
-/// Where a stripe stands, or what is next in it: the height in use, how many data entities came before it, and whether
+/// Where a stripe begins, or what is next in it: the height in use, how many data entities came before it, and whether
 /// a height did.
 #[derive(Clone, Copy)]
 pub struct Place {
@@ -39,7 +39,7 @@ pub enum Code {
     Marker(bool),
 }
 
-/// What stands at one place before a code.
+/// What may come at one place before a code.
 #[derive(Clone, Copy)]
 pub enum Piece {
     /// A height is given, which is valid.
@@ -61,7 +61,7 @@ pub struct Head {
     pub code: Code,
 }
 
-/// What stands after the segments that were read.
+/// What comes after the segments that were read.
 #[derive(Clone, Copy)]
 pub enum Next {
     /// A valid height, which isn't the one in use.
@@ -70,7 +70,7 @@ pub enum Next {
     Code(Code),
 }
 
-/// Segments that were read, and what stands after them.
+/// Segments that were read, and what comes after them.
 #[derive(Clone, Copy)]
 pub struct Segments {
     pub at: Option<Move>,
@@ -122,8 +122,8 @@ pub fn read_head<S: ByteSource>(
     }
 }
 
-/// Reads segments that stand in one stripe, up to a height that isn't in use or to the code. Whether a move of the
-/// stripe stands before them is `moved_before`.
+/// Reads segments of one stripe, up to a height that isn't in use or to the code. Whether a move of the stripe came before
+/// them is `moved_before`.
 pub fn read_segments<S: ByteSource>(
     header: &Header,
     place: Place,
@@ -268,7 +268,7 @@ pub fn next_piece<S: ByteSource>(
     }
 }
 
-/// Reads what follows the two bytes of a NEWLEN, and judges it: it is valid where it stands, and no other came before.
+/// Reads what follows the two bytes of a NEWLEN, and judges it: it is valid at this place, and no other came before.
 fn read_length<S: ByteSource>(header: &Header, place: Place, stream: &mut S) -> Result<u32, Fault>
     requires stream { S.failures stream.old < 2 ^ 64 - 1 }
     ensures ok { IfOk result (λ height. (place.given ≡ false) ×
@@ -295,7 +295,7 @@ fn read_length<S: ByteSource>(header: &Header, place: Place, stream: &mut S) -> 
     Ok(height)
 }
 
-/// Whether a height may be given after so many data entities.
+/// Whether a height may be given after `entities` data entities.
 fn is_valid(header: &Header, entities: u32, height: u32) -> bool
     ensures { result ≡ is_valid_length (fields_of header.now) entities height }
 {

@@ -16,7 +16,7 @@ use crate::input_buffer::{ByteSource, InputBuffer};
 use crate::line::Line;
 use pbm_core::{Input, Output};
 
-/// What a stream says of itself: its header, the height in use, and what stands before its last data entity.
+/// What a stream says of itself: its header, the height in use, and what comes before its last data entity.
 #[derive(Clone, Copy, Debug, PartialEq, Eq)]
 pub struct Summary {
     pub width: u32,
@@ -79,7 +79,7 @@ fn line_of(found: &Summary) -> Line
     ])
 }
 
-/// The summary of a stream that stands after this header.
+/// The summary of the stream after this header.
 fn summarize_body<S: ByteSource>(header: &Header, stream: &mut S) -> Result<Summary, Fault>
     requires stream { S.failures stream.old < 2 ^ 64 - 1 }
     ensures ok { IfOk result (λ found. IfSome (S.known stream.old)
@@ -146,7 +146,7 @@ fn walk_on<S: ByteSource>(
     Ok(summary_of(header, height, count, passed))
 }
 
-/// The summary of a header, of a height and so many data entities, and of what was skipped in them.
+/// The summary of a header, of a height and a count of data entities, and of what was skipped in them.
 fn summary_of(header: &Header, height: u32, entities: u32, passed: Passed) -> Summary
     ensures { let h = header.now in numbers_in result ≡
         h.xd ∷ h.yd ∷ h.l0 ∷ h.mx ∷ h.options ∷ height ∷ entities ∷ passed.moves ∷ passed.comments

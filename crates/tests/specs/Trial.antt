@@ -8,7 +8,7 @@ hex_digit c =
     else if nat_le 65 c && nat_le c 70 then Some (c - 65 + 10)
     else None
 
--- a byte for each two digits; a last one that stands alone is left out
+-- a byte for each two digits; a last one alone is left out
 abbrev pub paired : List ℕ → List ℕ
 paired [] = []
 paired (d ∷ []) = []

@@ -357,7 +357,7 @@ static CUTS: [Cut; 7] = [
     },
 ];
 
-/// After so many bytes the input ends, or can't be read: each stripe stands whose rows all came.
+/// The input ends, or can't be read, after each byte in turn: each stripe is written whose rows all came.
 #[test]
 fn cut_at_each_byte(rt: HostRuntime) -> Result<(), Fail> {
     all_are_cut(&rt, rt.alloc(), &CUTS)

@@ -59,7 +59,7 @@ impl Encode {
             && job.output.as_deref() == self.output
     }
 
-    /// Whether the words are taken, and ask for that.
+    /// Whether the arguments are taken, and ask for that.
     fn is_read(&self, alloc: Global) -> bool {
         match pbmtojbg85::job(alloc, self.words) {
             Ok(job) => self.is(&job),
@@ -123,7 +123,7 @@ impl Decode {
             && job.output.as_deref() == self.output
     }
 
-    /// Whether the words are taken, and ask for that.
+    /// Whether the arguments are taken, and ask for that.
     fn is_read(&self, alloc: Global) -> bool {
         match jbgtopbm85::job(alloc, self.words) {
             Ok(job) => self.is(&job),
@@ -167,7 +167,7 @@ static REFUSED: [(&[&str], u8); 24] = [
     (&["pbmtojbg85", "-rr"], 2),
 ];
 
-/// Whether the words are refused with this status.
+/// Whether the arguments are refused with this status.
 fn refuses(alloc: Global, words: &[&str], status: u8) -> bool {
     match Program::of(alloc, words) {
         Ok(_) => false,
@@ -196,7 +196,7 @@ static OPTIONS: [([&str; 4], Fault); 5] = [
     (["pbmtojbg85", "-p72", "-s1", "-m128"], Fault::MoveLarge),
 ];
 
-/// Whether the words are refused with this fault.
+/// Whether the arguments are refused with this fault.
 fn refuses_by(alloc: Global, words: &[&str], fault: Fault) -> bool {
     matches!(Program::of(alloc, words), Err(LineFault::Fault(told)) if told == fault)
 }

@@ -164,7 +164,7 @@ static CUTS: [Cut; 7] = [
     },
 ];
 
-/// After so many bytes the input ends, or can't be read: the rows that these bytes fix stand.
+/// The input ends, or can't be read, after each byte in turn: the rows that the bytes before fix are written.
 #[test]
 fn cut_at_each_byte(rt: HostRuntime) -> Result<(), Fail> {
     all_are_cut(&rt, rt.alloc(), &CUTS)

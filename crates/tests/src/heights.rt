@@ -15,7 +15,7 @@ struct Twice {
 }
 
 static TWICE: [Twice; 9] = [
-    // The new height stands after the last stripe that it leaves.
+    // The new height comes after the last stripe that it leaves.
     Twice {
         run: Run {
             words: &["jbgtopbm85"],
@@ -71,7 +71,7 @@ static TWICE: [Twice; 9] = [
         },
         again: 26,
     },
-    // It stands between two stripes.
+    // It comes between two stripes.
     Twice {
         run: Run {
             words: &["jbgtopbm85"],

@@ -137,7 +137,7 @@ static WIDEST: [Large; 2] = [
     },
 ];
 
-/// Whether the run and the one that decodes what it writes leave what they say, by reads and writes of so many bytes.
+/// Whether the run and the one that decodes what it writes leave what they say, by reads and writes of this many bytes.
 fn goes_there_and_back(alloc: Global, run: Run<'_>, most: usize) -> Result<bool, LineFault> {
     let devices = Devices { most, ..SMOOTH };
     Ok(leaves(alloc, run, devices)? && leaves(alloc, run.back(), devices)?)

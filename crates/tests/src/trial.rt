@@ -18,7 +18,7 @@ pub enum Program {
 }
 
 impl Program {
-    /// What the words ask for, of the program that the first of them names.
+    /// What the arguments ask for, of the program that the first of them names.
     pub fn of(alloc: Global, words: &[&str]) -> Result<Program, LineFault> {
         if words.first() == Some(&jbgtopbm85::NAME) {
             Ok(Program::Decoder(jbgtopbm85::job(alloc, words)?))
@@ -142,7 +142,7 @@ fn has_told(
     }
 }
 
-/// Runs a program on these bytes, into room for so many.
+/// Runs a program on these bytes, into a room of this size.
 fn run_on(
     alloc: Global,
     program: &Program,
@@ -232,7 +232,7 @@ impl<'a> Run<'a> {
         }
     }
 
-    /// Whether so many bytes may stand where the read after so many bytes fails: none before a whole header was read,
+    /// Whether `count` bytes may have been written where the read after `came` bytes fails: none before a whole header was read,
     /// and at least the header from there on; of a line none.
     fn may_stand(self, came: u64, count: usize) -> bool {
         match (self.input.header(), self.output.header()) {
@@ -290,7 +290,7 @@ impl<'a> Case<'a> {
         run_on(alloc, &self.program, bytes, devices, room)
     }
 
-    /// Whether a run on these bytes writes just so many of the output, and reports just the text of this fault, or nothing
+    /// Whether a run on these bytes writes just `count` bytes of the output, and reports just the text of this fault, or nothing
     /// where there is none.
     fn leaves(
         &self,
@@ -341,7 +341,7 @@ impl<'a> Case<'a> {
         self.leaves(alloc, &self.input, devices, self.output.len(), fault)
     }
 
-    /// Whether the failing read after so many bytes is reported, with a beginning of the output written.
+    /// Whether the failing read after `came` bytes is reported, with a beginning of the output written.
     fn tells_read(&self, alloc: Global, came: u64) -> Result<bool, AllocError> {
         let devices = Devices {
             failing_read: Some(came.saturating_add(1)),
@@ -367,7 +367,7 @@ impl<'a> Case<'a> {
         }
     }
 
-    /// Whether so many bytes may stand where the read after so many bytes fails: none in the first of two readings.
+    /// Whether `count` bytes may have been written where the read after `came` bytes fails: none in the first of two readings.
     fn may_stand(&self, came: u64, count: usize) -> bool {
         if self.is_read_twice() {
             count == 0
@@ -376,7 +376,7 @@ impl<'a> Case<'a> {
         }
     }
 
-    /// Whether the failing read of the second reading after so many bytes is reported, with a beginning of the output written.
+    /// Whether the failing read of the second reading after `came` bytes is reported, with a beginning of the output written.
     fn tells_second_read(&self, alloc: Global, came: u64) -> Result<bool, AllocError> {
         let devices = Devices {
             failing_again: Some(came.saturating_add(1)),
@@ -391,7 +391,7 @@ impl<'a> Case<'a> {
         )
     }
 
-    /// Whether each of so many reads of the second reading is reported where it fails, and no more are asked for.
+    /// Whether each of `reads` reads of the second reading is reported where it fails, and no more are asked for.
     fn is_read_again(&self, alloc: Global, reads: u64) -> Result<bool, AllocError> {
         for came in 0..reads {
             if !self.tells_second_read(alloc, came)? {
@@ -489,7 +489,7 @@ impl<'a> Case<'a> {
         Ok(is_told && self.ends(alloc, devices, fault)?)
     }
 
-    /// The name of the first trial that the run does not stand.
+    /// The name of the first trial that the run does not pass.
     fn first_failing(&self, alloc: Global) -> Result<Option<&'static str>, AllocError> {
         for &(trial, name) in &TRIALS {
             if !self.stands(alloc, trial)? {
@@ -499,7 +499,7 @@ impl<'a> Case<'a> {
         Ok(None)
     }
 
-    /// Whether just so many bytes of the output stand where the input ends, or can't be read, after so many bytes, and
+    /// Whether just `count` bytes were written where the input ends, or can't be read, after `came` bytes, and
     /// this is reported where it ends.
     fn is_cut(
         &self,
@@ -521,13 +521,13 @@ impl<'a> Case<'a> {
     }
 }
 
-/// Whether the run stands the trial.
+/// Whether the run passes the trial.
 pub fn stands(alloc: Global, run: Run<'_>, trial: Trial) -> Result<bool, LineFault> {
     let held = Case::new(alloc, run)?.stands(alloc, trial);
     Ok(held?)
 }
 
-/// Whether each of so many reads of the run's second reading is reported where it fails, and no more are asked for.
+/// Whether each of `reads` reads of the run's second reading is reported where it fails, and no more are asked for.
 pub fn is_read_again(alloc: Global, run: Run<'_>, reads: u64) -> Result<bool, LineFault> {
     let held = Case::new(alloc, run)?.is_read_again(alloc, reads);
     Ok(held?)
@@ -544,13 +544,13 @@ pub fn goes_there_and_back(alloc: Global, run: Run<'_>) -> Result<bool, LineFaul
     Ok(stands(alloc, run, Trial::Sizes)? && stands(alloc, run.back(), Trial::Sizes)?)
 }
 
-/// The name of the first trial that the run does not stand.
+/// The name of the first trial that the run does not pass.
 fn first_failing(alloc: Global, run: Run<'_>) -> Result<Option<&'static str>, LineFault> {
     let failing = Case::new(alloc, run)?.first_failing(alloc);
     Ok(failing?)
 }
 
-/// Asserts that each run stands each trial.
+/// Asserts that each run passes each trial.
 pub fn all_stand(rt: &impl Abort, alloc: Global, runs: &[Run<'_>]) -> Result<(), Fail> {
     for (at, run) in runs.iter().enumerate() {
         let failing = first_failing(alloc, *run)?;
@@ -562,12 +562,12 @@ pub fn all_stand(rt: &impl Abort, alloc: Global, runs: &[Run<'_>]) -> Result<(),
 /// A run whose input is cut short.
 pub struct Cut {
     pub run: Run<'static>,
-    /// From how many bytes on how many of the output stand, and what is reported where the input ends there.
+    /// From how many bytes on how many of the output are written, and what is reported where the input ends there.
     pub stands: &'static [(usize, usize, &'static str)],
 }
 
 impl Cut {
-    /// How many bytes stand after so many, and what is reported where the input ends there.
+    /// How many bytes are written after this many were read, and what is reported where the input ends there.
     fn standing(&self, came: usize) -> (usize, &'static str) {
         let mut standing = (0, "");
         for &(from, count, text) in self.stands {
@@ -578,7 +578,7 @@ impl Cut {
         standing
     }
 
-    /// After how many bytes something else stands first, or is reported.
+    /// After how many bytes something else is written first, or reported.
     fn first_failing_in(
         &self,
         alloc: Global,
@@ -599,7 +599,7 @@ impl Cut {
     }
 }
 
-/// Asserts of each run that what it says stands, after each byte at which its input ends or can't be read.
+/// Asserts of each run that what it says is written, after each byte at which its input ends or can't be read.
 pub fn all_are_cut(rt: &impl Abort, alloc: Global, cuts: &[Cut]) -> Result<(), Fail> {
     for (at, cut) in cuts.iter().enumerate() {
         let failing = cut.first_failing(alloc)?;

@@ -146,7 +146,7 @@ static WATCHED: [Watched; 6] = [
 ];
 
 impl Watched {
-    /// Whether at least so many had gone out before each of these bytes of the image was read.
+    /// Whether at least this many had gone out before each of these bytes of the image was read.
     fn were_out(&self, seen: &[u64; MOST]) -> bool {
         self.due.iter().all(|&(at, count)| seen.get(at).is_some_and(|taken| *taken >= count))
     }

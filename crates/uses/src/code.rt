@@ -5,7 +5,7 @@ ghost use Rattle.uses.specs.Coder.{Unstuffs};
 
 use qm_core::{CodeBytes, CodeSink, Pulled, SinkFault};
 
-/// A code that grows, as it stands in a stream.
+/// A code that grows, in the form that it has in a stream.
 #[derive(Drop)]
 pub struct Code {
     pub bytes: Vec<u8>,
@@ -33,7 +33,7 @@ impl CodeSink for Code {
     }
 }
 
-/// What is left of a code, as it stands in a stream.
+/// What is left of a code, in the form that it has in a stream.
 #[derive(Drop)]
 pub struct Stuffed<'a> {
     pub rest: &'a [u8],

@@ -25,7 +25,7 @@ pub fn pixels_again(
     decode(alloc, contexts, code.as_slice(), copy)
 }
 
-/// The code of pixels, each in its context, as it stands in a stream.
+/// The code of pixels, each in its context, in the form that it has in a stream.
 pub fn encode(
     alloc: Global,
     contexts: &[Context],

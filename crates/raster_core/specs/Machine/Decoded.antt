@@ -75,7 +75,7 @@ StopsMore {S} pull mid new lanes past d learned count d' =
     Along pull old mid (record { two_line = false; typical = typical }) 0 second above past₀ d₀ learned₀ n past d learned →
     StopsAlong pull old new (record { two_line = false; typical = typical }) 0 second above past₀ d₀ learned₀ 8 d'
 
--- A byte of one colour was decoded in one step, with no byte asked for: each of its pixels stands in the context of that colour.
+-- A byte of one colour was decoded in one step, with no byte asked for: each of its pixels is in the context of that colour.
 pub record SkipsAlong (mode : Mode) (offset second above byte past : ℕ) (d : Decoder) (learned : List Estimate) (d' : Decoder) : Type 0 where
   pub colour : Bool
   pub byte_is : byte ≡ bit colour * 255

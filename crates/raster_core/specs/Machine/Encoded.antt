@@ -30,7 +30,7 @@ pub record FailedTo {S : Type 0} (took : S → ℕ → S → Type 0) (refused : 
   pub below : at < x
   pub fails : Fails took refused from to s pushed (first ++ events_to mode lines offset (at + 1))
 
--- what the registers and a byte of the row stand for at the byte that begins at x
+-- what the registers and a byte of the row mean at the byte that begins at x
 pub record ByteAt (lines : Lines) (second above byte x : ℕ) : Type 0 where
   pub second_is : second ≡ before lines.second (x + 16) 24
   pub above_is : above ≡ before lines.above (x + 16) 24
@@ -73,7 +73,7 @@ FailsMore {S} took refused mid new lanes e learned count =
     EncodesByte took old mid (record { two_line = false; typical = typical }) offset second above byte past₀ e₀ learned₀ n past e learned →
     FailsByte took refused old new (record { two_line = false; typical = typical }) offset second above byte past₀ e₀ learned₀ 8
 
--- a byte of one colour was encoded in one step, with no byte of the code: each of its pixels stands in the context of that colour
+-- a byte of one colour was encoded in one step, with no byte of the code: each of its pixels is in the context of that colour
 pub record SkipsByte (mode : Mode) (offset second above byte past : ℕ) (e : Encoder) (learned : List Estimate) (e' : Encoder) : Type 0 where
   pub colour : Bool
   pub byte_is : byte ≡ bit colour * 255

@@ -49,12 +49,12 @@ moved_above_lane window j = window * 2 ^ j / 8 % 16 * 8
 abbrev pub far_lane : ℕ → ℕ → ℕ
 far_lane window j = window * 2 ^ j / 8 % 2 * 4
 
--- so many lanes have what the rows above give to the contexts of the pixels from this one on
+-- `count` lanes have what the rows above give to the contexts of the pixels from `from` on
 abbrev pub HasAround : ℕ → ℕ → ℕ → ℕ → ℕ → Type 0
 HasAround lanes second above from count =
     (j : ℕ) → j < count → lane lanes j ≡ around second above (from + j)
 
--- so many lanes have twice the contexts of the pixels from this one on, which have this near them, and the pixels
+-- `count` lanes have twice the contexts of the pixels from `from` on, which have `beside` near them, and the pixels
 abbrev pub HasPixels : ℕ → (ℕ → ℕ) → ℕ → ℕ → ℕ → Type 0
 HasPixels lanes beside row from count =
     (j : ℕ) → j < count → lane lanes j ≡ 2 * beside (from + j) + own row (from + j)

@@ -14,7 +14,7 @@ uniform_context false = 0
 abbrev pub uniform_event : Bool → Event
 uniform_event colour = record { context = uniform_context colour; pixel = colour }
 
--- each of n pixels from x on stands in the context of this colour, as long as those before it from x on are of this colour
+-- each of n pixels from x on is in the context of this colour, as long as those before it from x on are of this colour
 abbrev pub StaysUniform : Mode → Lines → ℕ → Bool → ℕ → ℕ → Type 0
 StaysUniform mode lines offset colour x n =
     (j : ℕ) → j < n → ((k : ℕ) → k < j → pixel_at lines.row (x + k) ≡ colour) →

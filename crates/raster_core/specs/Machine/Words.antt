@@ -1,4 +1,4 @@
--- Pixels in words, the first one highest.
+-- Pixels in words, the first one in the highest bit.
 use Rattle.std.specs.Prelude.{ℕ, zero, suc, ◌+◌, ◌-◌, ◌*◌, ◌≡◌, ◌≤◌, slice_index, Bool, false, List, count_by, ◌&&◌, nat_lt, if◌then◌else◌}
 use Rattle.std.specs.Int.{div_ceil}
 use Rattle.raster_core.specs.Raster.{pixel_at}

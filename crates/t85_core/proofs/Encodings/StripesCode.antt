@@ -114,7 +114,7 @@ module _ {form : Form} (s : Settings) (width height' i : ℕ) (some : 1 ≤ s.st
     on_course = λ more. r.on_course (counts more);
   }
 
-  -- the first stripes first_row_start more of them
+  -- the first stripes begin more of them
   stripes_begin : (raster : Raster) (n m : ℕ) → IsBeginning (stripes_up_to s raster n) (stripes_up_to s raster (n + m))
   stripes_begin raster n zero = record { rest = []; bytes_are = let same : n + 0 ≡ n = omega arith in ap (stripes_up_to s raster) same ∙ sym (append-nil (stripes_up_to s raster n)) }
   stripes_begin raster n (suc m) =
@@ -144,7 +144,7 @@ module _ {form : Form} (s : Settings) (width height' i : ℕ) (some : 1 ≤ s.st
           ∙ ap (λ z. so.bytes ++ z) (sym is ∙ p.bytes_are) ∙ sym (append_assoc so.bytes bytes p.rest);
     }
 
-  -- the first stripes first_row_start all
+  -- the first stripes begin all
   all_begin : (raster : Raster) → height raster ≡ height' → IsBeginning (stripes_up_to s raster (i + 1)) (stripes_of s raster)
   all_begin raster high =
       let count : (i + 1) + (stripe_count height' l - (i + 1)) ≡ stripe_count height' l = omega (arith, inside) in

@@ -42,7 +42,7 @@ pub record WorkedStreams : Type 0 where
   -- no offset to choose from
   pub no_candidate : jbg (settings 0 1 2 None true None) (rows_as 8 ((true ∷ true ∷ true ∷ true ∷ true ∷ true ∷ true ∷ true ∷ []) ∷ (true ∷ true ∷ true ∷ true ∷ true ∷ true ∷ true ∷ true ∷ []) ∷ []))
       ≡ 0 ∷ 0 ∷ 1 ∷ 0 ∷ 0 ∷ 0 ∷ 0 ∷ 8 ∷ 0 ∷ 0 ∷ 0 ∷ 2 ∷ 0 ∷ 0 ∷ 0 ∷ 1 ∷ 2 ∷ 0 ∷ 0 ∷ 0 ∷ 240 ∷ 255 ∷ 3 ∷ 240 ∷ 255 ∷ 3 ∷ []
-  -- a black pixel, where a greater height was announced: the height stands after it
+  -- a black pixel, where a greater height was announced: the height comes after it
   pub announced : jbg (settings 0 128 0 (Some 5) false None) (rows_as 1 ((true ∷ []) ∷ []))
       ≡ 0 ∷ 0 ∷ 1 ∷ 0 ∷ 0 ∷ 0 ∷ 0 ∷ 1 ∷ 0 ∷ 0 ∷ 0 ∷ 5 ∷ 0 ∷ 0 ∷ 0 ∷ 128 ∷ 0 ∷ 0 ∷ 0 ∷ 32 ∷ 192 ∷ 255 ∷ 2 ∷ 255 ∷ 5 ∷ 0 ∷ 0 ∷ 0 ∷ 1 ∷ 255 ∷ 2 ∷ []
   -- the same, where the stripe ends in a reset
@@ -58,7 +58,7 @@ pub record WorkedStreams : Type 0 where
   pub variable : jbg (settings 32 128 0 None false None) (rows_as 1 ((true ∷ []) ∷ []))
       ≡ 0 ∷ 0 ∷ 1 ∷ 0 ∷ 0 ∷ 0 ∷ 0 ∷ 1 ∷ 0 ∷ 0 ∷ 0 ∷ 1 ∷ 0 ∷ 0 ∷ 0 ∷ 128 ∷ 0 ∷ 0 ∷ 0 ∷ 32 ∷ 192 ∷ 255 ∷ 2 ∷ []
 
--- a white or black image one pixel wide, in stripes of so many rows, whose height may change
+-- a white or black image one pixel wide, in stripes of this many rows, whose height may change
 abbrev pub narrow : ℕ → ℕ → Fields
 narrow height l0 = record { xd = 1; yd = height; l0 = l0; mx = 0; options = 32 }
 

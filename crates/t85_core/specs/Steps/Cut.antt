@@ -19,7 +19,7 @@ use Rattle.raster_core.specs.declared.shape.Kept.{Kept}
 abbrev pub events_with : Mode → Option (ℕ × ℕ) → ℕ → RowStart → List Bool → Bool → List Event
 events_with mode move r b row flag = row_events mode (lines_with b row) (offset_at move r b.offset) b.previous flag
 
--- so many bytes decide each of these rows, from row r on
+-- this many bytes decide each of these rows, from row r on
 abbrev pub RunEnough : ℕ → Mode → Option (ℕ × ℕ) → ℕ → RowStart → List (List Bool) → List Bool → Type 0
 RunEnough count mode move r b [] flags = ⊤
 RunEnough count mode move r b (row ∷ rows) [] = ⊤
@@ -33,7 +33,7 @@ NoneDecided width mode move r b code =
     Lies code (after b.state (events_with mode move r b row flag)).place →
     AreEnough (length code) b.state (events_with mode move r b row flag) → ⊥
 
--- The first rows of a stripe of so many rows, of which these segments and this code came: the code decides them, and
+-- The first rows of a stripe of this many rows, of which these segments and this code came: the code decides them, and
 -- they are all of the stripe's rows, or it decides no row more.
 pub record BegunRun (h : Fields) (count : ℕ) (c : StripeStart) (segments : List Segment) (code : List ℕ) (rows : List (List Bool)) (flags : List Bool) : Type 0 where
   pub last : RowStart
@@ -43,7 +43,7 @@ pub record BegunRun (h : Fields) (count : ℕ) (c : StripeStart) (segments : Lis
   pub enough : RunEnough (length code) (mode_of h.options) (move_of segments) 0 (first_row_start c) rows flags
   pub ends : (length rows ≡ count) ⊎ NoneDecided h.xd (mode_of h.options) (move_of segments) (length rows) last code
 
--- The first rows of a stripe of so many rows, of which these segments and this code came: the code lies where they lead.
+-- The first rows of a stripe of this many rows, of which these segments and this code came: the code lies where they lead.
 pub record FrontRun (h : Fields) (count : ℕ) (c : StripeStart) (segments : List Segment) (code : List ℕ) (rows : List (List Bool)) (flags : List Bool) : Type 0 where
   pub last : RowStart
   pub run : Run h.xd (mode_of h.options) (move_of segments) 0 (first_row_start c) rows flags last

@@ -94,7 +94,7 @@ pub record RowsUnwritten {S : Type 0} (pull : S → Pulled → S → Type 0) (fr
   pub stands : DecoderIsAt decoder last.state.place answers
   pub appended : AppendsBeginning text text' (flat_map packed_row rows)
 
--- a row more, in whatever stripe it stands
+-- a row more, in whatever stripe it is
 abbrev pub DecodeRowStep : {S : Type 0} → (S → Pulled → S → Type 0) → S → S → Shape → Option (ℕ × ℕ) → ℕ → CodingState → CodingState → Decoder → Decoder → Option (List ℕ) → Option (List ℕ) → Type 0
 DecodeRowStep {S} pull old new shape move row carried carried' d d' text text' =
     (from : S) (began : Option (List ℕ)) (h : Fields) (c : StripeStart) (segments : List Segment) → move ≡ move_of segments →

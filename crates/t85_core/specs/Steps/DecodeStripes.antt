@@ -22,7 +22,7 @@ use Rattle.t85_core.specs.Steps.Cut.{BegunRun, FrontRun, RunEnough}
 use Rattle.t85_core.specs.Outcome.{IsOutcome, pbm_rows}
 use Rattle.t85_core.specs.Steps.DecodeRows.{IsCarried, IsShapeOf}
 
--- segments give the height in use at most once in all, and with them there are so many
+-- segments give the height in use at most once in all, and with them there are this many
 pub record GivesIn (spot : Spot) (heights : ℕ) (segments : List Segment) : Type 0 where
   pub gives : GiveOnly spot.height spot.heights segments
   pub heights_are : heights ≡ spot.heights + length (lengths segments)
@@ -95,7 +95,7 @@ DecodeStripeStep h spot heights known known' count carried carried' text text' =
 abbrev pub DecodeStripeStepCut : Fields → Spot → Option (List ℕ) → Option (List ℕ) → ℕ → CodingState → Option (List ℕ) → Option (List ℕ) → Fault → Type 0
 DecodeStripeStepCut h spot known known' count carried text text' fault = (c : StripeStart) → IsCarried (first_row_start c) carried → StripeCut h spot c known known' count text text' fault
 
--- So many stripes were decoded and written.
+-- This many stripes were decoded and written.
 pub record StripesRead (h : Fields) (height : ℕ) (known known' : Option (List ℕ)) (count heights : ℕ) (carried : CodingState) (text text' : Option (List ℕ)) : Type 0 where
   pub stripes : List Stripe
   pub many : length stripes ≡ count
@@ -108,7 +108,7 @@ pub record StripesRead (h : Fields) (height : ℕ) (known known' : Option (List 
   pub is_carried : IsCarried (first_row_start next) carried
   pub appended : Appends text text' (flat_map packed_row rows)
 
--- An image was decoded and written, whatever stands after it.
+-- An image was decoded and written, whatever comes after it.
 pub record ImageRead (h : Fields) (height : ℕ) (known known' text text' : Option (List ℕ)) : Type 0 where
   pub given : List ℕ
   pub taken : Consumes known known' given
@@ -122,7 +122,7 @@ pub record ImageCut (h : Fields) (height : ℕ) (known known' text text' : Optio
   pub ends : Ends Truncated known known' (λ given why. Fixes h height given why rows) fault
   pub appended : Appends text text' (flat_map packed_row rows)
 
--- These bytes first_row_start the stripe that stands there and decide these first rows of it: they are its segments and bytes of
+-- These bytes begin the stripe and decide these first rows of it: they are its segments and bytes of
 -- its code that are enough for the rows, or the whole stripe.
 pub record StripeDecides (h : Fields) (spot : Spot) (c : StripeStart) (count : ℕ) (given : List ℕ) (rows : List (List Bool)) (flags : List Bool) : Type 0 where
   pub segments : List Segment

@@ -103,7 +103,7 @@ pub record RowsRefused (IsTaken : List ℕ → Type 0) (s : Settings) (form : Fo
   pub taken : IsTaken pushed
   pub begins : BeginsCode (mode_of s.options) move c count rows pushed
 
--- a row more, in whatever stripe it stands
+-- a row more, in whatever stripe it is
 abbrev pub EncodeRowStep : {S : Type 0} → Form → (S → ℕ → S → Type 0) → S → S → Shape → Option ℕ → Option (List ℕ) → Option (List ℕ) → CodingState → CodingState → Tally → Tally → Encoder → Encoder → Type 0
 EncodeRowStep {S} form took old new shape counted known known' carried carried' tally tally' e e' =
     (from : S) (began : Option (List ℕ)) (s : Settings) (move : Option (ℕ × ℕ)) (c : StripeStart) (rows : List (List Bool)) → IsShape s shape.width shape →

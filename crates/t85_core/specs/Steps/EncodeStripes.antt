@@ -176,7 +176,7 @@ pub record ImageCoded (form : Form) (width height' : ℕ) (whole : Raster → Li
   pub read : ReadsRows form width known known' rows
   pub appended : Appends text text' (whole (raster_of width rows))
 
--- the stripes of a raster and what stands after them
+-- the stripes of a raster and what comes after them
 abbrev pub body_of : Settings → Raster → List ℕ
 body_of s raster = stripes_of s raster ++ ending s (height raster)
 

@@ -1,4 +1,4 @@
--- What a walk passes that looks for a height, and goes on after one.
+-- What a walk skips that looks for a height, and goes on after one.
 use Rattle.std.specs.Prelude.{ℕ, ◌+◌, ◌-◌, ◌≡◌, ◌≤◌, ◌<◌, ◌^◌, ◌⊎◌, ⊤, Bool, true, false, not, List, [], ◌∷◌, ◌++◌, Option, Some, None, IfSome, length, min, sum_by, count_by, flat_map, if◌then◌else◌, IsTrue}
 use Rattle.std.specs.List.{AllByRecursion}
 use Rattle.std.specs.Io.KnownBytes.{Consumes}
@@ -14,7 +14,7 @@ use Rattle.t85_core.specs.Steps.Segments.{PassesCode, CodeFault}
 use Rattle.t85_core.specs.Info.{numbers_of}
 use Rattle.t85_core.specs.Height.{IsHeight, IsOpen}
 
--- The fault of a rest after so many entities, whatever the height in use is.
+-- The fault of a rest after this many entities, whatever the height in use is.
 abbrev pub FaultAnyHeight : Fields → ℕ → Bool → ℕ → Bool → List ℕ → Fault → Type 0
 FaultAnyHeight h entities given moves in_code rest fault =
     (height : ℕ) → rest_fault h (record { height = height; entities = entities; heights = if given then 1 else 0 }) moves in_code rest ≡ Some fault
@@ -69,17 +69,17 @@ pub record SkipFault (h : Fields) (entities : ℕ) (given moved : Bool) (bytes :
   pub none : lengths segments ≡ []
   pub rest_has : FaultAnyHeight h entities given ((if moved then 1 else 0) + count_by is_move segments) (not (is_nil code)) rest fault
 
--- whether a move stands before what is next: none after a whole stripe
+-- whether a move came before what is next: none after a whole stripe
 abbrev pub moved_behind : Bool → List Stripe → Bool
 moved_behind moved [] = moved
 moved_behind moved (s ∷ stripes) = false
 
--- the first stripe has no move where one stands before it
+-- the first stripe has no move where one came before it
 abbrev pub IsAlone : Bool → List Stripe → Type 0
 IsAlone moved [] = ⊤
 IsAlone moved (s ∷ stripes) = (if moved then 1 else 0) + count_by is_move s.segments ≤ 1
 
--- So many whole stripes, in which no height is given.
+-- This many whole stripes, in which no height is given.
 pub record SkipsStripes (h : Fields) (moved : Bool) (count : ℕ) (old new : Option (List ℕ)) (moves comments : ℕ) : Type 0 where
   pub stripes : List Stripe
   pub count_is : length stripes ≡ count

@@ -1,4 +1,4 @@
--- What one step of the walk passes.
+-- What one step of the walk reads.
 use Rattle.std.specs.Prelude.{◌≡◌, ◌≢◌, ◌≤◌, ◌<◌, ◌+◌, ◌-◌, ◌^◌, ⊤, ℕ, Bool, true, false, List, [], ◌∷◌, ◌++◌, Option, Some, length, min, count_by, flat_map, option_map, is_some, if◌then◌else◌}
 use Rattle.std.specs.List.{AllByRecursion}
 use Rattle.std.specs.Io.KnownBytes.{Consumes}
@@ -18,11 +18,11 @@ use Rattle.t85_core.specs.Grammar.{Segment, NewLength, Move, Comment, segment_by
 use Rattle.t85_core.specs.Coding.{move_of}
 use Rattle.t85_core.specs.Refusal.{Spot, rest_fault, length_fault, StripeFault}
 
--- where a stripe stands, or what is next in it
+-- where a stripe begins, or what is next in it
 abbrev pub spot_at : Place → Spot
 spot_at place = record { height = place.height; entities = place.entities; heights = if place.given then 1 else 0 }
 
--- a byte of a code as it stands in a stream, or an end marker
+-- a byte of a code, stuffed, or an end marker
 abbrev pub code_bytes : Code → List ℕ
 code_bytes (code.Byte b) = stuffed (b ∷ [])
 code_bytes (code.Marker reset) = marker_bytes reset
@@ -63,7 +63,7 @@ abbrev pub PieceFault : Fields → Place → Bool → List ℕ → Fault → Typ
 PieceFault h place moved rest fault =
     (height : ℕ) → rest_fault h (record { height = height; entities = place.entities; heights = if place.given then 1 else 0 }) (if moved then 1 else 0) false rest ≡ Some fault
 
--- of what stands after FF 05
+-- of what comes after FF 05
 abbrev pub LengthFault : Fields → Place → List ℕ → Fault → Type 0
 LengthFault h place bytes fault = (height : ℕ) → length_fault h (record { height = height; entities = place.entities; heights = if place.given then 1 else 0 }) bytes ≡ Some fault
 
@@ -84,7 +84,7 @@ abbrev pub IsNextItem : Fields → Place → Bool → Next → Type 0
 IsNextItem h place given (next.Height height) = (given ≡ false) × (is_valid_length h place.entities height ≡ true) × IsLegal h (NewLength height) × (height ≢ place.height)
 IsNextItem h place given (next.Code c) = IsByteOrMarker c
 
--- Segments that stand in one stripe, after a move or none, and what is next after them.
+-- Segments of one stripe, after a move or none, and what is next after them.
 pub record PassesSegments (h : Fields) (place : Place) (moved : Bool) (old new : Option (List ℕ)) (s : Segments) : Type 0 where
   pub segments : List Segment
   pub begun : IsBegun h segments []

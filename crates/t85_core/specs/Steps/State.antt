@@ -8,7 +8,7 @@ use Rattle.t85_core.specs.Header.{Fields}
 use Rattle.t85_core.specs.Grammar.{Stripe, IsBegun}
 use Rattle.t85_core.specs.Coding.{mode_of, move_of}
 
--- RowStart two rows: the coder's state, the adaptive pixel's offset, whether the row before was typical, and the two
+-- Between two rows: the coder's state, the adaptive pixel's offset, whether the row before was typical, and the two
 -- rows above the next one.
 pub record RowStart : Type 0 where
   pub state : State
@@ -70,7 +70,7 @@ abbrev pub next_stripe_start : ℕ → Bool → RowStart → StripeStart
 next_stripe_start width true b = image_start width
 next_stripe_start width false b = record { learned = b.state.learned; offset = b.offset; previous = b.previous; above = b.above; second = b.second }
 
--- A whole stripe of so many rows: its code lies where its rows lead.
+-- A whole stripe of this many rows: its code lies where its rows lead.
 pub record StripeRun (h : Fields) (count : ℕ) (c : StripeStart) (s : Stripe) (rows : List (List Bool)) (flags : List Bool) (next : StripeStart) : Type 0 where
   pub whole : IsBegun h s.segments s.code
   pub last : RowStart
@@ -79,7 +79,7 @@ pub record StripeRun (h : Fields) (count : ℕ) (c : StripeStart) (s : Stripe) (
   pub lies : Lies s.code last.state.place
   pub next_is : next ≡ next_stripe_start h.xd s.reset last
 
--- Stripes one after another, where so many rows are still to come.
+-- Stripes one after another, where this many rows are still to come.
 abbrev pub StripesRun : Fields → ℕ → StripeStart → List Stripe → List (List Bool) → List Bool → StripeStart → Type 0
 StripesRun h left c [] rows flags next = (rows ≡ []) × (flags ≡ []) × (c ≡ next)
 StripesRun h left c (s ∷ stripes) rows flags next =

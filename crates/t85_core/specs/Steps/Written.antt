@@ -55,7 +55,7 @@ next_encoder_start s width at rows = record {
   counted = lines_down at.carry.above at.carry.second rows;
 }
 
--- The bytes are a beginning of the code of each stripe of so many rows that begins with these.
+-- The bytes are a beginning of the code of each stripe of this many rows that begins with these.
 abbrev pub BeginsCode : Mode → Option (ℕ × ℕ) → StripeStart → ℕ → List (List Bool) → List ℕ → Type 0
 BeginsCode mode move c count rows bytes =
     (later : List (List Bool)) → length rows + length later ≡ count → IsBeginning bytes (stuffed (code_of (after_rows mode move 0 (first_row_start c) (rows ++ later)).state.place))

@@ -23,7 +23,7 @@ pub enum RowFault {
     Write,
 }
 
-/// Decodes so many rows, the first of a stripe, and writes them.
+/// Decodes and writes the first `rows` rows of a stripe.
 pub fn decode_rows<C: CodeBytes, P: ByteTarget>(
     shape: Shape,
     at: Option<Move>,

@@ -19,7 +19,7 @@ use pbm_core::{Form, Input, Size, read_row};
 use qm_core::{CodeSink, Encoder, laws};
 use raster_core::{Shape, Tally, Window, encode_row};
 
-/// Encodes so many rows, the first of a stripe, and ends their code. They are counted against an offset where one is
+/// Encodes the first `rows` rows of a stripe, and ends their code. They are counted against an offset where one is
 /// given.
 pub fn encode_rows<R: Input, C: CodeSink>(
     size: Size,

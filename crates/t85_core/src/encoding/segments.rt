@@ -65,7 +65,7 @@ pub fn write_marker<P: ByteTarget>(reset: bool, target: &mut P) -> Result<(), Fa
     target.put(&[ESCAPE, if reset { SDRST } else { SDNORM }])
 }
 
-/// Sets out what stands after the last stripe: the height and an empty data entity, where a greater height was
+/// Writes what comes after the last stripe: the height and an empty data entity, where a greater height was
 /// announced.
 pub fn write_ending<P: ByteTarget>(
     height: u32,
