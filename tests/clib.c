@@ -298,7 +298,7 @@ static buffer made(uint8_t *status, const char *folder, size_t count, const char
 /* A stream or a beginning of one, beside what the command wrote of it. */
 static void cut(buffer stream, const char *folder, size_t count)
 {
-    uint8_t wanted, wanted_info, status;
+    uint8_t wanted, wanted_info, status, refused_as;
     buffer whole = made(&wanted, folder, count, ""),
            line = made(&wanted_info, folder, count, ".line"), lent = copied(stream.bytes, count),
            rows;
@@ -306,7 +306,8 @@ static void cut(buffer stream, const char *folder, size_t count)
     t85_summary summary;
     uint32_t width, height;
     status = t85_header(lent.bytes, count, &fields);
-    if (status != T85_OK && status != wanted)
+    refused_as = wanted >= T85_SHORT_HEADER && wanted <= T85_PRIVATE_TABLE ? wanted : T85_OK;
+    if (status != refused_as)
         fail("t85_header: status %d of %zu bytes", status, count);
     if (status != T85_OK) {
         decode_in(lent, 0, status, whole, 1000);

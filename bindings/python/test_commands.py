@@ -92,18 +92,24 @@ class Commands(unittest.TestCase):
                 with self.subTest(stream=os.path.basename(name), count=count):
                     self.same_outcome(stream[:count])
 
-    def test_rooms(self):
-        """With less room than the whole, the C call under the module's writes a beginning, as long as the room."""
-        stream, image = read(os.path.join(EXAMPLES, "letter.jbg")), read(os.path.join(EXAMPLES, "letter.pbm"))
-        window = t85._window(416)
+    def fills(self, call, whole):
+        """With less room than the whole, a C call writes a beginning, as long as the room."""
         written = ctypes.c_size_t()
-        for room in range(len(image)):
-            output = ctypes.create_string_buffer(b"\xa5" * len(image), len(image))
-            status = t85._LIBRARY.t85_decode(
-                stream, len(stream), 200, window, len(window), output, room, ctypes.byref(written)
-            )
+        for room in range(len(whole)):
+            output = ctypes.create_string_buffer(b"\xa5" * len(whole), len(whole))
+            status = call(output, room, ctypes.byref(written))
             self.assertEqual((status, written.value), (NO_ROOM, room))
-            self.assertTrue(output.raw == image[:room] + b"\xa5" * (len(image) - room))
+            self.assertTrue(output.raw == whole[:room] + b"\xa5" * (len(whole) - room))
+
+    def test_rooms(self):
+        stream, image = read(os.path.join(EXAMPLES, "letter.jbg")), read(os.path.join(EXAMPLES, "letter.pbm"))
+        rows, window = image[-160 * 52 :], t85._window(416)
+        options = ctypes.byref(t85._Options(version=1, options=8, stripe_rows=128, most_offset=127))
+        lent = window, len(window)
+        self.fills(lambda *room: t85._LIBRARY.t85_decode(stream, len(stream), 200, *lent, *room), image)
+        self.fills(
+            lambda *room: t85._LIBRARY.t85_encode(416, 160, rows, len(rows), 52, options, b"", 0, *lent, *room), stream
+        )
 
 
 if __name__ == "__main__":
