@@ -3,11 +3,12 @@
 
 use pbm_core::{FromRead, ToWrite};
 use program_core::jbgtopbm85::{Job, NAME, job, open, run};
-use program_core::{end, refuse, words_of};
+use program_core::{Places, end, refuse, words_of};
 use std::process::ExitCode;
 
 /// Opens the files, and does the job.
 fn perform(rt: &HostRuntime, job: &Job) -> ExitCode {
+    let _places = Places::take(rt);
     let files = match open(rt, job) {
         Ok(files) => files,
         Err(code) => return code,

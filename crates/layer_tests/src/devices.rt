@@ -1,4 +1,4 @@
-ghost use Rattle.std.specs.Prelude.{◌≡◌, ◌<◌, ◌-◌, ◌^◌};
+ghost use Rattle.std.specs.Prelude.{◌≡◌, ◌-◌};
 
 use pbm_core::trial::{Drip, Pieces};
 use pbm_core::{
@@ -59,11 +59,7 @@ fn read<R: Input, const N: usize>(
     input: &mut R,
     mut buf: [u8; N],
 ) -> (Result<usize, DeviceFailed>, [u8; N], u64, u64) {
-    let answer = if input.failures() < u64::MAX {
-        input.read(&mut buf)
-    } else {
-        Err(DeviceFailed)
-    };
+    let answer = input.read(&mut buf);
     (answer, buf, input.failures(), input.left())
 }
 
@@ -84,19 +80,11 @@ fn reads<R: Input, const N: usize>(
 }
 
 fn write<W: Output>(output: &mut W, bytes: &[u8]) -> Result<usize, DeviceFailed> {
-    if output.failures() < u64::MAX {
-        output.write(bytes)
-    } else {
-        Err(DeviceFailed)
-    }
+    output.write(bytes)
 }
 
 fn flush<W: Output>(output: &mut W) -> Result<usize, DeviceFailed> {
-    if output.failures() < u64::MAX {
-        output.flush().and(Ok(0))
-    } else {
-        Err(DeviceFailed)
-    }
+    output.flush().and(Ok(0))
 }
 
 /// What a call gives: how many bytes were taken, and the count of failures. Bytes are written; with
@@ -140,11 +128,7 @@ const WIDE: Size = Size {
 /// What the read of a row of nine pixels answers, the row, and how many bytes are left.
 fn row_of_nine<R: Input>(input: &mut R) -> (Result<(), PbmFault>, [u8; 2], u64) {
     let mut row = [0; 2];
-    let answer = if input.failures() < u64::MAX {
-        read_row(input, WIDE, Form::Raw, &mut row)
-    } else {
-        Err(PbmFault::Read)
-    };
+    let answer = read_row(input, WIDE, Form::Raw, &mut row);
     (answer, row, input.left())
 }
 
@@ -184,9 +168,7 @@ fn errors_of_a_writer_are_failures(rt: HostRuntime) {
 }
 
 /// Writes the header of two rows of nine pixels, and the first of them.
-fn write_nine<W: Output>(output: &mut W) -> Result<(), WriteFault>
-    requires { W.failures output.old < 2 ^ 64 - 1 }
-{
+fn write_nine<W: Output>(output: &mut W) -> Result<(), WriteFault> {
     let size = Size {
         width: 9,
         height: 2,

@@ -80,7 +80,7 @@ impl CodeBytes for Given<'_> {
                 if self.ends {
                     Pulled::End
                 } else {
-                    self.failed += 1;
+                    self.failed = self.failed.wrapping_add(1);
                     Pulled::Fault
                 }
             }

@@ -1,5 +1,5 @@
 -- Pixels that come one by one, eight to a byte.
-use Rattle.std.proofs.Common.{cond, ◌≡◌, ◌≤◌, ◌<◌, ◌+◌, ◌*◌, ◌-◌, ◌%◌, ◌^◌, ◌⊎◌, inl, inr, ℕ, zero, suc, Bool, true, false, List, [], ◌∷◌, ◌++◌, length, map, get_or, slice_index, slice_index_or, Option, refl, sym, ap, ◌∙◌, subst, arith}
+use Rattle.std.proofs.Common.{cond, ◌≡◌, ◌≤◌, ◌<◌, ◌+◌, ◌*◌, ◌-◌, ◌%◌, ◌^◌, ◌⊎◌, inl, inr, ℕ, zero, suc, Bool, true, false, List, [], ◌∷◌, ◌++◌, length, map, get_or, slice_index, slice_index_or, refl, sym, ap, ◌∙◌, subst, arith}
 use mir.Val.{bool_byte}
 use Rattle.std.proofs.Math.Nat.{add-mul, pow-succ'}
 use Rattle.std.proofs.Math.Pow.{pow_mono}
@@ -7,11 +7,9 @@ use Rattle.std.proofs.lemmas.Nat.{pow-add, shl_whole}
 use Rattle.std.proofs.lemmas.Bool.{cases_lt}
 use Rattle.std.proofs.lemmas.List.{length_push, get_or_append_left, get_or-append-add, get_or_past}
 use Rattle.pbm_core.specs.Pbm.{bytes_of_row, IsMasked, masked_row}
-use Rattle.pbm_core.specs.Image.{numbers_from, binary, packed_row, IsRowOf}
-use Rattle.pbm_core.specs.Steps.{byte_at, PassesPixels}
-use Rattle.std.specs.Io.KnownBytes.{Consumes}
-use Rattle.pbm_core.specs.declared.form.Form.{Form}
-use Rattle.pbm_core.specs.declared.form.Form.TheVariants.{Raw, Plain}
+use Rattle.pbm_core.specs.Image.{numbers_from, binary, packed_row, ArePixels, IsRowOf}
+use Rattle.pbm_core.specs.Steps.{byte_at}
+use Rattle.pbm_core.specs.declared.form.Form.TheVariants.{Plain}
 use Rattle.pbm_core.proofs.Images.{map_same}
 use Rattle.pbm_core.proofs.Masks.{masked_is}
 use Rattle.pbm_core.proofs.Packing.{length_map, map_list, packed_row_of}
@@ -131,13 +129,6 @@ packed_masked width row some wide =
     subst (IsMasked width) same (masked_is width (packed_row row) some whole)
 
 -- a row of digits that was read
-pub plain_row : (form : Form) (width : ℕ) (row : List ℕ) (old new : Option (List ℕ)) (whole rest : ℕ) → form ≡ Plain
-    → (pixels : List Bool) × (length pixels ≡ width) × (row ≡ packed_row pixels) × PassesPixels old new whole rest pixels
-    → (given : List ℕ) × IsRowOf form width given row × Consumes old new given × (rest + length given ≡ whole)
-plain_row Raw width row old new whole rest is p = (let e = is in cc)
-plain_row Plain width row old new whole rest is p = (
-  p.3.given,
-  record { pixels = p.0; is_row = (p.1, p.3.are_pixels); packed = p.2; cleared = λ other. cc },
-  p.3.taken,
-  p.3.whole,
-)
+pub plain_row : (width : ℕ) (given : List ℕ) (pixels : List Bool) (row : List ℕ) → 1 ≤ width → length pixels ≡ width → ArePixels given pixels → row ≡ packed_row pixels → IsRowOf Plain width given row
+plain_row width given pixels row some wide are packed =
+    record { pixels = pixels; is_row = (wide, are); packed = packed; cleared = (λ other. cc); masked = subst (IsMasked width) (sym packed) (packed_masked width pixels some wide) }

@@ -4,7 +4,6 @@ use Rattle.std.proofs.lemmas.Bool.{cases_lt}
 use Rattle.pbm_core.specs.declared.fault.PbmFault.{PbmFault}
 use Rattle.pbm_core.specs.declared.form.Form.{Form}
 use Rattle.pbm_core.specs.Image.{AreRows, HasRowFault, OneImageFault, ImageOrFault}
-use Rattle.pbm_core.specs.Outcome.{SameHeader}
 use Rattle.pbm_core.proofs.Judged.{one_header}
 use Rattle.pbm_core.proofs.Pixels.{one_row, one_row_fault, row_or_fault, same_rows}
 
@@ -31,7 +30,7 @@ image_or_fault bytes width rows rest f p e =
 
 pub one_image_fault : OneImageFault
 one_image_fault bytes f f' p q = went (cases_lt (length p.rows) (length q.rows)) (cases_lt (length q.rows) (length p.rows)) where
-  same : SameHeader p.form p.width p.height p.body q.form q.width q.height q.body
+  same : record { forms : p.form ≡ q.form; widths : p.width ≡ q.width; heights : p.height ≡ q.height; rests : p.body ≡ q.body }
   same = one_header bytes p.form p.width p.height p.body q.form q.width q.height q.body p.header q.header
 
   here : AreRows q.form q.width p.holds.front p.rows

@@ -1,5 +1,5 @@
 -- Rows judged from their beginning by a function, with which each row and each fault agrees.
-use Rattle.std.proofs.Common.{cond, Bool, true, false, ◌≡◌, ◌≢◌, ◌<◌, ◌≤◌, ◌+◌, ℕ, zero, suc, List, [], ◌∷◌, ◌++◌, length, take, drop, Option, nat_lt, refl, sym, ap, ◌∙◌, subst, append-nil, append_assoc, length-append, arith}
+use Rattle.std.proofs.Common.{cond, Bool, true, false, ◌≡◌, ◌≢◌, ◌<◌, ◌≤◌, ◌+◌, ℕ, zero, suc, List, [], ◌∷◌, ◌++◌, length, take, drop, nat_lt, refl, sym, ap, ◌∙◌, subst, append-nil, append_assoc, length-append, arith}
 use Rattle.std.specs.Bool.{◌==◌}
 use Rattle.std.specs.List.{AllByRecursion}
 use Rattle.std.proofs.Math.Seq.{drop-append_seam}
@@ -11,10 +11,6 @@ use Rattle.pbm_core.specs.declared.form.Form.{Form}
 use Rattle.pbm_core.specs.declared.form.Form.TheVariants.{Raw, Plain}
 use Rattle.pbm_core.specs.Pbm.{bytes_of_row, IsWhite}
 use Rattle.pbm_core.specs.Image.{pixels_of, digit_of, ArePixels, IsRow, PixelFault, EndsInPixels, RowFault, AreRows, HasRow, HasRowFault, OneRow, OneRowFault, RowOrFault}
-use Rattle.pbm_core.specs.Steps.{PassesPixels}
-use Rattle.pbm_core.specs.Fault.{PbmEnds}
-use Rattle.pbm_core.proofs.Streams.{Consumes-none, Consumes-more}
-use Rattle.pbm_core.proofs.Ends.{Ends-after}
 use Rattle.pbm_core.proofs.Judged.{white_test, white-true, white-not}
 
 -- pixels, and then more pixels
@@ -23,35 +19,19 @@ pixels-append xs ys [] more p q = subst (λ z. ArePixels (z ++ ys) more) (sym p)
 pixels-append xs ys (black ∷ row) more p q = (p.0, p.1 ++ ys, ap (λ z. z ++ ys) p.2 ∙ append_assoc p.0 (digit_of black ∷ p.1) ys, p.3, pixels-append p.1 ys row more p.4 q)
 
 -- so many pixels came, and then fewer than there are still to come
-pub pixels_then : {a b c : Option (List ℕ)} {f : PbmFault} (whole left rest many n : ℕ) (pixels : List Bool) → PassesPixels a b whole left pixels → length pixels + n ≤ many
-    → PbmEnds b c (λ given e. EndsInPixels n given e × (rest + length given ≡ left)) f → PbmEnds a c (λ given e. EndsInPixels many given e × (rest + length given ≡ whole)) f
-pixels_then whole left rest many n pixels p fits e =
-    Ends-after p.given p.taken (λ given f q. (
-      record {
-        pixels = pixels ++ q.0.pixels;
-        digits = p.given ++ q.0.digits;
-        space = q.0.space;
-        following = q.0.following;
-        bytes_are = ap (λ z. p.given ++ z) q.0.bytes_are ∙ sym (append_assoc p.given q.0.digits (q.0.space ++ q.0.following));
-        few = (let l = length-append pixels q.0.pixels in let few = q.0.few in omega arith);
-        are_pixels = pixels-append p.given q.0.digits pixels q.0.pixels p.are_pixels q.0.are_pixels;
-        is_space = q.0.is_space;
-        has_fault = q.0.has_fault;
-      },
-      (let l = length-append p.given given in let w = p.whole in let r = q.1 in omega arith),
-    )) e
-
--- pixels, and then those after them
-pub pixels_join : (a b c : Option (List ℕ)) (whole left rest : ℕ) (pixels more : List Bool) → PassesPixels a b whole left pixels → PassesPixels b c left rest more → PassesPixels a c whole rest (pixels ++ more)
-pixels_join a b c whole left rest pixels more p q = record {
-  given = p.given ++ q.given;
-  taken = Consumes-more a b c p.given q.given p.taken q.taken;
-  are_pixels = pixels-append p.given q.given pixels more p.are_pixels q.are_pixels;
-  whole = (let l = length-append p.given q.given in let v = p.whole in let w = q.whole in omega arith);
+pub pixels_then : (front : List ℕ) (pixels : List Bool) {many n : ℕ} → ArePixels front pixels → length pixels + n ≤ many
+    → (given : List ℕ) (f : PbmFault) → EndsInPixels n given f → EndsInPixels many (front ++ given) f
+pixels_then front pixels {many} {n} are fits given f q = record {
+  pixels = pixels ++ q.pixels;
+  digits = front ++ q.digits;
+  space = q.space;
+  following = q.following;
+  bytes_are = ap (λ z. front ++ z) q.bytes_are ∙ sym (append_assoc front q.digits (q.space ++ q.following));
+  few = (let l = length-append pixels q.pixels in let few = q.few in omega arith);
+  are_pixels = pixels-append front q.digits pixels q.pixels are q.are_pixels;
+  is_space = q.is_space;
+  has_fault = q.has_fault;
 }
-
-pub pixels_none : (a : Option (List ℕ)) (left : ℕ) → PassesPixels a a left left []
-pixels_none a left = record { given = []; taken = Consumes-none a; are_pixels = refl; whole = omega arith }
 
 -- ---- the next pixel
 

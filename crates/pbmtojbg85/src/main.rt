@@ -3,7 +3,7 @@
 
 use pbm_core::{FromRead, ToWrite};
 use program_core::pbmtojbg85::{Job, NAME, job, open, run};
-use program_core::{LineFault, end, refuse, words_of};
+use program_core::{LineFault, Places, end, refuse, words_of};
 use std::io::BufReader;
 use std::process::ExitCode;
 use t85_core::Fault;
@@ -13,6 +13,7 @@ const HELD: usize = 4096;
 
 /// Opens the files, and does the job.
 fn perform(rt: &HostRuntime, job: &Job) -> ExitCode {
+    let _places = Places::take(rt);
     let (input, output) = match open(rt, job) {
         Ok(files) => files,
         Err(code) => return code,

@@ -1,6 +1,6 @@
 -- The command of `jbgtopbm85`, as clap's contracts see one, what the arguments say by it, and what `run` does for a job.
 use Rattle.std.specs.Prelude.{◌≡◌, ◌-◌, ◌^◌, ℕ, Bool, true, false, List, Result, Some, codes, option_map, string_bytes, unwrap_or}
-use Rattle.pbm_core.specs.Device.{Change}
+use Rattle.t85_core.specs.Change.{Change}
 use Rattle.clap.specs.Words.{App, Kinds, Row, fault_of, Rule, Text, first_of, matches_of, new_app, new_rule, with_rule}
 use Rattle.clap.specs.declared.builder.ArgAction.TheVariants.{SetTrue}
 use Rattle.t85_core.specs.declared.fault.Fault.{Fault}

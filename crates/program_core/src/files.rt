@@ -5,6 +5,7 @@ ghost use Rattle.program_core.specs.Run.{names_file, reads_file, writes_file};
 
 use std::fs::{self, File};
 use std::io::{self, Read, Stdin, Stdout, Write};
+use std::os::fd::{AsRawFd, RawFd};
 
 /// The name that stands for a standard stream.
 const STREAM: &str = "-";
@@ -86,5 +87,49 @@ impl Write for Writable {
             Writable::Stream(stream) => stream.flush(),
             Writable::File(file) => file.flush(),
         }
+    }
+}
+
+/// The last place of a standard stream among the open files.
+const LAST_STREAM: RawFd = 2;
+
+/// Files in the places of those standard streams that are closed. While they are kept, no file that is opened gets such a
+/// place, so no message goes into it.
+#[derive(Drop)]
+pub struct Places {
+    first: Option<File>,
+    second: Option<File>,
+    third: Option<File>,
+}
+
+impl Places {
+    /// Takes the places that are free.
+    pub fn take(rt: &HostRuntime) -> Places {
+        let first = take_place(rt);
+        if first.is_none() {
+            return Places {
+                first,
+                second: None,
+                third: None,
+            };
+        }
+        Places {
+            first,
+            second: take_place(rt),
+            third: take_place(rt),
+        }
+    }
+}
+
+/// A file in the first free place, where that is one of a standard stream. Reading gives nothing there, and writing fails.
+fn take_place(rt: &HostRuntime) -> Option<File> {
+    let file = match fs::open(rt, "/dev/null") {
+        Ok(file) => file,
+        Err(_) => fs::open(rt, "/").ok()?,
+    };
+    if file.as_raw_fd() <= LAST_STREAM {
+        Some(file)
+    } else {
+        None
     }
 }

@@ -1,13 +1,13 @@
 //! The work of `jbgtopbm85`: its command line, and its run over lent devices.
 
-ghost use Rattle.std.specs.Prelude.{◌≡◌, ◌≤◌, ◌<◌, ◌+◌, ◌-◌, ◌^◌, ◌&&◌, not, false, is_some, IfErr, IfOk, IfSome, Result, option_map, string_bytes};
+ghost use Rattle.std.specs.Prelude.{◌≡◌, ◌&&◌, not, false, is_some, IfErr, IfOk, Result, option_map, string_bytes};
 ghost use Rattle.std.specs.Option.{option_map_or};
-ghost use Rattle.t85_core.specs.ToPbm.{again_known, again_failures};
+ghost use Rattle.t85_core.specs.ToPbm.{again_change};
 ghost use Rattle.std.specs.Io.KnownBytes.{Keeps};
 ghost use Rattle.t85_core.specs.declared.fault.Fault.{Fault};
 ghost use Rattle.std.specs.Process.{exit_status as exit_code_status};
-ghost use Rattle.pbm_core.specs.Device.{change};
-ghost use Rattle.program_core.specs.Run.{names_file, reads_file, writes_file, exit_status};
+ghost use Rattle.t85_core.specs.Change.{input_change, output_change};
+ghost use Rattle.program_core.specs.Run.{names_file, reads_file, writes_file, exit_status, OnceAtMost};
 ghost use Rattle.program_core.specs.Jbgtopbm85.{Does, limit_of};
 ghost use Rattle.t85_core.specs.Failures.{FlushesOnce};
 
@@ -71,25 +71,21 @@ pub fn run<R: Input, Second: Input, W: Output, M: Output>(
     output: &mut W,
     messages: &mut M,
 ) -> u8
-    requires input { R.failures input.old < 2 ^ 64 - 1 }
-    requires again { IfSome again.old (λ reading. Second.failures reading < 2 ^ 64 - 1) }
-    requires output { W.failures output.old < 2 ^ 64 - 1 }
-    requires messages { M.failures messages.old < 2 ^ 64 - 1 }
-
     // The engine's outcome is passed on.
     ensures outcome { (outcome : Result (Unit {0}) Fault) × (result ≡ exit_status outcome) ×
         Does job.now.info (limit_of job.now)
-        (change R.remaining R.failures input.old input.new)
+        (input_change R.view input.old input.new)
         (is_some again.old) (again.new ≡ again.old)
-        (change (again_known Second.remaining) (again_failures Second.failures) again.old again.new)
-        (change W.contents W.failures output.old output.new) (W.flushed output.new) outcome
-        × FlushesOnce (W.flushes output.old) (W.flushes output.new) outcome }
-    ensures same_target { W.target output.new ≡ W.target output.old }
+        (again_change Second.view again.old again.new)
+        (output_change W.view output.old output.new) (W.view output.new).flushed outcome
+        × FlushesOnce (W.view output.old).flushes (W.view output.new).flushes outcome }
+    ensures same_target { (W.view output.new).target ≡ (W.view output.old).target }
 
     // A message is tried once, and only after a fault.
-    ensures quiet { result ≡ 0 → Keeps (M.contents messages.old) (M.contents messages.new) ×
-        (M.failures messages.new ≡ M.failures messages.old) }
-    ensures once { M.failures messages.new ≤ M.failures messages.old + 1 }
+    ensures quiet { result ≡ 0 →
+        Keeps (M.view messages.old).contents (M.view messages.new).contents ×
+        ((M.view messages.new).failures ≡ (M.view messages.old).failures) }
+    ensures once { OnceAtMost (M.view messages.old).failures (M.view messages.new).failures }
 {
     let outcome = work_on(alloc, job, input, again, output);
     report(NAME, outcome, messages)
@@ -103,16 +99,13 @@ fn work_on<R: Input, Second: Input, W: Output>(
     again: &mut Option<Second>,
     output: &mut W,
 ) -> Result<(), Fault>
-    requires input { R.failures input.old < 2 ^ 64 - 1 }
-    requires again { IfSome again.old (λ reading. Second.failures reading < 2 ^ 64 - 1) }
-    requires output { W.failures output.old < 2 ^ 64 - 1 }
     ensures does { Does job.now.info (limit_of job.now)
-        (change R.remaining R.failures input.old input.new)
+        (input_change R.view input.old input.new)
         (is_some again.old) (again.new ≡ again.old)
-        (change (again_known Second.remaining) (again_failures Second.failures) again.old again.new)
-        (change W.contents W.failures output.old output.new) (W.flushed output.new) result }
-    ensures flushes { FlushesOnce (W.flushes output.old) (W.flushes output.new) result }
-    ensures same_target { W.target output.new ≡ W.target output.old }
+        (again_change Second.view again.old again.new)
+        (output_change W.view output.old output.new) (W.view output.new).flushed result }
+    ensures flushes { FlushesOnce (W.view output.old).flushes (W.view output.new).flushes result }
+    ensures same_target { (W.view output.new).target ≡ (W.view output.old).target }
 {
     if job.info {
         info(input, output)

@@ -10,6 +10,6 @@ mod message;
 pub mod pbmtojbg85;
 mod program;
 
-pub use files::{Readable, Writable};
+pub use files::{Places, Readable, Writable};
 pub use line_fault::LineFault;
 pub use program::{end, refuse, words_of};

@@ -1,8 +1,8 @@
 //! A line for standard error.
 
-ghost use Rattle.std.specs.Prelude.{◌≡◌, ◌≤◌, ◌<◌, ◌+◌, ◌-◌, ◌^◌, ◌++◌, [], take};
+ghost use Rattle.std.specs.Prelude.{◌≡◌, ◌≤◌, ◌++◌, [], take};
 ghost use Rattle.std.specs.Io.KnownBytes.{Keeps};
-ghost use Rattle.program_core.specs.Run.{exit_status};
+ghost use Rattle.program_core.specs.Run.{exit_status, OnceAtMost};
 
 use pbm_core::{Output, write_bytes};
 use std::fmt::{self, Write};
@@ -53,12 +53,12 @@ impl fmt::Write for Message {
 
 /// Reports a fault to `messages`, and gives the exit status: 0, or 1 after a fault.
 pub(crate) fn report<M: Output>(program: &str, outcome: Result<(), Fault>, messages: &mut M) -> u8
-    requires { M.failures messages.old < 2 ^ 64 - 1 }
     ensures status { result ≡ exit_status outcome }
     // A message is tried once, and only after a fault.
-    ensures quiet { result ≡ 0 → Keeps (M.contents messages.old) (M.contents messages.new) ×
-        (M.failures messages.new ≡ M.failures messages.old) }
-    ensures once { M.failures messages.new ≤ M.failures messages.old + 1 }
+    ensures quiet { result ≡ 0 →
+        Keeps (M.view messages.old).contents (M.view messages.new).contents ×
+        ((M.view messages.new).failures ≡ (M.view messages.old).failures) }
+    ensures once { OnceAtMost (M.view messages.old).failures (M.view messages.new).failures }
 {
     match outcome {
         Ok(()) => 0,
@@ -71,8 +71,7 @@ pub(crate) fn report<M: Output>(program: &str, outcome: Result<(), Fault>, messa
 
 /// Writes a program's line about a fault, in one write where the output takes it.
 fn tell<M: Output>(program: &str, fault: Fault, messages: &mut M)
-    requires { M.failures messages.old < 2 ^ 64 - 1 }
-    ensures { M.failures messages.new ≤ M.failures messages.old + 1 }
+    ensures { OnceAtMost (M.view messages.old).failures (M.view messages.new).failures }
 {
     let mut message = Message::new();
     let _ = writeln!(message, "{program}: {fault}");

@@ -1,13 +1,13 @@
 //! The work of `pbmtojbg85`: its command line, and its run over lent devices.
 
-ghost use Rattle.std.specs.Prelude.{◌≡◌, ◌≤◌, ◌<◌, ◌+◌, ◌-◌, ◌^◌, IfErr, IfOk, Result, option_map, string_bytes};
+ghost use Rattle.std.specs.Prelude.{◌≡◌, IfErr, IfOk, Result, option_map, string_bytes};
 ghost use Rattle.std.specs.Io.KnownBytes.{Keeps};
 ghost use Rattle.t85_core.specs.ToJbg.{ToJbg};
 ghost use Rattle.t85_core.specs.Failures.{FlushesOnce};
 ghost use Rattle.t85_core.specs.declared.fault.Fault.{Fault};
 ghost use Rattle.std.specs.Process.{exit_status as exit_code_status};
-ghost use Rattle.pbm_core.specs.Device.{change};
-ghost use Rattle.program_core.specs.Run.{names_file, reads_file, writes_file, exit_status};
+ghost use Rattle.t85_core.specs.Change.{input_change, output_change};
+ghost use Rattle.program_core.specs.Run.{names_file, reads_file, writes_file, exit_status, OnceAtMost};
 ghost use Rattle.program_core.specs.Pbmtojbg85.{settings_asked};
 
 mod words;
@@ -47,22 +47,19 @@ pub fn run<R: Input, W: Output, M: Output>(
     output: &mut W,
     messages: &mut M,
 ) -> u8
-    requires input { R.failures input.old < 2 ^ 64 - 1 }
-    requires output { W.failures output.old < 2 ^ 64 - 1 }
-    requires messages { M.failures messages.old < 2 ^ 64 - 1 }
-
     // The engine's outcome is passed on.
     ensures outcome { (outcome : Result (Unit {0}) Fault) × (result ≡ exit_status outcome) ×
         ToJbg (settings_asked job.now)
-        (change R.remaining R.failures input.old input.new)
-        (change W.contents W.failures output.old output.new) (W.flushed output.new) outcome
-        × FlushesOnce (W.flushes output.old) (W.flushes output.new) outcome }
-    ensures same_target { W.target output.new ≡ W.target output.old }
+        (input_change R.view input.old input.new)
+        (output_change W.view output.old output.new) (W.view output.new).flushed outcome
+        × FlushesOnce (W.view output.old).flushes (W.view output.new).flushes outcome }
+    ensures same_target { (W.view output.new).target ≡ (W.view output.old).target }
 
     // A message is tried once, and only after a fault.
-    ensures quiet { result ≡ 0 → Keeps (M.contents messages.old) (M.contents messages.new) ×
-        (M.failures messages.new ≡ M.failures messages.old) }
-    ensures once { M.failures messages.new ≤ M.failures messages.old + 1 }
+    ensures quiet { result ≡ 0 →
+        Keeps (M.view messages.old).contents (M.view messages.new).contents ×
+        ((M.view messages.new).failures ≡ (M.view messages.old).failures) }
+    ensures once { OnceAtMost (M.view messages.old).failures (M.view messages.new).failures }
 {
     let outcome = to_jbg(alloc, input, output, &job.options());
     report(NAME, outcome, messages)

@@ -4,7 +4,7 @@
 //! any other number, as none, also decodes them.
 #![tactic(auto)]
 
-ghost use Rattle.std.specs.Prelude.{◌≡◌, ◌+◌, ◌<◌, ◌^◌};
+ghost use Rattle.std.specs.Prelude.{◌≡◌, ◌+◌, ◌<◌};
 
 use qm_core::{CodeBytes, CodeSink, Context, Decoder, Encoder, Learned, Pulled, SinkFault};
 use std::alloc::Global;
@@ -65,7 +65,7 @@ impl CodeSink for MemorySink {
 
     fn push(&mut self, byte: u8) -> Result<(), SinkFault> {
         if self.bytes.push(byte).is_err() {
-            self.failed += 1;
+            self.failed = self.failed.wrapping_add(1);
             return Err(SinkFault);
         }
         Ok(())
@@ -131,9 +131,7 @@ fn draw(count: u32) -> u32 {
 }
 
 /// Codes pixels, and reports whether the sink took all bytes.
-fn encode(count: u32, sink: &mut MemorySink) -> bool
-    requires { sink.old.failed + 1 < 2 ^ 64 }
-{
+fn encode(count: u32, sink: &mut MemorySink) -> bool {
     let mut encoder = Encoder::start();
     let mut learned = Learned::new();
     let mut draws = Draws::new();

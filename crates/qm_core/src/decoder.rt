@@ -1,11 +1,14 @@
 //! The decoder.
 
-ghost use Rattle.std.specs.Prelude.{◌≡◌, ◌≢◌, ◌+◌, ◌-◌, ◌*◌, ◌%◌, ◌^◌, ◌≤◌, ◌<◌, ◌↔◌, false, nat_eq, IsTrue, IsErr, OnOk, OnErr};
+ghost use Rattle.std.specs.Prelude.{◌≡◌, ◌≢◌, ◌+◌, ◌-◌, ◌*◌, ◌%◌, ◌^◌, ◌≤◌, ◌<◌, ◌↔◌, false, not, nat_eq, nat_lt, IsTrue, IsErr, OnOk, OnErr};
+ghost use Rattle.qm_core.specs.Place.{same};
+ghost use Rattle.qm_core.specs.Counts.{one_more};
 ghost use Rattle.qm_core.specs.declared.source.Heard.TheVariants.{Stopped};
 
 use crate::context::Context;
-use crate::entries::entry_of;
+use crate::entries::{entry_of, next_cell};
 use crate::learned::Learned;
+use crate::picking::pick;
 use crate::skipping::left_of;
 use crate::source::{CodeBytes, Heard, Pulled};
 
@@ -32,6 +35,38 @@ pub struct Decoder {
     ghost stuck: { heard ≡ Stopped → bits < 16 },
 }
 
+/// The part of a place that the code lies in, and whether it is the other pixel's.
+#[derive(Drop)]
+struct Part {
+    code: u32,
+    span: u32,
+    is_other: bool,
+}
+
+/// The part that a code lies in, of a place that is cut into a lower and an upper one.
+#[inline(always)]
+fn part_of(code: u32, lower: u32, upper: u32) -> Part
+    ensures lower { code < lower → (result.code ≡ code) × (result.span ≡ lower) ×
+        (result.is_other ≡ nat_lt lower upper) }
+    ensures upper { lower ≤ code → (result.code ≡ code - lower) × (result.span ≡ upper) ×
+        (result.is_other ≡ not (nat_lt lower upper)) }
+{
+    let is_upper = lower <= code;
+    Part {
+        code: code - pick(is_upper, lower, 0),
+        span: pick(is_upper, upper, lower),
+        is_other: is_upper != (lower < upper),
+    }
+}
+
+/// The favoured pixel of a cell or the other one, 1 for black.
+#[inline(always)]
+fn pixel_of(cell: u8, is_other: bool) -> u8
+    ensures { nat_eq result 1 ≡ same (not is_other) (nat_eq (cell % 2) 1) }
+{
+    (cell % 2) ^ u8::from(is_other)
+}
+
 impl Decoder {
     ghost use Rattle.std.specs.Prelude.{ℕ, List, [], ◌∷◌, ◌++◌, length, replicate};
     ghost use Rattle.qm_core.specs.Code.{wanted_bytes};
@@ -56,6 +91,18 @@ impl Decoder {
         }
     }
 
+    /// The same again.
+    pub fn copy(&self) -> Decoder
+        ensures { result ≡ self.now }
+    {
+        Decoder {
+            code: self.code,
+            span: self.span,
+            bits: self.bits,
+            heard: self.heard,
+        }
+    }
+
     /// The next pixel, in the context `cx`, and what that context learns of it.
     ///
     /// Bytes are pulled first, as far as they decide the pixel and no further. After `End` zeros are taken for them.
@@ -66,7 +113,6 @@ impl Decoder {
         cx: Context,
         source: &mut S,
     ) -> Result<bool, Stop>
-        requires { S.failed source.old + 1 < 2 ^ 64 }
         // A decoder that has stopped stays as it is, and pulls nothing.
         ensures stopped { IsTrue (has_stopped self.old) →
             IsErr result × (self.new ≡ self.old) × (learned.new ≡ learned.old) ×
@@ -74,7 +120,7 @@ impl Decoder {
         ensures stops { IsTrue (has_stopped self.new) ↔ IsErr result }
         ensures same { OnOk result (S.failed source.new ≡ S.failed source.old) }
         ensures counted { has_stopped self.old ≡ false →
-            OnErr result (S.failed source.new ≡ S.failed source.old + 1) }
+            OnErr result (S.failed source.new ≡ one_more (S.failed source.old)) }
         ensures unchanged { OnErr result (learned.new ≡ learned.old) }
 
         ensures next { (p : Place) (answers : List Pulled) → DecoderIsAt self.old p answers →
@@ -126,14 +172,13 @@ impl Decoder {
     /// Pulls until 16 bits are there, at most two bytes.
     fn fill<S: CodeBytes>(&mut self, source: &mut S) -> Result<(), Stop>
         requires few { self.old.bits < 16 }
-        requires count { S.failed source.old + 1 < 2 ^ 64 }
         ensures bits { OnOk result (16 ≤ self.new.bits) }
         ensures stopped { IsTrue (has_stopped self.old) → IsErr result × (self.new ≡ self.old) ×
             (source.new ≡ source.old) }
         ensures stops { IsTrue (has_stopped self.new) ↔ IsErr result }
         ensures same { OnOk result (S.failed source.new ≡ S.failed source.old) }
         ensures counted { has_stopped self.old ≡ false →
-            OnErr result (S.failed source.new ≡ S.failed source.old + 1) }
+            OnErr result (S.failed source.new ≡ one_more (S.failed source.old)) }
         ensures fills { (p : Place) (answers : List Pulled) → DecoderIsAt self.old p answers →
             Fills (Pulls S.gives S.failed) source.old source.new p answers self.new result }
     {
@@ -147,14 +192,13 @@ impl Decoder {
     /// Takes the next byte, or 0 after the end.
     fn pull<S: CodeBytes>(&mut self, source: &mut S) -> Result<(), Stop>
         requires few { self.old.bits < 16 }
-        requires count { S.failed source.old + 1 < 2 ^ 64 }
         ensures bits { OnOk result (self.new.bits ≡ self.old.bits + 8) }
         ensures stopped { IsTrue (has_stopped self.old) → IsErr result × (self.new ≡ self.old) ×
             (source.new ≡ source.old) }
         ensures stops { IsTrue (has_stopped self.new) ↔ IsErr result }
         ensures same { OnOk result (S.failed source.new ≡ S.failed source.old) }
         ensures counted { has_stopped self.old ≡ false →
-            OnErr result (S.failed source.new ≡ S.failed source.old + 1) }
+            OnErr result (S.failed source.new ≡ one_more (S.failed source.old)) }
         ensures fills { (p : Place) (answers : List Pulled) → DecoderIsAt self.old p answers →
             Fills (Pulls S.gives S.failed) source.old source.new p answers self.new result }
     {
@@ -214,30 +258,14 @@ impl Decoder {
         let cell = learned.cell(cx);
         let entry = entry_of(cell);
         let lower = self.span - entry.span;
-        let favoured = cell % 2;
-        if self.code < lower {
-            if lower >= 0x40_0000 {
-                self.span = lower;
-                return favoured;
-            }
-            self.narrow(self.code, lower);
-            if lower < entry.span {
-                learned.set(cx, entry.other, entry.other_turned);
-                1 - favoured
-            } else {
-                learned.set(cx, entry.favoured, entry.favoured_turned);
-                favoured
-            }
-        } else {
-            self.narrow(self.code - lower, entry.span);
-            if lower < entry.span {
-                learned.set(cx, entry.favoured, entry.favoured_turned);
-                favoured
-            } else {
-                learned.set(cx, entry.other, entry.other_turned);
-                1 - favoured
-            }
+        if self.code.max(0x3F_FFFF) < lower {
+            self.span = lower;
+            return cell % 2;
         }
+        let part = part_of(self.code, lower, entry.span);
+        self.narrow(part.code, part.span);
+        learned.set_of(cx, false, next_cell(!part.is_other, entry));
+        pixel_of(cell, part.is_other)
     }
 
     /// Goes to a part that is too small, doubled until it is large enough.

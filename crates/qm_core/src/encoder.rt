@@ -1,15 +1,17 @@
 //! The encoder.
 
 ghost use Rattle.std.specs.Prelude.{◌≡◌, ◌≢◌, ◌+◌, ◌-◌, ◌*◌, ◌%◌, ◌^◌, ◌≤◌, ◌<◌, List, ℕ, ◌++◌, None, IsTrue, false, true, Err, Ok, [], IsErr, OnOk, OnErr, ◌↔◌, nat_lt, not, if◌then◌else◌};
+ghost use Rattle.qm_core.specs.Counts.{one_more};
 ghost use Rattle.qm_core.specs.Place.{Place, State, start, step, renormalised, same};
 ghost use Rattle.qm_core.specs.Code.{stuffed};
-ghost use Rattle.qm_core.specs.Machine.{estimate, run_bytes, Digits};
+ghost use Rattle.qm_core.specs.Machine.{run_bytes, Digits};
 ghost use Rattle.qm_core.specs.Sink.{Writes};
 
 use crate::batch::{Batch, Tail};
 use crate::context::Context;
-use crate::entries::{Entry, cost_of, entry_of};
+use crate::entries::{cost_of, entry_of, next_cell};
 use crate::learned::Learned;
+use crate::picking::pick;
 use crate::sink::{CodeSink, SinkFault};
 use crate::skipping::left_of;
 
@@ -45,13 +47,14 @@ pub struct Encoder {
     ghost small: { span ≤ 0x80_0000 },
     ghost whole: { span % 128 ≡ 0 },
     ghost least: { 16 ≤ bits },
-    ghost most: { bits ≤ 23 },
+    ghost most: { bits ≤ 39 },
     ghost room: { low + span ≤ 2 ^ (bits + 8) },
     ghost fixed: { tail.held ≡ None → low + span ≤ 2 ^ (bits + 7) },
-    ghost count: { tail.zeros + tail.ones ≤ 2 * events },
+    ghost count: { 8 * (tail.zeros + tail.ones) + bits ≤ 16 * events + 16 },
     ghost few: { events ≤ 2 ^ 56 },
     ghost going: { failed ≡ false → floor ≡ 0x40_0000 },
     ghost stuck: { failed ≡ true → 0x80_0000 < floor },
+    ghost low_enough: { floor ≤ 0x8000_0000 },
 }
 
 /// The registers after doublings.
@@ -68,7 +71,7 @@ fn raise(low: u64, span: u32, bits: u32) -> Doubled
     requires large { 128 ≤ span }
     requires small { span < 0x40_0000 }
     requires whole { span % 128 ≡ 0 }
-    requires bits { bits ≤ 23 }
+    requires bits { bits ≤ 39 }
     requires room { low + span ≤ 2 ^ (bits + 8) }
     ensures large { 0x40_0000 ≤ result.span }
     ensures small { result.span ≤ 0x80_0000 }
@@ -99,7 +102,7 @@ struct Out {
 #[inline(always)]
 fn byte_out(tail: &mut Tail, low: u64, span: u32, bits: u32) -> Out
     requires least { 24 ≤ bits }
-    requires most { bits ≤ 38 }
+    requires most { bits ≤ 54 }
     requires small { span ≤ 0x80_0000 }
     requires some { 1 ≤ span }
     requires room { low + span ≤ 2 ^ (bits + 8) }
@@ -132,21 +135,23 @@ struct Shifted {
     bits: u32,
 }
 
-/// Moves the bytes above the last 16 bits to the tail.
+/// Moves the bytes above the last 16 bits to the tail, two at most.
 #[inline(always)]
 fn bytes_out(tail: &mut Tail, low: u64, span: u32, bits: u32) -> Shifted
     requires least { 24 ≤ bits }
-    requires most { bits ≤ 38 }
+    requires most { bits ≤ 54 }
     requires small { span ≤ 0x80_0000 }
     requires some { 1 ≤ span }
     requires room { low + span ≤ 2 ^ (bits + 8) }
     requires fixed { tail.old.held ≡ None → low + span ≤ 2 ^ (bits + 7) }
     requires count { tail.old.zeros + tail.old.ones + 4 < 2 ^ 64 }
     ensures least { 16 ≤ result.bits }
-    ensures most { result.bits ≤ 23 }
+    ensures most { result.bits ≤ 38 }
+    ensures short { bits ≤ 39 → result.bits ≤ 23 }
     ensures room { result.low + span ≤ 2 ^ (result.bits + 8) }
     ensures fixed { tail.new.held ≡ None → result.low + span ≤ 2 ^ (result.bits + 7) }
-    ensures count { tail.new.zeros + tail.new.ones ≤ tail.old.zeros + tail.old.ones + 2 }
+    ensures count { 8 * (tail.new.zeros + tail.new.ones) + result.bits ≤
+        8 * (tail.old.zeros + tail.old.ones) + bits }
     ensures digits { (p : Place) (front : List ℕ) → Digits low span bits p
         (front ++ run_bytes tail.old.zeros tail.old.held tail.old.ones) →
         Digits result.low span result.bits p (((front
@@ -180,7 +185,6 @@ fn bytes_out(tail: &mut Tail, low: u64, span: u32, bits: u32) -> Shifted
 /// Writes two batches.
 #[inline(always)]
 fn write_both<W: CodeSink>(first: Batch, second: Batch, out: &mut W) -> Result<(), CoderFault>
-    requires { W.failed out.old + 1 < 2 ^ 64 }
     ensures writes { Writes W.took W.refused W.failed out.old
         (stuffed (run_bytes first.zeros first.byte first.ones ++ run_bytes second.zeros second.byte
         second.ones))
@@ -199,18 +203,21 @@ fn write_both<W: CodeSink>(first: Batch, second: Batch, out: &mut W) -> Result<(
 /// Whether a pixel of this cost changes nothing but the size.
 #[inline(always)]
 fn is_quiet(cost: u32, span: u32, floor: u32) -> bool
+    requires cost { cost ≤ 0x80_0000 }
+    requires floor { floor ≤ 0x8000_0000 }
     ensures enough { result ≡ true → floor + cost ≤ span }
     ensures short { result ≡ false → span < floor + cost }
 {
-    cost <= span && span - cost >= floor
+    floor + cost <= span
 }
 
 /// The floor of an encoder.
 fn floor_of(failed: bool) -> u32
     ensures going { failed ≡ false → result ≡ 0x40_0000 }
     ensures stuck { failed ≡ true → 0x80_0000 < result }
+    ensures most { result ≤ 0x8000_0000 }
 {
-    if failed { u32::MAX } else { 0x40_0000 }
+    if failed { 0x8000_0000 } else { 0x40_0000 }
 }
 
 /// Whether a pixel takes the lower part.
@@ -218,27 +225,12 @@ fn floor_of(failed: bool) -> u32
 fn is_lower(is_favoured: bool, lower: u32, upper: u32) -> bool
     ensures { result ≡ (if nat_lt lower upper then not is_favoured else is_favoured) }
 {
-    if lower < upper {
-        !is_favoured
-    } else {
-        is_favoured
-    }
-}
-
-/// The estimate after a pixel whose part is too small.
-#[inline(always)]
-fn next_cell(is_favoured: bool, entry: &Entry) -> u8
-    ensures { result ≡ (if is_favoured then entry.now.favoured else entry.now.other) }
-{
-    if is_favoured {
-        entry.favoured
-    } else {
-        entry.other
-    }
+    is_favoured != (lower < upper)
 }
 
 impl Encoder {
     ghost use Rattle.std.specs.Prelude.{replicate};
+    ghost use Rattle.qm_core.specs.Counts.{one_more};
     ghost use Rattle.qm_core.specs.Place.{after};
     ghost use Rattle.qm_core.specs.Encoder.{event_count, has_failed, RegistersAreAt, EncoderIsAt, Goes, Put, Finish};
     ghost use Rattle.qm_core.specs.Skipping.{IsRun, has_room};
@@ -283,7 +275,6 @@ impl Encoder {
         out: &mut W,
     ) -> Result<(), CoderFault>
         requires events { event_count self.old < MAX_EVENTS }
-        requires count { W.failed out.old + 1 < 2 ^ 64 }
         // An encoder that has failed stays as it is, and pushes nothing.
         ensures failed { IsTrue (has_failed self.old) →
             (result ≡ Err CoderFault.Failed) × (self.new ≡ self.old) × (learned.new ≡ learned.old) ×
@@ -294,7 +285,7 @@ impl Encoder {
             1 }
         ensures same { OnOk result (W.failed out.new ≡ W.failed out.old) }
         ensures counted { has_failed self.old ≡ false → OnErr result
-            (W.failed out.new ≡ W.failed out.old + 1) }
+            (W.failed out.new ≡ one_more (W.failed out.old)) }
 
         ensures put { (p : Place) (pushed : List ℕ) → has_failed self.old ≡ false →
             EncoderIsAt self.old p pushed →
@@ -318,10 +309,9 @@ impl Encoder {
         let lower = self.span - entry.span;
         learned.set_of(cx, pixel, next_cell(is_favoured, entry));
         let is_lower = is_lower(is_favoured, lower, entry.span);
-        if is_lower {
-            return self.go(self.low, lower, out);
-        }
-        self.go(self.low + lower as u64, entry.span, out)
+        let low = self.low + pick(is_lower, 0, lower) as u64;
+        let span = pick(is_lower, lower, entry.span);
+        self.go(low, span, out)
     }
 
     /// Codes `count` times the favoured pixel of a context, where the place has room for all of them
@@ -366,20 +356,20 @@ impl Encoder {
         requires whole { span % 128 ≡ 0 }
         requires room { low + span ≤ 2 ^ (self.old.bits + 8) }
         requires fixed { self.old.tail.held ≡ None → low + span ≤ 2 ^ (self.old.bits + 7) }
-        requires count { self.old.tail.zeros + self.old.tail.ones + 2 ≤ 2 * self.old.events }
+        requires count { 8 * (self.old.tail.zeros + self.old.tail.ones) + self.old.bits ≤
+            16 * self.old.events }
         requires failed { self.old.failed ≡ false }
-        requires failures { W.failed out.old + 1 < 2 ^ 64 }
         ensures events { self.new.events ≡ self.old.events }
         ensures fault { IsErr result → result ≡ Err CoderFault.Write }
         ensures fails { IsTrue self.new.failed ↔ IsErr result }
         ensures same { OnOk result (W.failed out.new ≡ W.failed out.old) }
-        ensures counted { OnErr result (W.failed out.new ≡ W.failed out.old + 1) }
+        ensures counted { OnErr result (W.failed out.new ≡ one_more (W.failed out.old)) }
         ensures goes { (p : Place) (pushed : List ℕ) → RegistersAreAt low span self.old.bits
             self.old.tail.zeros self.old.tail.held self.old.tail.ones p pushed →
             Goes W.took W.refused W.failed out.old out.new (renormalised p) pushed self.new result }
     {
         let to = raise(low, span, self.bits);
-        if to.bits < 24 {
+        if to.bits < 40 {
             self.low = to.low;
             self.span = to.span;
             self.bits = to.bits;
@@ -388,7 +378,7 @@ impl Encoder {
         self.shift_out(to.low, to.span, to.bits, out)
     }
 
-    /// Moves the bytes above the last 16 bits to the tail, and pushes what is then fixed.
+    /// Moves the bytes above the last 16 bits to the tail, two at most, and pushes what is then fixed.
     #[inline(never)]
     fn shift_out<W: CodeSink>(
         &mut self,
@@ -401,17 +391,18 @@ impl Encoder {
         requires small { span ≤ 0x80_0000 }
         requires whole { span % 128 ≡ 0 }
         requires least { 24 ≤ bits }
-        requires most { bits ≤ 38 }
+        requires most { bits ≤ 54 }
         requires room { low + span ≤ 2 ^ (bits + 8) }
         requires fixed { self.old.tail.held ≡ None → low + span ≤ 2 ^ (bits + 7) }
-        requires count { self.old.tail.zeros + self.old.tail.ones + 2 ≤ 2 * self.old.events }
+        requires count { 8 * (self.old.tail.zeros + self.old.tail.ones) + bits ≤
+            16 * self.old.events + 16 }
         requires failed { self.old.failed ≡ false }
-        requires failures { W.failed out.old + 1 < 2 ^ 64 }
         ensures events { self.new.events ≡ self.old.events }
+        ensures short { bits ≤ 39 → self.new.bits ≤ 23 }
         ensures fault { IsErr result → result ≡ Err CoderFault.Write }
         ensures fails { IsTrue self.new.failed ↔ IsErr result }
         ensures same { OnOk result (W.failed out.new ≡ W.failed out.old) }
-        ensures counted { OnErr result (W.failed out.new ≡ W.failed out.old + 1) }
+        ensures counted { OnErr result (W.failed out.new ≡ one_more (W.failed out.old)) }
         ensures goes { (p : Place) (pushed : List ℕ) → RegistersAreAt low span bits
             self.old.tail.zeros self.old.tail.held self.old.tail.ones p pushed →
             Goes W.took W.refused W.failed out.old out.new p pushed self.new result }
@@ -426,18 +417,50 @@ impl Encoder {
         written
     }
 
+    /// Pushes what is fixed, until fewer than 24 bits are left.
+    fn shorten<W: CodeSink>(&mut self, out: &mut W) -> Result<(), CoderFault>
+        requires failed { self.old.failed ≡ false }
+        ensures short { self.new.bits ≤ 23 }
+        ensures fault { IsErr result → result ≡ Err CoderFault.Write }
+        ensures fails { IsTrue self.new.failed ↔ IsErr result }
+        ensures same { OnOk result (W.failed out.new ≡ W.failed out.old) }
+        ensures counted { OnErr result (W.failed out.new ≡ one_more (W.failed out.old)) }
+        ensures goes { (p : Place) (pushed : List ℕ) → EncoderIsAt self.old p pushed →
+            Goes W.took W.refused W.failed out.old out.new p pushed self.new result }
+    {
+        if self.bits < 24 {
+            return Ok(());
+        }
+        self.shift_out(self.low, self.span, self.bits, out)
+    }
+
     /// Ends the code with the chosen number of the place, without an end marker.
-    pub fn finish<W: CodeSink>(self, out: &mut W) -> Result<(), CoderFault>
-        requires { W.failed out.old + 1 < 2 ^ 64 }
+    pub fn finish<W: CodeSink>(mut self, out: &mut W) -> Result<(), CoderFault>
         ensures failed { IsTrue (has_failed self) → (result ≡ Err CoderFault.Failed) ×
             (out.new ≡ out.old) }
         ensures fault { has_failed self ≡ false → IsErr result → result ≡ Err CoderFault.Write }
         ensures same { OnOk result (W.failed out.new ≡ W.failed out.old) }
         ensures counted { has_failed self ≡ false → OnErr result
-            (W.failed out.new ≡ W.failed out.old + 1) }
+            (W.failed out.new ≡ one_more (W.failed out.old)) }
 
         ensures code { (p : Place) (pushed : List ℕ) → has_failed self ≡ false →
             EncoderIsAt self p pushed →
+            Finish W.took W.refused W.failed out.old out.new p pushed result }
+    {
+        if self.failed {
+            return Err(CoderFault::Failed);
+        }
+        self.shorten(out)?;
+        self.finish_short(out)
+    }
+
+    /// Ends the code where fewer than 24 bits are left.
+    fn finish_short<W: CodeSink>(self, out: &mut W) -> Result<(), CoderFault>
+        requires short { self.bits ≤ 23 }
+        ensures fault { IsErr result → result ≡ Err CoderFault.Write }
+        ensures same { OnOk result (W.failed out.new ≡ W.failed out.old) }
+        ensures counted { OnErr result (W.failed out.new ≡ one_more (W.failed out.old)) }
+        ensures code { (p : Place) (pushed : List ℕ) → EncoderIsAt self p pushed →
             Finish W.took W.refused W.failed out.old out.new p pushed result }
     {
         let Encoder {
@@ -445,12 +468,8 @@ impl Encoder {
             span,
             bits,
             mut tail,
-            failed,
             ..
         } = self;
-        if failed {
-            return Err(CoderFault::Failed);
-        }
         let value = chosen(low, span) << (24 - bits);
         let first = byte_out(&mut tail, value, 128, 24);
         let second = byte_out(&mut tail, first.low << 8, 128, 24);

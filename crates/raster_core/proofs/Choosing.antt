@@ -1,13 +1,12 @@
 -- The first number of a range with the greatest value.
-use Rattle.std.proofs.Common.{◌≡◌, ℕ, zero, suc, ◌+◌, ◌<◌, ◌≤◌, Bool, true, false, ◌&&◌, List, [], ◌∷◌, refl, sym, ◌∙◌, ap, subst, arith, None, Some, replicate, get_or, inl, inr, ◌⊎◌, cond}
+use Rattle.std.proofs.Common.{◌≡◌, ℕ, zero, suc, ◌+◌, ◌<◌, ◌≤◌, Bool, true, false, ◌&&◌, List, refl, ◌∙◌, ap, arith, None, Some, replicate, get_or, inl, inr, ◌⊎◌, cond}
 use Rattle.std.specs.Prelude.{find, nat_le, ◌-◌, ◌*◌, ◌/◌, length, nat_lt, if◌then◌else◌, option_and_then}
 use Rattle.std.specs.List.{list_all}
 use Rattle.std.specs.Bool.{then_some}
 use Rattle.std.proofs.lemmas.Bool.Decides.{nat_tests}
 use Rattle.raster_core.specs.Lines.{Lines, numbers_from}
 use Rattle.raster_core.specs.Offset.{agreement, chosen_offset}
-use Rattle.raster_core.specs.Tally.{CountsLines, least_lag}
-use Rattle.raster_core.specs.declared.tally.Tally.{Tally}
+use Rattle.raster_core.specs.Tally.{least_lag}
 
 pub zeros : (n k : ℕ) → ◌≡◌ {A = ℕ} (get_or (replicate n 0) k 0) 0
 zeros zero k = refl
@@ -79,39 +78,6 @@ chosen_is two_line most width current stripe b low high greatest first =
     ap (option_and_then (λ t. if nat_lt (width * length stripe / 8) (agreement stripe t - agreement stripe current) then Some t else None))
     (best_found (agreement stripe) (least_lag two_line) (most + 1 - least_lag two_line) b low (omega arith)
     (λ u from below. greatest u from (omega arith)) first)
-
--- the same for a tally: what its counts say of the best lag, and whether it gains
-pub record IsBest (t : Tally) (b : ℕ) : Type 0 where
-  pub low : least_lag t.two_line ≤ b
-  pub high : b ≤ t.most
-  pub greatest : (u : ℕ) → least_lag t.two_line ≤ u → u ≤ t.most → get_or t.counts u 0 ≤ get_or t.counts b 0
-  pub first : (u : ℕ) → least_lag t.two_line ≤ u → u < b → get_or t.counts u 0 < get_or t.counts b 0
-
-threshold : (t : Tally) (width current : ℕ) (rows : List Lines) → CountsLines t width current rows → width * length rows / 8 ≡ t.width * t.rows / 8
-threshold t width current [] k =
-    let none : t.rows ≡ 0 = k.number in
-    ap (λ n. n / 8) (nothing width ∙ sym (nothing t.width) ∙ ap (λ n. t.width * n) (sym none))
-  where
-    nothing : (x : ℕ) → ◌≡◌ {A = ℕ} (x * 0) 0
-    nothing x = omega arith
-threshold t width current (r ∷ rows) k =
-    let some : 0 < length (r ∷ rows) = omega arith in
-    let w : t.width ≡ width = k.width_is some in
-    ap (λ n. n / 8) (ap (λ x. x * length (r ∷ rows)) (sym w) ∙ ap (λ n. t.width * n) (sym k.number))
-
-pub chosen_by : (t : Tally) (width current : ℕ) (rows : List Lines) (b : ℕ) → CountsLines t width current rows → IsBest t b →
-    chosen_offset t.two_line t.most width rows current
-    ≡ (if nat_lt (t.width * t.rows / 8) (get_or t.counts b 0 - t.held) then Some b else None)
-chosen_by t width current rows b k h =
-    chosen_is t.two_line t.most width current rows b h.low h.high
-    (λ u from to. subst2 ◌≤◌ (k.each u from to) (k.each b h.low h.high) (h.greatest u from to))
-    (λ u from below. subst2 ◌<◌ (k.each u from (omega (arith, h.high))) (k.each b h.low h.high) (h.first u from below))
-    ∙ ap (λ x. if nat_lt x (agreement rows b - agreement rows current) then Some b else None) (threshold t width current rows k)
-    ∙ ap (λ x. if nat_lt (t.width * t.rows / 8) (x - agreement rows current) then Some b else None) (sym (k.each b h.low h.high))
-    ∙ ap (λ x. if nat_lt (t.width * t.rows / 8) (get_or t.counts b 0 - x) then Some b else None) (sym k.held)
-  where
-    subst2 : (R : ℕ → ℕ → Type 0) {a b x y : ℕ} → a ≡ x → b ≡ y → R a b → R x y
-    subst2 R {a} {b} {x} {y} e f r = subst (λ (z : ℕ). R x z) f (subst (λ (z : ℕ). R z b) e r)
 
 pub some_if : (b : Bool) (x : ℕ) → then_some b x ≡ (if b then Some x else None)
 some_if true x = refl

@@ -1,12 +1,12 @@
 -- A byte's moved adaptive pixels in a register.
-use Rattle.std.proofs.Common.{◌≡◌, ℕ, zero, suc, ◌+◌, ◌-◌, ◌*◌, ◌/◌, ◌%◌, ◌^◌, ◌<◌, ◌≤◌, Bool, List, refl, sym, ◌∙◌, ap, arith}
+use Rattle.std.proofs.Common.{◌≡◌, ℕ, zero, suc, ◌+◌, ◌-◌, ◌*◌, ◌/◌, ◌%◌, ◌^◌, ◌<◌, ◌≤◌, Bool, List, sym, ◌∙◌, ap, arith}
 use Rattle.std.proofs.Math.Nat.{div-div-eq-div-mul}
 use Rattle.std.proofs.lemmas.Nat.{pow-add}
 use Rattle.raster_core.specs.Raster.{pixel_left}
 use Rattle.raster_core.specs.Machine.Registers.{before, bit}
 use Rattle.raster_core.proofs.Before.{before_split, before_mod, left_along}
 use Rattle.raster_core.proofs.Contexts.{past_bit}
-use Rattle.raster_core.proofs.Encodings.{byte_shifted}
+use Rattle.raster_core.proofs.BytePixels.{byte_shifted}
 
 low_bit : (f i : ℕ) → i < 8 → f % 256 / 2 ^ i % 2 ≡ f / 2 ^ i % 2
 low_bit f zero h = omega arith

@@ -5,21 +5,16 @@ use Rattle.std.proofs.Math.Nat.{mod-eq_of_lt}
 use Rattle.std.proofs.lemmas.Nat.{pow_pos, pow-add, mod-mul-add}
 use Rattle.std.proofs.lemmas.Bool.{cases_lt}
 use Rattle.std.proofs.lemmas.List.{replicate-append-replicate}
-use Rattle.qm_core.specs.Place.{State, Event, Estimate, after}
-use Rattle.qm_core.specs.Encoder.{EncoderIsAt}
+use Rattle.qm_core.specs.Place.{State, Event, after}
 use Rattle.qm_core.specs.Skipping.{IsRun}
-use Rattle.qm_core.specs.declared.encoder.Encoder.{Encoder}
 use Rattle.raster_core.specs.Raster.{pixel_at, pixel_left}
 use Rattle.raster_core.specs.Lines.{Lines, Mode}
-use Rattle.raster_core.specs.Packed.{packed_row}
 use Rattle.raster_core.specs.Machine.Registers.{bit, before, past_bits}
-use Rattle.raster_core.specs.Machine.Encoded.{EncodedTo, EncodesRows, SkipsFilled}
-use Rattle.raster_core.specs.Machine.Uniform.{filled, uniform_event, AreFilled, StaysUniform}
+use Rattle.raster_core.specs.Machine.Uniform.{filled, AreFilled, StaysUniform}
 use Rattle.raster_core.proofs.Before.{before_lt, before_split, before_mod, before_zero}
-use Rattle.raster_core.proofs.Packed.{packed_byte}
+use Rattle.raster_core.proofs.Packed.{IsIn}
 use Rattle.raster_core.proofs.Colours.{AreLeft, Adapts, part_left, seen_at, stays_uniform, nominal_adapts, moved_adapts}
 use Rattle.raster_core.proofs.Runs.{after_append}
-use Rattle.raster_core.proofs.Skips.{encoded_run}
 
 -- ---- runs after runs
 
@@ -46,30 +41,6 @@ run_join s event n m a b = record {
   ];
   taught = ap (λ t. t.learned) (after_more s event n m) ∙ (b.taught ∙ a.taught);
 }
-
-pub skips_join : (colour : Bool) (current above second : List ℕ) (i n m at count : ℕ) (e e' e'' : Encoder) (learned : List Estimate) → at ≡ i + n → count ≡ n + m →
-    SkipsFilled colour current above second i n e learned e' → SkipsFilled colour current above second at m e' learned e'' → SkipsFilled colour current above second i count e learned e''
-skips_join colour current above second i n m at count e e' e'' learned at_is count_is a b =
-    let behind : at + 1 ≡ (i + 1) + n = omega (arith, at_is) in
-    subst (λ z. SkipsFilled colour current above second i z e learned e'') (sym count_is)
-    (record {
-      row_filled = filled_join colour current i n m a.row_filled (subst (λ z. AreFilled colour current z m) at_is b.row_filled);
-      above_filled = filled_join colour above (i + 1) n m a.above_filled (subst (λ z. AreFilled colour above z m) behind b.above_filled);
-      second_filled = filled_join colour second (i + 1) n m a.second_filled (subst (λ z. AreFilled colour second z m) behind b.second_filled);
-      coded = λ p pushed h.
-          let s : State = record { place = p; learned = learned } in
-          let event = uniform_event colour in
-          let one = a.coded p pushed h in
-          let t = after s (replicate (8 * n) event) in
-          let two = b.coded t.place pushed one.1 in
-          let same : record { place = t.place; learned = learned } ≡ t = ap (λ l. record { place = t.place; learned = l }) (sym one.0.taught) in
-          let size : 8 * n + 8 * m ≡ 8 * (n + m) = omega arith in
-          let last : after t (replicate (8 * m) event) ≡ after s (replicate (8 * (n + m)) event) =
-          sym (after_more s event (8 * n) (8 * m)) ∙ ap (λ z. after s (replicate z event)) size in (
-            subst (λ z. IsRun s event z) size (run_join s event (8 * n) (8 * m) one.0 (subst (λ u. IsRun u event (8 * m)) same two.0)),
-            subst (λ u. EncoderIsAt e'' u.place pushed) (ap (λ u. after u (replicate (8 * m) event)) same ∙ last) two.1,
-          );
-    })
 
 -- ---- pixels of a colour as a number
 
@@ -102,8 +73,12 @@ filled_mod false d l =
 
 -- ---- the pixels of bytes of a colour
 
+byte_small : (colour : Bool) → bit colour * 255 % 256 ≡ bit colour * 255
+byte_small true = refl
+byte_small false = refl
+
 -- pixels of a colour before a byte, and bytes of it from there on
-pub filled_on : (colour : Bool) (row : List Bool) (bytes : List ℕ) (b k n : ℕ) → bytes ≡ packed_row row → before row (8 * b) k ≡ filled colour k → AreFilled colour bytes b n → before row (8 * (b + n)) (k + 8 * n) ≡ filled colour (k + 8 * n)
+pub filled_on : (colour : Bool) (row : List Bool) (bytes : List ℕ) (b k n : ℕ) → IsIn row bytes → before row (8 * b) k ≡ filled colour k → AreFilled colour bytes b n → before row (8 * (b + n)) (k + 8 * n) ≡ filled colour (k + 8 * n)
 filled_on colour row bytes b k zero is h fill =
     let e : 8 * (b + 0) ≡ 8 * b = omega arith in
     let f : k + 8 * 0 ≡ k = omega arith in
@@ -112,7 +87,7 @@ filled_on colour row bytes b k (suc n) is h fill =
     let e : 8 * (b + suc n) ≡ 8 * (b + n) + 8 = omega arith in
     let f : k + 8 * suc n ≡ (k + 8 * n) + 8 = omega arith in
     let shorter = filled_on colour row bytes b k n is h (λ j few. fill j (omega (arith, few))) in
-    let byte : before row (8 * (b + n) + 8) 8 ≡ bit colour * 255 = sym (packed_byte row (b + n)) ∙ (ap (λ l. slice_index l (b + n)) (sym is) ∙ fill n (omega arith)) in
+    let byte : before row (8 * (b + n) + 8) 8 ≡ bit colour * 255 = is (b + n) ∙ (ap (λ z. z % 256) (fill n (omega arith)) ∙ byte_small colour) in
     ap (λ x. before row x (k + 8 * suc n)) e ∙ (ap (λ w. before row (8 * (b + n) + 8) w) f
     ∙ (before_split row (8 * (b + n)) (k + 8 * n) 8 ∙ (ap (λ z. z * 2 ^ 8 + before row (8 * (b + n) + 8) 8) shorter
     ∙ (ap (λ z. filled colour (k + 8 * n) * 2 ^ 8 + z) byte ∙ (filled_more colour (k + 8 * n) ∙ ap (λ w. filled colour w) (sym f))))))
@@ -137,7 +112,7 @@ adapts_filled colour lines (suc t) i n high past above =
     moved_adapts lines t (8 * i) (8 * n) 0 128 colour (left_filled colour lines.row (8 * i) 128 0 128 past (omega arith)) (λ j within under. omega (arith, under)) (omega (arith, high))
 
 -- below bytes of a colour and after pixels of it all contexts are that of the colour, as long as the row stays in it
-pub filled_uniform : (mode : Mode) (lines : Lines) (offset : ℕ) (colour : Bool) (above second : List ℕ) (i n : ℕ) → offset ≤ 127 → above ≡ packed_row lines.above → second ≡ packed_row lines.second →
+pub filled_uniform : (mode : Mode) (lines : Lines) (offset : ℕ) (colour : Bool) (above second : List ℕ) (i n : ℕ) → offset ≤ 127 → IsIn lines.above above → IsIn lines.second second →
     before lines.row (8 * i) (past_bits offset) ≡ filled colour (past_bits offset) → before lines.above (8 * i + 8) 24 ≡ filled colour 24 → before lines.second (8 * i + 8) 24 ≡ filled colour 24 →
     AreFilled colour above (i + 1) n → AreFilled colour second (i + 1) n → StaysUniform mode lines offset colour (8 * i) (8 * n)
 filled_uniform mode lines offset colour above second i n high a s p pa ps fa fs =
@@ -153,7 +128,7 @@ filled_uniform mode lines offset colour above second i n high a s p pa ps fa fs 
     (record { second = second_filled; above = above_filled; row = left_filled colour lines.row (8 * i) (past_bits offset) 0 4 p (least offset) })
     (adapts_filled colour lines offset i n high p above_filled)
 
-pub own_filled : (colour : Bool) (row : List Bool) (bytes : List ℕ) (i n : ℕ) → bytes ≡ packed_row row → AreFilled colour bytes i n → (k : ℕ) → k < 8 * n → pixel_at row (8 * i + k) ≡ colour
+pub own_filled : (colour : Bool) (row : List Bool) (bytes : List ℕ) (i n : ℕ) → IsIn row bytes → AreFilled colour bytes i n → (k : ℕ) → k < 8 * n → pixel_at row (8 * i + k) ≡ colour
 own_filled colour row bytes i n is fill k few =
     let h : before row (8 * (i + n)) (8 * n) ≡ filled colour (8 * n) =
     subst (λ w. before row (8 * (i + n)) w ≡ filled colour w) start (filled_on colour row bytes i 0 n is (before_zero row (8 * i) ∙ filled_none colour) fill) in
@@ -163,7 +138,7 @@ own_filled colour row bytes i n is fill k few =
     start = omega arith
 
 -- the same many pixels before, after bytes of their colour
-pub past_filled : (colour : Bool) (row : List Bool) (bytes : List ℕ) (i n w : ℕ) → bytes ≡ packed_row row → before row (8 * i) w ≡ filled colour w → AreFilled colour bytes i n → before row (8 * i + 8 * n) w ≡ filled colour w
+pub past_filled : (colour : Bool) (row : List Bool) (bytes : List ℕ) (i n w : ℕ) → IsIn row bytes → before row (8 * i) w ≡ filled colour w → AreFilled colour bytes i n → before row (8 * i + 8 * n) w ≡ filled colour w
 past_filled colour row bytes i n w is h fill =
     let e : 8 * (i + n) ≡ 8 * i + 8 * n = omega arith in
     let f : w + 8 * n ≡ 8 * n + w = omega arith in
@@ -172,29 +147,8 @@ past_filled colour row bytes i n w is h fill =
     sym (before_mod row (8 * i + 8 * n) (8 * n) w) ∙ (ap (λ z. z % 2 ^ w) all ∙ filled_mod colour (8 * n) w)
 
 -- a register of a row above, after bytes of its colour
-pub register_filled : (colour : Bool) (row : List Bool) (bytes : List ℕ) (register i n : ℕ) → bytes ≡ packed_row row → register ≡ before row (8 * i + 8) 24 → register ≡ filled colour 24 → AreFilled colour bytes (i + 1) n → register ≡ before row (8 * (i + n) + 8) 24
+pub register_filled : (colour : Bool) (row : List Bool) (bytes : List ℕ) (register i n : ℕ) → IsIn row bytes → register ≡ before row (8 * i + 8) 24 → register ≡ filled colour 24 → AreFilled colour bytes (i + 1) n → register ≡ before row (8 * (i + n) + 8) 24
 register_filled colour row bytes register i n is at all fill =
     let from : 8 * i + 8 ≡ 8 * (i + 1) = omega arith in
     let to : 8 * (i + 1) + 8 * n ≡ 8 * (i + n) + 8 = omega arith in
     all ∙ (sym (past_filled colour row bytes (i + 1) n 24 is (ap (λ y. before row y 24) (sym from) ∙ (sym at ∙ all)) fill) ∙ ap (λ y. before row y 24) to)
-
--- ---- encoding
-
-pub row_skipped : {S : Type 0} (took : S → ℕ → S → Type 0) (old mid : S) (mode : Mode) (offset : ℕ) (current above second : List ℕ) (e₀ : Encoder) (learned₀ : List Estimate)
-    (x x' i n second' above' past : ℕ) (e e' : Encoder) (learned : List Estimate) (colour : Bool) → offset ≤ 127 → x ≡ 8 * i → x' ≡ x + 8 * n →
-    second' ≡ filled colour 24 → above' ≡ filled colour 24 → past ≡ filled colour (past_bits offset) → SkipsFilled colour current above second i n e learned e' →
-    EncodesRows took old mid mode offset current above second e₀ learned₀ x i second' above' past e learned →
-    EncodesRows took old mid mode offset current above second e₀ learned₀ x' (i + n) second' above' past e' learned
-row_skipped {S} took old mid mode offset current above second e₀ learned₀ x x' i n second' above' past e e' learned colour high at to sf af pf skips along = λ from first s pushed lines h r a s2.
-    let b = along from first s pushed lines h r a s2 in
-    let near : before lines.row (8 * i) (past_bits offset) ≡ filled colour (past_bits offset) = ap (λ y. before lines.row y (past_bits offset)) (sym at) ∙ (sym b.so_far.past_is ∙ pf) in
-    let stays = filled_uniform mode lines offset colour above second i n high a s2 near (sym b.above_is ∙ af) (sym b.second_is ∙ sf) skips.above_filled skips.second_filled in
-    let there : 8 * i + 8 * n ≡ x' = omega (arith, at, to) in
-    let begun : EncodedTo took from mid mode offset first s pushed lines (8 * i) past e learned = subst (λ k. EncodedTo took from mid mode offset first s pushed lines k past e learned) at b.so_far in
-    record {
-      so_far = subst (λ k. EncodedTo took from mid mode offset first s pushed lines k past e' learned) there
-          (encoded_run took from mid mode offset first s pushed lines (8 * i) (8 * n) past past e e' learned colour begun stays (own_filled colour lines.row current i n r skips.row_filled)
-          (pf ∙ sym (past_filled colour lines.row current i n (past_bits offset) r near skips.row_filled)) skips.coded);
-      second_is = register_filled colour lines.second second second' i n s2 b.second_is sf skips.second_filled;
-      above_is = register_filled colour lines.above above above' i n a b.above_is af skips.above_filled;
-    }

@@ -17,7 +17,7 @@ use Rattle.raster_core.specs.Machine.Registers.{bit, before, past_bits}
 use Rattle.raster_core.specs.Machine.Decoded.{with_row, PixelsSoFar, BytesAlong, SkipsFilledAlong}
 use Rattle.raster_core.specs.Machine.Uniform.{filled, uniform_event, AreFilled, StaysUniform}
 use Rattle.raster_core.proofs.Causal.{before_front}
-use Rattle.raster_core.proofs.Packed.{packed_byte}
+use Rattle.raster_core.proofs.Packed.{packed_byte, packed_in}
 use Rattle.raster_core.proofs.SkipsAlong.{run_pixels, run_before, decoded_run}
 use Rattle.raster_core.proofs.Filled.{filled_join, run_join, after_more, filled_uniform, past_filled, register_filled}
 
@@ -71,9 +71,9 @@ bytes_skipped {S} pull old mid mode offset above second d₀ learned₀ width le
     ∙ (ap (λ y. before b.done y (past_bits offset)) (sym wide) ∙ (sym b.so_far.past_is ∙ pf)) in
     let packed : AreFilled colour (packed_row row) i n = λ j few. packed_byte row (i + j) ∙ run_filled colour b.done i n wide j few in
     let stays : StaysUniform mode (with_row lines row) offset colour (8 * i) (8 * n) =
-    filled_uniform mode (with_row lines row) offset colour above second i n high a s2 near (sym b.above_is ∙ af) (sym b.second_is ∙ sf) skips.above_filled skips.second_filled in
+    filled_uniform mode (with_row lines row) offset colour above second i n high (packed_in lines.above above a) (packed_in lines.second second s2) near (sym b.above_is ∙ af) (sym b.second_is ∙ sf) skips.above_filled skips.second_filled in
     let behind : past ≡ before row (length row) (past_bits offset) =
-    pf ∙ (sym (past_filled colour row (packed_row row) i n (past_bits offset) refl near packed) ∙ ap (λ y. before row y (past_bits offset)) (sym long)) in
+    pf ∙ (sym (past_filled colour row (packed_row row) i n (past_bits offset) (packed_in row (packed_row row) refl) near packed) ∙ ap (λ y. before row y (past_bits offset)) (sym long)) in
     record {
       done = row;
       rest = omega (arith, long, left_to, within, rest, wide);
@@ -86,8 +86,8 @@ bytes_skipped {S} pull old mid mode offset above second d₀ learned₀ width le
             let e : i + (k - i) ≡ k = omega (arith, far) in
             fill k far few ∙ sym (ap (λ y. before row (8 * y + 8) 8) (sym e) ∙ run_filled colour b.done i n wide (k - i) (omega (arith, few, far)))
       ];
-      second_is = register_filled colour lines.second second second' i n s2 b.second_is sf skips.second_filled;
-      above_is = register_filled colour lines.above above above' i n a b.above_is af skips.above_filled;
+      second_is = register_filled colour lines.second second second' i n (packed_in lines.second second s2) b.second_is sf skips.second_filled;
+      above_is = register_filled colour lines.above above above' i n (packed_in lines.above above a) b.above_is af skips.above_filled;
     }
 
 -- the same bytes, and the same decoder

@@ -1,18 +1,16 @@
 -- Contexts and pixels from lanes are those of the coordinates.
-use Rattle.std.proofs.Common.{◌≡◌, ℕ, zero, suc, ◌+◌, ◌-◌, ◌*◌, ◌/◌, ◌%◌, ◌^◌, ◌<◌, ◌≤◌, Bool, true, false, cond, List, refl, sym, ◌∙◌, ap, arith, subst}
+use Rattle.std.proofs.Common.{◌≡◌, ℕ, zero, suc, ◌+◌, ◌-◌, ◌*◌, ◌/◌, ◌%◌, ◌^◌, ◌<◌, ◌≤◌, Bool, true, false, cond, List, refl, sym, ◌∙◌, ap, arith}
 use Rattle.std.specs.Prelude.{◌==◌}
 use Rattle.std.proofs.lemmas.Bool.Decides.{nat_tests}
-use Rattle.qm_core.specs.Place.{Estimate}
 use Rattle.raster_core.specs.Raster.{pixel_at, pixel_left}
-use Rattle.qm_core.specs.declared.encoder.Encoder.{Encoder}
-use Rattle.raster_core.specs.Lines.{Lines, Mode, adaptive, context_at}
+use Rattle.raster_core.specs.Lines.{Lines, adaptive, context_at}
 use Rattle.raster_core.specs.Machine.Registers.{AreAt, before, bit, past_bits}
 use Rattle.raster_core.specs.Machine.Lanes.{lane, around, moved_around, near, own, HasFar, HasPixels}
-use Rattle.raster_core.specs.Machine.Encoded.{ByteAt, AreBeside, EncodesByte, FailsByte, EncodesMore, FailsMore}
+use Rattle.raster_core.specs.Machine.Registers.{ByteAt}
+use Rattle.raster_core.specs.Machine.Lanes.{AreBeside}
 use Rattle.raster_core.proofs.Before.{before_split, before_div, before_part, low_part}
 use Rattle.raster_core.proofs.Contexts.{three_line_nominal, three_line_moved}
-use Rattle.raster_core.proofs.Encodings.{byte_shifted, at_registers}
-use Rattle.raster_core.proofs.LaneTables.{later_lane}
+use Rattle.raster_core.proofs.BytePixels.{byte_shifted, at_registers}
 
 -- the context of a pixel, and the pixel
 
@@ -82,47 +80,3 @@ beside_moved t far second above byte past₀ has = record {
       ∙ (ap (λ z. second / 2 ^ 7 * 2 ^ j / 2 ^ 7 % 8 * 128 + above / 2 ^ 6 * 2 ^ j / 2 ^ 8 % 16 * 8 + z * 4 + past % 4) adaptive_is
       ∙ three_line_moved lines (suc t) (second / 2 ^ 7 * 2 ^ j) (above / 2 ^ 6 * 2 ^ j) past (x + j) r);
 }
-
--- pixels after pixels
-
-has_later : (lanes : ℕ) (beside : ℕ → ℕ) (row n i k : ℕ) → HasPixels lanes beside row n (i + k) → HasPixels (lanes / 2 ^ (16 * i)) beside row (n + i) k
-has_later lanes beside row n i k has = λ j few.
-    let e : n + (i + j) ≡ (n + i) + j = omega arith in
-    later_lane lanes i j ∙ (has (i + j) (omega arith) ∙ ap (λ m. 2 * beside m + own row m) e)
-
-pub more_then : {S : Type 0} (took : S → ℕ → S → Type 0) (a b c : S) (lanes : ℕ) (d : Encoder) (l : List Estimate) (i : ℕ) (d' : Encoder) (l' : List Estimate) (k : ℕ) (d'' : Encoder) (l'' : List Estimate) →
-    EncodesMore took a b lanes d l i d' l' → EncodesMore took b c (lanes / 2 ^ (16 * i)) d' l' k d'' l'' → EncodesMore took a c lanes d l (i + k) d'' l''
-more_then {S} took a b c lanes d l i d' l' k d'' l'' first then = λ typical beside old offset second above byte past₀ e₀ learned₀ n past few are has so_far.
-    let e : (n + i) + k ≡ n + (i + k) = omega arith in
-    let half = first typical beside old offset second above byte past₀ e₀ learned₀ n past (omega arith) are (λ j less. has j (omega arith)) so_far in
-    let whole = then typical beside old offset second above byte past₀ e₀ learned₀ (n + i) half.0 (omega arith) are (has_later lanes beside (past₀ % 256 * 256 + byte) n i k has) half.1 in
-    (whole.0, subst (λ m. EncodesByte took old c (record { two_line = false; typical = typical }) offset second above byte past₀ e₀ learned₀ m whole.0 d'' l'') e whole.1)
-
-pub fails_first : {S : Type 0} (took : S → ℕ → S → Type 0) (refused : S → S → Type 0) (a b : S) (lanes : ℕ) (d : Encoder) (l : List Estimate) (i k : ℕ) → i ≤ k →
-    FailsMore took refused a b lanes d l i → FailsMore took refused a b lanes d l k
-fails_first {S} took refused a b lanes d l i k h fails = λ typical beside old offset second above byte past₀ e₀ learned₀ n past few are has so_far.
-    fails typical beside old offset second above byte past₀ e₀ learned₀ n past (omega arith) are (λ j less. has j (omega arith)) so_far
-
-pub fails_then : {S : Type 0} (took : S → ℕ → S → Type 0) (refused : S → S → Type 0) (a b c : S) (lanes : ℕ) (d : Encoder) (l : List Estimate) (i : ℕ) (d' : Encoder) (l' : List Estimate) (k : ℕ) →
-    EncodesMore took a b lanes d l i d' l' → FailsMore took refused b c (lanes / 2 ^ (16 * i)) d' l' k → FailsMore took refused a c lanes d l (i + k)
-fails_then {S} took refused a b c lanes d l i d' l' k first then = λ typical beside old offset second above byte past₀ e₀ learned₀ n past few are has so_far.
-    let half = first typical beside old offset second above byte past₀ e₀ learned₀ n past (omega arith) are (λ j less. has j (omega arith)) so_far in
-    then typical beside old offset second above byte past₀ e₀ learned₀ (n + i) half.0 (omega arith) are (has_later lanes beside (past₀ % 256 * 256 + byte) n i k has) half.1
-
--- pixels of a byte
-
-pub encodes_at : {S : Type 0} (took : S → ℕ → S → Type 0) (old a b : S) (mode : Mode) (lanes : ℕ) (beside : ℕ → ℕ) (offset second above byte past₀ : ℕ) (e₀ : Encoder) (learned₀ : List Estimate) (n p : ℕ) (d : Encoder) (l : List Estimate) (k : ℕ) (d' : Encoder) (l' : List Estimate) →
-    mode.two_line ≡ false → n + k ≤ 8 → AreBeside beside offset second above byte past₀ → HasPixels lanes beside (past₀ % 256 * 256 + byte) n k → EncodesByte took old a mode offset second above byte past₀ e₀ learned₀ n p d l → EncodesMore took a b lanes d l k d' l' →
-    (p' : ℕ) × EncodesByte took old b mode offset second above byte past₀ e₀ learned₀ (n + k) p' d' l'
-encodes_at {S} took old a b mode lanes beside offset second above byte past₀ e₀ learned₀ n p d l k d' l' three few are has so_far more =
-    let same : record { two_line = false; typical = mode.typical } ≡ mode = ap (λ t. record { two_line = t; typical = mode.typical }) (sym three) in
-    let t = more mode.typical beside old offset second above byte past₀ e₀ learned₀ n p few are has (subst (λ m. EncodesByte took old a m offset second above byte past₀ e₀ learned₀ n p d l) (sym same) so_far) in
-    (t.0, subst (λ m. EncodesByte took old b m offset second above byte past₀ e₀ learned₀ (n + k) t.0 d' l') same t.1)
-
-pub fails_at : {S : Type 0} (took : S → ℕ → S → Type 0) (refused : S → S → Type 0) (old a b : S) (mode : Mode) (lanes : ℕ) (beside : ℕ → ℕ) (offset second above byte past₀ : ℕ) (e₀ : Encoder) (learned₀ : List Estimate) (n p : ℕ) (d : Encoder) (l : List Estimate) (k : ℕ) →
-    mode.two_line ≡ false → n + k ≤ 8 → AreBeside beside offset second above byte past₀ → HasPixels lanes beside (past₀ % 256 * 256 + byte) n k → EncodesByte took old a mode offset second above byte past₀ e₀ learned₀ n p d l → FailsMore took refused a b lanes d l k →
-    FailsByte took refused old b mode offset second above byte past₀ e₀ learned₀ 8
-fails_at {S} took refused old a b mode lanes beside offset second above byte past₀ e₀ learned₀ n p d l k three few are has so_far more =
-    let same : record { two_line = false; typical = mode.typical } ≡ mode = ap (λ t. record { two_line = t; typical = mode.typical }) (sym three) in
-    subst (λ m. FailsByte took refused old b m offset second above byte past₀ e₀ learned₀ 8) same
-    (more mode.typical beside old offset second above byte past₀ e₀ learned₀ n p few are has (subst (λ m. EncodesByte took old a m offset second above byte past₀ e₀ learned₀ n p d l) (sym same) so_far))

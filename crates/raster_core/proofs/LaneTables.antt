@@ -1,6 +1,6 @@
 -- Lanes of 16 bits, and the tables that fill them.
-use Rattle.std.proofs.Common.{◌≡◌, ℕ, zero, suc, ◌+◌, ◌-◌, ◌*◌, ◌/◌, ◌%◌, ◌^◌, ◌<◌, ◌≤◌, Bool, true, false, ◌&&◌, List, [], ◌∷◌, length, get_or, eqb, leb, arith, refl, sym, ◌∙◌, ap, rules, add-zero, zero-add, Ok, Err}
-use Rattle.std.specs.Prelude.{Result, IfOk, OnOk, OnErr}
+use Rattle.std.proofs.Common.{◌≡◌, ℕ, zero, suc, ◌+◌, ◌*◌, ◌/◌, ◌%◌, ◌^◌, ◌<◌, ◌≤◌, Bool, true, false, ◌&&◌, List, [], ◌∷◌, length, get_or, eqb, leb, arith, refl, sym, ◌∙◌, ap, add-zero, zero-add, Ok, Err}
+use Rattle.std.specs.Prelude.{Result, IfOk, OnErr}
 use Rattle.std.proofs.lemmas.Bool.{eqb-true, leb-true}
 use Rattle.std.proofs.Math.Nat.{div-div-eq-div-mul}
 use Rattle.std.proofs.lemmas.Nat.{pow-add}
@@ -16,18 +16,6 @@ if_ok (Err e) P Q f h = h
 pub on_err : {T E : Type 0} (r : Result T E) {P Q : Type 0} → (P → Q) → OnErr r P → OnErr r Q
 on_err (Ok x) f h = h
 on_err (Err e) f h = f h
-
-pub ok_then : {E : Type 0} (r : Result (Unit {0}) E) {P : Type 0} → (r ≡ Ok tt → P) → OnOk r P
-ok_then (Ok tt) f = f refl
-ok_then (Err e) f = tt
-
-pub err_then : {T E : Type 0} (r : Result T E) {P : Type 0} → ((e : E) → r ≡ Err e → P) → OnErr r P
-err_then (Ok x) f = tt
-err_then (Err e) f = f e refl
-
-pub on_ok : {T E : Type 0} (r : Result T E) {P Q : Type 0} → (P → Q) → OnOk r P → OnOk r Q
-on_ok (Ok x) f h = f h
-on_ok (Err e) f h = h
 
 -- ---- lanes of a sum
 

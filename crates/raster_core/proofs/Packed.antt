@@ -4,11 +4,12 @@ use Rattle.std.specs.Prelude.{map, slice_index}
 use Rattle.std.proofs.lemmas.Bool.{cases_lt}
 use Rattle.std.proofs.lemmas.List.{length-map, ext_get_or}
 use Rattle.std.proofs.Math.ListN.{get_or-eq_default}
+use Rattle.std.proofs.Math.Nat.{mod-eq_of_lt}
 use Rattle.raster_core.specs.Raster.{pixel_at}
 use Rattle.raster_core.specs.Lines.{numbers_from, binary}
 use Rattle.raster_core.specs.Packed.{row_bytes, packed_row}
 use Rattle.raster_core.specs.Machine.Registers.{before, past_bits}
-use Rattle.raster_core.proofs.Before.{before_suc, before_none, before_zero, before_mod, before_far, before_split, left_at, low_part}
+use Rattle.raster_core.proofs.Before.{before_suc, before_lt, before_none, before_zero, before_mod, before_far, before_split, left_at, low_part}
 use Rattle.raster_core.proofs.Contexts.{binary_bit}
 
 pub length-numbers : (k n : ℕ) → length (numbers_from k n) ≡ n
@@ -59,6 +60,14 @@ packed_byte row i =
 pub packed_is : (row : List Bool) (bytes : List ℕ) → length bytes ≡ row_bytes (length row) → ((k : ℕ) → k < length bytes → slice_index bytes k ≡ before row (8 * k + 8) 8) → bytes ≡ packed_row row
 packed_is row bytes long each =
     ext_get_or 0 bytes (packed_row row) (long ∙ sym (packed-length row)) (λ k h. each k h ∙ sym (packed_byte row k))
+
+-- a row has the pixels of these bytes
+abbrev pub IsIn : List Bool → List ℕ → Type 0
+IsIn row bytes = (k : ℕ) → before row (8 * k + 8) 8 ≡ slice_index bytes k % 256
+
+pub packed_in : (row : List Bool) (bytes : List ℕ) → bytes ≡ packed_row row → IsIn row bytes
+packed_in row bytes is k =
+    sym (mod-eq_of_lt (before_lt row (8 * k + 8) 8)) ∙ ap (λ z. z % 256) (sym (packed_byte row k) ∙ ap (λ l. slice_index l k) (sym is))
 
 -- ---- registers
 

@@ -11,7 +11,7 @@ use Rattle.raster_core.specs.Offset.{agreements, agreement}
 use Rattle.raster_core.specs.Machine.Words.{led, is_within, agreed_from, part_agreement}
 use Rattle.raster_core.proofs.Shifts.{count_same, count_cat}
 
-is_lt : (x y : ℕ) → x < y → nat_lt x y ≡ true
+pub is_lt : (x y : ℕ) → x < y → nat_lt x y ≡ true
 is_lt x y h = grind (arith, nat_tests)
 
 is_not_lt : (x y : ℕ) → y ≤ x → nat_lt x y ≡ false
@@ -38,7 +38,7 @@ led_left row y x lag e =
           ∙ sym (ap (λ b. if b then false else pixel_at row (x - lag)) (is_not_lt x lag le))
     ]
 
-adaptive_left : (lines : Lines) (lag x : ℕ) → 1 ≤ lag → adaptive lines lag x ≡ pixel_left lines.row x lag
+pub adaptive_left : (lines : Lines) (lag x : ℕ) → 1 ≤ lag → adaptive lines lag x ≡ pixel_left lines.row x lag
 adaptive_left lines lag x h = ap (λ b. if b then pixel_at lines.above (x + 2) else pixel_left lines.row x lag) (moved lag h)
   where
     moved : (k : ℕ) → 1 ≤ k → (k == 0) ≡ false

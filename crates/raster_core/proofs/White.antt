@@ -22,12 +22,12 @@ zero_at zero k = refl
 zero_at (suc n) zero = refl
 zero_at (suc n) (suc k) = zero_at n k
 
-long : {A : Type 0} (n : ℕ) (a : A) → length (replicate n a) ≡ n
+pub long : {A : Type 0} (n : ℕ) (a : A) → length (replicate n a) ≡ n
 long zero a = refl
 long (suc n) a = ap suc (long n a)
 
 -- zeros are a white row
-packed-white : (width : ℕ) → replicate (row_bytes width) 0 ≡ packed_row (white_row width)
+pub packed-white : (width : ℕ) → replicate (row_bytes width) 0 ≡ packed_row (white_row width)
 packed-white width =
     packed_is (white_row width) (replicate (row_bytes width) 0)
     (long (row_bytes width) 0 ∙ ap row_bytes (sym (long width false)))

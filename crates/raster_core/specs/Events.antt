@@ -1,5 +1,5 @@
--- What coding a list of events leaves, decoded and encoded.
-use Rattle.std.specs.Prelude.{ℕ, ◌≡◌, ◌<◌, List, [], ◌++◌, length, ◌+◌}
+-- What decoding a list of events leaves.
+use Rattle.std.specs.Prelude.{◌≡◌, ◌<◌, List, [], ◌++◌, length}
 use Rattle.qm_core.specs.Place.{State, Event, Estimate, after}
 use Rattle.qm_core.specs.Code.{wanted_bytes}
 use Rattle.qm_core.specs.Source.{bytes_of, heard_of, Gives}
@@ -7,9 +7,6 @@ use Rattle.qm_core.specs.Decoder.{DecoderIsAt}
 use Rattle.qm_core.specs.declared.source.Pulled.{Pulled}
 use Rattle.qm_core.specs.declared.source.Heard.TheVariants.{More, Stopped}
 use Rattle.qm_core.specs.declared.decoder.Decoder.{Decoder}
-use Rattle.qm_core.specs.Encoder.{EncoderIsAt, IsStuffedFront}
-use Rattle.qm_core.specs.Sink.{Took, Refused}
-use Rattle.qm_core.specs.declared.encoder.Encoder.{Encoder}
 use Rattle.raster_core.specs.Enough.{AreEnough}
 
 -- From a state at which the source had answered so, a decoder has decoded these events; the source answered more.
@@ -28,17 +25,3 @@ pub record Stops {S : Type 0} (pull : S → Pulled → S → Type 0) (from to : 
   pub stopped : heard_of (answers ++ more) ≡ Stopped
   pub short : length (bytes_of (answers ++ more)) < wanted_bytes (after s events).place.doublings
   pub stays : DecoderIsAt d (after s events).place (answers ++ more)
-
--- From a state at which these bytes were pushed, an encoder has put these events, and the sink took what it pushed.
-pub record Encodes {S : Type 0} (took : S → ℕ → S → Type 0) (from to : S) (s : State) (pushed : List ℕ) (events : List Event)
-    (e : Encoder) (learned : List Estimate) : Type 0 where
-  pub more : List ℕ
-  pub taken : Took took from more to
-  pub codes : EncoderIsAt e (after s events).place (pushed ++ more)
-  pub taught : learned ≡ (after s events).learned
-
--- At the last of these events the sink refused a byte: what it has is a beginning of a stuffed front of their place.
-pub record Fails {S : Type 0} (took : S → ℕ → S → Type 0) (refused : S → S → Type 0) (from to : S) (s : State) (pushed : List ℕ) (events : List Event) : Type 0 where
-  pub more : List ℕ
-  pub cut : Refused took refused from more to
-  pub begins : IsStuffedFront (pushed ++ more) (after s events).place

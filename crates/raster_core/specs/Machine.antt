@@ -3,5 +3,6 @@ pub mod Registers
 pub mod Words
 pub mod Lanes
 pub mod Uniform
+pub mod Bytes
+pub mod Rows
 pub mod Decoded
-pub mod Encoded

@@ -5,7 +5,8 @@ use Rattle.qm_core.specs.declared.encoder.Encoder.{Encoder}
 use Rattle.qm_core.specs.declared.encoder.CoderFault.{CoderFault}
 use Rattle.raster_core.specs.Lines.{Lines, row_events, may_be_typical, Mode, pseudo_event, IsLegalFlag}
 use Rattle.raster_core.specs.Window.{shape_mode}
-use Rattle.raster_core.specs.Events.{Encodes, Fails, Decodes, Stops}
+use Rattle.qm_core.specs.Puts.{Encodes, FailsIn}
+use Rattle.raster_core.specs.Events.{Decodes, Stops}
 use Rattle.raster_core.specs.declared.shape.Shape.{Shape}
 use Rattle.raster_core.specs.declared.shape.Kept.{Kept}
 use Rattle.qm_core.specs.Code.{Lies}
@@ -22,13 +23,6 @@ use Rattle.raster_core.specs.Machine.Decoded.{with_row}
 -- a row is typical wherever it may be
 abbrev pub canonical_events : Shape → Kept → Lines → List Event
 canonical_events shape kept lines = row_events (shape_mode shape) lines kept.offset kept.previous_typical (may_be_typical (shape_mode shape) lines)
-
--- the sink refused a byte at the last of the first events of these
-pub record FailsIn {S : Type 0} (took : S → ℕ → S → Type 0) (refused : S → S → Type 0) (from to : S) (s : State) (pushed : List ℕ) (all : List Event) : Type 0 where
-  pub events : List Event
-  pub rest : List Event
-  pub all_are : all ≡ events ++ rest
-  pub fails : Fails took refused from to s pushed events
 
 pub record RowCoded {S : Type 0} (took : S → ℕ → S → Type 0) (from to : S) (shape : Shape) (kept kept' : Kept) (s : State) (pushed : List ℕ) (lines : Lines)
     (e : Encoder) (learned : List Estimate) : Type 0 where

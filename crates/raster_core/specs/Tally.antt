@@ -1,5 +1,5 @@
 -- Which rows a tally stands for.
-use Rattle.std.specs.Prelude.{ℕ, ◌≡◌, ◌≤◌, ◌<◌, Bool, List, length, slice_index, if◌then◌else◌}
+use Rattle.std.specs.Prelude.{ℕ, ◌≡◌, ◌≤◌, ◌<◌, min, max, Bool, List, length, slice_index, if◌then◌else◌}
 use Rattle.std.specs.List.{AllByRecursion}
 use Rattle.raster_core.specs.Lines.{Lines}
 use Rattle.raster_core.specs.Offset.{agreement}
@@ -20,10 +20,14 @@ row_count t = t.rows
 abbrev pub least_lag : Bool → ℕ
 least_lag two_line = if two_line then 5 else 3
 
+-- the last offset that is counted: beyond the width no pixel has one so far to its left, and each offset agrees alike
+abbrev pub last_lag : Bool → ℕ → ℕ → ℕ
+last_lag two_line most width = min most (max width (least_lag two_line))
+
 -- the tally is of these rows, at this width and offset
 pub record CountsLines (t : Tally) (width current : ℕ) (rows : List Lines) : Type 0 where
   pub number : t.rows ≡ length rows
   pub width_is : 0 < length rows → t.width ≡ width
   pub wide : AllByRecursion (λ lines. length lines.row ≡ width) rows
-  pub each : (lag : ℕ) → least_lag t.two_line ≤ lag → lag ≤ t.most → slice_index t.counts lag ≡ agreement rows lag
+  pub each : (lag : ℕ) → least_lag t.two_line ≤ lag → lag ≤ last_lag t.two_line t.most width → slice_index t.counts lag ≡ agreement rows lag
   pub held : t.held ≡ agreement rows current

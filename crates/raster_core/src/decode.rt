@@ -2,6 +2,7 @@
 
 ghost use Rattle.std.specs.Prelude.{◌≡◌, ℕ, ◌+◌, ◌-◌, ◌*◌, ◌^◌, ◌<◌, ◌≤◌, ◌↔◌, length, List, slice_index, IsTrue, IsErr, OnOk, OnErr, IfOk, false, true, nat_eq};
 ghost use Rattle.std.specs.Int.{div_ceil};
+ghost use Rattle.qm_core.specs.Counts.{one_more};
 ghost use Rattle.qm_core.specs.Source.{Pulls};
 ghost use Rattle.qm_core.specs.Place.{Place};
 ghost use Rattle.qm_core.specs.Skipping.{CanSkip};
@@ -38,7 +39,6 @@ fn decode_byte<S: CodeBytes, const TWO_LINE: bool, const MOVED: bool>(
     decoder: &mut Decoder,
     source: &mut S,
 ) -> Result<u128, Stop>
-    requires count { S.failed source.old + 1 < 2 ^ 64 }
     requires offset { offset ≤ 127 }
     requires template { TWO_LINE ≡ shape.two_line }
     requires moved { MOVED ≡ is_moved offset }
@@ -51,7 +51,7 @@ fn decode_byte<S: CodeBytes, const TWO_LINE: bool, const MOVED: bool>(
     ensures stops { IsTrue (has_stopped decoder.new) ↔ IsErr result }
     ensures same { OnOk result (S.failed source.new ≡ S.failed source.old) }
     ensures counted { has_stopped decoder.old ≡ false →
-        OnErr result (S.failed source.new ≡ S.failed source.old + 1) }
+        OnErr result (S.failed source.new ≡ one_more (S.failed source.old)) }
     ensures ok { IfOk result (λ past. Along (Pulls S.gives S.failed) source.old source.new
         (shape_mode shape) offset second_bytes above_bytes before
         decoder.old learned.old n past decoder.new learned.new) }
@@ -81,13 +81,12 @@ fn decode_one<S: CodeBytes>(
     decoder: &mut Decoder,
     source: &mut S,
 ) -> Result<u128, Stop>
-    requires { S.failed source.old + 1 < 2 ^ 64 }
     ensures stopped { IsTrue (has_stopped decoder.old) → IsErr result ×
         (decoder.new ≡ decoder.old) × (source.new ≡ source.old) }
     ensures stops { IsTrue (has_stopped decoder.new) ↔ IsErr result }
     ensures same { OnOk result (S.failed source.new ≡ S.failed source.old) }
     ensures counted { has_stopped decoder.old ≡ false →
-        OnErr result (S.failed source.new ≡ S.failed source.old + 1) }
+        OnErr result (S.failed source.new ≡ one_more (S.failed source.old)) }
     ensures ok { IfOk result (λ past. AlongMore (Pulls S.gives S.failed) source.old source.new
         lanes before decoder.old learned.old 1 past decoder.new learned.new) }
     ensures err { OnErr result (StopsMore (Pulls S.gives S.failed) source.old source.new
@@ -108,13 +107,12 @@ fn decode_two<S: CodeBytes>(
     decoder: &mut Decoder,
     source: &mut S,
 ) -> Result<u128, Stop>
-    requires { S.failed source.old + 1 < 2 ^ 64 }
     ensures stopped { IsTrue (has_stopped decoder.old) → IsErr result ×
         (decoder.new ≡ decoder.old) × (source.new ≡ source.old) }
     ensures stops { IsTrue (has_stopped decoder.new) ↔ IsErr result }
     ensures same { OnOk result (S.failed source.new ≡ S.failed source.old) }
     ensures counted { has_stopped decoder.old ≡ false →
-        OnErr result (S.failed source.new ≡ S.failed source.old + 1) }
+        OnErr result (S.failed source.new ≡ one_more (S.failed source.old)) }
     ensures ok { IfOk result (λ past. AlongMore (Pulls S.gives S.failed) source.old source.new
         lanes before decoder.old learned.old 2 past decoder.new learned.new) }
     ensures err { OnErr result (StopsMore (Pulls S.gives S.failed) source.old source.new
@@ -133,13 +131,12 @@ fn decode_four<S: CodeBytes>(
     decoder: &mut Decoder,
     source: &mut S,
 ) -> Result<u128, Stop>
-    requires { S.failed source.old + 1 < 2 ^ 64 }
     ensures stopped { IsTrue (has_stopped decoder.old) → IsErr result ×
         (decoder.new ≡ decoder.old) × (source.new ≡ source.old) }
     ensures stops { IsTrue (has_stopped decoder.new) ↔ IsErr result }
     ensures same { OnOk result (S.failed source.new ≡ S.failed source.old) }
     ensures counted { has_stopped decoder.old ≡ false →
-        OnErr result (S.failed source.new ≡ S.failed source.old + 1) }
+        OnErr result (S.failed source.new ≡ one_more (S.failed source.old)) }
     ensures ok { IfOk result (λ past. AlongMore (Pulls S.gives S.failed) source.old source.new
         lanes before decoder.old learned.old 4 past decoder.new learned.new) }
     ensures err { OnErr result (StopsMore (Pulls S.gives S.failed) source.old source.new
@@ -160,14 +157,13 @@ fn decode_eight<S: CodeBytes>(
     decoder: &mut Decoder,
     source: &mut S,
 ) -> Result<u128, Stop>
-    requires count { S.failed source.old + 1 < 2 ^ 64 }
     requires template { shape.two_line ≡ false }
     ensures stopped { IsTrue (has_stopped decoder.old) → IsErr result ×
         (decoder.new ≡ decoder.old) × (source.new ≡ source.old) }
     ensures stops { IsTrue (has_stopped decoder.new) ↔ IsErr result }
     ensures same { OnOk result (S.failed source.new ≡ S.failed source.old) }
     ensures counted { has_stopped decoder.old ≡ false →
-        OnErr result (S.failed source.new ≡ S.failed source.old + 1) }
+        OnErr result (S.failed source.new ≡ one_more (S.failed source.old)) }
     ensures ok { IfOk result (λ past. Along (Pulls S.gives S.failed) source.old source.new
         (shape_mode shape) 0 second_bytes above_bytes before
         decoder.old learned.old 8 past decoder.new learned.new) }
@@ -194,7 +190,6 @@ fn decode_plain<S: CodeBytes, const TWO_LINE: bool, const MOVED: bool>(
     decoder: &mut Decoder,
     source: &mut S,
 ) -> Result<u128, Stop>
-    requires count { S.failed source.old + 1 < 2 ^ 64 }
     requires offset { offset ≤ 127 }
     requires template { TWO_LINE ≡ shape.two_line }
     requires moved { MOVED ≡ is_moved offset }
@@ -207,7 +202,7 @@ fn decode_plain<S: CodeBytes, const TWO_LINE: bool, const MOVED: bool>(
     ensures stops { IsTrue (has_stopped decoder.new) ↔ IsErr result }
     ensures same { OnOk result (S.failed source.new ≡ S.failed source.old) }
     ensures counted { has_stopped decoder.old ≡ false →
-        OnErr result (S.failed source.new ≡ S.failed source.old + 1) }
+        OnErr result (S.failed source.new ≡ one_more (S.failed source.old)) }
     ensures ok { IfOk result (λ past. Along (Pulls S.gives S.failed) source.old source.new
         (shape_mode shape) offset second_bytes above_bytes before
         decoder.old learned.old n past decoder.new learned.new) }
@@ -291,7 +286,6 @@ fn decode_step<S: CodeBytes, const TWO_LINE: bool, const MOVED: bool>(
     decoder: &mut Decoder,
     source: &mut S,
 ) -> Result<u128, Stop>
-    requires count { S.failed source.old + 1 < 2 ^ 64 }
     requires offset { offset ≤ 127 }
     requires template { TWO_LINE ≡ shape.two_line }
     requires moved { MOVED ≡ is_moved offset }
@@ -304,7 +298,7 @@ fn decode_step<S: CodeBytes, const TWO_LINE: bool, const MOVED: bool>(
     ensures stops { IsTrue (has_stopped decoder.new) ↔ IsErr result }
     ensures same { OnOk result (S.failed source.new ≡ S.failed source.old) }
     ensures counted { has_stopped decoder.old ≡ false →
-        OnErr result (S.failed source.new ≡ S.failed source.old + 1) }
+        OnErr result (S.failed source.new ≡ one_more (S.failed source.old)) }
     ensures ok { IfOk result (λ past. Along (Pulls S.gives S.failed) source.old source.new
         (shape_mode shape) offset second_bytes above_bytes before
         decoder.old learned.old n past decoder.new learned.new) }
@@ -459,7 +453,6 @@ fn decode_bytes<S: CodeBytes, const TWO_LINE: bool, const MOVED: bool>(
     decoder: &mut Decoder,
     source: &mut S,
 ) -> Result<(), Stop>
-    requires count { S.failed source.old + 1 < 2 ^ 64 }
     requires offset { offset ≤ 127 }
     requires template { TWO_LINE ≡ shape.two_line }
     requires moved { MOVED ≡ is_moved offset }
@@ -470,7 +463,7 @@ fn decode_bytes<S: CodeBytes, const TWO_LINE: bool, const MOVED: bool>(
     ensures stops { IsTrue (has_stopped decoder.new) ↔ IsErr result }
     ensures same { OnOk result (S.failed source.new ≡ S.failed source.old) }
     ensures counted { has_stopped decoder.old ≡ false →
-        OnErr result (S.failed source.new ≡ S.failed source.old + 1) }
+        OnErr result (S.failed source.new ≡ one_more (S.failed source.old)) }
     ensures ok { OnOk result (RowAlong (Pulls S.gives S.failed) source.old source.new
         (shape_mode shape) offset above.now second.now
         decoder.old learned.old shape.width current.new decoder.new learned.new) }
@@ -550,7 +543,6 @@ fn decode_pixels<S: CodeBytes>(
     decoder: &mut Decoder,
     source: &mut S,
 ) -> Result<(), Stop>
-    requires count { S.failed source.old + 1 < 2 ^ 64 }
     requires offset { offset ≤ 127 }
     requires some { 1 ≤ shape.width }
     requires long { length current.old ≡ div_ceil shape.width 8 }
@@ -559,7 +551,7 @@ fn decode_pixels<S: CodeBytes>(
     ensures stops { IsTrue (has_stopped decoder.new) ↔ IsErr result }
     ensures same { OnOk result (S.failed source.new ≡ S.failed source.old) }
     ensures counted { has_stopped decoder.old ≡ false →
-        OnErr result (S.failed source.new ≡ S.failed source.old + 1) }
+        OnErr result (S.failed source.new ≡ one_more (S.failed source.old)) }
     ensures ok { OnOk result (RowAlong (Pulls S.gives S.failed) source.old source.new
         (shape_mode shape) offset above.now second.now
         decoder.old learned.old shape.width current.new decoder.new learned.new) }
@@ -585,14 +577,13 @@ fn decode_flag<S: CodeBytes>(
     decoder: &mut Decoder,
     source: &mut S,
 ) -> Result<bool, Stop>
-    requires count { S.failed source.old + 1 < 2 ^ 64 }
     requires typical { shape.typical ≡ true }
     ensures stopped { IsTrue (has_stopped decoder.old) → IsErr result ×
         (decoder.new ≡ decoder.old) × (source.new ≡ source.old) }
     ensures stops { IsTrue (has_stopped decoder.new) ↔ IsErr result }
     ensures same { OnOk result (S.failed source.new ≡ S.failed source.old) }
     ensures counted { has_stopped decoder.old ≡ false →
-        OnErr result (S.failed source.new ≡ S.failed source.old + 1) }
+        OnErr result (S.failed source.new ≡ one_more (S.failed source.old)) }
     ensures ok { IfOk result (λ flag. (p : Place) (answers : List Pulled) →
         DecoderIsAt decoder.old p answers →
         FirstDecoded (Pulls S.gives S.failed) source.old source.new (shape_mode shape) previous flag
@@ -618,7 +609,6 @@ fn decode_below<S: CodeBytes>(
     decoder: &mut Decoder,
     source: &mut S,
 ) -> Result<(), Stop>
-    requires count { S.failed source.old + 1 < 2 ^ 64 }
     requires offset { kept.old.offset ≤ 127 }
     requires some { 1 ≤ shape.width }
     requires current { length current.old ≡ div_ceil shape.width 8 }
@@ -628,7 +618,7 @@ fn decode_below<S: CodeBytes>(
     ensures stops { IsTrue (has_stopped decoder.new) ↔ IsErr result }
     ensures same { OnOk result (S.failed source.new ≡ S.failed source.old) }
     ensures counted { has_stopped decoder.old ≡ false →
-        OnErr result (S.failed source.new ≡ S.failed source.old + 1) }
+        OnErr result (S.failed source.new ≡ one_more (S.failed source.old)) }
     ensures offset { OnOk result (kept.new.offset ≡ kept.old.offset) }
     ensures above { above.new ≡ above.old }
     ensures second { second.new ≡ second.old }
@@ -687,7 +677,6 @@ pub fn decode_row<S: CodeBytes>(
     decoder: &mut Decoder,
     source: &mut S,
 ) -> Result<(), Stop>
-    requires count { S.failed source.old + 1 < 2 ^ 64 }
     requires offset { kept.old.offset ≤ 127 }
     requires width { width_of window.old ≡ shape.width }
     requires some { 1 ≤ shape.width }
@@ -696,7 +685,7 @@ pub fn decode_row<S: CodeBytes>(
     ensures stops { IsTrue (has_stopped decoder.new) ↔ IsErr result }
     ensures same { OnOk result (S.failed source.new ≡ S.failed source.old) }
     ensures counted { has_stopped decoder.old ≡ false →
-        OnErr result (S.failed source.new ≡ S.failed source.old + 1) }
+        OnErr result (S.failed source.new ≡ one_more (S.failed source.old)) }
     ensures offset { OnOk result (kept.new.offset ≡ kept.old.offset) }
     ensures above { SameAbove (held window.old) (held window.new) }
 

@@ -3,7 +3,7 @@
 ghost use Rattle.std.specs.Prelude.{ℕ, ◌≡◌, ◌+◌, ◌*◌, ◌^◌, ◌<◌, ◌≤◌, false, true};
 ghost use Rattle.raster_core.specs.Machine.Registers.{is_moved};
 ghost use Rattle.raster_core.specs.Machine.Lanes.{lane, second_lane, above_lane, moved_above_lane, far_lane, row_lane, near, HasAround, HasFar, HasPixels};
-ghost use Rattle.raster_core.specs.Machine.Encoded.{AreBeside};
+ghost use Rattle.raster_core.specs.Machine.Lanes.{AreBeside};
 
 use crate::shape::Shape;
 
@@ -259,17 +259,8 @@ pub(crate) fn last_pixels<const MOVED: bool>(
     pixel_lanes(second_window, (above_bytes >> 6) % 256, row % 64)
 }
 
-/// Whether n pixels are those of a byte, and coded with three lines.
-#[inline(always)]
-pub(crate) fn has_pixels<const TWO_LINE: bool>(shape: Shape, n: u32) -> bool
-    requires template { TWO_LINE ≡ shape.two_line }
-    ensures three { result ≡ true → shape.two_line ≡ false }
-    ensures whole { result ≡ true → n ≡ 8 }
-{
-    n == 8 && !TWO_LINE
-}
-
-/// The same, and the adaptive pixel in its nominal place.
+/// Whether n pixels are those of a byte, coded with three lines, and the adaptive pixel in its nominal
+/// place.
 #[inline(always)]
 pub(crate) fn has_lanes<const TWO_LINE: bool, const MOVED: bool>(
     shape: Shape,

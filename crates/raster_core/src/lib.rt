@@ -10,6 +10,8 @@ mod counted;
 mod decode;
 mod encode;
 mod lanes;
+mod row_byte;
+mod rows;
 mod shape;
 mod tally;
 mod uniform;

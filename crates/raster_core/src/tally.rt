@@ -25,7 +25,7 @@ pub struct Tally {
 
 impl Tally {
     ghost use Rattle.std.specs.Prelude.{◌<◌, ◌-◌, [], ◌∷◌, ◌++◌, List, IfSome};
-    ghost use Rattle.raster_core.specs.Tally.{CountsLines, is_two_line, least_lag, most_of, row_count};
+    ghost use Rattle.raster_core.specs.Tally.{CountsLines, is_two_line, last_lag, least_lag, most_of, row_count};
     ghost use Rattle.raster_core.specs.Lines.{Lines};
     ghost use Rattle.raster_core.specs.Offset.{chosen_offset};
     ghost use Rattle.raster_core.specs.Packed.{HasLines};
@@ -58,7 +58,12 @@ impl Tally {
         ensures two_line { is_two_line self.new ≡ is_two_line self.old }
         ensures most { most_of self.new ≡ most_of self.old }
     {
-        *self = Tally::new(self.two_line, self.most);
+        if self.rows == 0 {
+            return;
+        }
+        self.counts = [0; 128];
+        self.held = 0;
+        self.rows = 0;
     }
 
     /// Counts the current row of a window, typical or not, that was coded with the adaptive pixel
@@ -77,7 +82,7 @@ impl Tally {
         ensures most { most_of self.new ≡ most_of self.old }
     {
         let least = self.least_lag() as usize;
-        let most = self.most as usize;
+        let most = self.last_lag(width) as usize;
         let row = window.row(0);
         let above = window.row(1);
         self.last.count(row, width, least, most);
@@ -98,8 +103,9 @@ impl Tally {
         if self.most < least {
             return None;
         }
+        let last = self.last_lag(self.width);
         let mut best = least;
-        for lag in least + 1..self.most + 1 {
+        for lag in least + 1..last + 1 {
             if self.counts[lag as usize] > self.counts[best as usize] {
                 best = lag;
             }
@@ -116,5 +122,14 @@ impl Tally {
         ensures small { result ≤ 5 }
     {
         if self.two_line { 5 } else { 3 }
+    }
+
+    /// The last lag that is counted at this width. At each greater one all pixels are compared with
+    /// white, as they are at the width.
+    fn last_lag(&self, width: u32) -> u8
+        ensures { result ≡ last_lag (is_two_line self.now) (most_of self.now) width }
+    {
+        let reach = width.max(u32::from(self.least_lag()));
+        u32::from(self.most).min(reach) as u8
     }
 }

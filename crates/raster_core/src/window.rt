@@ -3,6 +3,8 @@
 ghost use Rattle.std.specs.Prelude.{◌≡◌, ℕ, ◌*◌, ◌≤◌, length};
 ghost use Rattle.std.specs.Int.{div_ceil};
 
+use crate::rows::Rows;
+
 /// How many bytes the three rows of a window take.
 pub fn window_bytes(width: u32) -> usize
     ensures { result ≡ 3 * div_ceil width 8 }
@@ -25,7 +27,8 @@ pub struct Window<'a> {
 
 impl<'a> Window<'a> {
     ghost use Rattle.raster_core.specs.Packed.{HasLines, row_of, white_lines};
-    ghost use Rattle.raster_core.specs.Window.{held, width_of, turned};
+    ghost use Rattle.raster_core.specs.Window.{held, width_of, turned, TurnedBack};
+    ghost use Rattle.raster_core.specs.Machine.Rows.{held_in};
 
     /// A window with all three rows white, over `window_bytes` of the width.
     pub fn over(bytes: &'a mut [u8], width: u32) -> Window<'a>
@@ -65,6 +68,19 @@ impl<'a> Window<'a> {
         }
     }
 
+    /// The row that was written last, and the two above it.
+    #[inline(always)]
+    pub(crate) fn rows(&self) -> Rows<'_>
+        ensures { held_in result ≡ held self.now }
+    {
+        Rows {
+            current: &*self.current,
+            above: &*self.above,
+            second: &*self.second,
+            width: self.width,
+        }
+    }
+
     /// Goes a row down: the new rows 0, 1, 2 are the old rows 2, 0, 1. So the current row has to be
     /// written again.
     pub fn turn(&mut self)
@@ -72,6 +88,15 @@ impl<'a> Window<'a> {
     {
         std::mem::swap(&mut self.above, &mut self.second);
         std::mem::swap(&mut self.current, &mut self.above);
+    }
+
+    /// Goes a row up: rows 0 and 1 are the old rows 1 and 2, and row 2 is white.
+    pub fn turn_back(&mut self)
+        ensures { TurnedBack (held self.old) (held self.new) }
+    {
+        self.current.fill(0);
+        std::mem::swap(&mut self.above, &mut self.current);
+        std::mem::swap(&mut self.second, &mut self.above);
     }
 
     /// Makes all three rows white.

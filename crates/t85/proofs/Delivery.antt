@@ -1,13 +1,13 @@
 -- From what the engine leaves of a room to what stands in the lent memory.
-use Rattle.std.proofs.Common.{◌≡◌, ◌≢◌, ◌≤◌, ◌<◌, ◌+◌, ℕ, zero, suc, Bool, true, false, List, [], ◌∷◌, ◌++◌, length, take, Option, Some, None, Result, Ok, Err, refl, sym, ap, ◌∙◌, subst, arith, append-nil, append_assoc, length-append, true≢false}
+use Rattle.std.proofs.Common.{◌≡◌, ◌≢◌, ◌≤◌, ◌<◌, ℕ, zero, suc, Bool, true, false, List, [], ◌∷◌, ◌++◌, length, take, Option, Some, None, Result, Ok, Err, refl, sym, ap, ◌∙◌, subst, arith, append-nil, append_assoc, length-append, true≢false}
 use Rattle.std.specs.Prelude.{is_some, option_to_list}
 use Rattle.std.proofs.lemmas.Grind.{common_steps}
-use Rattle.pbm_core.specs.Device.{between}
+use Rattle.t85_core.specs.Change.{between}
 use Rattle.t85_core.specs.declared.fault.Fault.{Fault}
 use Rattle.t85_core.specs.declared.fault.Fault.TheVariants.{Read, Write}
 use Rattle.t85_core.specs.Header.{Fields}
 use Rattle.t85_core.specs.Decode.{Decode, WritesImageFront}
-use Rattle.t85_core.specs.Failures.{CountsFault, failed_reads, failed_writes}
+use Rattle.t85_core.specs.Failures.{CountsFault, reads_after, writes_after}
 use Rattle.t85_core.specs.Laws.{HasOutcome}
 use Rattle.t85_core.specs.Outcome.{IsOutcome}
 use Rattle.t85.specs.Delivered.{fault_status, answer_status, Fits, IsFull}
@@ -19,11 +19,11 @@ emptied len memory spilled empty none = ap (λ n. take n memory ++ option_to_lis
 pub unread : (f : Fault) → CountsFault 0 0 f → f ≢ Read
 unread f counts same = (let counted : CountsFault 0 0 Read = subst (λ z. CountsFault 0 0 z) same counts in omega (arith, counted))
 
-pub unread_once : (f : Fault) → 0 ≡ 0 + failed_reads f → f ≢ Read
-unread_once f counts same = (let counted : 0 ≡ 0 + failed_reads Read = subst (λ z. 0 ≡ 0 + failed_reads z) same counts in omega (arith, counted))
+pub unread_once : (f : Fault) → 0 ≡ reads_after f 0 → f ≢ Read
+unread_once f counts same = (let counted : 0 ≡ reads_after Read 0 = subst (λ z. 0 ≡ reads_after z 0) same counts in omega (arith, counted))
 
-pub unfailed : (f : Fault) → 0 ≡ 0 + failed_writes f → f ≢ Write
-unfailed f counts same = (let counted : 0 ≡ 0 + failed_writes Write = subst (λ z. 0 ≡ 0 + failed_writes z) same counts in omega (arith, counted))
+pub unfailed : (f : Fault) → 0 ≡ writes_after f 0 → f ≢ Write
+unfailed f counts same = (let counted : 0 ≡ writes_after Write 0 = subst (λ z. 0 ≡ writes_after z 0) same counts in omega (arith, counted))
 
 -- a room with nothing spilled has not failed
 pub none_failed : (failures : ℕ) (spilled : Bool) → spilled ≡ false → (0 < failures → spilled ≡ true) → failures ≡ 0

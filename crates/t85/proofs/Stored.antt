@@ -6,7 +6,7 @@ use Rattle.std.specs.Io.KnownBytes.{Consumes}
 use Rattle.std.proofs.lemmas.Bool.Decides.{nat_tests}
 use Rattle.std.proofs.lemmas.List.{take-take}
 use Rattle.std.proofs.Math.Seq.{take-length}
-use Rattle.pbm_core.specs.Device.{between}
+use Rattle.t85_core.specs.Change.{between}
 use Rattle.pbm_core.specs.Pbm.{bytes_of_row}
 use Rattle.pbm_core.specs.declared.fault.PbmFault.TheVariants.{Truncated, BadDigit, Read as PbmRead}
 use Rattle.pbm_core.specs.declared.form.Form.TheVariants.{Raw}

@@ -13,7 +13,7 @@ comment_length choice comment_len = if choice.has_comment then comment_len else 
 -- what is answered: 0 for what an encoding call refuses, else the most bytes that a stream may have
 abbrev pub bound_told : T85Options → ℕ → ℕ → ℕ → ℕ
 bound_told choice width height' held =
-    if nat_lt 1048576 width || ((choice.stripe_rows == 0) || nat_lt 4294967295 held) then 0
+    if (width == 0) || ((height' == 0) || (nat_lt 1048576 width || ((choice.stripe_rows == 0) || nat_lt 4294967295 held))) then 0
     else 34 + held + 14 * stripe_count height' choice.stripe_rows + 4 * (height' * (width + 1))
 
 -- This many bytes are enough for the stream of each raster of this size, with each comment of this length.

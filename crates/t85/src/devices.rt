@@ -1,7 +1,6 @@
 //! Lent memory as devices.
 
 ghost use Rattle.std.specs.Prelude.{◌≡◌, ◌≤◌, ◌<◌, ◌-◌, ◌^◌, ◌++◌, Some, None, length, take, is_some, true, option_to_list};
-ghost use Rattle.pbm_core.specs.Device.{one_more_flush};
 
 use pbm_core::{DeviceFailed, Input, Output};
 
@@ -12,11 +11,11 @@ pub struct Whole<'a> {
 }
 
 impl Input for Whole<'_> {
-    ghost remaining = { λ s. Some s.rest.now };
-
-    ghost failures = { λ _. 0 };
-
-    ghost left = { λ s. length s.rest.now };
+    ghost view = { λ s. record {
+      remaining = Some s.rest.now;
+      left = length s.rest.now;
+      failures = 0;
+    } };
 
     fn failures(&self) -> u64 {
         0
@@ -46,6 +45,7 @@ pub struct Room<'a> {
     pub flushed: bool,
     /// How often a flush was asked for, modulo 2^64.
     pub flushes: u64,
+    /// How often a write has failed, modulo 2^64.
     pub failures: u64,
     ghost within: { len ≤ length bytes.now },
     ghost spilled_last: { is_some spilled ≡ true → len ≡ length bytes.now },
@@ -71,15 +71,13 @@ impl<'a> Room<'a> {
 }
 
 impl Output for Room<'_> {
-    ghost contents = { λ s. Some (take s.len s.bytes.now ++ option_to_list s.spilled) };
-
-    ghost target = { λ s. s.bytes.ghost_name };
-
-    ghost failures = { λ s. s.failures };
-
-    ghost flushed = { λ s. s.flushed };
-
-    ghost flushes = { λ s. s.flushes };
+    ghost view = { λ s. record {
+      contents = Some (take s.len s.bytes.now ++ option_to_list s.spilled);
+      flushed = s.flushed;
+      target = s.bytes.ghost_name;
+      flushes = s.flushes;
+      failures = s.failures;
+    } };
 
     fn failures(&self) -> u64 {
         self.failures
@@ -98,7 +96,7 @@ impl Output for Room<'_> {
             return Ok(count);
         }
         if self.spilled.is_some() {
-            self.failures += 1;
+            self.failures = self.failures.wrapping_add(1);
             return Err(DeviceFailed);
         }
         self.spilled = Some(buf[0]);

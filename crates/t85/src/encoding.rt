@@ -91,7 +91,12 @@ pub extern "C" fn t85_encode_bound(
     // What the proof cites of streams.
     lengths();
     let comment = if choice.has_comment { comment_len } else { 0 };
-    if width > MOST_WIDTH || choice.stripe_rows == 0 || comment > 0xffff_ffff {
+    if width == 0
+        || height == 0
+        || width > MOST_WIDTH
+        || choice.stripe_rows == 0
+        || comment > 0xffff_ffff
+    {
         return 0;
     }
     let stripes = height.div_ceil(choice.stripe_rows) as u64;

@@ -62,11 +62,11 @@ impl<'a> LinedInput<'a> {
 }
 
 impl Input for LinedInput<'_> {
-    ghost remaining = { λ s. Some (s.current.now ++ lined s.rows s.row s.stride s.rest.now) };
-
-    ghost failures = { λ _. 0 };
-
-    ghost left = { λ s. s.left };
+    ghost view = { λ s. record {
+      remaining = Some (s.current.now ++ lined s.rows s.row s.stride s.rest.now);
+      left = s.left;
+      failures = 0;
+    } };
 
     fn failures(&self) -> u64 {
         0

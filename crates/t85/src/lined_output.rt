@@ -1,7 +1,6 @@
 //! Rows at a stride, as an output.
 
 ghost use Rattle.std.specs.Prelude.{◌≡◌, ◌≤◌, ◌<◌, ◌+◌, ◌-◌, ◌*◌, ◌^◌, ◌++◌, ◌∷◌, [], ℕ, Some, None, length, take, is_some, true, false, option_to_list};
-ghost use Rattle.pbm_core.specs.Device.{one_more_flush};
 
 use pbm_core::{DeviceFailed, Output};
 
@@ -159,16 +158,13 @@ impl<'a> LinedOutput<'a> {
 impl Output for LinedOutput<'_> {
     ghost use Rattle.t85.specs.LinedOutput.{taken};
 
-    ghost contents = { λ s. Some (taken s.row s.stride s.fit s.skip s.bytes.now s.head s.at s.y
-        s.x s.spilled) };
-
-    ghost target = { λ s. s.bytes.ghost_name };
-
-    ghost failures = { λ s. s.failures };
-
-    ghost flushed = { λ s. s.flushed };
-
-    ghost flushes = { λ s. s.flushes };
+    ghost view = { λ s. record {
+      contents = Some (taken s.row s.stride s.fit s.skip s.bytes.now s.head s.at s.y s.x s.spilled);
+      flushed = s.flushed;
+      target = s.bytes.ghost_name;
+      flushes = s.flushes;
+      failures = s.failures;
+    } };
 
     fn failures(&self) -> u64 {
         self.failures
@@ -179,7 +175,7 @@ impl Output for LinedOutput<'_> {
             return Ok(0);
         }
         if self.at == self.skip && self.y == self.fit && self.spilled.is_some() {
-            self.failures += 1;
+            self.failures = self.failures.wrapping_add(1);
             return Err(DeviceFailed);
         }
         if self.at < self.skip {

@@ -13,3 +13,12 @@ pub mod ImagePut
 pub mod BufferDecoded
 pub mod Decoded
 pub mod Converted
+pub mod LowerHeight
+pub mod PieceCode
+pub mod PieceRows
+pub mod PieceMarker
+pub mod PieceHead
+pub mod PieceSteps
+pub mod PieceWalk
+pub mod PieceGiven
+pub mod LateHeight

@@ -16,3 +16,4 @@ pub mod Stays
 pub mod Outcomes
 pub mod CodeParts
 pub mod CodeDenotes
+pub mod InPieces

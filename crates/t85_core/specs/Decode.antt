@@ -1,7 +1,8 @@
 -- What `decode` and `find_height` leave of their input and output.
 use Rattle.std.specs.Prelude.{ℕ, ◌≡◌, ◌≢◌, Bool, List, ◌++◌, Option, IfSome, Result, OnOk, IfErr, IsErrOf, ◌≤◌, false, IfOk}
 use Rattle.std.specs.Io.KnownBytes.{Appends, Consumes, Keeps}
-use Rattle.pbm_core.specs.Device.{AppendsBeginning, Change}
+use Rattle.pbm_core.specs.Device.{AppendsBeginning}
+use Rattle.t85_core.specs.Change.{Change}
 use Rattle.raster_core.specs.Raster.{Raster}
 use Rattle.t85_core.specs.declared.fault.Fault.{Fault}
 use Rattle.t85_core.specs.declared.fault.Fault.TheVariants.{Truncated, Read, Write}

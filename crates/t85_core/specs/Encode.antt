@@ -2,7 +2,7 @@
 use Rattle.std.specs.Prelude.{ℕ, ◌≡◌, Bool, List, ◌++◌, length, Option, ◌/◌, ◌≢◌, ◌≤◌, ◌<◌, ⊤, true, take, IfSome, Result, OnOk, IfErr, IsErrOf, false}
 use Rattle.t85_core.specs.Jbg.{Settings, is_low, jbg, jbg_up_to}
 use Rattle.std.specs.Io.KnownBytes.{Appends, Consumes, Keeps}
-use Rattle.pbm_core.specs.Device.{Change}
+use Rattle.t85_core.specs.Change.{Change}
 use Rattle.pbm_core.specs.declared.form.Form.{Form}
 use Rattle.pbm_core.specs.Image.{HoldsRows, RowFault, HasRowFault}
 use Rattle.pbm_core.specs.declared.fault.PbmFault.{PbmFault}

@@ -10,10 +10,12 @@ pub mod Outcome
 pub mod Jbg
 -- What public calls promise.
 pub mod Fault
+pub mod Change
 pub mod Failures
 pub mod Options
 pub mod Info
 pub mod Decode
+pub mod Pieces
 pub mod ToPbm
 pub mod Encode
 pub mod ToJbg

@@ -9,6 +9,11 @@ pub mod State
 pub mod Cut
 pub mod DecodeRows
 pub mod DecodeStripes
+pub mod PieceCode
+pub mod Pieces
 pub mod Written
+pub mod Looked
+pub mod ByRow
+pub mod RowSteps
 pub mod EncodeRows
 pub mod EncodeStripes

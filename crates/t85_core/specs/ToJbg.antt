@@ -1,7 +1,7 @@
 -- What `to_jbg` leaves of its input and output.
 use Rattle.std.specs.Prelude.{ℕ, ◌≡◌, ◌≢◌, ◌⊎◌, Bool, true, List, [], Option, IfSome, Result, OnOk, IfErr, IsErrOf, false}
 use Rattle.std.specs.Io.KnownBytes.{Appends, Consumes, Keeps}
-use Rattle.pbm_core.specs.Device.{Change}
+use Rattle.t85_core.specs.Change.{Change}
 use Rattle.pbm_core.specs.declared.form.Form.{Form}
 use Rattle.pbm_core.specs.Image.{IsPbm}
 use Rattle.pbm_core.specs.Outcome.{HasHeader, HasFault}
@@ -32,6 +32,7 @@ pub record WritesStreamBegun (s : Settings) (bytes : List ℕ) (fault : PbmFault
   pub height' : ℕ
   pub body : List ℕ
   pub header : HasHeader bytes form width height' body
+  pub fits : is_low s height' ≡ false
   pub writes : WritesCodeBegun s form width height' body fault old new
 
 -- A header that is accepted, and after it rows of which a beginning was written.
@@ -41,6 +42,7 @@ pub record WritesStreamFront (s : Settings) (bytes : List ℕ) (old new : Option
   pub height' : ℕ
   pub body : List ℕ
   pub header : HasHeader bytes form width height' body
+  pub fits : is_low s height' ≡ false
   pub writes : WritesCodeFront s form width height' body old new
 
 -- a header that is accepted, and nothing after it; whether the announced height is too low

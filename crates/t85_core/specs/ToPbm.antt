@@ -1,7 +1,8 @@
 -- What `to_pbm` leaves. A stream whose height may change is read twice, first for its height and then for its rows.
-use Rattle.std.specs.Prelude.{ℕ, ◌+◌, ◌≡◌, ◌≢◌, ◌≤◌, ◌<◌, ◌⊎◌, Bool, true, false, ◌&&◌, ◌==◌, List, length, Option, Some, None, IfSome, Result, Ok, Err, OnOk, IfErr, IsErrOf}
+use Rattle.std.specs.Prelude.{ℕ, ◌≡◌, ◌≢◌, ◌≤◌, ◌<◌, ◌⊎◌, Bool, true, false, ◌&&◌, ◌==◌, List, length, Option, Some, None, IfSome, Result, Ok, Err, OnOk, IfErr, IsErrOf}
 use Rattle.std.specs.Io.KnownBytes.{Appends, Consumes, Keeps}
-use Rattle.pbm_core.specs.Device.{Change, known_from}
+use Rattle.pbm_core.specs.Device.{InputView}
+use Rattle.t85_core.specs.Change.{Change, between, known_from}
 use Rattle.raster_core.specs.Raster.{Raster}
 use Rattle.t85_core.specs.declared.fault.Fault.{Fault}
 use Rattle.t85_core.specs.declared.fault.Fault.TheVariants.{ShortHeader, Truncated, Changed, Read, Write, OutOfMemory, TooManyRows, VariableHeight}
@@ -10,7 +11,7 @@ use Rattle.t85_core.specs.Denotes.{Denotes}
 use Rattle.t85_core.specs.Outcome.{pbm_text}
 use Rattle.t85_core.specs.Info.{IsBodyFault}
 use Rattle.t85_core.specs.Decode.{WritesRaster, WritesRows, WritesImageFront, FindHeight}
-use Rattle.t85_core.specs.Failures.{CountsBoth, CountsWrite, Ends, failed_reads}
+use Rattle.t85_core.specs.Failures.{CountsBoth, CountsWrite, Ends, reads_after}
 
 -- The twenty bytes of a header were taken, and no more.
 pub record TakesHeader (h : Fields) (old new : Option (List ℕ)) : Type 0 where
@@ -22,7 +23,7 @@ pub record TakesHeader (h : Fields) (old new : Option (List ℕ)) : Type 0 where
 -- A header was refused, or a read of it failed: no more than twenty bytes were taken.
 pub record HeaderEnds (input : Change) (fault : Fault) : Type 0 where
   pub ends : Ends ShortHeader input.old.bytes input.new.bytes (λ given f. (length given ≤ 20) × (header_fault given ≡ Some f)) fault
-  pub counts : input.new.failures ≡ input.old.failures + failed_reads fault
+  pub counts : input.new.failures ≡ reads_after fault input.old.failures
 
 -- what an output shows to which nothing was written
 pub record Unwritten (output : Change) : Type 0 where
@@ -56,6 +57,11 @@ again_known remaining (Some reading) = remaining reading
 abbrev pub again_failures : {R : Type 0} → (R → ℕ) → Option R → ℕ
 again_failures failures None = 0
 again_failures failures (Some reading) = failures reading
+
+-- a second reading before a call and after it, where there is one
+abbrev pub again_change : {R : Type 0} → (R → InputView) → Option R → Option R → Change
+again_change view old new =
+    between (again_known (λ r. (view r).remaining) old) (again_known (λ r. (view r).remaining) new) (again_failures (λ r. (view r).failures) old) (again_failures (λ r. (view r).failures) new)
 
 -- The header is refused, or can't be read: this is reported, and nothing is written.
 pub record RefusesHeader (input output : Change) (answer : Result (Unit {0}) Fault) : Type 0 where

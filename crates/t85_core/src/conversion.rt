@@ -1,11 +1,11 @@
 //! Whole files: the image of a stream, and the stream of an image.
 
-ghost use Rattle.std.specs.Prelude.{◌≡◌, ◌≤◌, ◌<◌, ◌-◌, ◌^◌, IfSome, is_some, true, if◌then◌else◌};
-ghost use Rattle.pbm_core.specs.Device.{change};
+ghost use Rattle.std.specs.Prelude.{◌≡◌, ◌≤◌, is_some, true, if◌then◌else◌};
+ghost use Rattle.t85_core.specs.Change.{input_change, output_change};
 ghost use Rattle.t85_core.specs.Options.{fields_of, settings_of};
 ghost use Rattle.t85_core.specs.Header.{is_variable};
 ghost use Rattle.t85_core.specs.Failures.{FlushesOnce};
-ghost use Rattle.t85_core.specs.ToPbm.{ToPbmAt, ToPbmBehind, ToPbm, again_known, again_failures, is_same_header};
+ghost use Rattle.t85_core.specs.ToPbm.{ToPbmAt, ToPbmBehind, ToPbm, again_change, is_same_header};
 ghost use Rattle.t85_core.specs.ToJbg.{ToJbg};
 ghost use Rattle.t85_core.specs.Jbg.{is_low};
 ghost use Rattle.t85_core.specs.declared.fault.Fault.TheVariants.{Write, Pbm};
@@ -34,15 +34,12 @@ pub fn to_pbm<R: Input, Second: Input, W: Output>(
     max_rows: u32,
     output: &mut W,
 ) -> Result<(), Fault>
-    requires first { R.failures first.old < 2 ^ 64 - 1 }
-    requires again { IfSome again.old (λ reading. Second.failures reading < 2 ^ 64 - 1) }
-    requires output { W.failures output.old < 2 ^ 64 - 1 }
-    ensures outcome { ToPbm max_rows (change R.remaining R.failures first.old first.new)
+    ensures outcome { ToPbm max_rows (input_change R.view first.old first.new)
         (is_some again.old) (again.new ≡ again.old)
-        (change (again_known Second.remaining) (again_failures Second.failures) again.old again.new)
-        (change W.contents W.failures output.old output.new) (W.flushed output.new) result }
-    ensures flushes { FlushesOnce (W.flushes output.old) (W.flushes output.new) result }
-    ensures same_target { W.target output.new ≡ W.target output.old }
+        (again_change Second.view again.old again.new)
+        (output_change W.view output.old output.new) (W.view output.new).flushed result }
+    ensures flushes { FlushesOnce (W.view output.old).flushes (W.view output.new).flushes result }
+    ensures same_target { (W.view output.new).target ≡ (W.view output.old).target }
 {
     // What the proof cites of the coder.
     coder_laws();
@@ -65,16 +62,13 @@ fn convert_again<R: Input, Second: Input, W: Output>(
     again: &mut Second,
     output: &mut W,
 ) -> Result<(), Fault>
-    requires first { R.failures first.old < 2 ^ 64 - 1 }
-    requires again { Second.failures again.old < 2 ^ 64 - 1 }
-    requires output { W.failures output.old < 2 ^ 64 - 1 }
     requires variable { is_variable (fields_of header.now) ≡ true }
     ensures outcome { ToPbmBehind (fields_of header.now) max_rows
-        (change R.remaining R.failures first.old first.new)
-        (again.new ≡ again.old) (change Second.remaining Second.failures again.old again.new)
-        (change W.contents W.failures output.old output.new) (W.flushed output.new) result }
-    ensures flushes { FlushesOnce (W.flushes output.old) (W.flushes output.new) result }
-    ensures same_target { W.target output.new ≡ W.target output.old }
+        (input_change R.view first.old first.new)
+        (again.new ≡ again.old) (input_change Second.view again.old again.new)
+        (output_change W.view output.old output.new) (W.view output.new).flushed result }
+    ensures flushes { FlushesOnce (W.view output.old).flushes (W.view output.new).flushes result }
+    ensures same_target { (W.view output.new).target ≡ (W.view output.old).target }
 {
     let height = find_height(header, first)?;
     match Header::read(again) {
@@ -111,15 +105,13 @@ fn convert<R: Input, W: Output>(
     input: &mut R,
     output: &mut W,
 ) -> Result<(), Fault>
-    requires input { R.failures input.old < 2 ^ 64 - 1 }
-    requires output { W.failures output.old < 2 ^ 64 - 1 }
     requires from { 1 ≤ height }
     requires to { height ≤ header.now.yd }
     ensures outcome { ToPbmAt (fields_of header.now) height max_rows
-        (change R.remaining R.failures input.old input.new)
-        (change W.contents W.failures output.old output.new) (W.flushed output.new) result }
-    ensures flushes { FlushesOnce (W.flushes output.old) (W.flushes output.new) result }
-    ensures same_target { W.target output.new ≡ W.target output.old }
+        (input_change R.view input.old input.new)
+        (output_change W.view output.old output.new) (W.view output.new).flushed result }
+    ensures flushes { FlushesOnce (W.view output.old).flushes (W.view output.new).flushes result }
+    ensures same_target { (W.view output.new).target ≡ (W.view output.old).target }
 {
     if height > max_rows {
         return Err(Fault::TooManyRows);
@@ -142,13 +134,11 @@ pub fn to_jbg<R: Input, W: Output>(
     output: &mut W,
     options: &Options<'_>,
 ) -> Result<(), Fault>
-    requires input { R.failures input.old < 2 ^ 64 - 1 }
-    requires output { W.failures output.old < 2 ^ 64 - 1 }
     ensures outcome { ToJbg (settings_of options.now)
-        (change R.remaining R.failures input.old input.new)
-        (change W.contents W.failures output.old output.new) (W.flushed output.new) result }
-    ensures flushes { FlushesOnce (W.flushes output.old) (W.flushes output.new) result }
-    ensures same_target { W.target output.new ≡ W.target output.old }
+        (input_change R.view input.old input.new)
+        (output_change W.view output.old output.new) (W.view output.new).flushed result }
+    ensures flushes { FlushesOnce (W.view output.old).flushes (W.view output.new).flushes result }
+    ensures same_target { (W.view output.new).target ≡ (W.view output.old).target }
 {
     // What the proof cites of headers.
     headers();

@@ -1,18 +1,18 @@
 //! Decoding an image.
 
-ghost use Rattle.std.specs.Prelude.{◌≡◌, ◌≢◌, ◌≤◌, ◌<◌, ◌-◌, ◌^◌, OnOk, IfErr, IsErrOf, IfSome, None, option_map, if◌then◌else◌};
+ghost use Rattle.std.specs.Prelude.{◌≡◌, ◌≢◌, ◌≤◌, OnOk, IfErr, IsErrOf, IfSome, None, option_map, if◌then◌else◌};
 ghost use Rattle.raster_core.specs.Window.{width_of};
 ghost use Rattle.t85_core.specs.Steps.State.{StripeStart, first_row_start};
 ghost use Rattle.t85_core.specs.Options.{fields_of};
-ghost use Rattle.pbm_core.specs.Device.{change};
+ghost use Rattle.t85_core.specs.Change.{input_change, output_change};
 ghost use Rattle.t85_core.specs.Decode.{Decode};
-ghost use Rattle.t85_core.specs.Steps.Buffers.{known_length};
+ghost use Rattle.t85_core.specs.Steps.Buffers.{known_length, ReadsOn, WritesOn};
 ghost use Rattle.t85_core.specs.Steps.Views.{entity_view, text_taken, writer_of};
 ghost use Rattle.t85_core.specs.Steps.DecodeRows.{pair_of, IsCarried, IsFirst};
 ghost use Rattle.t85_core.specs.Steps.DecodeStripes.{CodeBegun, DecodeCodeOutcome, SomeStripeStart, DecodeStripeOutcome, ImageRead, ImageCut, ImageUnwritten};
 ghost use Rattle.t85_core.specs.Steps.Entity.{entity_known};
 ghost use Rattle.t85_core.specs.Steps.Segments.{spot_at};
-ghost use Rattle.t85_core.specs.Failures.{CountsBoth, CountsRead, CountsWrite};
+ghost use Rattle.t85_core.specs.Failures.{CountsBoth, CountsWrite};
 ghost use Rattle.t85_core.specs.declared.fault.Fault.TheVariants.{Read, Write};
 
 pub mod entity;
@@ -40,16 +40,14 @@ pub fn decode<R: Input, W: Output>(
     input: &mut R,
     output: &mut W,
 ) -> Result<(), Fault>
-    requires input { R.failures input.old < 2 ^ 64 - 1 }
-    requires output { W.failures output.old < 2 ^ 64 - 1 }
     requires width { width_of window.old ≡ header.now.xd }
     requires from { 1 ≤ height }
     requires to { height ≤ header.now.yd }
     ensures outcome { Decode (fields_of header.now) height
-        (change R.remaining R.failures input.old input.new)
-        (change W.contents W.failures output.old output.new) result }
-    ensures no_flush { W.flushes output.new ≡ W.flushes output.old }
-    ensures same_target { W.target output.new ≡ W.target output.old }
+        (input_change R.view input.old input.new)
+        (output_change W.view output.old output.new) result }
+    ensures no_flush { (W.view output.new).flushes ≡ (W.view output.old).flushes }
+    ensures same_target { (W.view output.new).target ≡ (W.view output.old).target }
 {
     // What the proof cites of the coder.
     coder_laws();
@@ -75,27 +73,25 @@ fn decode_buffered<S: ByteSource, W: Output>(
     stream: &mut S,
     buffer: &mut OutputBuffer<'_, W>,
 ) -> Result<(), Fault>
-    requires stream { S.failures stream.old < 2 ^ 64 - 1 }
-    requires buffer { W.failures buffer.old.output.now < 2 ^ 64 - 1 }
     requires width { width_of carried.old.window.now ≡ header.now.xd }
     requires offset { carried.old.kept.offset ≡ 0 }
     requires first { IsFirst carried.old }
     requires from { 1 ≤ height }
     requires to { height ≤ header.now.yd }
-    ensures ok { OnOk result (ImageRead (fields_of header.now) height (S.known stream.old)
-        (S.known stream.new) (text_taken buffer.old) (W.contents buffer.new.output.now)) }
+    ensures ok { OnOk result (ImageRead (fields_of header.now) height (S.view stream.old).known
+        (S.view stream.new).known (text_taken buffer.old) (W.view buffer.new.output.now).contents) }
     ensures err { IfErr result (λ f. f ≢ Write → ImageCut (fields_of header.now) height
-        (S.known stream.old) (S.known stream.new) (text_taken buffer.old)
-        (W.contents buffer.new.output.now) f) }
-    ensures begun { ImageUnwritten (fields_of header.now) height (S.known stream.old)
-        (S.known stream.new) (text_taken buffer.old) (text_taken buffer.new) }
-    ensures grows { known_length (W.contents buffer.old.output.now) ≤ known_length
-        (W.contents buffer.new.output.now) }
-    ensures drained { IsErrOf result Read → S.known stream.new ≡ S.beyond stream.new }
-    ensures reads { CountsBoth (S.failures stream.old) (S.failures stream.new) result }
-    ensures writes { CountsWrite (W.failures buffer.old.output.now)
-        (W.failures buffer.new.output.now) result }
-    ensures same_source { S.source stream.new ≡ S.source stream.old }
+        (S.view stream.old).known (S.view stream.new).known (text_taken buffer.old)
+        (W.view buffer.new.output.now).contents f) }
+    ensures begun { ImageUnwritten (fields_of header.now) height (S.view stream.old).known
+        (S.view stream.new).known (text_taken buffer.old) (text_taken buffer.new) }
+    ensures grows { known_length (W.view buffer.old.output.now).contents ≤ known_length
+        (W.view buffer.new.output.now).contents }
+    ensures drained { IsErrOf result Read → (S.view stream.new).known ≡ (S.view stream.new).beyond }
+    ensures reads { CountsBoth (S.view stream.old).failures (S.view stream.new).failures result }
+    ensures writes { CountsWrite (W.view buffer.old.output.now).failures
+        (W.view buffer.new.output.now).failures result }
+    ensures same_source { (S.view stream.new).source ≡ (S.view stream.old).source }
     ensures same_writer { writer_of buffer.new ≡ writer_of buffer.old }
 {
     // What the proof cites of the coder.
@@ -120,25 +116,21 @@ fn decode_image<S: ByteSource, P: ByteTarget>(
     stream: &mut S,
     target: &mut P,
 ) -> Result<(), Fault>
-    requires stream { S.failures stream.old < 2 ^ 64 - 1 }
-    requires target { P.failures target.old < 2 ^ 64 - 1 }
     requires width { width_of carried.old.window.now ≡ header.now.xd }
     requires offset { carried.old.kept.offset ≡ 0 }
     requires first { IsFirst carried.old }
     requires from { 1 ≤ height }
     requires to { height ≤ header.now.yd }
-    ensures ok { OnOk result (ImageRead (fields_of header.now) height (S.known stream.old)
-        (S.known stream.new) (P.text target.old) (P.text target.new)) }
-    ensures err { IfErr result (λ f. f ≢ Write → ImageCut (fields_of header.now) height
-        (S.known stream.old) (S.known stream.new) (P.text target.old) (P.text target.new) f) }
-    ensures unwritten { IfErr result (λ _. ImageUnwritten (fields_of header.now) height
-        (S.known stream.old) (S.known stream.new) (P.text target.old) (P.text target.new)) }
-    ensures drained { IsErrOf result Read → S.known stream.new ≡ S.beyond stream.new }
-    ensures reads { CountsRead (S.failures stream.old) (S.failures stream.new) result }
-    ensures writes { CountsWrite (P.failures target.old) (P.failures target.new) result }
-    ensures same_source { S.source stream.new ≡ S.source stream.old }
-    ensures grows { P.written target.old ≤ P.written target.new }
-    ensures same_writer { P.writer target.new ≡ P.writer target.old }
+    ensures ok { OnOk result (ImageRead (fields_of header.now) height (S.view stream.old).known
+        (S.view stream.new).known (P.view target.old).text (P.view target.new).text) }
+    ensures err { IfErr result (λ f. f ≢ Write → ImageCut (fields_of header.now) height (S.view
+        stream.old).known (S.view stream.new).known (P.view target.old).text (P.view
+        target.new).text f) }
+    ensures unwritten { IfErr result (λ _. ImageUnwritten (fields_of header.now) height (S.view
+        stream.old).known (S.view stream.new).known (P.view target.old).text (P.view
+        target.new).text) }
+    ensures reads { ReadsOn (S.view stream.old) (S.view stream.new) result }
+    ensures writes { WritesOn (P.view target.old) (P.view target.new) result }
 {
     // What the proof cites of the coder.
     coder_laws();
@@ -167,23 +159,17 @@ fn decode_stripe<S: ByteSource, P: ByteTarget>(
     stream: &mut S,
     target: &mut P,
 ) -> Result<(), Fault>
-    requires stream { S.failures stream.old < 2 ^ 64 - 1 }
-    requires target { P.failures target.old < 2 ^ 64 - 1 }
     requires width { width_of carried.old.window.now ≡ header.now.xd }
     requires offset { carried.old.kept.offset ≤ 127 }
     requires carried { SomeStripeStart carried.old }
-    ensures outcome { DecodeStripeOutcome (fields_of header.now) (spot_at place)
-        (if given.new then 1 else 0) (S.known stream.old) (S.known stream.new) rows carried.old
-        carried.new (P.text target.old) (P.text target.new) result }
-    ensures drained { IsErrOf result Read → S.known stream.new ≡ S.beyond stream.new }
+    ensures outcome { DecodeStripeOutcome (fields_of header.now) (spot_at place) (if given.new then
+        1 else 0) (S.view stream.old).known (S.view stream.new).known rows carried.old carried.new
+        (P.view target.old).text (P.view target.new).text result }
     ensures width { OnOk result (width_of carried.new.window.now ≡
         width_of carried.old.window.now) }
     ensures offset { OnOk result (carried.new.kept.offset ≤ 127) }
-    ensures reads { CountsRead (S.failures stream.old) (S.failures stream.new) result }
-    ensures writes { CountsWrite (P.failures target.old) (P.failures target.new) result }
-    ensures same_source { S.source stream.new ≡ S.source stream.old }
-    ensures grows { P.written target.old ≤ P.written target.new }
-    ensures same_writer { P.writer target.new ≡ P.writer target.old }
+    ensures reads { ReadsOn (S.view stream.old) (S.view stream.new) result }
+    ensures writes { WritesOn (P.view target.old) (P.view target.new) result }
 {
     let head = read_head(header, place, stream)?;
     *given = head.given;
@@ -200,22 +186,18 @@ fn decode_code<S: ByteSource, P: ByteTarget>(
     entity: &mut EntityReader<'_, S>,
     target: &mut P,
 ) -> Result<(), Fault>
-    requires fresh { entity.old.failures ≡ 0 }
-    requires target { P.failures target.old < 2 ^ 64 - 1 }
     requires width { width_of carried.old.window.now ≡ shape.width }
     requires some { 1 ≤ shape.width }
     requires offset { carried.old.kept.offset ≤ 127 }
     requires to { IfSome at (λ to. to.offset ≤ 127) }
     requires begun { CodeBegun shape (option_map pair_of at) carried.old (entity_view entity.old) }
-    ensures outcome { DecodeCodeOutcome (entity_view entity.old) (entity_view entity.new)
-        (S.known entity.new.stream.now) shape (option_map pair_of at) rows carried.old carried.new
-        (P.text target.old) (P.text target.new) result }
+    ensures outcome { DecodeCodeOutcome (entity_view entity.old) (entity_view entity.new) (S.view
+        entity.new.stream.now).known shape (option_map pair_of at) rows carried.old carried.new
+        (P.view target.old).text (P.view target.new).text result }
     ensures width { OnOk result (width_of carried.new.window.now ≡
         width_of carried.old.window.now) }
     ensures offset { OnOk result (carried.new.kept.offset ≤ 127) }
-    ensures writes { CountsWrite (P.failures target.old) (P.failures target.new) result }
-    ensures grows { P.written target.old ≤ P.written target.new }
-    ensures same_writer { P.writer target.new ≡ P.writer target.old }
+    ensures writes { WritesOn (P.view target.old) (P.view target.new) result }
 {
     // What the proof cites of the coder.
     coder_laws();

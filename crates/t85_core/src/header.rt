@@ -1,6 +1,6 @@
 //! The header: twenty bytes before the first segment.
 
-ghost use Rattle.std.specs.Prelude.{◌≡◌, ◌≢◌, ◌≤◌, ◌<◌, ◌%◌, ◌-◌, ◌^◌, length, OnOk, IfErr};
+ghost use Rattle.std.specs.Prelude.{◌≡◌, ◌≢◌, ◌≤◌, ◌<◌, ◌%◌, ◌^◌, length, OnOk, IfErr};
 ghost use Rattle.std.specs.Io.KnownBytes.{Consumes};
 ghost use Rattle.t85_core.specs.declared.fault.Fault.TheVariants.{ShortHeader};
 ghost use Rattle.t85_core.specs.Failures.{CountsRead, Ends};
@@ -34,7 +34,7 @@ pub struct Header {
 }
 
 impl Header {
-    ghost use Rattle.std.specs.Prelude.{ℕ, List, ◌-◌, ◌^◌, length, Ok, Err, IfOk, IfErr, MatchResult, OnOk, None, Some};
+    ghost use Rattle.std.specs.Prelude.{ℕ, List, ◌^◌, length, Ok, Err, IfOk, IfErr, MatchResult, OnOk, None, Some};
     ghost use Rattle.std.specs.Io.KnownBytes.{Consumes, IsAtEnd};
     ghost use Rattle.t85_core.specs.Failures.{counted_as};
     ghost use Rattle.t85_core.specs.Header.{HeaderOf, header_fault, header_bytes};
@@ -44,14 +44,13 @@ impl Header {
 
     /// Reads a header, and no byte after it.
     pub fn read<R: Input>(input: &mut R) -> Result<Header, Fault>
-        requires { R.failures input.old < 2 ^ 64 - 1 }
         ensures accepted { IfOk result (λ h. (given : List ℕ) × (length given ≡ 20)
-            × Consumes (R.remaining input.old) (R.remaining input.new) given ×
+            × Consumes (R.view input.old).remaining (R.view input.new).remaining given ×
             HeaderOf given (fields_of h)) }
-        ensures refused { IfErr result (Ends ShortHeader (R.remaining input.old)
-            (R.remaining input.new)
+        ensures refused { IfErr result (Ends ShortHeader (R.view input.old).remaining
+            (R.view input.new).remaining
             (λ given fault. (length given ≤ 20) × (header_fault given ≡ Some fault))) }
-        ensures counts { CountsRead (R.failures input.old) (R.failures input.new) result }
+        ensures counts { CountsRead (R.view input.old).failures (R.view input.new).failures result }
     {
         let mut bytes = [0; 20];
         fill(input, &mut bytes)?;
@@ -136,12 +135,12 @@ impl Header {
 
 /// Fills the buffer from the input, and takes nothing more.
 fn fill<R: Input>(input: &mut R, buf: &mut [u8]) -> Result<(), Fault>
-    requires { R.failures input.old < 2 ^ 64 - 1 }
-    ensures filled { OnOk result (Consumes (R.remaining input.old) (R.remaining input.new)
+    ensures filled { OnOk result (Consumes (R.view input.old).remaining (R.view input.new).remaining
         buf.new) }
-    ensures short { IfErr result (Ends ShortHeader (R.remaining input.old) (R.remaining input.new)
-        (λ given fault. (length given < length buf.old) × (fault ≡ ShortHeader))) }
-    ensures counts { CountsRead (R.failures input.old) (R.failures input.new) result }
+    ensures short { IfErr result (Ends ShortHeader (R.view input.old).remaining (R.view
+        input.new).remaining (λ given fault. (length given < length buf.old) × (fault ≡
+        ShortHeader))) }
+    ensures counts { CountsRead (R.view input.old).failures (R.view input.new).failures result }
 {
     let mut at = 0;
     while at < buf.len() {

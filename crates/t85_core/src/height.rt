@@ -1,16 +1,17 @@
 //! The height of a stream, which may be given after its stripes.
 
-ghost use Rattle.std.specs.Prelude.{◌≡◌, ◌≢◌, ◌≤◌, ◌-◌, ◌^◌, ◌<◌, List, ℕ, OnOk, IfOk, IfErr, IfSome, IsErrOf, None, true, false};
+ghost use Rattle.std.specs.Prelude.{◌≡◌, ◌≢◌, ◌≤◌, ◌-◌, List, ℕ, OnOk, IfOk, IfErr, IfSome, IsErrOf, None, true, false};
 ghost use Rattle.std.specs.Io.KnownBytes.{Consumes};
-ghost use Rattle.pbm_core.specs.Device.{change};
+ghost use Rattle.t85_core.specs.Change.{input_change};
 ghost use Rattle.t85_core.specs.declared.fault.Fault.TheVariants.{Truncated, Read};
 ghost use Rattle.t85_core.specs.Options.{fields_of};
 ghost use Rattle.t85_core.specs.Header.{is_variable};
-ghost use Rattle.t85_core.specs.Failures.{CountsRead, Ends};
+ghost use Rattle.t85_core.specs.Steps.Buffers.{ReadsOn};
+ghost use Rattle.t85_core.specs.Failures.{Ends};
 ghost use Rattle.t85_core.specs.Grammar.{stripe_count};
 ghost use Rattle.t85_core.specs.Decode.{FindHeight};
 ghost use Rattle.t85_core.specs.Info.{IsWalkFault};
-ghost use Rattle.t85_core.specs.Steps.HeightWalk.{Skips, SkipFault, Sought, SkipsFault, LooksTo, LookEnds, LookOpen, Finds, FindsOpen, PassesRest, RestBreaks};
+ghost use Rattle.t85_core.specs.Steps.HeightWalk.{SkipsParts, SkipFault, Sought, SkipsFault, LooksTo, LookEnds, LookOpen, Finds, FindsOpen, PassesRest, RestBreaks};
 ghost use Rattle.t85_core.specs.Steps.Segments.{IsByteOrMarker};
 
 use crate::fault::Fault;
@@ -48,8 +49,7 @@ pub struct Reached {
 /// Where the header says that the height may change, the segments are read up to the first valid height; where none
 /// comes, or the stream breaks before it, the height is the header's.
 pub fn find_height<R: Input>(header: &Header, input: &mut R) -> Result<u32, Fault>
-    requires input { R.failures input.old < 2 ^ 64 - 1 }
-    ensures { FindHeight (fields_of header.now) (change R.remaining R.failures input.old input.new)
+    ensures { FindHeight (fields_of header.now) (input_change R.view input.old input.new)
         result }
 {
     if !header.is_variable() {
@@ -71,21 +71,18 @@ pub fn find_height<R: Input>(header: &Header, input: &mut R) -> Result<u32, Faul
 /// Skips the stripes that the header's height makes, up to the first height that is given in them or, where the height
 /// may change, after them.
 pub fn find<S: ByteSource>(header: &Header, stream: &mut S) -> Result<Reached, Fault>
-    requires stream { S.failures stream.old < 2 ^ 64 - 1 }
-    ensures ok { IfOk result (λ r. Finds (fields_of header.now) (S.known stream.old)
-        (S.known stream.new) r.entities r.passed.moves r.passed.comments r.part.moves
+    ensures ok { IfOk result (λ r. Finds (fields_of header.now) (S.view stream.old).known
+        (S.view stream.new).known r.entities r.passed.moves r.passed.comments r.part.moves
         r.part.comments r.height) }
     ensures few { IfOk result (λ r. (r.passed.moves ≤ r.entities) × (r.part.moves ≤ 1)) }
-    ensures err { IfErr result (λ f. f ≢ Read → Ends Truncated (S.known stream.old)
-        (S.known stream.new) (SkipsFault (fields_of header.now) 0
+    ensures err { IfErr result (λ f. f ≢ Read → Ends Truncated (S.view stream.old).known
+        (S.view stream.new).known (SkipsFault (fields_of header.now) 0
         (stripe_count header.now.yd header.now.l0) false false) f) }
     ensures unread { IsErrOf result Read → (given : List ℕ) ×
-        Consumes (S.known stream.old) (S.known stream.new) given ×
+        Consumes (S.view stream.old).known (S.view stream.new).known given ×
         FindsOpen (fields_of header.now) given }
     ensures among { IfErr result IsWalkFault }
-    ensures drained { IsErrOf result Read → S.known stream.new ≡ S.beyond stream.new }
-    ensures same_source { S.source stream.new ≡ S.source stream.old }
-    ensures counts { CountsRead (S.failures stream.old) (S.failures stream.new) result }
+    ensures reads { ReadsOn (S.view stream.old) (S.view stream.new) result }
 {
     let reached = skip_stripes(
         header,
@@ -109,19 +106,16 @@ pub fn find<S: ByteSource>(header: &Header, stream: &mut S) -> Result<Reached, F
 
 /// Skips comments after the last stripe that the header's height makes, and a height where one comes after them.
 fn look<S: ByteSource>(header: &Header, entities: u32, stream: &mut S) -> Result<Option<u32>, Fault>
-    requires stream { S.failures stream.old < 2 ^ 64 - 1 }
     requires variable { is_variable (fields_of header.now) ≡ true }
-    ensures found { IfOk result (λ height. IfSome height
-        (LooksTo (fields_of header.now) entities (S.known stream.old) (S.known stream.new))) }
+    ensures found { IfOk result (λ height. IfSome height (LooksTo (fields_of header.now) entities
+        (S.view stream.old).known (S.view stream.new).known)) }
     ensures none { IfOk result (λ height. height ≡ None →
-        IfSome (S.known stream.old) (LookEnds (fields_of header.now) entities)) }
+        IfSome (S.view stream.old).known (LookEnds (fields_of header.now) entities)) }
     ensures among { IfErr result (λ f. f ≡ Read) }
     ensures unread { IsErrOf result Read → (given : List ℕ) ×
-        Consumes (S.known stream.old) (S.known stream.new) given ×
+        Consumes (S.view stream.old).known (S.view stream.new).known given ×
         LookOpen (fields_of header.now) entities given }
-    ensures drained { IsErrOf result Read → S.known stream.new ≡ S.beyond stream.new }
-    ensures same_source { S.source stream.new ≡ S.source stream.old }
-    ensures counts { CountsRead (S.failures stream.old) (S.failures stream.new) result }
+    ensures reads { ReadsOn (S.view stream.old) (S.view stream.new) result }
 {
     let place = Place {
         height: 0,
@@ -154,17 +148,14 @@ pub fn skip_stripes<S: ByteSource>(
     moved_before: bool,
     stream: &mut S,
 ) -> Result<Reached, Fault>
-    requires stream { S.failures stream.old < 2 ^ 64 - 1 }
     requires from { from ≤ count }
     ensures ok { IfOk result (λ r. Sought (fields_of header.now) from count given moved_before
-        (S.known stream.old) (S.known stream.new) r.entities r.passed.moves r.passed.comments
-        r.part.moves r.part.comments r.height) }
+        (S.view stream.old).known (S.view stream.new).known r.entities r.passed.moves
+        r.passed.comments r.part.moves r.part.comments r.height) }
     ensures few { IfOk result (λ r. (r.passed.moves ≤ r.entities - from) × (r.part.moves ≤ 1)) }
-    ensures err { IfErr result (Ends Truncated (S.known stream.old) (S.known stream.new)
+    ensures err { IfErr result (Ends Truncated (S.view stream.old).known (S.view stream.new).known
         (SkipsFault (fields_of header.now) from count given moved_before)) }
-    ensures drained { IsErrOf result Read → S.known stream.new ≡ S.beyond stream.new }
-    ensures same_source { S.source stream.new ≡ S.source stream.old }
-    ensures counts { CountsRead (S.failures stream.old) (S.failures stream.new) result }
+    ensures reads { ReadsOn (S.view stream.old) (S.view stream.new) result }
 {
     let mut moved = moved_before;
     let mut passed = Passed {
@@ -210,15 +201,13 @@ fn skip_stripe<S: ByteSource>(
     moved_before: bool,
     stream: &mut S,
 ) -> Result<Skipped, Fault>
-    requires stream { S.failures stream.old < 2 ^ 64 - 1 }
-    ensures ok { IfOk result (λ s. Skips (fields_of header.now) entities given moved_before
-        (S.known stream.old) (S.known stream.new) s.passed.moves s.passed.comments s.height) }
+    ensures ok { IfOk result (λ s. SkipsParts (fields_of header.now) entities given moved_before
+        (S.view stream.old).known (S.view stream.new).known s.passed.moves s.passed.comments
+        s.height) }
     ensures few { IfOk result (λ s. s.passed.moves ≤ 1) }
-    ensures err { IfErr result (Ends Truncated (S.known stream.old) (S.known stream.new)
+    ensures err { IfErr result (Ends Truncated (S.view stream.old).known (S.view stream.new).known
         (SkipFault (fields_of header.now) entities given moved_before)) }
-    ensures drained { IsErrOf result Read → S.known stream.new ≡ S.beyond stream.new }
-    ensures same_source { S.source stream.new ≡ S.source stream.old }
-    ensures counts { CountsRead (S.failures stream.old) (S.failures stream.new) result }
+    ensures reads { ReadsOn (S.view stream.old) (S.view stream.new) result }
 {
     // No height is in use where one is looked for, and none may come where one was given.
     let place = Place {
@@ -248,14 +237,12 @@ fn skip_stripe<S: ByteSource>(
 
 /// Skips what is left of a data entity that begins so.
 fn skip_rest<S: ByteSource>(first: Code, stream: &mut S) -> Result<(), Fault>
-    requires stream { S.failures stream.old < 2 ^ 64 - 1 }
     requires first { IsByteOrMarker first }
-    ensures ok { OnOk result (PassesRest first (S.known stream.old) (S.known stream.new)) }
-    ensures err { IfErr result (Ends Truncated (S.known stream.old) (S.known stream.new)
+    ensures ok { OnOk result (PassesRest first (S.view stream.old).known
+        (S.view stream.new).known) }
+    ensures err { IfErr result (Ends Truncated (S.view stream.old).known (S.view stream.new).known
         (RestBreaks first)) }
-    ensures drained { IsErrOf result Read → S.known stream.new ≡ S.beyond stream.new }
-    ensures same_source { S.source stream.new ≡ S.source stream.old }
-    ensures counts { CountsRead (S.failures stream.old) (S.failures stream.new) result }
+    ensures reads { ReadsOn (S.view stream.old) (S.view stream.new) result }
 {
     match first {
         Code::Byte(_) => {

@@ -12,15 +12,17 @@ pub mod laws;
 mod line;
 mod options;
 mod output_buffer;
+mod pieces;
 mod segments;
 mod state;
 mod summary;
 
 pub use conversion::{to_jbg, to_pbm};
 pub use decoding::decode;
-pub use encoding::encode;
+pub use encoding::{RowEncoder, encode};
 pub use fault::Fault;
 pub use header::Header;
 pub use height::find_height;
 pub use options::Options;
+pub use pieces::{Outcome, PieceDecoder, Progress};
 pub use summary::{Summary, info, summarize};

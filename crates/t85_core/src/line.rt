@@ -1,6 +1,6 @@
 //! A line of decimal numbers.
 
-ghost use Rattle.std.specs.Prelude.{◌≡◌, ◌-◌, ◌*◌, ◌^◌, ◌<◌, ◌≤◌, ◌+◌, ◌∷◌, ◌++◌, [], List, ℕ, length, take, true, OnOk, IfErr};
+ghost use Rattle.std.specs.Prelude.{◌≡◌, ◌*◌, ◌<◌, ◌≤◌, ◌+◌, ◌∷◌, ◌++◌, [], List, ℕ, length, take, true, OnOk, IfErr};
 ghost use Rattle.std.specs.Fmt.{decimal};
 ghost use Rattle.std.specs.Io.KnownBytes.{Appends};
 ghost use Rattle.t85_core.specs.declared.fault.Fault.TheVariants.{Write};
@@ -66,16 +66,17 @@ impl Line {
 
     /// Writes the line, and flushes once.
     pub fn put<W: Output>(&self, output: &mut W) -> Result<(), Fault>
-        requires { W.failures output.old < 2 ^ 64 - 1 }
-        ensures ok { OnOk result (Appends (W.contents output.old) (W.contents output.new)
+        ensures ok { OnOk result (Appends (W.view output.old).contents (W.view output.new).contents
             self.now) }
         ensures err { IfErr result (λ f. f ≡ Write) }
-        ensures cut { IfErr result (λ _. AppendsBeginning (W.contents output.old)
-            (W.contents output.new) self.now) }
-        ensures flushed { OnOk result (W.flushed output.new ≡ true) }
-        ensures flushes { FlushesOnce (W.flushes output.old) (W.flushes output.new) result }
-        ensures same_target { W.target output.new ≡ W.target output.old }
-        ensures counts { CountsWrite (W.failures output.old) (W.failures output.new) result }
+        ensures cut { IfErr result (λ _. AppendsBeginning (W.view output.old).contents
+            (W.view output.new).contents self.now) }
+        ensures flushed { OnOk result ((W.view output.new).flushed ≡ true) }
+        ensures flushes { FlushesOnce (W.view output.old).flushes (W.view output.new).flushes
+            result }
+        ensures same_target { (W.view output.new).target ≡ (W.view output.old).target }
+        ensures counts { CountsWrite (W.view output.old).failures (W.view output.new).failures
+            result }
     {
         if write_bytes(output, &self.bytes[..self.len]).is_err() {
             return Err(Fault::Write);

@@ -1,10 +1,10 @@
 //! An output's bytes, held back in a fixed array and written together.
 
-ghost use Rattle.std.specs.Prelude.{◌≡◌, ◌≤◌, ◌<◌, ◌-◌, ◌^◌, ◌∷◌, [], ℕ, List, Option, length, take, OnOk, OnErr, IfErr};
+ghost use Rattle.std.specs.Prelude.{◌≡◌, ◌≤◌, ◌<◌, ◌-◌, length, take, OnOk, IfErr};
 ghost use Rattle.std.specs.Io.KnownBytes.{Appends, Keeps, append_known};
-ghost use Rattle.pbm_core.specs.Device.{AppendsBeginning, CountsFailure};
+ghost use Rattle.pbm_core.specs.Device.{Counts};
 ghost use Rattle.t85_core.specs.declared.fault.Fault.TheVariants.{Write};
-ghost use Rattle.t85_core.specs.Steps.Buffers.{Writer, held_of, known_length};
+ghost use Rattle.t85_core.specs.Steps.Buffers.{TargetView, PutsBytes, Pushes, HandsOn, held_of, known_length};
 ghost use Rattle.t85_core.specs.Failures.{CountsWrite};
 
 use crate::fault::Fault;
@@ -14,54 +14,24 @@ const SIZE: usize = 4096;
 
 /// Where the bytes of an image or of a stream go.
 pub trait ByteTarget {
-    /// The bytes that it has taken, after those that were there, where the writer reports them.
-    ghost text: { Self → Option (List ℕ) };
-
-    /// The bytes of these that the writer has still to take.
-    ghost held: { Self → List ℕ };
-
-    /// How many bytes the writer has taken, where it reports them.
-    ghost written: { Self → ℕ };
-
-    /// How often the writer has failed.
-    ghost failures: { Self → ℕ };
-
-    /// Which writer it has, which memory was lent to that, and how often it was asked to flush.
-    ghost writer: { Self → Writer };
+    /// The bytes that it has taken, and what the writer has taken of them.
+    ghost view: { Self → TargetView };
 
     /// Takes bytes.
     fn put(&mut self, bytes: &[u8]) -> Result<(), Fault>
-        requires { failures self.old < 2 ^ 64 - 1 }
-        ensures ok { OnOk result (Appends (text self.old) (text self.new) bytes.now) }
-        ensures err { IfErr result (λ f. f ≡ Write) }
-        ensures cut { OnErr result (AppendsBeginning (text self.old) (text self.new) bytes.now) }
-        ensures grows { written self.old ≤ written self.new }
-        ensures counts { CountsWrite (failures self.old) (failures self.new) result }
-        ensures same_writer { writer self.new ≡ writer self.old };
+        ensures { PutsBytes bytes.now (view self.old) (view self.new) result };
 
     /// Takes a byte, or fails and leaves it out.
     fn push(&mut self, byte: u8) -> Result<(), Fault>
-        requires { failures self.old < 2 ^ 64 - 1 }
-        ensures ok { OnOk result (Appends (text self.old) (text self.new) (byte ∷ [])) }
-        ensures err { IfErr result (λ f. f ≡ Write) }
-        ensures kept { OnErr result (Keeps (text self.old) (text self.new)) }
-        ensures grows { written self.old ≤ written self.new }
-        ensures counts { CountsWrite (failures self.old) (failures self.new) result }
-        ensures same_writer { writer self.new ≡ writer self.old };
+        ensures { Pushes byte (view self.old) (view self.new) result };
 
     /// Writes what it holds.
     fn write_held(&mut self) -> Result<(), Fault>
-        requires { failures self.old < 2 ^ 64 - 1 }
-        ensures text { Keeps (text self.old) (text self.new) }
-        ensures sent { OnOk result (held self.new ≡ []) }
-        ensures grows { written self.old ≤ written self.new }
-        ensures err { IfErr result (λ f. f ≡ Write) }
-        ensures counts { CountsWrite (failures self.old) (failures self.new) result }
-        ensures same_writer { writer self.new ≡ writer self.old };
+        ensures { HandsOn (view self.old) (view self.new) result };
 
     /// How often the writer has failed.
     fn failures(&self) -> u64
-        ensures { result ≡ failures self.now };
+        ensures { result ≡ (view self.now).failures };
 }
 
 /// Bytes are written where the array is full, and by `write_held`.
@@ -94,14 +64,13 @@ impl<W: Output> OutputBuffer<'_, W> {
 
     /// Writes what is held.
     pub fn write_held(&mut self) -> Result<(), Fault>
-        requires { W.failures self.old.output.now < 2 ^ 64 - 1 }
         ensures text { Keeps (text_taken self.old) (text_taken self.new) }
         ensures empty { OnOk result ((self.new.at ≡ 0) × (self.new.end ≡ 0)) }
-        ensures grows { known_length (W.contents self.old.output.now) ≤ known_length
-            (W.contents self.new.output.now) }
+        ensures grows { known_length (W.view self.old.output.now).contents ≤ known_length
+            (W.view self.new.output.now).contents }
         ensures err { IfErr result (λ f. f ≡ Write) }
-        ensures counts { CountsWrite (W.failures self.old.output.now)
-            (W.failures self.new.output.now) result }
+        ensures counts { CountsWrite (W.view self.old.output.now).failures
+            (W.view self.new.output.now).failures result }
         ensures same_writer { writer_of self.new ≡ writer_of self.old }
     {
         match write_part(self.output, &self.bytes, self.at, self.end) {
@@ -123,17 +92,17 @@ impl<W: Output> OutputBuffer<'_, W> {
 fn write_part<W: Output>(output: &mut W, bytes: &[u8], at: usize, end: usize) -> Result<(), usize>
     requires ordered { at ≤ end }
     requires within { end ≤ length bytes.now }
-    requires countable { W.failures output.old < 2 ^ 64 - 1 }
-    ensures ok { OnOk result (Appends (W.contents output.old) (W.contents output.new)
+    ensures ok { OnOk result (Appends (W.view output.old).contents (W.view output.new).contents
         (held_of bytes.now at end)) }
-    ensures err { IfErr result (λ place. Keeps (append_known (W.contents output.old)
-        (held_of bytes.now at end)) (append_known (W.contents output.new)
+    ensures err { IfErr result (λ place. Keeps (append_known (W.view output.old).contents
+        (held_of bytes.now at end)) (append_known (W.view output.new).contents
         (held_of bytes.now place end))) }
     ensures bound { IfErr result (λ place. place ≤ end) }
-    ensures grows { known_length (W.contents output.old) ≤ known_length (W.contents output.new) }
-    ensures no_flush { W.flushes output.new ≡ W.flushes output.old }
-    ensures same_target { W.target output.new ≡ W.target output.old }
-    ensures counts { CountsFailure (W.failures output.old) (W.failures output.new) result }
+    ensures grows { known_length (W.view output.old).contents ≤ known_length (W.view
+        output.new).contents }
+    ensures no_flush { (W.view output.new).flushes ≡ (W.view output.old).flushes }
+    ensures same_target { (W.view output.new).target ≡ (W.view output.old).target }
+    ensures counts { Counts (W.view output.old).failures (W.view output.new).failures result }
 {
     let mut place = at;
     while place < end {
@@ -166,15 +135,13 @@ impl<W: Output> OutputBuffer<'_, W> {
 impl<W: Output> ByteTarget for OutputBuffer<'_, W> {
     ghost use Rattle.t85_core.specs.Steps.Views.{text_taken, writer_of};
 
-    ghost text = { λ s. text_taken s };
-
-    ghost held = { λ s. held_of s.bytes s.at s.end };
-
-    ghost written = { λ s. known_length (W.contents s.output.now) };
-
-    ghost failures = { λ s. W.failures s.output.now };
-
-    ghost writer = { λ s. writer_of s };
+    ghost view = { λ s. record {
+      text = text_taken s;
+      held = held_of s.bytes s.at s.end;
+      written = known_length (W.view s.output.now).contents;
+      failures = (W.view s.output.now).failures;
+      writer = writer_of s;
+    } };
 
     fn put(&mut self, bytes: &[u8]) -> Result<(), Fault> {
         let mut taken = 0;

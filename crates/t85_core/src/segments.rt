@@ -1,11 +1,12 @@
 //! The walk over the segments of a stripe, and over the bytes of its code.
 
-ghost use Rattle.std.specs.Prelude.{◌≡◌, ◌≤◌, ◌-◌, ◌^◌, ◌<◌, ◌++◌, ◌∷◌, [], List, ℕ, length, OnOk, IfOk, IfErr, IsErrOf, Some, false, true};
+ghost use Rattle.std.specs.Prelude.{◌≡◌, ◌≤◌, ◌-◌, ◌^◌, ◌<◌, ◌++◌, ◌∷◌, [], List, ℕ, length, OnOk, IfOk, IfErr, Some, false, true};
 ghost use Rattle.std.specs.Io.KnownBytes.{Consumes};
 ghost use Rattle.byteorder.specs.Endian.{big_bytes};
-ghost use Rattle.t85_core.specs.declared.fault.Fault.TheVariants.{Truncated, Read};
+ghost use Rattle.t85_core.specs.declared.fault.Fault.TheVariants.{Truncated};
 ghost use Rattle.t85_core.specs.Options.{fields_of};
-ghost use Rattle.t85_core.specs.Failures.{CountsRead, Ends};
+ghost use Rattle.t85_core.specs.Steps.Buffers.{ReadsOn};
+ghost use Rattle.t85_core.specs.Failures.{Ends};
 ghost use Rattle.t85_core.specs.Refusal.{move_fault, comment_fault};
 ghost use Rattle.t85_core.specs.Grammar.{NewLength, is_valid_length, IsLegal};
 ghost use Rattle.t85_core.specs.Steps.Segments.{spot_at, code_bytes, IsByteOrMarker, LengthFault, PieceFault, Passes, PassesSegments, SegmentsFault, PassesHead, HeadFault, PassesCode, RestFault, CodeFault};
@@ -101,14 +102,11 @@ pub fn read_head<S: ByteSource>(
     place: Place,
     stream: &mut S,
 ) -> Result<Head, Fault>
-    requires stream { S.failures stream.old < 2 ^ 64 - 1 }
-    ensures ok { IfOk result (PassesHead (fields_of header.now) (spot_at place) (S.known stream.old)
-        (S.known stream.new)) }
-    ensures err { IfErr result (Ends Truncated (S.known stream.old) (S.known stream.new)
+    ensures ok { IfOk result (PassesHead (fields_of header.now) (spot_at place) (S.view
+        stream.old).known (S.view stream.new).known) }
+    ensures err { IfErr result (Ends Truncated (S.view stream.old).known (S.view stream.new).known
         (HeadFault (fields_of header.now) (spot_at place))) }
-    ensures drained { IsErrOf result Read → S.known stream.new ≡ S.beyond stream.new }
-    ensures same_source { S.source stream.new ≡ S.source stream.old }
-    ensures counts { CountsRead (S.failures stream.old) (S.failures stream.new) result }
+    ensures reads { ReadsOn (S.view stream.old) (S.view stream.new) result }
 {
     let segments = read_segments(header, place, false, stream)?;
     match segments.next {
@@ -130,14 +128,11 @@ pub fn read_segments<S: ByteSource>(
     moved_before: bool,
     stream: &mut S,
 ) -> Result<Segments, Fault>
-    requires stream { S.failures stream.old < 2 ^ 64 - 1 }
     ensures ok { IfOk result (PassesSegments (fields_of header.now) place moved_before
-        (S.known stream.old) (S.known stream.new)) }
-    ensures err { IfErr result (Ends Truncated (S.known stream.old) (S.known stream.new)
+        (S.view stream.old).known (S.view stream.new).known) }
+    ensures err { IfErr result (Ends Truncated (S.view stream.old).known (S.view stream.new).known
         (SegmentsFault (fields_of header.now) place moved_before)) }
-    ensures drained { IsErrOf result Read → S.known stream.new ≡ S.beyond stream.new }
-    ensures same_source { S.source stream.new ≡ S.source stream.old }
-    ensures counts { CountsRead (S.failures stream.old) (S.failures stream.new) result }
+    ensures reads { ReadsOn (S.view stream.old) (S.view stream.new) result }
 {
     let mut at = None;
     let mut moved = moved_before;
@@ -178,13 +173,10 @@ pub fn read_segments<S: ByteSource>(
 
 /// Skips what is left of a code that has begun, and its end marker. Answers whether that resets.
 pub fn skip_code<S: ByteSource>(stream: &mut S) -> Result<bool, Fault>
-    requires stream { S.failures stream.old < 2 ^ 64 - 1 }
-    ensures ok { IfOk result (PassesCode (S.known stream.old) (S.known stream.new)) }
-    ensures err { IfErr result (Ends Truncated (S.known stream.old) (S.known stream.new)
+    ensures ok { IfOk result (PassesCode (S.view stream.old).known (S.view stream.new).known) }
+    ensures err { IfErr result (Ends Truncated (S.view stream.old).known (S.view stream.new).known
         CodeFault) }
-    ensures drained { IsErrOf result Read → S.known stream.new ≡ S.beyond stream.new }
-    ensures same_source { S.source stream.new ≡ S.source stream.old }
-    ensures counts { CountsRead (S.failures stream.old) (S.failures stream.new) result }
+    ensures reads { ReadsOn (S.view stream.old) (S.view stream.new) result }
 {
     'code: loop {
         stream.skip_plain();
@@ -196,17 +188,32 @@ pub fn skip_code<S: ByteSource>(stream: &mut S) -> Result<bool, Fault>
 }
 
 /// Reads a byte of a code that has begun, or its end marker.
+#[inline(always)]
 pub fn next_code<S: ByteSource>(stream: &mut S) -> Result<Code, Fault>
-    requires stream { S.failures stream.old < 2 ^ 64 - 1 }
     ensures ok { IfOk result (λ code. IsByteOrMarker code ×
-        Consumes (S.known stream.old) (S.known stream.new) (code_bytes code)) }
-    ensures err { IfErr result (Ends Truncated (S.known stream.old) (S.known stream.new)
+        Consumes (S.view stream.old).known (S.view stream.new).known (code_bytes code)) }
+    ensures err { IfErr result (Ends Truncated (S.view stream.old).known (S.view stream.new).known
         RestFault) }
-    ensures drained { IsErrOf result Read → S.known stream.new ≡ S.beyond stream.new }
-    ensures same_source { S.source stream.new ≡ S.source stream.old }
-    ensures counts { CountsRead (S.failures stream.old) (S.failures stream.new) result }
-    ensures lowers { OnOk result (S.left stream.new < S.left stream.old) }
-    ensures no_more { S.left stream.new ≤ S.left stream.old }
+    ensures reads { ReadsOn (S.view stream.old) (S.view stream.new) result }
+    ensures lowers { OnOk result ((S.view stream.new).left < (S.view stream.old).left) }
+    ensures no_more { (S.view stream.new).left ≤ (S.view stream.old).left }
+{
+    match stream.next_plain() {
+        Some(byte) => Ok(Code::Byte(byte)),
+        None => any_code(stream),
+    }
+}
+
+/// The same, whatever comes next.
+#[inline(never)]
+fn any_code<S: ByteSource>(stream: &mut S) -> Result<Code, Fault>
+    ensures ok { IfOk result (λ code. IsByteOrMarker code ×
+        Consumes (S.view stream.old).known (S.view stream.new).known (code_bytes code)) }
+    ensures err { IfErr result (Ends Truncated (S.view stream.old).known (S.view stream.new).known
+        RestFault) }
+    ensures reads { ReadsOn (S.view stream.old) (S.view stream.new) result }
+    ensures lowers { OnOk result ((S.view stream.new).left < (S.view stream.old).left) }
+    ensures no_more { (S.view stream.new).left ≤ (S.view stream.old).left }
 {
     let first = stream.next()?;
     if first != ESCAPE {
@@ -229,15 +236,12 @@ pub fn next_piece<S: ByteSource>(
     moved: bool,
     stream: &mut S,
 ) -> Result<Piece, Fault>
-    requires stream { S.failures stream.old < 2 ^ 64 - 1 }
-    ensures ok { IfOk result (Passes (fields_of header.now) place moved (S.known stream.old)
-        (S.known stream.new)) }
-    ensures err { IfErr result (Ends Truncated (S.known stream.old) (S.known stream.new)
+    ensures ok { IfOk result (Passes (fields_of header.now) place moved (S.view stream.old).known
+        (S.view stream.new).known) }
+    ensures err { IfErr result (Ends Truncated (S.view stream.old).known (S.view stream.new).known
         (PieceFault (fields_of header.now) place moved)) }
-    ensures drained { IsErrOf result Read → S.known stream.new ≡ S.beyond stream.new }
-    ensures same_source { S.source stream.new ≡ S.source stream.old }
-    ensures counts { CountsRead (S.failures stream.old) (S.failures stream.new) result }
-    ensures lowers { OnOk result (S.left stream.new < S.left stream.old) }
+    ensures reads { ReadsOn (S.view stream.old) (S.view stream.new) result }
+    ensures lowers { OnOk result ((S.view stream.new).left < (S.view stream.old).left) }
 {
     let first = stream.next()?;
     if first != ESCAPE {
@@ -270,17 +274,14 @@ pub fn next_piece<S: ByteSource>(
 
 /// Reads what follows the two bytes of a NEWLEN, and judges it: it is valid at this place, and no other came before.
 fn read_length<S: ByteSource>(header: &Header, place: Place, stream: &mut S) -> Result<u32, Fault>
-    requires stream { S.failures stream.old < 2 ^ 64 - 1 }
     ensures ok { IfOk result (λ height. (place.given ≡ false) ×
         (is_valid_length (fields_of header.now) place.entities height ≡ true)
         × IsLegal (fields_of header.now) (NewLength height) ×
-        Consumes (S.known stream.old) (S.known stream.new) (big_bytes 4 height)) }
-    ensures err { IfErr result (Ends Truncated (S.known stream.old) (S.known stream.new)
+        Consumes (S.view stream.old).known (S.view stream.new).known (big_bytes 4 height)) }
+    ensures err { IfErr result (Ends Truncated (S.view stream.old).known (S.view stream.new).known
         (LengthFault (fields_of header.now) place)) }
-    ensures drained { IsErrOf result Read → S.known stream.new ≡ S.beyond stream.new }
-    ensures same_source { S.source stream.new ≡ S.source stream.old }
-    ensures counts { CountsRead (S.failures stream.old) (S.failures stream.new) result }
-    ensures no_more { S.left stream.new ≤ S.left stream.old }
+    ensures reads { ReadsOn (S.view stream.old) (S.view stream.new) result }
+    ensures no_more { (S.view stream.new).left ≤ (S.view stream.old).left }
 {
     if !header.is_variable() {
         return Err(Fault::LengthRefused);
@@ -306,16 +307,13 @@ fn is_valid(header: &Header, entities: u32, height: u32) -> bool
 
 /// Reads what follows the two bytes of an ATMOVE, and judges it.
 fn read_move<S: ByteSource>(header: &Header, stream: &mut S) -> Result<Move, Fault>
-    requires stream { S.failures stream.old < 2 ^ 64 - 1 }
     ensures ok { IfOk result (λ to. (to.row < header.now.l0) × (to.offset ≤ header.now.mx)
-        × Consumes (S.known stream.old) (S.known stream.new)
+        × Consumes (S.view stream.old).known (S.view stream.new).known
         (big_bytes 4 to.row ++ to.offset ∷ 0 ∷ [])) }
-    ensures err { IfErr result (Ends Truncated (S.known stream.old) (S.known stream.new)
+    ensures err { IfErr result (Ends Truncated (S.view stream.old).known (S.view stream.new).known
         (λ given fault. move_fault (fields_of header.now) 0 given ≡ Some fault)) }
-    ensures drained { IsErrOf result Read → S.known stream.new ≡ S.beyond stream.new }
-    ensures same_source { S.source stream.new ≡ S.source stream.old }
-    ensures counts { CountsRead (S.failures stream.old) (S.failures stream.new) result }
-    ensures no_more { S.left stream.new ≤ S.left stream.old }
+    ensures reads { ReadsOn (S.view stream.old) (S.view stream.new) result }
+    ensures no_more { (S.view stream.new).left ≤ (S.view stream.old).left }
 {
     let row = number(stream)?;
     let offset = stream.next()?;
@@ -328,15 +326,12 @@ fn read_move<S: ByteSource>(header: &Header, stream: &mut S) -> Result<Move, Fau
 
 /// Skips what follows the two bytes of a COMMENT.
 fn skip_comment<S: ByteSource>(stream: &mut S) -> Result<(), Fault>
-    requires stream { S.failures stream.old < 2 ^ 64 - 1 }
-    ensures ok { OnOk result ((text : List ℕ) × (length text < 2 ^ 32)
-        × Consumes (S.known stream.old) (S.known stream.new) (big_bytes 4 (length text) ++ text)) }
-    ensures err { IfErr result (Ends Truncated (S.known stream.old) (S.known stream.new)
+    ensures ok { OnOk result ((text : List ℕ) × (length text < 2 ^ 32) × Consumes (S.view
+        stream.old).known (S.view stream.new).known (big_bytes 4 (length text) ++ text)) }
+    ensures err { IfErr result (Ends Truncated (S.view stream.old).known (S.view stream.new).known
         (λ given fault. comment_fault given ≡ Some fault)) }
-    ensures drained { IsErrOf result Read → S.known stream.new ≡ S.beyond stream.new }
-    ensures same_source { S.source stream.new ≡ S.source stream.old }
-    ensures counts { CountsRead (S.failures stream.old) (S.failures stream.new) result }
-    ensures no_more { S.left stream.new ≤ S.left stream.old }
+    ensures reads { ReadsOn (S.view stream.old) (S.view stream.new) result }
+    ensures no_more { (S.view stream.new).left ≤ (S.view stream.old).left }
 {
     let len = number(stream)?;
     'text: for _ in 0..len {
@@ -346,16 +341,13 @@ fn skip_comment<S: ByteSource>(stream: &mut S) -> Result<(), Fault>
 }
 
 /// The next number of four bytes.
-fn number<S: ByteSource>(stream: &mut S) -> Result<u32, Fault>
-    requires stream { S.failures stream.old < 2 ^ 64 - 1 }
-    ensures ok { IfOk result (λ n. Consumes (S.known stream.old) (S.known stream.new)
+pub fn number<S: ByteSource>(stream: &mut S) -> Result<u32, Fault>
+    ensures ok { IfOk result (λ n. Consumes (S.view stream.old).known (S.view stream.new).known
         (big_bytes 4 n)) }
-    ensures err { IfErr result (Ends Truncated (S.known stream.old) (S.known stream.new)
+    ensures err { IfErr result (Ends Truncated (S.view stream.old).known (S.view stream.new).known
         (λ given fault. (length given < 4) × (fault ≡ Truncated))) }
-    ensures drained { IsErrOf result Read → S.known stream.new ≡ S.beyond stream.new }
-    ensures same_source { S.source stream.new ≡ S.source stream.old }
-    ensures counts { CountsRead (S.failures stream.old) (S.failures stream.new) result }
-    ensures no_more { S.left stream.new ≤ S.left stream.old }
+    ensures reads { ReadsOn (S.view stream.old) (S.view stream.new) result }
+    ensures no_more { (S.view stream.new).left ≤ (S.view stream.old).left }
 {
     let a = stream.next()?;
     let b = stream.next()?;

@@ -1,13 +1,14 @@
 //! What a stream says of itself.
 
-ghost use Rattle.std.specs.Prelude.{◌≡◌, ◌≢◌, ◌≤◌, ◌-◌, ◌^◌, ◌<◌, ◌∷◌, [], List, ℕ, Option, IfOk, IfErr, IfSome, IsErrOf, Some};
+ghost use Rattle.std.specs.Prelude.{◌≡◌, ◌≢◌, ◌≤◌, ◌-◌, ◌∷◌, [], List, ℕ, Option, IfOk, IfErr, IfSome, IsErrOf, Some};
 ghost use Rattle.std.specs.Io.KnownBytes.{Consumes};
-ghost use Rattle.pbm_core.specs.Device.{change};
+ghost use Rattle.t85_core.specs.Change.{input_change, output_change};
 ghost use Rattle.t85_core.specs.declared.fault.Fault.TheVariants.{Read};
 ghost use Rattle.t85_core.specs.Options.{fields_of};
 ghost use Rattle.t85_core.specs.Info.{Info, IsWalkFault, Summarize, line_text, numbers_in};
 ghost use Rattle.t85_core.specs.Steps.HeightWalk.{FindsGiven, BodyNumbers, BodyRefused, BodyUnfinished};
-ghost use Rattle.t85_core.specs.Failures.{CountsRead, FlushesOnce};
+ghost use Rattle.t85_core.specs.Steps.Buffers.{ReadsOn};
+ghost use Rattle.t85_core.specs.Failures.{FlushesOnce};
 
 use crate::fault::Fault;
 use crate::header::Header;
@@ -40,8 +41,7 @@ pub struct Summary {
 
 /// Walks the stream without decoding it, and says what it finds.
 pub fn summarize<R: Input>(input: &mut R) -> Result<Summary, Fault>
-    requires { R.failures input.old < 2 ^ 64 - 1 }
-    ensures { Summarize (change R.remaining R.failures input.old input.new) result }
+    ensures { Summarize (input_change R.view input.old input.new) result }
 {
     let header = Header::read(input)?;
     let mut stream = InputBuffer::new(input);
@@ -51,12 +51,10 @@ pub fn summarize<R: Input>(input: &mut R) -> Result<Summary, Fault>
 /// Walks the stream and writes one line of nine numbers: width, height, rows of a stripe, greatest
 /// offset, options, height in use, data entities, moves and comments. Then it flushes once.
 pub fn info<R: Input, W: Output>(input: &mut R, output: &mut W) -> Result<(), Fault>
-    requires input { R.failures input.old < 2 ^ 64 - 1 }
-    requires output { W.failures output.old < 2 ^ 64 - 1 }
-    ensures outcome { Info (change R.remaining R.failures input.old input.new)
-        (change W.contents W.failures output.old output.new) (W.flushed output.new) result }
-    ensures flushes { FlushesOnce (W.flushes output.old) (W.flushes output.new) result }
-    ensures same_target { W.target output.new ≡ W.target output.old }
+    ensures outcome { Info (input_change R.view input.old input.new)
+        (output_change W.view output.old output.new) (W.view output.new).flushed result }
+    ensures flushes { FlushesOnce (W.view output.old).flushes (W.view output.new).flushes result }
+    ensures same_target { (W.view output.new).target ≡ (W.view output.old).target }
 {
     let found = summarize(input)?;
     line_of(&found).put(output)
@@ -81,18 +79,15 @@ fn line_of(found: &Summary) -> Line
 
 /// The summary of the stream after this header.
 fn summarize_body<S: ByteSource>(header: &Header, stream: &mut S) -> Result<Summary, Fault>
-    requires stream { S.failures stream.old < 2 ^ 64 - 1 }
-    ensures ok { IfOk result (λ found. IfSome (S.known stream.old)
+    ensures ok { IfOk result (λ found. IfSome (S.view stream.old).known
         (BodyNumbers (fields_of header.now) (numbers_in found))) }
-    ensures err { IfErr result (λ f. f ≢ Read → IfSome (S.known stream.old)
+    ensures err { IfErr result (λ f. f ≢ Read → IfSome (S.view stream.old).known
         (BodyRefused (fields_of header.now) f)) }
     ensures unread { IsErrOf result Read → (given : List ℕ) ×
-        Consumes (S.known stream.old) (S.known stream.new) given ×
+        Consumes (S.view stream.old).known (S.view stream.new).known given ×
         BodyUnfinished (fields_of header.now) given }
     ensures among { IfErr result IsWalkFault }
-    ensures drained { IsErrOf result Read → S.known stream.new ≡ S.beyond stream.new }
-    ensures same_source { S.source stream.new ≡ S.source stream.old }
-    ensures counts { CountsRead (S.failures stream.old) (S.failures stream.new) result }
+    ensures reads { ReadsOn (S.view stream.old) (S.view stream.new) result }
 {
     let reached = find(header, stream)?;
     match reached.height {
@@ -108,26 +103,23 @@ fn walk_on<S: ByteSource>(
     reached: Reached,
     stream: &mut S,
 ) -> Result<Summary, Fault>
-    requires stream { S.failures stream.old < 2 ^ 64 - 1 }
     requires few { reached.passed.moves ≤ reached.entities }
     requires part { reached.part.moves ≤ 1 }
     ensures ok { IfOk result (λ found. (known : Option (List ℕ)) →
-        FindsGiven (fields_of header.now) known (S.known stream.old) reached.entities
+        FindsGiven (fields_of header.now) known (S.view stream.old).known reached.entities
         reached.passed.moves reached.passed.comments reached.part.moves reached.part.comments height
         → IfSome known (BodyNumbers (fields_of header.now) (numbers_in found))) }
     ensures err { IfErr result (λ f. f ≢ Read → (known : Option (List ℕ)) →
-        FindsGiven (fields_of header.now) known (S.known stream.old) reached.entities
+        FindsGiven (fields_of header.now) known (S.view stream.old).known reached.entities
         reached.passed.moves reached.passed.comments reached.part.moves reached.part.comments height
         → IfSome known (BodyRefused (fields_of header.now) f)) }
     ensures unread { IsErrOf result Read → (known : Option (List ℕ)) →
-        FindsGiven (fields_of header.now) known (S.known stream.old) reached.entities
+        FindsGiven (fields_of header.now) known (S.view stream.old).known reached.entities
         reached.passed.moves reached.passed.comments reached.part.moves reached.part.comments height
-        → (given : List ℕ) × Consumes known (S.known stream.new) given ×
+        → (given : List ℕ) × Consumes known (S.view stream.new).known given ×
         BodyUnfinished (fields_of header.now) given }
     ensures among { IfErr result IsWalkFault }
-    ensures drained { IsErrOf result Read → S.known stream.new ≡ S.beyond stream.new }
-    ensures same_source { S.source stream.new ≡ S.source stream.old }
-    ensures counts { CountsRead (S.failures stream.old) (S.failures stream.new) result }
+    ensures reads { ReadsOn (S.view stream.old) (S.view stream.new) result }
 {
     let count = height.div_ceil(header.l0);
     if reached.entities >= count {

@@ -302,7 +302,7 @@ static CUTS: [Cut; 7] = [
         stands: &[
             (0, 0, "PBM ends too early"),
             (7, 20, "PBM ends too early"),
-            (8, 31, "PBM ends too early"),
+            (8, 23, "PBM ends too early"),
         ],
     },
     Cut {

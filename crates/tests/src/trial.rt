@@ -1,6 +1,6 @@
 //! Runs of both programs over devices in memory, and what is tried on them.
 
-ghost use Rattle.std.specs.Prelude.{◌≡◌, ◌↔◌, ◌<◌, ◌-◌, ◌^◌, IfOk, IfSome, IsTrue, filter_map, option_map};
+ghost use Rattle.std.specs.Prelude.{◌≡◌, ◌↔◌, ◌-◌, IfOk, IsTrue, filter_map, option_map};
 ghost use Rattle.tests.specs.Trial.{HasTold, hex_digit, paired};
 
 use pbm_core::trial::{Drip, Pieces};
@@ -42,12 +42,7 @@ impl Program {
         again: &mut Option<Second>,
         output: &mut W,
         messages: &mut M,
-    ) -> u8
-        requires input { R.failures input.old < 2 ^ 64 - 1 }
-        requires again { IfSome again.old (λ reading. Second.failures reading < 2 ^ 64 - 1) }
-        requires output { W.failures output.old < 2 ^ 64 - 1 }
-        requires messages { M.failures messages.old < 2 ^ 64 - 1 }
-    {
+    ) -> u8 {
         match self {
             Program::Encoder(job) => pbmtojbg85::run(alloc, job, input, output, messages),
             Program::Decoder(job) => {

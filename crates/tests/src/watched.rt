@@ -24,11 +24,11 @@ struct Watcher<'a> {
 }
 
 impl Input for Watcher<'_> {
-    ghost remaining = { λ _. None };
-
-    ghost failures = { λ _. 0 };
-
-    ghost left = { λ s. length s.rest.now };
+    ghost view = { λ s. record {
+      remaining = None;
+      left = length s.rest.now;
+      failures = 0;
+    } };
 
     fn failures(&self) -> u64 {
         0
@@ -62,15 +62,13 @@ struct Counter<'a> {
 }
 
 impl Output for Counter<'_> {
-    ghost contents = { λ _. None };
-
-    ghost failures = { λ _. 0 };
-
-    ghost flushed = { λ s. s.flushed };
-
-    ghost flushes = { λ s. s.flushes };
-
-    ghost target = { λ s. 0 };
+    ghost view = { λ s. record {
+      contents = None;
+      flushed = s.flushed;
+      target = 0;
+      flushes = s.flushes;
+      failures = 0;
+    } };
 
     fn failures(&self) -> u64 {
         0

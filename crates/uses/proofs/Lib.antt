@@ -1,5 +1,6 @@
 pub mod EncodedParts
 pub mod FirstRows
 pub mod Headers
+pub mod PieceRows
 pub mod Pixels
 pub mod Whole

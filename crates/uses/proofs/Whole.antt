@@ -2,7 +2,7 @@
 use Rattle.std.proofs.Common.{◌≡◌, ◌≢◌, ◌≤◌, ◌+◌, inl, inr, ℕ, Bool, true, false, List, [], ◌++◌, length, drop, take, nat_lt, Option, Some, None, Result, Ok, Err, refl, sym, ap, ◌∙◌, subst, append-nil, arith, true≢false, ◌^◌}
 use Rattle.std.specs.Prelude.{IfErr, IfSome}
 use Rattle.std.proofs.lemmas.Bool.Decides.{nat_tests}
-use Rattle.pbm_core.specs.Device.{between}
+use Rattle.t85_core.specs.Change.{between}
 use Rattle.pbm_core.specs.declared.fault.PbmFault.{PbmFault}
 use Rattle.t85_core.specs.declared.fault.Fault.{Fault}
 use Rattle.t85_core.specs.declared.fault.Fault.TheVariants.{ShortHeader, Read, Write, OutOfMemory, AnnouncedLow, TooManyRows, Pbm}
@@ -15,7 +15,7 @@ use Rattle.t85_core.specs.Height.{IsHeight, StreamFault}
 use Rattle.t85_core.specs.Laws.{HeaderLaws}
 use Rattle.t85_core.specs.Info.{HasLine, numbers_of, line_text}
 use Rattle.t85_core.specs.ToPbm.{TakesHeader, HeaderEnds, ToPbmAt, ToPbmOnce, ToPbmTwice, ToPbm, ReadsAgain}
-use Rattle.t85_core.specs.Failures.{counted_as, failed_reads}
+use Rattle.t85_core.specs.Failures.{counted_as, reads_after}
 use Rattle.raster_core.specs.Raster.{Raster}
 use Rattle.uses.specs.Image.{IsOfImage}
 use Rattle.uses.proofs.Headers.{splits}
@@ -37,7 +37,7 @@ of_image f told =
 pub some_same : (f g : Fault) → Some f ≡ Some g → f ≡ g
 some_same f g e = cc
 
-unread : (f : Fault) → 0 ≡ 0 + failed_reads f → counted_as ShortHeader f ≡ f
+unread : (f : Fault) → 0 ≡ reads_after f 0 → counted_as ShortHeader f ≡ f
 unread Read counts = absurd (omega (arith, counts))
 unread f counts = refl
 

@@ -2,3 +2,4 @@ pub mod Coder
 pub mod Cut
 pub mod Image
 pub mod Line
+pub mod Pieces

@@ -9,7 +9,7 @@ use qm_core::{CodeBytes, CodeSink, Pulled, SinkFault};
 #[derive(Drop)]
 pub struct Code {
     pub bytes: Vec<u8>,
-    /// How often memory was wanting.
+    /// How often memory was wanting, modulo 2^64.
     pub failures: u64,
 }
 
@@ -22,7 +22,7 @@ impl CodeSink for Code {
 
     fn push(&mut self, byte: u8) -> Result<(), SinkFault> {
         if self.bytes.push(byte).is_err() {
-            self.failures += 1;
+            self.failures = self.failures.wrapping_add(1);
             return Err(SinkFault);
         }
         Ok(())

@@ -1,6 +1,6 @@
 //! A stream that ends too early.
 
-ghost use Rattle.std.specs.Prelude.{◌-◌, ◌^◌, ◌<◌, IfSome};
+ghost use Rattle.std.specs.Prelude.{IfSome};
 ghost use Rattle.raster_core.specs.Raster.{Raster};
 ghost use Rattle.uses.specs.Cut.{Begins, WritesFirst};
 
@@ -20,11 +20,9 @@ pub fn rows_of_cut<R: Input, W: Output>(
     input: &mut R,
     output: &mut W,
 ) -> Result<(), Fault>
-    requires input { R.failures input.old < 2 ^ 64 - 1 }
-    requires output { W.failures output.old < 2 ^ 64 - 1 }
-    ensures { IfSome (R.remaining input.old)
+    ensures { IfSome (R.view input.old).remaining
         (λ bytes. (raster : Raster) → Begins raster bytes →
-        WritesFirst raster bytes (W.contents output.old) (W.contents output.new) result) }
+        WritesFirst raster bytes (W.view output.old).contents (W.view output.new).contents result) }
 {
     // What the proof cites of streams.
     code_denotes();

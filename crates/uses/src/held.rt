@@ -11,11 +11,11 @@ pub struct Held<'a> {
 }
 
 impl Input for Held<'_> {
-    ghost remaining = { λ held. Some held.rest.now };
-
-    ghost failures = { λ _. 0 };
-
-    ghost left = { λ held. length held.rest.now };
+    ghost view = { λ held. record {
+      remaining = Some held.rest.now;
+      left = length held.rest.now;
+      failures = 0;
+    } };
 
     fn failures(&self) -> u64 {
         0

@@ -1,6 +1,6 @@
 //! An image, its stream, and the image again.
 
-ghost use Rattle.std.specs.Prelude.{◌-◌, ◌^◌, ◌<◌, OnOk, IfErr, IfSome};
+ghost use Rattle.std.specs.Prelude.{OnOk, IfErr, IfSome};
 ghost use Rattle.uses.specs.Image.{WritesRawForm, IsOfImage};
 
 use crate::held::Held;
@@ -20,11 +20,10 @@ pub fn round_trip<R: Input, W: Output>(
     room: &mut [u8],
     output: &mut W,
 ) -> Result<(), Fault>
-    requires input { R.failures input.old < 2 ^ 64 - 1 }
-    requires output { W.failures output.old < 2 ^ 64 - 1 }
-    ensures again { OnOk result (IfSome (R.remaining input.old)
-        (λ bytes. WritesRawForm bytes (W.contents output.old) (W.contents output.new))) }
-    ensures told { IfErr result (λ fault. IfSome (R.remaining input.old) (λ _. IsOfImage fault)) }
+    ensures again { OnOk result (IfSome (R.view input.old).remaining
+        (λ bytes. WritesRawForm bytes (W.view output.old).contents (W.view output.new).contents)) }
+    ensures told { IfErr result (λ fault. IfSome (R.view input.old).remaining
+        (λ _. IsOfImage fault)) }
 {
     // What the proof cites of images and streams.
     images();

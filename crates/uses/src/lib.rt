@@ -7,5 +7,7 @@ pub mod cut;
 mod held;
 pub mod image;
 pub mod line;
+pub mod pieces;
+pub mod rows;
 #[cfg(test)]
 mod tests;

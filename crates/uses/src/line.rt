@@ -1,6 +1,6 @@
 //! The line about a stream that is written.
 
-ghost use Rattle.std.specs.Prelude.{◌-◌, ◌^◌, ◌<◌, OnOk, IfErr, IfSome};
+ghost use Rattle.std.specs.Prelude.{OnOk, IfErr, IfSome};
 ghost use Rattle.t85_core.specs.Options.{settings_of};
 ghost use Rattle.uses.specs.Image.{IsOfImage};
 ghost use Rattle.uses.specs.Line.{WritesLine};
@@ -21,12 +21,11 @@ pub fn line_of_encoded<R: Input, W: Output>(
     room: &mut [u8],
     output: &mut W,
 ) -> Result<(), Fault>
-    requires input { R.failures input.old < 2 ^ 64 - 1 }
-    requires output { W.failures output.old < 2 ^ 64 - 1 }
-    ensures line { OnOk result (IfSome (R.remaining input.old)
-        (λ bytes. WritesLine (settings_of options.now) bytes (W.contents output.old)
-        (W.contents output.new))) }
-    ensures told { IfErr result (λ fault. IfSome (R.remaining input.old) (λ _. IsOfImage fault)) }
+    ensures line { OnOk result (IfSome (R.view input.old).remaining
+        (λ bytes. WritesLine (settings_of options.now) bytes (W.view output.old).contents
+        (W.view output.new).contents)) }
+    ensures told { IfErr result (λ fault. IfSome (R.view input.old).remaining
+        (λ _. IsOfImage fault)) }
 {
     // What the proof cites of codes and streams.
     coder::places();

@@ -4,10 +4,12 @@ use crate::coder::pixels_again;
 use crate::cut::rows_of_cut;
 use crate::image::round_trip;
 use crate::line::line_of_encoded;
+use crate::pieces::rows_of_body;
 use pbm_core::trial::{Drip, Pieces};
 use qm_core::{Context, Learned};
-use std::alloc::Global;
-use t85_core::{Fault, Options};
+use raster_core::Window;
+use std::alloc::{AllocError, Global};
+use t85_core::{Fault, Header, Options, Outcome};
 
 /// Three by two pixels in the plain form.
 const IMAGE: &[u8] = b"P1 3 2 101 010";
@@ -63,6 +65,37 @@ fn rows_of_a_cut_stream(rt: HostRuntime) {
     let mut held = [0; 7];
     assert!(rt; cut(rt.alloc(), &mut held) == (Err(Fault::Truncated), 7));
     assert!(rt; held == *b"P4\n1 1\n");
+}
+
+/// What is told of a stream of two stripes of a black pixel each, and its rows. Its second piece begins in an end marker.
+fn two_pieces(alloc: Global) -> Result<(Outcome, Vec<u8>), AllocError> {
+    let header = Header {
+        xd: 1,
+        yd: 2,
+        l0: 1,
+        mx: 0,
+        options: 8,
+    };
+    let mut room = [0; 3];
+    let mut window = Window::over(&mut room, 1);
+    let mut rows = Vec::new(alloc);
+    let told = rows_of_body(
+        alloc,
+        header,
+        b"\xe0\xff\x02\xe0\xff",
+        b"\x02",
+        &mut window,
+        &mut rows,
+    )?;
+    Ok((told, rows))
+}
+
+#[test]
+fn rows_of_two_pieces(rt: HostRuntime) {
+    let two = two_pieces(rt.alloc());
+    assert!(rt;
+        two.is_ok_and(|two| two.0 == Outcome::Done && two.1.as_slice() == b"\x80\x80".as_slice())
+    );
 }
 
 #[test]

@@ -1,7 +1,8 @@
 -- Contexts of four pixels at once, each in 16 bits of a number, the first lowest, with three lines.
-use Rattle.std.specs.Prelude.{ℕ, ◌+◌, ◌*◌, ◌/◌, ◌%◌, ◌^◌, ◌<◌, ◌≡◌, Bool, true, false, List}
+use Rattle.std.specs.Prelude.{ℕ, ◌+◌, ◌*◌, ◌/◌, ◌%◌, ◌^◌, ◌<◌, ◌≤◌, ◌≡◌, Bool, true, false, List}
 use Rattle.raster_core.specs.Raster.{pixel_left}
-use Rattle.raster_core.specs.Machine.Registers.{bit, before}
+use Rattle.raster_core.specs.Lines.{Lines, context_at}
+use Rattle.raster_core.specs.Machine.Registers.{bit, before, past_bits, ByteAt}
 
 -- 16 bits of a number
 abbrev pub lane : ℕ → ℕ → ℕ
@@ -58,3 +59,9 @@ HasAround lanes second above from count =
 abbrev pub HasPixels : ℕ → (ℕ → ℕ) → ℕ → ℕ → ℕ → Type 0
 HasPixels lanes beside row from count =
     (j : ℕ) → j < count → lane lanes j ≡ 2 * beside (from + j) + own row (from + j)
+
+-- with three lines, what the contexts of a byte's pixels have beside the two pixels before each
+pub record AreBeside (beside : ℕ → ℕ) (offset second above byte past : ℕ) : Type 0 where
+  pub small : (j : ℕ) → beside j ≤ 1020
+  pub contexts : (typical : Bool) (lines : Lines) (x j : ℕ) → j < 8 → ByteAt lines second above byte x → past ≡ before lines.row x (past_bits offset) →
+      beside j + own (past % 256 * 256 + byte) j / 2 ≡ context_at (record { two_line = false; typical = typical }) lines offset (x + j)

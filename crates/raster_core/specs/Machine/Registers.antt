@@ -33,3 +33,9 @@ pub record AreAt (lines : Lines) (offset second above past x : ℕ) : Type 0 whe
   pub second_is : second ≡ before lines.second (x + (left + 2)) 17 * 2 ^ (7 - left)
   pub above_is : above ≡ before lines.above (x + (left + 3)) 18 * 2 ^ (7 - left)
   pub past_is : past ≡ before lines.row x (past_bits offset)
+
+-- what the registers and a byte of the row mean at the byte that begins at x
+pub record ByteAt (lines : Lines) (second above byte x : ℕ) : Type 0 where
+  pub second_is : second ≡ before lines.second (x + 16) 24
+  pub above_is : above ≡ before lines.above (x + 16) 24
+  pub byte_is : byte ≡ before lines.row (x + 8) 8

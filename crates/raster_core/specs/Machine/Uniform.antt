@@ -1,5 +1,5 @@
 -- Pixels among pixels of their own colour.
-use Rattle.std.specs.Prelude.{ℕ, ◌+◌, ◌-◌, ◌*◌, ◌/◌, ◌%◌, ◌^◌, ◌<◌, ◌≡◌, Bool, true, false, List, nat_eq, slice_index}
+use Rattle.std.specs.Prelude.{ℕ, ◌+◌, ◌-◌, ◌*◌, ◌/◌, ◌%◌, ◌^◌, ◌<◌, ◌≡◌, Bool, true, false, List, nat_eq, slice_index, replicate}
 use Rattle.qm_core.specs.Place.{Event}
 use Rattle.raster_core.specs.Raster.{pixel_at}
 use Rattle.raster_core.specs.Lines.{Lines, Mode, context_at}
@@ -13,6 +13,10 @@ uniform_context false = 0
 -- a pixel in the context of its own colour
 abbrev pub uniform_event : Bool → Event
 uniform_event colour = record { context = uniform_context colour; pixel = colour }
+
+-- so many pixels of a colour, each in the context of it
+abbrev pub run_of : Bool → ℕ → List Event
+run_of colour count = replicate count (uniform_event colour)
 
 -- each of n pixels from x on is in the context of this colour, as long as those before it from x on are of this colour
 abbrev pub StaysUniform : Mode → Lines → ℕ → Bool → ℕ → ℕ → Type 0

@@ -1,7 +1,7 @@
 -- A walk that ends in the middle, seen from its beginning.
 use Rattle.std.proofs.Common.{◌≡◌, ◌≢◌, ℕ, List, [], ◌++◌, Option, Result, Ok, Err, sym, ap, ◌∙◌, append-nil, subst}
 use Rattle.std.specs.Io.KnownBytes.{Consumes}
-use Rattle.std.specs.Result.{OnOk, OnErr, IfErr, IsErrAnd, IsErrOf}
+use Rattle.std.specs.Result.{IfOk, OnOk, OnErr, IfErr, IsErrAnd, IsErrOf}
 use Rattle.t85_core.specs.declared.fault.Fault.{Fault}
 use Rattle.t85_core.specs.declared.fault.Fault.TheVariants.{Truncated}
 use Rattle.t85_core.specs.Failures.{Ends, counted_as}
@@ -48,6 +48,14 @@ exit_same {T} {E} {P} (Err y) {e} {f} a k b = k (subst (λ z. IsErrOf {T = T} {E
 pub on_ok : {T E : Type 0} (r : Result T E) {P Q S : Type 0} → (P → Q → S) → OnOk r P → OnOk r Q → OnOk r S
 on_ok (Ok x) k p q = k p q
 on_ok (Err e) k p q = tt
+
+pub map_ok : {T E : Type 0} (r : Result T E) {P Q : Type 0} → (P → Q) → OnOk r P → OnOk r Q
+map_ok (Ok x) k p = k p
+map_ok (Err e) k p = tt
+
+pub map_if_ok : {T E : Type 0} (r : Result T E) {P Q : T → Type 0} → ((x : T) → P x → Q x) → IfOk r P → IfOk r Q
+map_if_ok (Ok x) k p = k x p
+map_if_ok (Err e) k p = tt
 
 pub all_ok : {T E : Type 0} (r : Result T E) {P Q S U V : Type 0} → OnOk r P → OnOk r Q → OnOk r S → OnOk r U → (P → Q → S → U → V) → OnOk r V
 all_ok (Ok x) p q s u k = k p q s u

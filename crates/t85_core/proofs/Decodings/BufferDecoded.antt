@@ -1,5 +1,5 @@
 -- What a buffer holds back is written.
-use Rattle.std.proofs.Common.{◌≡◌, ◌≢◌, ◌+◌, ◌⊎◌, inl, inr, ℕ, List, [], ◌++◌, Option, None, Some, Result, Ok, Err, refl, sym, ap, ◌∙◌, subst, append-nil, arith}
+use Rattle.std.proofs.Common.{◌≡◌, ◌≢◌, ◌⊎◌, inl, inr, ℕ, List, [], ◌++◌, Option, None, Some, Result, Ok, Err, refl, sym, ap, ◌∙◌, subst, append-nil}
 use Rattle.std.specs.Prelude.{IfErr, flat_map}
 use Rattle.std.specs.Io.KnownBytes.{Consumes, Keeps, append_known}
 use Rattle.raster_core.specs.Packed.{packed_row}
@@ -8,7 +8,8 @@ use Rattle.t85_core.specs.declared.fault.Fault.{Fault}
 use Rattle.t85_core.specs.declared.fault.Fault.TheVariants.{ShortHeader, ReservedBits, Layers, Planes, ZeroSize, TooWide, MoveRange, PrivateTable, Truncated, BadEscape, Aborted, MoveRefused, SecondMove, LengthRefused, SecondLength, Changed, AnnouncedLow, TooManyRows, VariableHeight, Read, Write, OutOfMemory, OptionBits, StripeZero, MoveLarge, CommentLong, Pbm}
 use Rattle.t85_core.specs.Header.{Fields}
 use Rattle.t85_core.specs.Steps.Buffers.{held_of}
-use Rattle.t85_core.specs.Failures.{failed_reads, failed_writes, CountsFault, CountsBoth}
+use Rattle.pbm_core.specs.Device.{one_more}
+use Rattle.t85_core.specs.Failures.{reads_after, writes_after, CountsFault, CountsBoth}
 use Rattle.t85_core.specs.Steps.DecodeStripes.{ImageRead, ImageCut, ImageUnwritten}
 use Rattle.t85_core.specs.Laws.{IsInUse}
 use Rattle.t85_core.specs.Steps.CoderLaws.{CoderLaws}
@@ -61,8 +62,8 @@ image_begun q h height use_ known known' text text' i = record {
 
 -- ---- failed reads
 
-pub counts_any : (old new : ℕ) (fault : Fault) → new ≡ old + failed_reads fault → CountsFault old new fault
-counts_any old new Write e = inl (omega (arith, e))
+pub counts_any : (old new : ℕ) (fault : Fault) → new ≡ reads_after fault old → CountsFault old new fault
+counts_any old new Write e = inl e
 counts_any old new ShortHeader e = e
 counts_any old new ReservedBits e = e
 counts_any old new Layers e = e
@@ -90,82 +91,82 @@ counts_any old new MoveLarge e = e
 counts_any old new CommentLong e = e
 counts_any old new (Pbm f) e = e
 
-reads_few : (fault : Fault) → (failed_reads fault ≡ 0) ⊎ (failed_reads fault ≡ 1)
-reads_few Read = inr refl
-reads_few ShortHeader = inl refl
-reads_few ReservedBits = inl refl
-reads_few Layers = inl refl
-reads_few Planes = inl refl
-reads_few ZeroSize = inl refl
-reads_few TooWide = inl refl
-reads_few MoveRange = inl refl
-reads_few PrivateTable = inl refl
-reads_few Truncated = inl refl
-reads_few BadEscape = inl refl
-reads_few Aborted = inl refl
-reads_few MoveRefused = inl refl
-reads_few SecondMove = inl refl
-reads_few LengthRefused = inl refl
-reads_few SecondLength = inl refl
-reads_few Changed = inl refl
-reads_few AnnouncedLow = inl refl
-reads_few TooManyRows = inl refl
-reads_few VariableHeight = inl refl
-reads_few Write = inl refl
-reads_few OutOfMemory = inl refl
-reads_few OptionBits = inl refl
-reads_few StripeZero = inl refl
-reads_few MoveLarge = inl refl
-reads_few CommentLong = inl refl
-reads_few (Pbm pbm.Read) = inr refl
-reads_few (Pbm pbm.NotPbm) = inl refl
-reads_few (Pbm pbm.BadNumber) = inl refl
-reads_few (Pbm pbm.ZeroSize) = inl refl
-reads_few (Pbm pbm.TooWide) = inl refl
-reads_few (Pbm pbm.TooTall) = inl refl
-reads_few (Pbm pbm.BadDigit) = inl refl
-reads_few (Pbm pbm.Truncated) = inl refl
+reads_few : (fault : Fault) → ((n : ℕ) → reads_after fault n ≡ n) ⊎ ((n : ℕ) → reads_after fault n ≡ one_more n)
+reads_few Read = inr (λ n. refl)
+reads_few ShortHeader = inl (λ n. refl)
+reads_few ReservedBits = inl (λ n. refl)
+reads_few Layers = inl (λ n. refl)
+reads_few Planes = inl (λ n. refl)
+reads_few ZeroSize = inl (λ n. refl)
+reads_few TooWide = inl (λ n. refl)
+reads_few MoveRange = inl (λ n. refl)
+reads_few PrivateTable = inl (λ n. refl)
+reads_few Truncated = inl (λ n. refl)
+reads_few BadEscape = inl (λ n. refl)
+reads_few Aborted = inl (λ n. refl)
+reads_few MoveRefused = inl (λ n. refl)
+reads_few SecondMove = inl (λ n. refl)
+reads_few LengthRefused = inl (λ n. refl)
+reads_few SecondLength = inl (λ n. refl)
+reads_few Changed = inl (λ n. refl)
+reads_few AnnouncedLow = inl (λ n. refl)
+reads_few TooManyRows = inl (λ n. refl)
+reads_few VariableHeight = inl (λ n. refl)
+reads_few Write = inl (λ n. refl)
+reads_few OutOfMemory = inl (λ n. refl)
+reads_few OptionBits = inl (λ n. refl)
+reads_few StripeZero = inl (λ n. refl)
+reads_few MoveLarge = inl (λ n. refl)
+reads_few CommentLong = inl (λ n. refl)
+reads_few (Pbm pbm.Read) = inr (λ n. refl)
+reads_few (Pbm pbm.NotPbm) = inl (λ n. refl)
+reads_few (Pbm pbm.BadNumber) = inl (λ n. refl)
+reads_few (Pbm pbm.ZeroSize) = inl (λ n. refl)
+reads_few (Pbm pbm.TooWide) = inl (λ n. refl)
+reads_few (Pbm pbm.TooTall) = inl (λ n. refl)
+reads_few (Pbm pbm.BadDigit) = inl (λ n. refl)
+reads_few (Pbm pbm.Truncated) = inl (λ n. refl)
 
 -- whatever was reported of the rows, a write failed after them
-pub counts_written : (old new : ℕ) (fault last : Fault) → new ≡ old + failed_reads fault → last ≡ Write → CountsFault old new last
+pub counts_written : (old new : ℕ) (fault last : Fault) → new ≡ reads_after fault old → last ≡ Write → CountsFault old new last
 counts_written old new fault last e is = subst (CountsFault old new) (sym is) (went (reads_few fault)) where
-  went : (failed_reads fault ≡ 0) ⊎ (failed_reads fault ≡ 1) → (new ≡ old) ⊎ (new ≡ old + 1)
-  went (inl z) = inl (omega (arith, e, z))
-  went (inr z) = inr (omega (arith, e, z))
+  went : ((n : ℕ) → reads_after fault n ≡ n) ⊎ ((n : ℕ) → reads_after fault n ≡ one_more n) → (new ≡ old) ⊎ (new ≡ one_more old)
+  went (inl z) = inl (e ∙ z old)
+  went (inr z) = inr (e ∙ z old)
 
 pub counts_whole : (old new : ℕ) (r : Result (Unit {0}) Fault) → new ≡ old → IfErr r (λ f. f ≡ Write) → CountsBoth old new r
 counts_whole old new (Ok u) e is = e
 counts_whole old new (Err f) e is = subst (CountsFault old new) (sym is) (inl e)
 
 -- no write has failed with another fault
-pub no_failed_write : (fault : Fault) → fault ≢ Write → failed_writes fault ≡ 0
+pub no_failed_write : (fault : Fault) → fault ≢ Write → (n : ℕ) → writes_after fault n ≡ n
 no_failed_write Write n = absurd (n refl)
-no_failed_write ShortHeader n = refl
-no_failed_write ReservedBits n = refl
-no_failed_write Layers n = refl
-no_failed_write Planes n = refl
-no_failed_write ZeroSize n = refl
-no_failed_write TooWide n = refl
-no_failed_write MoveRange n = refl
-no_failed_write PrivateTable n = refl
-no_failed_write Truncated n = refl
-no_failed_write BadEscape n = refl
-no_failed_write Aborted n = refl
-no_failed_write MoveRefused n = refl
-no_failed_write SecondMove n = refl
-no_failed_write LengthRefused n = refl
-no_failed_write SecondLength n = refl
-no_failed_write Changed n = refl
-no_failed_write AnnouncedLow n = refl
-no_failed_write TooManyRows n = refl
-no_failed_write VariableHeight n = refl
-no_failed_write Read n = refl
-no_failed_write OutOfMemory n = refl
-no_failed_write OptionBits n = refl
-no_failed_write StripeZero n = refl
-no_failed_write MoveLarge n = refl
-no_failed_write CommentLong n = refl
-no_failed_write (Pbm f) n = refl
+no_failed_write ShortHeader n = λ m. refl
+no_failed_write ReservedBits n = λ m. refl
+no_failed_write Layers n = λ m. refl
+no_failed_write Planes n = λ m. refl
+no_failed_write ZeroSize n = λ m. refl
+no_failed_write TooWide n = λ m. refl
+no_failed_write MoveRange n = λ m. refl
+no_failed_write PrivateTable n = λ m. refl
+no_failed_write Truncated n = λ m. refl
+no_failed_write BadEscape n = λ m. refl
+no_failed_write Aborted n = λ m. refl
+no_failed_write MoveRefused n = λ m. refl
+no_failed_write SecondMove n = λ m. refl
+no_failed_write LengthRefused n = λ m. refl
+no_failed_write SecondLength n = λ m. refl
+no_failed_write Changed n = λ m. refl
+no_failed_write AnnouncedLow n = λ m. refl
+no_failed_write TooManyRows n = λ m. refl
+no_failed_write VariableHeight n = λ m. refl
+no_failed_write Read n = λ m. refl
+no_failed_write OutOfMemory n = λ m. refl
+no_failed_write OptionBits n = λ m. refl
+no_failed_write StripeZero n = λ m. refl
+no_failed_write MoveLarge n = λ m. refl
+no_failed_write CommentLong n = λ m. refl
+no_failed_write (Pbm f) n = λ m. refl
 
 -- a buffer that is empty
 pub text_unheld : (bytes : List ℕ) (at end : ℕ) (a : Option (List ℕ)) → at ≡ end → append_known a (held_of bytes at end) ≡ a

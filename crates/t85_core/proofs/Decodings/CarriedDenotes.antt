@@ -16,7 +16,7 @@ use Rattle.t85_core.specs.Steps.State.{StripeStart, first_row_start, image_start
 use Rattle.t85_core.proofs.Theorems.Joined.{row_above_top}
 use Rattle.t85_core.proofs.Bytes.Lists.{All-append}
 use Rattle.t85_core.proofs.Bytes.Elements.{Continues, continues_all}
-use Rattle.t85_core.proofs.Theorems.StateLookedUp.{CarryAt}
+use Rattle.t85_core.specs.Steps.Looked.{CarryAt}
 use Rattle.t85_core.proofs.Decodings.StripesCarried.{run_wide, AllFollowed, stripes_follow}
 
 -- as many rows as the stripes have room for

@@ -29,7 +29,8 @@ use Rattle.t85_core.proofs.Theorems.Joined.{one_row_more, numbers_from_last, fre
 use Rattle.t85_core.proofs.Theorems.Agreed.{Agree, events_in, learned_agrees, above_agrees}
 use Rattle.t85_core.proofs.Theorems.Longest.{beginnings_append, decided_agree}
 use Rattle.t85_core.proofs.Theorems.FixedRows.{begun_length, begins_within, AreLying}
-use Rattle.t85_core.proofs.Theorems.StateLookedUp.{CarriedAt, CarryAt, Ran, flag_before, stripe_begins, rows_run, row_carried, row_is_coded, row_lines}
+use Rattle.t85_core.specs.Steps.Looked.{CarryAt, flag_before}
+use Rattle.t85_core.proofs.Theorems.StateLookedUp.{CarriedAt, Ran, stripe_begins, rows_run, row_carried, row_is_coded, row_lines}
 use Rattle.t85_core.proofs.Decodings.StripesCarried.{run_wide, run_flags, AllFollowed, stripes_follow}
 use Rattle.t85_core.proofs.Decodings.CarriedDenotes.{run_many, stripes_wide, stripes_whole, begins_at}
 

@@ -1,5 +1,5 @@
 -- How a source stands after a stripe's rows, and what the stripe is then.
-use Rattle.std.proofs.Common.{◌≡◌, ◌+◌, ℕ, Bool, true, List, Option, None, Some, refl, sym, ap, ◌∙◌, subst}
+use Rattle.std.proofs.Common.{◌≡◌, ℕ, Bool, true, List, Option, None, Some, refl, sym, ap, ◌∙◌, subst}
 use Rattle.std.specs.Prelude.{IfSome}
 use Rattle.qm_core.specs.Source.{heard_of, IsClosed, Gives}
 use Rattle.qm_core.specs.declared.source.Pulled.{Pulled}
@@ -13,7 +13,7 @@ use Rattle.t85_core.specs.declared.state.CodingState.{CodingState}
 use Rattle.t85_core.specs.Header.{Fields}
 use Rattle.t85_core.specs.Grammar.{Segment}
 use Rattle.t85_core.specs.Refusal.{Spot}
-use Rattle.t85_core.specs.Failures.{Ends, failed_reads, failed_writes, counted_as}
+use Rattle.t85_core.specs.Failures.{Ends, reads_after, writes_after, counted_as}
 use Rattle.t85_core.specs.Info.{IsWalkFault}
 use Rattle.t85_core.specs.Steps.Entity.{EntityView, BreaksIn, Finishes}
 use Rattle.t85_core.specs.Steps.State.{StripeStart, RowStart, first_row_start, next_stripe_start}
@@ -37,7 +37,7 @@ pub record Broke (s t : EntityView) : Type 0 where
   pub why : Fault
   pub fault : t.fault ≡ Some why
   pub drained : why ≡ Read → t.known ≡ t.beyond
-  pub reads : t.reads ≡ s.reads + failed_reads why
+  pub reads : t.reads ≡ reads_after why s.reads
   pub source : t.source ≡ s.source
   pub input : t.input ≡ s.input
   pub behind : t.first ≡ None
@@ -78,7 +78,7 @@ module _ {T : Type 0} (standing : T → EntityView) (failed : T → ℕ) (s t : 
         why = last.0.why;
         fault = last.0.fault;
         drained = last.0.drained;
-        reads = last.0.reads ∙ ap (λ n. n + failed_reads last.0.why) p.went.reads;
+        reads = last.0.reads ∙ ap (reads_after last.0.why) p.went.reads;
         source = last.1 ∙ p.went.source;
         input = last.2 ∙ p.went.input;
         behind = last.0.behind;
@@ -123,10 +123,10 @@ module _ {T : Type 0} (standing : T → EntityView) (failed : T → ℕ) (s t : 
 
 -- what is reported of a fault that the code broke with
 pub broke_fault : (s t : EntityView) (fault : Fault) → Broke s t → IfSome t.fault (λ f. fault ≡ f) →
-    (fault ≡ Read → t.known ≡ t.beyond) × (t.reads ≡ s.reads + failed_reads fault) × (failed_writes fault ≡ 0)
+    (fault ≡ Read → t.known ≡ t.beyond) × (t.reads ≡ reads_after fault s.reads) × ((n : ℕ) → writes_after fault n ≡ n)
 broke_fault s t fault b is =
     let same : fault ≡ b.why = subst (λ o. IfSome o (λ f. fault ≡ f)) b.fault is in
-    subst (λ f. (f ≡ Read → t.known ≡ t.beyond) × (t.reads ≡ s.reads + failed_reads f) × (failed_writes f ≡ 0)) (sym same) (b.drained, b.reads, unwritten b.why b.among)
+    subst (λ f. (f ≡ Read → t.known ≡ t.beyond) × (t.reads ≡ reads_after f s.reads) × ((n : ℕ) → writes_after f n ≡ n)) (sym same) (b.drained, b.reads, unwritten b.why b.among)
 
 -- what stays after an end marker, where the width goes by another name
 pub kept_wide : (wide width : ℕ) (reset : Bool) (carried next : CodingState) → wide ≡ width → ((last : RowStart) → IsCarried last carried → IsCarried (first_row_start (next_stripe_start wide reset last)) next)

@@ -1,9 +1,10 @@
 -- From a header and a body to what is said of the whole stream.
-use Rattle.std.proofs.Common.{◌≡◌, ◌≢◌, ◌≤◌, ◌<◌, ◌+◌, inl, inr, ◌⊎◌, ℕ, Bool, true, false, ◌&&◌, List, [], drop, nat_eq, Option, None, Some, IfSome, Result, Ok, Err, refl, sym, ap, ◌∙◌, subst, arith, true≢false}
+use Rattle.std.proofs.Common.{◌≡◌, ◌≢◌, ◌≤◌, ◌<◌, inl, inr, ◌⊎◌, ℕ, Bool, true, false, ◌&&◌, List, [], drop, nat_eq, Option, None, Some, IfSome, Result, Ok, Err, refl, sym, ap, ◌∙◌, subst, arith, true≢false}
 use Rattle.std.specs.Prelude.{OnOk, is_some}
 use Rattle.std.specs.Io.KnownBytes.{Consumes, Keeps}
 use Rattle.std.proofs.lemmas.Bool.Decides.{nat_tests}
-use Rattle.pbm_core.specs.Device.{between}
+use Rattle.pbm_core.specs.Device.{one_more}
+use Rattle.t85_core.specs.Change.{between}
 use Rattle.t85_core.specs.declared.fault.Fault.{Fault}
 use Rattle.t85_core.specs.declared.fault.Fault.TheVariants.{Write, OutOfMemory, TooManyRows}
 use Rattle.t85_core.specs.Header.{Fields, HeaderOf, is_variable}
@@ -75,7 +76,7 @@ module _ (h : Fields) (height limit : ℕ) (in_old in_new : Option (List ℕ)) (
   }
 
   -- the flush failed after all that was written
-  pub at_unflushed : (out_last : Option (List ℕ)) (writes_last : ℕ) → Decode h height (between in_old in_new reads_old reads_new) (between out_old out_new writes_old writes_new) (Ok tt) → Keeps out_new out_last → writes_last ≡ writes_new + 1 →
+  pub at_unflushed : (out_last : Option (List ℕ)) (writes_last : ℕ) → Decode h height (between in_old in_new reads_old reads_new) (between out_old out_new writes_old writes_new) (Ok tt) → Keeps out_new out_last → writes_last ≡ one_more writes_new →
       ToPbmAt h height limit (between in_old in_new reads_old reads_new) (between out_old out_last writes_old writes_last) flushed (Err Write)
   at_unflushed out_last writes_last d keeps more = record {
     whole = tt;
@@ -89,7 +90,7 @@ module _ (h : Fields) (height limit : ℕ) (in_old in_new : Option (List ℕ)) (
     front = front_kept out_last keeps d.front;
     among = λ n _ _. absurd (n refl);
     reads = inl d.reads;
-    writes = (let same = d.writes in omega (arith, more, same));
+    writes = more ∙ ap one_more d.writes;
   }
 
   -- the image was written, and flushed

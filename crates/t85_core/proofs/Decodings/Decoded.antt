@@ -1,8 +1,10 @@
 -- From what decoding took and wrote to what is said of the whole body.
-use Rattle.std.proofs.Common.{◌≡◌, ◌≢◌, ◌<◌, ◌^◌, ◌≤◌, ◌+◌, ◌⊎◌, inl, inr, ℕ, Bool, List, [], ◌++◌, not, count_by, Option, None, Some, Result, Ok, Err, refl, sym, ap, ◌∙◌, subst, append_assoc, append-nil, arith}
+use Rattle.std.proofs.Common.{◌≡◌, ◌≢◌, ◌<◌, ◌^◌, ◌≤◌, ◌⊎◌, inl, inr, ℕ, Bool, List, [], ◌++◌, not, count_by, Option, None, Some, Result, Ok, Err, refl, sym, ap, ◌∙◌, subst, append_assoc, append-nil, arith}
 use Rattle.std.specs.Prelude.{IfSome, OnOk, IfErr, IsErrOf, flat_map}
 use Rattle.std.specs.Io.KnownBytes.{Appends, Consumes, prepend_known, append_known}
-use Rattle.pbm_core.specs.Device.{AppendsBeginning, between}
+use Rattle.pbm_core.specs.Device.{AppendsBeginning}
+use Rattle.pbm_core.specs.Device.{one_more}
+use Rattle.t85_core.specs.Change.{between}
 use Rattle.pbm_core.specs.Pbm.{header_text}
 use Rattle.qm_core.specs.Code.{stuffed}
 use Rattle.raster_core.specs.Raster.{Raster}
@@ -33,7 +35,7 @@ use Rattle.t85_core.proofs.Walks.Passed.{Consumes-none}
 use Rattle.t85_core.proofs.Bytes.Streams.{Appends-more, Consumes-more, beginning_after, beginning_longer}
 
 -- what is fixed stays so, whatever bytes follow, but where the end is the fault
-fixes_more : (h : Fields) (height : ℕ) (given more : List ℕ) (fault : Fault) (rows : List (List Bool)) → Fixes h height given fault rows → (fault ≡ Truncated) ⊎ Fixes h height (given ++ more) fault rows
+pub fixes_more : (h : Fields) (height : ℕ) (given more : List ℕ) (fault : Fault) (rows : List (List Bool)) → Fixes h height given fault rows → (fault ≡ Truncated) ⊎ Fixes h height (given ++ more) fault rows
 fixes_more h height given more fault rows f = went (stable_rest h _ _ _ f.broken.tail_has.rest more fault f.broken.tail_has.rest_has) where
   went : (fault ≡ Truncated) ⊎ (rest_fault h (spot_behind (spot_after height f.broken.stripes) f.broken.tail_has.segments) (count_by is_move f.broken.tail_has.segments) (not (is_nil f.broken.tail_has.code)) (f.broken.tail_has.rest ++ more) ≡ Some fault) → (fault ≡ Truncated) ⊎ Fixes h height (given ++ more) fault rows
   went (inl e) = inl e
@@ -160,7 +162,7 @@ front_of_header h height known out_old out_new p = record {
   all rest None text o = subst (AppendsBeginning out_old out_new) (sym (o.2 ∙ pbm_of h height o.0 rest o.1)) (beginning_longer out_old out_new (header_text h.xd height) (flat_map packed_row o.0.rows) p)
   all rest (Some fault) text o = subst (AppendsBeginning out_old out_new) (sym o.2) (beginning_longer out_old out_new (header_text h.xd height) (flat_map packed_row o.0) p)
 
-pub decodes_unheaded : (h : Fields) (height : ℕ) (known : Option (List ℕ)) (reads writes writes_new : ℕ) (out_old out_new : Option (List ℕ)) → AppendsBeginning out_old out_new (header_text h.xd height) → writes_new ≡ writes + 1 →
+pub decodes_unheaded : (h : Fields) (height : ℕ) (known : Option (List ℕ)) (reads writes writes_new : ℕ) (out_old out_new : Option (List ℕ)) → AppendsBeginning out_old out_new (header_text h.xd height) → writes_new ≡ one_more writes →
     Decode h height (between known known reads reads) (between out_old out_new writes writes_new) (Err Write)
 decodes_unheaded h height known reads writes writes_new out_old out_new p counted = record {
   whole = tt;

@@ -4,8 +4,7 @@ use Rattle.std.specs.Prelude.{flat_map, IsErr}
 use Rattle.std.specs.Io.KnownBytes.{Appends, append_known}
 use Rattle.pbm_core.specs.Device.{AppendsBeginning}
 use Rattle.qm_core.specs.Place.{Place, Estimate, start}
-use Rattle.qm_core.specs.Source.{heard_of}
-use Rattle.qm_core.specs.Laws.{PullsJoin}
+use Rattle.qm_core.specs.Source.{heard_of, Gives}
 use Rattle.qm_core.specs.Decoder.{DecoderIsAt}
 use Rattle.qm_core.specs.declared.source.Pulled.{Pulled}
 use Rattle.qm_core.specs.declared.source.Heard.TheVariants.{Stopped}
@@ -47,8 +46,8 @@ appends_known : (a : Option (List ℕ)) (bytes : List ℕ) → Appends a (append
 appends_known None bytes = tt
 appends_known (Some a) bytes = refl
 
-module _ {S : Type 0} (pull : S → Pulled → S → Type 0) (from old new : S) (h : Fields) (shape : Shape) (c : StripeStart) (segments : List Segment) (row : ℕ)
-    (carried carried' : CodingState) (d d' : Decoder) (began text : Option (List ℕ)) (r : RowsRead pull from old h shape c segments row carried d began text)
+module _ {S F : Type 0} (pull : S → Pulled → S → Type 0) (joined : F → Pulled → F → Type 0) (old new : S) (from at to : F) (h : Fields) (shape : Shape) (c : StripeStart) (segments : List Segment) (row : ℕ)
+    (carried carried' : CodingState) (d d' : Decoder) (began text : Option (List ℕ)) (r : RowsRead joined from at h shape c segments row carried d began text)
     (kept : Kept) (window : Window) (offset_is : kept.offset ≡ offset_at (move_of segments) row carried.kept.offset) (previous_is : kept.previous_typical ≡ carried.kept.previous_typical)
     (turned_is : held window ≡ turned (held carried.window.now)) where
   -- the rows above the next one
@@ -81,9 +80,13 @@ module _ {S : Type 0} (pull : S → Pulled → S → Type 0) (from old new : S) 
         subst (λ l. RowDecoded pull old new shape kept carried'.kept (record { place = r.last.state.place; learned = l }) r.answers below (held carried'.window.now) carried'.learned d' result) r.is_carried.learned_is
         (gave r.last.state.place r.answers below r.stands below_are)
 
+  -- the answers of the call come after those before
+  abbrev pub Join : Type 0
+  Join = (more : List Pulled) → Gives pull old more new → Gives joined from (r.answers ++ more) to
+
   -- it was decoded
-  pub row_more : PullsJoin pull → (text' : Option (List ℕ)) → Gave pull old new shape kept carried'.kept carried.learned carried'.learned (held window) (held carried'.window.now) d d' (Ok tt) →
-      Appends text text' (held carried'.window.now).current → RowsRead pull from new h shape c segments (row + 1) carried' d' began text'
+  pub row_more : Join → (text' : Option (List ℕ)) → Gave pull old new shape kept carried'.kept carried.learned carried'.learned (held window) (held carried'.window.now) d d' (Ok tt) →
+      Appends text text' (held carried'.window.now).current → RowsRead joined from to h shape c segments (row + 1) carried' d' began text'
   row_more join text' gave put =
       let done' = done (Ok tt) gave in
       let k : RowIs shape kept carried'.kept r.last.state (r.answers ++ done'.more) below (held carried'.window.now) carried'.learned d' = done'.ok in
@@ -91,7 +94,7 @@ module _ {S : Type 0} (pull : S → Pulled → S → Type 0) (from old new : S) 
       let kept_is = kept_step h c segments r.answers r.rows r.flags r.last r.so_far shape kept carried'.kept below (held carried'.window.now) carried'.learned d' done'.more ready k in
       record {
         answers = r.answers ++ done'.more;
-        gives = join from old new r.answers done'.more r.gives done'.gives;
+        gives = join done'.more done'.gives;
         rows = r.rows ++ k.row ∷ [];
         flags = r.flags ++ k.flag ∷ [];
         last = after;
@@ -110,9 +113,15 @@ module _ {S : Type 0} (pull : S → Pulled → S → Type 0) (from old new : S) 
         appended = subst (Appends began text') (sym (flat_map_push packed_row r.rows k.row)) (Appends-more began text text' (flat_map packed_row r.rows) (packed_row k.row) r.appended (subst (Appends text text') k.lines_are.row_is put));
       }
 
+  -- what the source answered in the call
+  pub row_answers : (join : Join) (text' : Option (List ℕ)) (gave : Gave pull old new shape kept carried'.kept carried.learned carried'.learned (held window) (held carried'.window.now) d d' (Ok tt)) (put : Appends text text' (held carried'.window.now).current) →
+      (more : List Pulled) × Gives pull old more new × ((row_more join text' gave put).answers ≡ r.answers ++ more)
+  unfolding row_more
+  row_answers join text' gave put = let done' = done (Ok tt) gave in (done'.more, done'.gives, refl)
+
   -- it was decoded, but the target didn't take it
-  pub row_unset : PullsJoin pull → (text' : Option (List ℕ)) → (count : ℕ) → row + 1 ≤ count → Gave pull old new shape kept carried'.kept carried.learned carried'.learned (held window) (held carried'.window.now) d d' (Ok tt) →
-      AppendsBeginning text text' (held carried'.window.now).current → RowsUnwritten pull from new h c segments count began text'
+  pub row_unset : Join → (text' : Option (List ℕ)) → (count : ℕ) → row + 1 ≤ count → Gave pull old new shape kept carried'.kept carried.learned carried'.learned (held window) (held carried'.window.now) d d' (Ok tt) →
+      AppendsBeginning text text' (held carried'.window.now).current → RowsUnwritten joined from to h c segments count began text'
   unfolding row_more
   row_unset join text' count few gave put =
       let done' = done (Ok tt) gave in
@@ -134,15 +143,15 @@ module _ {S : Type 0} (pull : S → Pulled → S → Type 0) (from old new : S) 
       }
 
   -- the source stopped
-  pub row_cut : CoderLaws → PullsJoin pull → (count : ℕ) → row ≤ count → (e : Stop) → Gave pull old new shape kept carried'.kept carried.learned carried'.learned (held window) (held carried'.window.now) d d' (Err e) →
-      RowsCut pull from new h c segments count began text
+  pub row_cut : CoderLaws → Join → (count : ℕ) → row ≤ count → (e : Stop) → Gave pull old new shape kept carried'.kept carried.learned carried'.learned (held window) (held carried'.window.now) d d' (Err e) →
+      RowsCut joined from to h c segments count began text
   row_cut q join count few e gave =
       let done' = done (Err e) gave in
       let stays = done'.stays in
       let stopped : heard_of (r.answers ++ done'.more) ≡ Stopped = done'.stop.0 (is_err e) in
       record {
         answers = r.answers ++ done'.more;
-        gives = join from old new r.answers done'.more r.gives done'.gives;
+        gives = join done'.more done'.gives;
         closed = stays.1.closed;
         bytes = stays.1.bytes;
         stopped = stopped;
@@ -152,12 +161,18 @@ module _ {S : Type 0} (pull : S → Pulled → S → Type 0) (from old new : S) 
         appended = r.appended;
       }
 
+  -- what it answered until then
+  pub cut_answers : (q : CoderLaws) (join : Join) (count : ℕ) (few : row ≤ count) (e : Stop) (gave : Gave pull old new shape kept carried'.kept carried.learned carried'.learned (held window) (held carried'.window.now) d d' (Err e)) →
+      (more : List Pulled) × Gives pull old more new × ((row_cut q join count few e gave).answers ≡ r.answers ++ more)
+  unfolding row_cut
+  cut_answers q join count few e gave = let done' = done (Err e) gave in (done'.more, done'.gives, refl)
+
 pub appends_nothing : (a : Option (List ℕ)) → Appends a a []
 appends_nothing None = tt
 appends_nothing (Some xs) = sym (append-nil xs)
 
 -- before the first row
-pub rows_begin : {S : Type 0} (pull : S → Pulled → S → Type 0) (from : S) (h : Fields) (shape : Shape) (c : StripeStart) (segments : List Segment) (carried : CodingState) (d : Decoder) (text : Option (List ℕ)) →
+abbrev pub rows_begin : {S : Type 0} (pull : S → Pulled → S → Type 0) (from : S) (h : Fields) (shape : Shape) (c : StripeStart) (segments : List Segment) (carried : CodingState) (d : Decoder) (text : Option (List ℕ)) →
     DecoderIsAt d start [] → IsShapeOf h shape → IsCarried (first_row_start c) carried → RowsRead pull from from h shape c segments 0 carried d text text
 rows_begin pull from h shape c segments carried d text stands shape_is is = record {
   answers = [];

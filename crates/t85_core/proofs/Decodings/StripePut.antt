@@ -45,7 +45,7 @@ segments_taken (Some old) None front back p = p
 segments_taken (Some old) (Some mid) front back p = p ∙ append_assoc front back mid
 
 -- a code that isn't empty
-not_nil : (bytes : List ℕ) → 1 ≤ length bytes → not (is_nil bytes) ≡ true
+pub not_nil : (bytes : List ℕ) → 1 ≤ length bytes → not (is_nil bytes) ≡ true
 not_nil [] some = absurd (omega (arith, some))
 not_nil (b ∷ bytes) some = refl
 

@@ -15,7 +15,8 @@ use Rattle.t85_core.specs.Denotes.{coding_in}
 use Rattle.t85_core.specs.Steps.State.{RowStart, StripeStart, first_row_start, next_stripe_start, after_row, Run, StripeRun, StripesRun}
 use Rattle.t85_core.proofs.Theorems.Joined.{row_above_top}
 use Rattle.t85_core.proofs.Bytes.Elements.{Continues, continues_left, continues_right, continues_first, continues_rest}
-use Rattle.t85_core.proofs.Theorems.StateLookedUp.{CarriedAt, CarryAt, offset_before, flag_before, stripe_begins, rows_run}
+use Rattle.t85_core.specs.Steps.Looked.{CarryAt, offset_before, flag_before}
+use Rattle.t85_core.proofs.Theorems.StateLookedUp.{CarriedAt, stripe_begins, rows_run}
 
 -- as many flags as rows, each as wide as it should be
 pub run_flags : (w : ℕ) (mode : Mode) (move : Option (ℕ × ℕ)) (r : ℕ) (b : RowStart) (rows : List (List Bool)) (flags : List Bool) (last : RowStart) → Run w mode move r b rows flags last → length flags ≡ length rows

@@ -4,7 +4,7 @@ use Rattle.std.specs.Prelude.{IsErrOf}
 use Rattle.std.proofs.lemmas.Grind.{div_ceil_times}
 use Rattle.std.proofs.Math.Seq.{take-length}
 use Rattle.pbm_core.specs.Image.{RowFault}
-use Rattle.pbm_core.specs.Fault.{fault_of_given}
+use Rattle.pbm_core.specs.Reading.{fault_of_given}
 use Rattle.std.specs.Io.KnownBytes.{Keeps}
 use Rattle.pbm_core.specs.declared.fault.PbmFault.{PbmFault}
 use Rattle.pbm_core.specs.declared.fault.PbmFault.TheVariants as pbm

@@ -1,5 +1,5 @@
 -- What an encoder carries from stripe to stripe is what the stream that is written for the raster looks up.
-use Rattle.std.proofs.Common.{◌≡◌, ℕ, zero, suc, ◌+◌, ◌-◌, ◌*◌, ◌<◌, ◌≤◌, nat_eq, Bool, true, false, List, [], ◌++◌, length, map, refl, sym, ◌∙◌, ap, subst, arith, Option, None}
+use Rattle.std.proofs.Common.{◌≡◌, ℕ, zero, suc, ◌+◌, ◌-◌, ◌*◌, ◌<◌, ◌≤◌, nat_eq, Bool, true, false, List, ◌++◌, length, map, refl, sym, ◌∙◌, ap, subst, arith, Option, None}
 use Rattle.std.specs.Prelude.{slice_index_or, if◌then◌else◌, flat_map, filter_map, min, unwrap_or, option_map}
 use Rattle.std.proofs.lemmas.Bool.Decides.{nat_tests}
 use Rattle.std.proofs.lemmas.List.{get_or-replicate}
@@ -8,17 +8,18 @@ use Rattle.std.proofs.Math.Nat.{mul-le-mul_right}
 use Rattle.qm_core.specs.Code.{code_of}
 use Rattle.qm_core.specs.Place.{after, fresh}
 use Rattle.raster_core.specs.Raster.{Raster, height, row_above, white_row}
-use Rattle.raster_core.specs.Lines.{Lines, numbers_from}
+use Rattle.raster_core.specs.Lines.{numbers_from}
 use Rattle.raster_core.specs.Offset.{chosen_offset}
 use Rattle.t85_core.specs.Grammar.{Segment, Stripe, stripe_bytes, stripe_count}
-use Rattle.t85_core.specs.Coding.{Coding, fresh_stripe, rows_of, lines_of, moved_at, last_or, events_of_row, events_of, learned_at, place_of, begun}
+use Rattle.t85_core.specs.Coding.{Coding, fresh_stripe, lines_of, moved_at, last_or, events_of_row, events_of, learned_at, place_of, begun}
 use Rattle.t85_core.specs.Steps.State.{RowStart, first_row_start, next_stripe_start}
 use Rattle.t85_core.specs.Jbg.{Settings, cut, coding_of, choice_after, current_offset, move_before, move_segments, coded_stripe, stripes_up_to}
 use Rattle.t85_core.specs.Steps.Written.{after_rows, lines_down, EncoderStart, first_encoder_start, next_move, row_start_in, next_stripe, next_encoder_start}
 use Rattle.t85_core.proofs.Theorems.Joined.{row_above_top, numbers_from_last}
 use Rattle.t85_core.proofs.Bytes.Lists.{flat_map_push}
 use Rattle.t85_core.proofs.Bytes.Elements.{Continues}
-use Rattle.t85_core.proofs.Theorems.StateLookedUp.{CarriedAt, CarryAt, offset_before, flag_before, stripe_begins}
+use Rattle.t85_core.specs.Steps.Looked.{offset_before, flag_before, CarryAt, lines_before, offset_to, CourseAt}
+use Rattle.t85_core.proofs.Theorems.StateLookedUp.{CarriedAt, stripe_begins}
 use Rattle.t85_core.proofs.Encodings.EncoderRows.{get_mapped, none_chosen, offset_after, RowsDown, rows_down}
 
 -- a stripe ends, and the next begins
@@ -50,24 +51,6 @@ next_carry c i false last reset_is long k =
       above = k.above ∙ ap (λ j. row_above c.raster (j * c.stripe_rows) y 1) fresh_before;
       second = k.second ∙ ap (λ j. row_above c.raster (j * c.stripe_rows) y 2) fresh_before;
     }
-
--- the lines of the stripe before stripe i
-abbrev pub lines_before : Settings → Raster → ℕ → List Lines
-lines_before s raster zero = []
-lines_before s raster (suc i) = map (lines_of (cut s raster)) (rows_of (cut s raster) i)
-
--- the offset that is carried to stripe i
-abbrev pub offset_to : Settings → Raster → ℕ → ℕ
-offset_to s raster zero = 0
-offset_to s raster (suc i) = current_offset s (cut s raster) i
-
--- what an encoder carries to stripe i of a raster
-pub record CourseAt (s : Settings) (raster : Raster) (i : ℕ) (at : EncoderStart) : Type 0 where
-  pub carry : CarryAt (coding_of s raster) i (i * s.stripe_rows) at.carry
-  pub counted : at.counted ≡ lines_before s raster i
-  pub offset : at.carry.offset ≡ offset_to s raster i
-  -- the move before stripe i is the one that the rows of the stripe before choose
-  pub move : next_move s raster.width at ≡ move_before s (cut s raster) i
 
 move_is_before : (s : Settings) (raster : Raster) (i : ℕ) (at : EncoderStart) → at.counted ≡ lines_before s raster i → at.carry.offset ≡ offset_to s raster i →
     next_move s raster.width at ≡ move_before s (cut s raster) i

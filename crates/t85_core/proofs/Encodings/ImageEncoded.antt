@@ -1,12 +1,12 @@
 -- From a header and the rows after it to what is said of a whole image that is encoded.
-use Rattle.std.proofs.Common.{◌≡◌, ◌≢◌, ◌≤◌, ◌+◌, ◌⊎◌, inl, inr, ℕ, Bool, true, false, List, [], ◌++◌, Option, None, Some, Err, refl, subst, append-nil, arith}
+use Rattle.std.proofs.Common.{◌≡◌, ◌≢◌, ◌≤◌, ◌⊎◌, inl, inr, ℕ, Bool, true, false, List, [], ◌++◌, Option, None, Some, Err, refl, subst, append-nil, arith}
 use Rattle.std.specs.Prelude.{IfSome}
 use Rattle.std.specs.Io.KnownBytes.{Consumes}
-use Rattle.pbm_core.specs.Device.{between}
+use Rattle.t85_core.specs.Change.{between}
 use Rattle.pbm_core.specs.Outcome.{HasHeader, HasFault, LeavesRest, WrittenIsRead}
 use Rattle.pbm_core.specs.Pbm.{letters_of, header_text}
 use Rattle.pbm_core.specs.Refusal.{HeaderFault}
-use Rattle.pbm_core.specs.Fault.{PbmEnds, fault_of_given, CountsPbmRead as CountsPbm}
+use Rattle.pbm_core.specs.Reading.{fault_of_given, CountsPbmRead as CountsPbm}
 use Rattle.pbm_core.specs.declared.fault.PbmFault.{PbmFault}
 use Rattle.pbm_core.specs.declared.fault.PbmFault.TheVariants as pbm
 use Rattle.pbm_core.specs.declared.form.Form.{Form}
@@ -17,7 +17,7 @@ use Rattle.t85_core.specs.declared.fault.Fault.TheVariants.{AnnouncedLow, Write,
 use Rattle.t85_core.specs.Encode.{IsEncodeFault}
 use Rattle.t85_core.specs.ToJbg.{HasSize, RefusesPbm, ToJbg}
 use Rattle.t85_core.specs.Jbg.{Settings, is_low}
-use Rattle.t85_core.specs.Failures.{failed_reads}
+use Rattle.t85_core.specs.Failures.{reads_after}
 use Rattle.t85_core.proofs.Bytes.Held.{Keeps-same}
 use Rattle.t85_core.proofs.Encodings.SinkTakes.{which}
 use Rattle.t85_core.proofs.Decodings.BufferDecoded.{counts_any}
@@ -32,15 +32,15 @@ among_faults f p no_memory written = went (which f p) where
   went (inr told) = told
 
 -- the count of failed reads, as it was reported of the header
-pub counts_told : (old new : ℕ) (fault : PbmFault) → CountsPbm {T = Size × Form} old new (Err fault) → new ≡ old + failed_reads (Pbm fault)
+pub counts_told : (old new : ℕ) (fault : PbmFault) → CountsPbm {T = Size × Form} old new (Err fault) → new ≡ reads_after (Pbm fault) old
 counts_told old new pbm.Read e = e
-counts_told old new pbm.Truncated e = omega (arith, e)
-counts_told old new pbm.NotPbm e = omega (arith, e)
-counts_told old new pbm.BadNumber e = omega (arith, e)
-counts_told old new pbm.ZeroSize e = omega (arith, e)
-counts_told old new pbm.TooWide e = omega (arith, e)
-counts_told old new pbm.TooTall e = omega (arith, e)
-counts_told old new pbm.BadDigit e = omega (arith, e)
+counts_told old new pbm.Truncated e = e
+counts_told old new pbm.NotPbm e = e
+counts_told old new pbm.BadNumber e = e
+counts_told old new pbm.ZeroSize e = e
+counts_told old new pbm.TooWide e = e
+counts_told old new pbm.TooTall e = e
+counts_told old new pbm.BadDigit e = e
 
 -- A header was taken, and nothing after it.
 pub record TakesHeader (old new : Option (List ℕ)) (form : Form) (width height' : ℕ) : Type 0 where
@@ -99,15 +99,15 @@ takes_header (Some bytes) (Some rest) size form law fits leaves = record {
 
 module _ (s : Settings) (in_old in_new : Option (List ℕ)) (reads_old reads_new : ℕ) (out : Option (List ℕ)) (writes : ℕ) (flushed : Bool) where
   -- the header was refused
-  pub refused_header : (fault : PbmFault) → (fault ≢ pbm.Read → IfSome in_old (λ bytes. HasFault bytes fault)) → PbmEnds in_old in_new HeaderFault fault → CountsPbm {T = Size × Form} reads_old reads_new (Err fault) →
+  pub refused_header : (fault : PbmFault) → (fault ≢ pbm.Read → IfSome in_old (λ bytes. HasFault bytes fault)) → (given : List ℕ) → Consumes in_old in_new given → HeaderFault given (fault_of_given fault) → CountsPbm {T = Size × Form} reads_old reads_new (Err fault) →
       ToJbg s (between in_old in_new reads_old reads_new) (between out out writes writes) flushed (Err (Pbm fault))
-  refused_header fault has ends counted = record {
+  refused_header fault has given taken shows counted = record {
     whole = tt;
     flushed_last = tt;
     refused = λ other read is. (let same : fault ≡ other = cc in refused in_old other (subst (λ x. x ≢ pbm.Read → IfSome in_old (λ bytes. HasFault bytes x)) same has read));
     low = λ e. absurd (let bot : ⊥ = cc in bot);
     no_memory = λ e. absurd (let bot : ⊥ = cc in bot);
-    unread = λ is. (let same : fault ≡ pbm.Read = cc in (ends.given, ends.taken, inl (subst (λ x. HeaderFault ends.given (fault_of_given x)) same ends.has_fault, Keeps-same out)));
+    unread = λ is. (let same : fault ≡ pbm.Read = cc in (given, taken, inl (subst (λ x. HeaderFault given (fault_of_given x)) same shows, Keeps-same out)));
     cut = λ e. absurd (let bot : ⊥ = cc in bot);
     among = λ _ _ _. (fault, refl);
     reads = counts_any reads_old reads_new (Pbm fault) (counts_told reads_old reads_new fault counted);

@@ -1,8 +1,9 @@
 -- From a header and the rows after it to what is said of a whole image that was written, or begun.
-use Rattle.std.proofs.Common.{◌≡◌, ◌+◌, inl, inr, ℕ, Bool, true, false, ap, List, ◌++◌, length, Option, None, Some, Ok, Err, refl, sym, ◌∙◌, subst, arith}
+use Rattle.std.proofs.Common.{◌≡◌, inl, inr, ℕ, Bool, true, false, ap, List, ◌++◌, length, Option, None, Some, Ok, Err, refl, sym, ◌∙◌, subst}
 use Rattle.std.specs.Prelude.{IfSome}
 use Rattle.std.specs.Io.KnownBytes.{Consumes, Keeps}
-use Rattle.pbm_core.specs.Device.{between}
+use Rattle.pbm_core.specs.Device.{one_more}
+use Rattle.t85_core.specs.Change.{between}
 use Rattle.pbm_core.specs.Outcome.{HasHeader}
 use Rattle.pbm_core.specs.declared.fault.PbmFault.{PbmFault}
 use Rattle.pbm_core.specs.declared.fault.PbmFault.TheVariants as pbm
@@ -20,9 +21,9 @@ use Rattle.t85_core.proofs.Bytes.Streams.{Appends-keeps, Consumes-more}
 module _ (s : Settings) (in_old mid in_new : Option (List ℕ)) (reads_old reads_mid reads_new : ℕ) (out_old out_new : Option (List ℕ)) (writes_old writes_new : ℕ)
     (form : Form) (width height' : ℕ) (t : TakesHeader in_old mid form width height') (counted : reads_mid ≡ reads_old) where
   -- a write failed, or the flush after all that was written
-  cut_at : (out_last : Option (List ℕ)) → Keeps out_new out_last → (given : List ℕ) → Consumes mid in_new given → WritesCodeFront s form width height' given out_old out_new →
+  cut_at : is_low s height' ≡ false → (out_last : Option (List ℕ)) → Keeps out_new out_last → (given : List ℕ) → Consumes mid in_new given → WritesCodeFront s form width height' given out_old out_new →
       (all : List ℕ) × Consumes in_old in_new all × WritesStreamFront s all out_old out_last
-  cut_at out_last keeps given taken w = (
+  cut_at fits out_last keeps given taken w = (
     t.front ++ given,
     Consumes-more in_old mid in_new t.front given t.taken taken,
     record {
@@ -31,11 +32,12 @@ module _ (s : Settings) (in_old mid in_new : Option (List ℕ)) (reads_old reads
       height' = height';
       body = given;
       header = t.header given;
+      fits = fits;
       writes = record { rows = w.rows; rest = w.rest; holds = w.holds; few = w.few; fault = w.fault; part = w.part; text = w.text; begins = w.begins; appends = Appends-keeps out_old out_new out_last w.text w.appends keeps };
     },
   )
 
-  pub image_unflushed : (flushed : Bool) (out_last : Option (List ℕ)) (writes_last : ℕ) → Encode s form width height' (between mid in_new reads_mid reads_new) (between out_old out_new writes_old writes_new) (Ok tt) → Keeps out_new out_last → writes_last ≡ writes_new + 1 →
+  pub image_unflushed : (flushed : Bool) (out_last : Option (List ℕ)) (writes_last : ℕ) → Encode s form width height' (between mid in_new reads_mid reads_new) (between out_old out_new writes_old writes_new) (Ok tt) → Keeps out_new out_last → writes_last ≡ one_more writes_new →
       ToJbg s (between in_old in_new reads_old reads_new) (between out_old out_last writes_old writes_last) flushed (Err Write)
   image_unflushed flushed out_last writes_last e keeps more = record {
     whole = tt;
@@ -44,10 +46,10 @@ module _ (s : Settings) (in_old mid in_new : Option (List ℕ)) (reads_old reads
     low = λ is. absurd (let bot : ⊥ = cc in bot);
     no_memory = λ is. absurd (let bot : ⊥ = cc in bot);
     unread = λ is. absurd (let bot : ⊥ = cc in bot);
-    cut = λ _. cut_at out_last keeps e.front.0 e.front.1 e.front.2;
+    cut = λ _. cut_at e.not_low out_last keeps e.front.0 e.front.1 e.front.2;
     among = λ _ _ n. absurd (n refl);
     reads = inl (e.reads ∙ counted);
-    writes = (let same = e.writes in omega (arith, more, same));
+    writes = more ∙ ap one_more e.writes;
   }
 
   -- rows are missing, or a device failed
@@ -61,7 +63,7 @@ module _ (s : Settings) (in_old mid in_new : Option (List ℕ)) (reads_old reads
     low = λ is. absurd (not_low_told (e.low is).0);
     no_memory = λ is. absurd (not_no_memory (subst IsEncodeFault (let same : f ≡ OutOfMemory = cc in same) may));
     unread = λ is. (let u = e.unread is in (t.front ++ u.0, Consumes-more in_old mid in_new t.front u.0 t.taken u.1, inr (some pbm.Truncated u.0 u.2)));
-    cut = λ _. cut_at out_new (Keeps-same out_new) e.front.0 e.front.1 e.front.2;
+    cut = λ _. cut_at fits out_new (Keeps-same out_new) e.front.0 e.front.1 e.front.2;
     among = λ _. among_faults f may;
     reads = subst (λ n. CountsBoth n reads_new (Err f)) counted e.reads;
     writes = e.writes;
@@ -73,7 +75,7 @@ module _ (s : Settings) (in_old mid in_new : Option (List ℕ)) (reads_old reads
     may = e.among (λ is. not_low_told (e.low (ap Err is)).0)
 
     some : (fault : PbmFault) (body : List ℕ) → WritesCodeBegun s form width height' body fault out_old out_new → WritesStreamBegun s (t.front ++ body) fault out_old out_new
-    some fault body w = record { form = form; width = width; height' = height'; body = body; header = t.header body; writes = w }
+    some fault body w = record { form = form; width = width; height' = height'; body = body; header = t.header body; fits = fits; writes = w }
 
     refused : (old new : Option (List ℕ)) (fault : PbmFault) → Consumes old new t.front → IfSome new (λ body. WritesCodeBegun s form width height' body fault out_old out_new) → IfSome old (λ bytes. RefusesPbm s bytes fault out_old out_new)
     refused None new fault taken w = tt

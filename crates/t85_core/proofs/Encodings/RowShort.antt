@@ -1,24 +1,13 @@
 -- No row more came: what was pushed is a beginning of the code of each stripe that begins with the rows before.
-use Rattle.std.proofs.Common.{◌≡◌, ℕ, ◌+◌, ◌<◌, Bool, List, [], ◌∷◌, ◌++◌, length, refl, sym, ◌∙◌, ap, subst, Option, append_assoc}
+use Rattle.std.proofs.Common.{◌≡◌, ℕ, ◌+◌, Bool, List, [], ◌∷◌, ◌++◌, length, refl, sym, ◌∙◌, ap, subst, Option, append_assoc}
 use Rattle.qm_core.specs.Place.{Event, State, IsPlace, after, step}
 use Rattle.qm_core.specs.Code.{code_of, stuffed}
 use Rattle.qm_core.specs.Encoder.{EncoderIsAt, IsStuffedFront}
-use Rattle.qm_core.specs.Sink.{Took}
 use Rattle.qm_core.specs.declared.encoder.Encoder.{Encoder}
-use Rattle.pbm_core.specs.declared.fault.PbmFault.{PbmFault}
-use Rattle.pbm_core.specs.declared.form.Form.{Form}
 use Rattle.raster_core.specs.Lines.{Mode, row_events}
-use Rattle.raster_core.specs.declared.shape.Shape.{Shape}
-use Rattle.raster_core.specs.declared.tally.Tally.{Tally}
-use Rattle.t85_core.specs.declared.fault.Fault.{Fault}
-use Rattle.t85_core.specs.declared.fault.Fault.TheVariants.{Pbm}
-use Rattle.t85_core.specs.declared.state.CodingState.{CodingState}
-use Rattle.t85_core.specs.Coding.{mode_of}
 use Rattle.t85_core.specs.Steps.State.{RowStart, StripeStart, first_row_start, offset_at, lines_with, after_row}
-use Rattle.t85_core.specs.Jbg.{Settings}
 use Rattle.t85_core.specs.Steps.Written.{next_flag, after_rows, BeginsCode}
 use Rattle.t85_core.specs.Steps.CoderLaws.{WritingLaws}
-use Rattle.t85_core.specs.Steps.EncodeRows.{EndsInRow, RowsCoded, RowsShort}
 use Rattle.t85_core.proofs.Encodings.RowsDown.{after_more}
 
 -- the events of rows
@@ -77,21 +66,3 @@ module _ (laws : WritingLaws) (mode : Mode) (move : Option (ℕ × ℕ)) where
             ap (λ z. stuffed (code_of (after_rows mode move 0 (first_row_start c) z).state.place)) (append_assoc rows (row ∷ []) later)
             ∙ ap stuffed begins.1 ∙ laws.stuffed_append front.front begins.0 ∙ ap (λ z. z ++ stuffed begins.0) (sym front.is) ∙ append_assoc pushed left (stuffed begins.0);
       }
-
-same_fault : (a b : PbmFault) (e : Fault) → e ≡ Pbm a → e ≡ Pbm b → a ≡ b
-same_fault a b e p q = cc
-
-pub row_short : {S : Type 0} {form : Form} (took : S → ℕ → S → Type 0) (from old : S) (s : Settings) (shape : Shape) (width : ℕ) (move : Option (ℕ × ℕ)) (c : StripeStart) (counted : Option ℕ)
-    (began known known' : Option (List ℕ)) (rows : List (List Bool)) (count : ℕ) (carried : CodingState) (tally : Tally) (e : Encoder) (why fault : PbmFault) (told : Fault) → WritingLaws → shape.width ≡ width → length rows < count
-    → RowsCoded took from old s form shape.width move c counted began known rows carried tally e → told ≡ Pbm why → told ≡ Pbm fault → EndsInRow form width known known' why
-    → RowsShort (λ bytes. Took took from bytes old) s form shape.width move c count began known' fault
-row_short {S} {form} took from old s shape width move c counted began known known' rows count carried tally e why fault told laws wide few r is was ends = record {
-  rows = rows;
-  few = few;
-  mid = known;
-  read = r.read;
-  part = subst (λ f. EndsInRow form shape.width known known' f) (same_fault why fault told is was) (subst (λ w. EndsInRow form w known known' why) (sym wide) ends);
-  pushed = r.pushed;
-  taken = r.taken;
-  begins = pushed_begins laws (mode_of s.options) move c rows count e r.pushed r.codes;
-}

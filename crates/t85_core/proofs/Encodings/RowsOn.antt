@@ -11,7 +11,7 @@ part_continues d all first rows rest n all_is many k lt =
     ∙ get_right first (rows ++ rest) k d
     ∙ get_left rows rest k d lt
 
-front_splits : {X : Type 0} (all front : List X) → take (length front) all ≡ front → (length front ≤ length all) × (all ≡ front ++ drop (length front) all)
+pub front_splits : {X : Type 0} (all front : List X) → take (length front) all ≡ front → (length front ≤ length all) × (all ≡ front ++ drop (length front) all)
 front_splits all front is =
     let long : length front ≤ length all = (let e : length front ≡ min (length front) (length all) = ap length (sym is) ∙ length-take (length front) all in omega (arith, e)) in
     (long, sym (split_at (length front) all long).0 ∙ ap (λ z. z ++ drop (length front) all) is)

@@ -111,7 +111,7 @@ module _ (h : Fields) (ok : IsAccepted h) (Fits : List Segment → Type 0) (clos
 pub cut_at_marker : (s : Stripe) (x : List ℕ) → stripe_bytes s ++ x ≡ flat_map segment_bytes s.segments ++ (stuffed s.code ++ (marker_bytes s.reset ++ x))
 cut_at_marker s x = append_assoc (flat_map segment_bytes s.segments) (stuffed s.code ++ marker_bytes s.reset) x ∙ ap (λ z. flat_map segment_bytes s.segments ++ z) (append_assoc (stuffed s.code) (marker_bytes s.reset) x)
 
-marker_no_code : (reset : Bool) (x : List ℕ) → NoCode (marker_bytes reset ++ x)
+pub marker_no_code : (reset : Bool) (x : List ℕ) → NoCode (marker_bytes reset ++ x)
 marker_no_code reset x b z e = went reset (stuff_cases b) e where
   went : (r : Bool) → ((b ≡ 255) × (stuff b ≡ 255 ∷ 0 ∷ [])) ⊎ ((b ≢ 255) × (stuff b ≡ b ∷ [])) → marker_bytes r ++ x ≡ stuff b ++ z → ⊥
   went true (inl p) e = let k : 3 ≡ 0 = second (e ∙ ap (λ u. u ++ z) p.1) in omega (arith, k)

@@ -8,7 +8,7 @@ use Rattle.t85_core.specs.declared.fault.Fault.TheVariants.{ShortHeader, Reserve
 use Rattle.t85_core.specs.Header.{Fields, is_variable, Refusal, refusals, first_refusal, header_fault}
 use Rattle.t85_core.specs.Refusal.{Spot, rest_fault, escape_fault, length_fault, move_fault, comment_fault, is_legal_move, StripeFault, StripesFault}
 use Rattle.t85_core.specs.Grammar.{is_valid_length}
-use Rattle.t85_core.specs.Failures.{counted_as, failed_writes}
+use Rattle.t85_core.specs.Failures.{counted_as, writes_after}
 use Rattle.t85_core.specs.Info.{IsBodyFault, IsWalkFault}
 
 either_of : (P : Option Fault → Type 0) (t : Bool) (a b : Option Fault) → P a → P b → P (cond t a b)
@@ -123,26 +123,26 @@ uncounted_body ending f p = uncounted_of (λ x. IsBodyFault x) tt ending f p
 pub no_write : (f : Fault) → IsWalkFault f → f ≢ Write
 no_write f p e = subst IsWalkFault e p
 
-pub unwritten : (f : Fault) → IsWalkFault f → failed_writes f ≡ 0
-unwritten ShortHeader p = refl
-unwritten ReservedBits p = refl
-unwritten Layers p = refl
-unwritten Planes p = refl
-unwritten ZeroSize p = refl
-unwritten TooWide p = refl
-unwritten MoveRange p = refl
-unwritten PrivateTable p = refl
-unwritten Truncated p = refl
-unwritten BadEscape p = refl
-unwritten Aborted p = refl
-unwritten MoveRefused p = refl
-unwritten SecondMove p = refl
-unwritten LengthRefused p = refl
-unwritten SecondLength p = refl
-unwritten Changed p = refl
-unwritten Read p = refl
+pub unwritten : (f : Fault) → IsWalkFault f → (n : ℕ) → writes_after f n ≡ n
+unwritten ShortHeader p = λ n. refl
+unwritten ReservedBits p = λ n. refl
+unwritten Layers p = λ n. refl
+unwritten Planes p = λ n. refl
+unwritten ZeroSize p = λ n. refl
+unwritten TooWide p = λ n. refl
+unwritten MoveRange p = λ n. refl
+unwritten PrivateTable p = λ n. refl
+unwritten Truncated p = λ n. refl
+unwritten BadEscape p = λ n. refl
+unwritten Aborted p = λ n. refl
+unwritten MoveRefused p = λ n. refl
+unwritten SecondMove p = λ n. refl
+unwritten LengthRefused p = λ n. refl
+unwritten SecondLength p = λ n. refl
+unwritten Changed p = λ n. refl
+unwritten Read p = λ n. refl
 unwritten Write p = absurd p
-unwritten OutOfMemory p = refl
+unwritten OutOfMemory p = λ n. refl
 unwritten OptionBits p = absurd p
 unwritten StripeZero p = absurd p
 unwritten MoveLarge p = absurd p

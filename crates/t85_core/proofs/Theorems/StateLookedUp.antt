@@ -7,32 +7,15 @@ use Rattle.raster_core.specs.Raster.{row_above, white_row}
 use Rattle.raster_core.specs.Lines.{Lines, row_events, numbers_from, IsLegalFlag}
 use Rattle.t85_core.specs.Coding.{Coding, fresh_stripe, top_of, lines_of, moved_at, offset_of, last_or, previous_of, flag_of, events_of_row, learned_at, begun}
 use Rattle.t85_core.specs.Steps.State.{RowStart, StripeStart, offset_at, lines_with, after_row, first_row_start, Run}
+use Rattle.t85_core.specs.Steps.Looked.{offset_before, flag_before, top, CarryAt}
 use Rattle.t85_core.proofs.Bytes.Elements.{Continues, continues_first, continues_rest}
 use Rattle.t85_core.proofs.Theorems.Joined.{one_row_more, one_more_move, fresh_le, stripe_at, top_in, row_above_step, row_here}
 
 -- ---- what stands before a row, where all above row t is white
 
-abbrev pub offset_before : Coding → ℕ → ℕ → ℕ
-offset_before c t y = last_or 0 (filter_map (moved_at c) (numbers_from t (y - t)))
-
-abbrev pub flag_before : Coding → ℕ → ℕ → Bool
-flag_before c t y = if t == y then false else slice_index_or c.flags (y - 1) false
-
--- the top of stripe i
-abbrev pub top : Coding → ℕ → ℕ
-top c i = fresh_stripe c i * c.stripe_rows
-
 -- what is carried after r rows of stripe i, which row y follows
 pub record CarriedAt (c : Coding) (i r y : ℕ) (b : RowStart) : Type 0 where
   pub state : b.state ≡ after (begun (learned_at c i)) (flat_map (events_of_row c) (numbers_from (i * c.stripe_rows) r))
-  pub offset : b.offset ≡ offset_before c (top c i) y
-  pub previous : b.previous ≡ flag_before c (top c i) y
-  pub above : b.above ≡ row_above c.raster (top c i) y 1
-  pub second : b.second ≡ row_above c.raster (top c i) y 2
-
--- what is carried to stripe i, which begins at row y
-pub record CarryAt (c : Coding) (i y : ℕ) (b : StripeStart) : Type 0 where
-  pub learned : b.learned ≡ learned_at c i
   pub offset : b.offset ≡ offset_before c (top c i) y
   pub previous : b.previous ≡ flag_before c (top c i) y
   pub above : b.above ≡ row_above c.raster (top c i) y 1

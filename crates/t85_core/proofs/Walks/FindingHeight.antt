@@ -1,13 +1,13 @@
 -- What `find_height` leaves, whichever way it ends.
-use Rattle.std.proofs.Common.{◌≡◌, ◌≢◌, inr, ◌+◌, ℕ, true, false, List, Option, None, Some, IfSome, Ok, Err, refl, sym, ◌∙◌, subst, arith, true≢false}
+use Rattle.std.proofs.Common.{◌≡◌, ◌≢◌, inr, ℕ, true, false, List, Option, None, Some, IfSome, Ok, Err, refl, sym, ◌∙◌, subst, arith, true≢false}
 use Rattle.std.specs.Io.KnownBytes.{Consumes, Keeps}
-use Rattle.pbm_core.specs.Device.{between}
+use Rattle.t85_core.specs.Change.{between}
 use Rattle.t85_core.specs.declared.fault.Fault.{Fault}
 use Rattle.t85_core.specs.declared.fault.Fault.TheVariants.{Truncated, Read}
 use Rattle.t85_core.specs.Header.{Fields, IsAccepted, is_variable}
 use Rattle.t85_core.specs.Grammar.{stripe_count}
 use Rattle.t85_core.specs.Height.{IsHeight}
-use Rattle.t85_core.specs.Failures.{Ends, failed_reads}
+use Rattle.t85_core.specs.Failures.{Ends, reads_after}
 use Rattle.t85_core.specs.Decode.{FindHeight}
 use Rattle.t85_core.specs.Steps.HeightWalk.{SkipsFault, FindsGiven, FindsOpen}
 use Rattle.t85_core.proofs.Walks.HeightFound.{skipped_height, open_of_skipped}
@@ -55,14 +55,14 @@ height_given h ok old mid new reads_old reads_new entities moves comments part_m
 }
 
 -- the stream breaks before it is given
-pub height_broken : (h : Fields) → IsAccepted h → (old mid new : Option (List ℕ)) (reads_old reads_new : ℕ) (f : Fault) → Ends Truncated old mid (SkipsFault h 0 (stripe_count h.yd h.l0) false false) f → f ≢ Read → reads_new ≡ reads_old + failed_reads f → is_variable h ≡ true →
+pub height_broken : (h : Fields) → IsAccepted h → (old mid new : Option (List ℕ)) (reads_old reads_new : ℕ) (f : Fault) → Ends Truncated old mid (SkipsFault h 0 (stripe_count h.yd h.l0) false false) f → f ≢ Read → reads_new ≡ reads_after f reads_old → is_variable h ≡ true →
     FindHeight h (between old new reads_old reads_new) (Ok h.yd)
 height_broken h ok old mid new reads_old reads_new f e other counted variable =
     headers_height h ok old new reads_old reads_new (skipped_height h ok old mid f e other)
-    (let none = no_failed_read f (skips_faults h 0 (stripe_count h.yd h.l0) false false e) other in omega (arith, none, counted)) (changes h variable)
+    (counted ∙ no_failed_read f (skips_faults h 0 (stripe_count h.yd h.l0) false false e) other reads_old) (changes h variable)
 
 -- a read failed
-pub height_unread : (h : Fields) → IsAccepted h → (old mid new : Option (List ℕ)) (reads_old reads_new : ℕ) (f : Fault) → is_variable h ≡ true → f ≡ Read → (given : List ℕ) × Consumes old mid given × FindsOpen h given → mid ≡ new → reads_new ≡ reads_old + failed_reads f →
+pub height_unread : (h : Fields) → IsAccepted h → (old mid new : Option (List ℕ)) (reads_old reads_new : ℕ) (f : Fault) → is_variable h ≡ true → f ≡ Read → (given : List ℕ) × Consumes old mid given × FindsOpen h given → mid ≡ new → reads_new ≡ reads_after f reads_old →
     FindHeight h (between old new reads_old reads_new) (Err Read)
 height_unread h ok old mid new reads_old reads_new f variable read (given, taken, o) same counted = record {
   found = tt;
@@ -71,6 +71,6 @@ height_unread h ok old mid new reads_old reads_new f variable read (given, taken
   fixed = tt;
   among = refl;
   unread = λ _. (given, subst (λ z. Consumes old z given) same taken, open_of_skipped h ok given variable o);
-  counts = subst (λ x. reads_new ≡ reads_old + failed_reads x) read counted;
+  counts = subst (λ x. reads_new ≡ reads_after x reads_old) read counted;
   idle = changes h variable;
 }

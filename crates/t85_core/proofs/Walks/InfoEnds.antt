@@ -1,9 +1,10 @@
 -- What `summarize` and `info` leave, whichever way they end.
-use Rattle.std.proofs.Common.{◌≡◌, ◌≢◌, inl, inr, ◌≤◌, ◌+◌, ◌++◌, ℕ, Bool, true, List, Option, None, Some, Result, Ok, Err, length, drop, sym, ap, ◌∙◌, subst, arith}
+use Rattle.std.proofs.Common.{◌≡◌, ◌≢◌, inl, inr, ◌≤◌, ◌++◌, ℕ, Bool, true, List, Option, None, Some, Result, Ok, Err, length, drop, sym, ap, ◌∙◌, subst, arith}
 use Rattle.std.specs.Prelude.{IfSome, OnOk, IfOk, IfErr, IsErrOf}
 use Rattle.std.specs.Io.KnownBytes.{Consumes, Appends}
 use Rattle.std.specs.Result.{IsErrAnd}
-use Rattle.pbm_core.specs.Device.{AppendsBeginning, between}
+use Rattle.pbm_core.specs.Device.{AppendsBeginning}
+use Rattle.t85_core.specs.Change.{between}
 use Rattle.t85_core.specs.declared.fault.Fault.{Fault}
 use Rattle.t85_core.specs.declared.fault.Fault.TheVariants.{ShortHeader, Truncated, Read, Write}
 use Rattle.t85_core.specs.declared.summary.Summary.{Summary}
@@ -11,7 +12,7 @@ use Rattle.t85_core.specs.Header.{Fields, HeaderOf, header_fault}
 use Rattle.t85_core.specs.Refusal.{BodyFault}
 use Rattle.t85_core.specs.Height.{IsHeight, IsOpen, StreamFault}
 use Rattle.t85_core.specs.Steps.HeightWalk.{BodyNumbers, BodyRefused, BodyUnfinished}
-use Rattle.t85_core.specs.Failures.{Ends, CountsRead, CountsWrite, counted_as, failed_reads}
+use Rattle.t85_core.specs.Failures.{Ends, CountsRead, CountsWrite, counted_as, reads_after}
 use Rattle.t85_core.specs.Info.{Info, Summarize, HasNumbers, HasLine, numbers_in, line_text, IsUnfinished, IsWalkFault}
 use Rattle.t85_core.proofs.Grammar.Faults.{header_faults, uncounted, no_write, unwritten}
 use Rattle.t85_core.proofs.Bytes.Held.{Keeps-same}
@@ -68,7 +69,7 @@ known_numbers (Some bytes) (Some body) given h numbers long taken is n =
 
 module _ (in_old in_new : Option (List ℕ)) (reads_old reads_new : ℕ) where
   -- the header was refused
-  pub told_header : (f : Fault) → Ends ShortHeader in_old in_new (λ given fault. (length given ≤ 20) × (header_fault given ≡ Some fault)) f → reads_new ≡ reads_old + failed_reads f → Summarize (between in_old in_new reads_old reads_new) (Err f)
+  pub told_header : (f : Fault) → Ends ShortHeader in_old in_new (λ given fault. (length given ≤ 20) × (header_fault given ≡ Some fault)) f → reads_new ≡ reads_after f reads_old → Summarize (between in_old in_new reads_old reads_new) (Err f)
   told_header f e counted = record {
     numbers = tt;
     refused = λ read. refused_header in_old in_new f e read;
@@ -108,7 +109,7 @@ module _ (in_old in_new : Option (List ℕ)) (reads_old reads_new : ℕ) where
     unread = λ is. s.unread (let same : f ≡ Read = cc in ap Err same);
     cut = λ is. absurd (no_write f s.among (let same : f ≡ Write = cc in same));
     reads = s.reads;
-    writes = omega (arith, unwritten f s.among);
+    writes = sym (unwritten f s.among _);
   }
 
 has_line : (bytes numbers : List ℕ) → HasNumbers bytes numbers → HasLine bytes (line_text numbers)
@@ -140,7 +141,7 @@ told_line in_old in_new reads_old reads_new out_old out_new writes_old writes_ne
   among = λ write. absurd (write err);
   unread = λ is. absurd (let bot : ⊥ = cc in bot);
   cut = λ _. shown in_old found.numbers;
-  reads = subst (λ x. reads_new ≡ reads_old + failed_reads x) (sym err) (let same = found.reads in omega (arith, same));
+  reads = subst (λ x. reads_new ≡ reads_after x reads_old) (sym err) (let same = found.reads in omega (arith, same));
   writes = writes;
 } where
   shown : (known : Option (List ℕ)) → IfSome known (λ bytes. HasNumbers bytes (numbers_in s)) → IfSome known (λ bytes. (x : List ℕ) × HasLine bytes x × AppendsBeginning out_old out_new x)

@@ -9,7 +9,7 @@ use Rattle.t85_core.specs.declared.segments.Code.TheVariants as code
 use Rattle.t85_core.specs.Header.{Fields, is_variable}
 use Rattle.t85_core.specs.Grammar.{Segment, NewLength, Comment, segment_bytes, is_comment, is_valid_length, IsLegal}
 use Rattle.t85_core.specs.Refusal.{rest_fault}
-use Rattle.t85_core.specs.Failures.{Ends, failed_reads}
+use Rattle.t85_core.specs.Failures.{Ends, reads_after}
 use Rattle.t85_core.specs.Info.{IsWalkFault}
 use Rattle.t85_core.specs.Steps.Segments.{code_bytes, PassesSegment, PieceFault}
 use Rattle.t85_core.specs.Steps.HeightWalk.{Comments, LooksTo, LookEnds, LookOpen}
@@ -33,10 +33,10 @@ pub looked_none : (h : Fields) (a : Option (List ℕ)) → HasLooked h a a
 looked_none h a = record { segments = []; are = record { comments = tt; legal = tt }; taken = Consumes-none a }
 
 -- no failed read is reported by another fault of a walk
-pub no_failed_read : (f : Fault) → IsWalkFault f → f ≢ Read → failed_reads f ≡ 0
+pub no_failed_read : (f : Fault) → IsWalkFault f → f ≢ Read → (n : ℕ) → reads_after f n ≡ n
 no_failed_read Read p n = absurd (n refl)
 no_failed_read (Pbm f) p n = absurd p
-no_failed_read f p n = refl
+no_failed_read f p n = λ m. refl
 
 none_some : {f : Fault} → None ≡ Some f → ⊥
 none_some e = cc

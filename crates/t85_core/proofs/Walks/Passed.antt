@@ -1,6 +1,6 @@
 -- What was skipped of a stripe so far.
-use Rattle.std.proofs.Common.{cond, ◌≡◌, ◌≢◌, ◌<◌, ◌≤◌, ◌+◌, ◌-◌, ◌^◌, ℕ, Bool, true, false, List, [], ◌∷◌, ◌++◌, Option, None, Some, count_by, length, sum_by, min, is_some, refl, sym, ap, ◌∙◌, subst, append_assoc, append-nil, arith}
-use Rattle.std.specs.Prelude.{flat_map, option_map}
+use Rattle.std.proofs.Common.{cond, ◌≡◌, ◌≢◌, ◌<◌, ◌≤◌, ◌+◌, ◌-◌, ◌^◌, ℕ, Bool, true, false, List, [], ◌∷◌, ◌++◌, Option, None, Some, count_by, length, sum_by, min, refl, sym, ap, ◌∙◌, subst, append_assoc, append-nil, arith}
+use Rattle.std.specs.Prelude.{flat_map}
 use Rattle.std.specs.List.{AllByRecursion}
 use Rattle.std.specs.Io.KnownBytes.{Consumes}
 use Rattle.std.proofs.lemmas.List.Sums.{sum_by-append}
@@ -9,12 +9,11 @@ use Rattle.t85_core.specs.declared.fault.Fault.{Fault}
 use Rattle.t85_core.specs.declared.fault.Fault.TheVariants.{Truncated, Changed}
 use Rattle.t85_core.specs.declared.segments.Move as move
 use Rattle.t85_core.specs.Header.{Fields}
-use Rattle.t85_core.specs.Grammar.{Segment, NewLength, Move, Comment, lengths, GiveOnly, segment_bytes, is_move, is_comment, marker_bytes, Stripe, all_segments, IsLegal, IsBegun, is_valid_length}
+use Rattle.t85_core.specs.Grammar.{Segment, NewLength, Move, Comment, lengths, GiveOnly, segment_bytes, is_move, is_comment, marker_bytes, Stripe, all_segments, IsLegal, is_valid_length}
 use Rattle.t85_core.specs.Coding.{move_of}
-use Rattle.t85_core.specs.Steps.DecodeRows.{pair_of}
 use Rattle.t85_core.specs.Refusal.{Spot, spot_behind, rest_fault, StripeFault}
 use Rattle.t85_core.specs.Failures.{Ends, counted_as}
-use Rattle.t85_core.specs.Steps.Segments.{spot_at, CodeFault, HeadFault, PieceFault, next_bytes, IsNextItem, PassesCode, PassesSegment, PassesSegments, SegmentsFault}
+use Rattle.t85_core.specs.Steps.Segments.{HasPassed, spot_at, CodeFault, HeadFault, PieceFault, next_bytes, IsNextItem, PassesCode, PassesSegment, PassesSegments, SegmentsFault}
 use Rattle.t85_core.specs.declared.segments.Next.{Next}
 use Rattle.t85_core.specs.declared.segments.Next.TheVariants as next
 use Rattle.t85_core.specs.declared.segments.Place.{Place}
@@ -26,18 +25,6 @@ use Rattle.t85_core.proofs.Bytes.Lists.{All-push, All-append, count_push, flat_m
 use Rattle.t85_core.proofs.Bytes.Lengths.{many_lengths, gives_none, gives_both}
 use Rattle.t85_core.proofs.Walks.Segments.{length_changed}
 use Rattle.t85_core.proofs.Bytes.Stuffing.{stuffed_append, stuffed_plain}
-
--- segments of a stripe, and the move among them, where one stood before them or none
-pub record HasPassed (h : Fields) (place : Place) (before : Bool) (old new : Option (List ℕ)) (at : Option move.Move) (moved given : Bool) (comments : ℕ) : Type 0 where
-  pub segments : List Segment
-  pub begun : IsBegun h segments []
-  pub gives : GiveOnly place.height (cond place.given 1 0) segments
-  pub given_is : cond given 1 0 ≡ cond place.given 1 0 + length (lengths segments)
-  pub move_is : option_map pair_of at ≡ move_of segments
-  pub counted : cond moved 1 0 ≡ cond before 1 0 + count_by is_move segments
-  pub found : cond (is_some at) 1 0 ≡ count_by is_move segments
-  pub told : comments ≡ min (count_by is_comment segments) (2 ^ 64 - 1)
-  pub taken : Consumes old new (flat_map segment_bytes segments)
 
 pub Consumes-none : (a : Option (List ℕ)) → Consumes a a []
 Consumes-none None = tt

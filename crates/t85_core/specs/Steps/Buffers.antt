@@ -1,7 +1,11 @@
 -- Bytes that are read ahead or held back, and what a buffer takes of a code.
-use Rattle.std.specs.Prelude.{ℕ, ◌-◌, ◌<◌, ◌≢◌, List, length, take, drop, Option, Some, None, ◌≡◌, ◌≤◌, [], ◌∷◌}
+use Rattle.std.specs.Prelude.{ℕ, ◌-◌, ◌<◌, ◌≢◌, List, length, take, drop, Option, Some, None, Result, OnOk, OnErr, IfOk, IfErr, IfSome, IsErrOf, ◌≡◌, ◌≤◌, [], ◌∷◌}
 use Rattle.std.specs.List.{AllByRecursion}
-use Rattle.std.specs.Io.KnownBytes.{Appends, Keeps}
+use Rattle.std.specs.Io.KnownBytes.{Appends, Consumes, Keeps}
+use Rattle.pbm_core.specs.Device.{AppendsBeginning}
+use Rattle.t85_core.specs.declared.fault.Fault.{Fault}
+use Rattle.t85_core.specs.declared.fault.Fault.TheVariants.{Truncated, Read, Write}
+use Rattle.t85_core.specs.Failures.{CountsRead, CountsWrite, Ends}
 
 -- the bytes from one place of an array up to another, which are held
 abbrev pub held_of : List ℕ → ℕ → ℕ → List ℕ
@@ -16,6 +20,90 @@ pub record Writer : Type 0 where
   pub reference : ℕ
   pub target : ℕ
   pub flushes : ℕ
+
+-- A source: the bytes still to come, where the reader reports them, and those of them that it has still to give; how many
+-- they are at most; how often the reader has failed; which reader it is.
+pub record SourceView : Type 0 where
+  pub known : Option (List ℕ)
+  pub beyond : Option (List ℕ)
+  pub left : ℕ
+  pub failures : ℕ
+  pub source : ℕ
+
+-- What a call leaves of a source besides the bytes that it takes: the reader, its count, and after a failed read nothing
+-- that was held.
+pub record ReadsOn {T : Type 0} (old new : SourceView) (result : Result T Fault) : Type 0 where
+  pub drained : IsErrOf result Read → new.known ≡ new.beyond
+  pub counts : CountsRead old.failures new.failures result
+  pub same_source : new.source ≡ old.source
+
+-- the next byte, or none
+pub record GivesNextByte (old new : SourceView) (result : Result ℕ Fault) : Type 0 where
+  pub ok : IfOk result (λ b. Consumes old.known new.known (b ∷ []))
+  pub err : IfErr result (Ends Truncated old.known new.known (λ given fault. (given ≡ []) × (fault ≡ Truncated)))
+  pub drained : OnErr result (new.known ≡ new.beyond)
+  pub counts : CountsRead old.failures new.failures result
+  pub lowers : OnOk result (new.left < old.left)
+  pub no_more : new.left ≤ old.left
+  pub same_source : new.source ≡ old.source
+
+-- the next byte, other than FF, or nothing changed
+pub record GivesPlain {S : Type 0} (view : S → SourceView) (s s' : S) (result : Option ℕ) : Type 0 where
+  pub some : IfSome result (λ b. (b ≢ 255) × Consumes (view s).known (view s').known (b ∷ []))
+  pub lowers : IfSome result (λ b. (view s').left < (view s).left)
+  pub none : result ≡ None → s' ≡ s
+  pub unfailed : (view s').failures ≡ (view s).failures
+  pub no_more : (view s').left ≤ (view s).left
+  pub same_source : (view s').source ≡ (view s).source
+
+-- bytes other than FF were skipped
+pub record SkipsPlain (old new : SourceView) : Type 0 where
+  pub passed : (code : List ℕ) × ArePlain code × Consumes old.known new.known code
+  pub unfailed : new.failures ≡ old.failures
+  pub no_more : new.left ≤ old.left
+  pub same_source : new.source ≡ old.source
+
+-- A target: the bytes that it has taken, where the writer reports them, and those of them that it holds; how many the writer
+-- has taken; how often that has failed; which writer it is.
+pub record TargetView : Type 0 where
+  pub text : Option (List ℕ)
+  pub held : List ℕ
+  pub written : ℕ
+  pub failures : ℕ
+  pub writer : Writer
+
+-- what a call leaves of a target besides its text: the writer, which has taken no less, and its count
+pub record WritesOn {T : Type 0} (old new : TargetView) (result : Result T Fault) : Type 0 where
+  pub counts : CountsWrite old.failures new.failures result
+  pub grows : old.written ≤ new.written
+  pub same_writer : new.writer ≡ old.writer
+
+-- the bytes were taken, or a beginning of them
+pub record PutsBytes (bytes : List ℕ) (old new : TargetView) (result : Result (Unit {0}) Fault) : Type 0 where
+  pub ok : OnOk result (Appends old.text new.text bytes)
+  pub err : IfErr result (λ f. f ≡ Write)
+  pub cut : OnErr result (AppendsBeginning old.text new.text bytes)
+  pub grows : old.written ≤ new.written
+  pub counts : CountsWrite old.failures new.failures result
+  pub same_writer : new.writer ≡ old.writer
+
+-- the byte was taken, or left out
+pub record Pushes (byte : ℕ) (old new : TargetView) (result : Result (Unit {0}) Fault) : Type 0 where
+  pub ok : OnOk result (Appends old.text new.text (byte ∷ []))
+  pub err : IfErr result (λ f. f ≡ Write)
+  pub kept : OnErr result (Keeps old.text new.text)
+  pub grows : old.written ≤ new.written
+  pub counts : CountsWrite old.failures new.failures result
+  pub same_writer : new.writer ≡ old.writer
+
+-- what was held was written, or a write failed
+pub record HandsOn (old new : TargetView) (result : Result (Unit {0}) Fault) : Type 0 where
+  pub text : Keeps old.text new.text
+  pub sent : OnOk result (new.held ≡ [])
+  pub err : IfErr result (λ f. f ≡ Write)
+  pub grows : old.written ≤ new.written
+  pub counts : CountsWrite old.failures new.failures result
+  pub same_writer : new.writer ≡ old.writer
 
 -- how many bytes are known
 abbrev pub known_length : Option (List ℕ) → ℕ

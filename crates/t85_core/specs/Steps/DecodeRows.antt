@@ -1,6 +1,7 @@
 -- What a decoder of the rows of a stripe leaves.
 use Rattle.std.specs.Prelude.{ℕ, ◌+◌, ◌≡◌, ◌≤◌, Bool, List, length, Option, flat_map, Result, Ok, Err}
 use Rattle.std.specs.Io.KnownBytes.{Appends}
+use Rattle.pbm_core.specs.Device.{one_more}
 use Rattle.pbm_core.specs.Device.{AppendsBeginning}
 use Rattle.qm_core.specs.Code.{IsBytes}
 use Rattle.qm_core.specs.Source.{bytes_of, heard_of, IsClosed, Gives}
@@ -21,15 +22,11 @@ use Rattle.t85_core.specs.Coding.{mode_of, move_of}
 use Rattle.t85_core.specs.Steps.State.{RowStart, StripeStart, first_row_start, image_start}
 use Rattle.t85_core.specs.Steps.Cut.{BegunRun, RowsSoFar}
 
--- how many puts have failed with a fault
-abbrev pub failed_puts : RowFault → ℕ
-failed_puts row_fault.Write = 1
-failed_puts row_fault.Stopped = 0
-
--- The sheet's count of failures rises by one with the answer Write, and stays with each other.
+-- The sheet's count of failures rises by one, modulo 2^64, with the answer Write, and stays with each other.
 abbrev pub CountsPut : ℕ → ℕ → Result (Unit {0}) RowFault → Type 0
 CountsPut old new (Ok u) = new ≡ old
-CountsPut old new (Err f) = new ≡ old + failed_puts f
+CountsPut old new (Err row_fault.Write) = new ≡ one_more old
+CountsPut old new (Err row_fault.Stopped) = new ≡ old
 
 -- a move as the grammar sees it
 abbrev pub pair_of : Move → ℕ × ℕ

@@ -1,5 +1,5 @@
 -- What a data entity gives to a decoder.
-use Rattle.std.specs.Prelude.{ℕ, ◌+◌, ◌≡◌, ◌<◌, ◌≤◌, ◌⊎◌, Bool, List, [], ◌∷◌, length, Option, Some, None}
+use Rattle.std.specs.Prelude.{ℕ, ◌≡◌, ◌<◌, ◌≤◌, ◌⊎◌, Bool, List, [], ◌∷◌, length, Option, Some, None}
 use Rattle.std.specs.Io.KnownBytes.{Consumes, prepend_known}
 use Rattle.qm_core.specs.Code.{stuffed}
 use Rattle.qm_core.specs.declared.source.Pulled.{Pulled}
@@ -8,7 +8,7 @@ use Rattle.t85_core.specs.declared.fault.Fault.{Fault}
 use Rattle.t85_core.specs.declared.fault.Fault.TheVariants.{Truncated, Read}
 use Rattle.t85_core.specs.declared.segments.Code.{Code}
 use Rattle.t85_core.specs.Grammar.{marker_bytes}
-use Rattle.t85_core.specs.Failures.{Ends, failed_reads}
+use Rattle.t85_core.specs.Failures.{Ends, reads_after}
 use Rattle.t85_core.specs.Steps.Segments.{code_bytes, RestFault, CodeFault, PassesCode}
 
 -- the bytes still to come: those that were read ahead, and then the stream's
@@ -53,7 +53,7 @@ pub record GivesFault (s t : EntityView) : Type 0 where
   pub behind : t.first ≡ None
   pub ends : Ends Truncated s.known t.known RestFault why
   pub drained : why ≡ Read → t.known ≡ t.beyond
-  pub reads : t.reads ≡ s.reads + failed_reads why
+  pub reads : t.reads ≡ reads_after why s.reads
 
 abbrev pub GivesSo : EntityView → Pulled → EntityView → Type 0
 GivesSo s (pulled.Byte b) t = GivesByte s t b

@@ -54,9 +54,9 @@ pub record SkipsTo (h : Fields) (entities : ℕ) (given moved : Bool) (old new :
   pub taken : Consumes old new (flat_map segment_bytes segments ++ segment_bytes (NewLength height))
 
 -- the one or the other
-abbrev pub Skips : Fields → ℕ → Bool → Bool → Option (List ℕ) → Option (List ℕ) → ℕ → ℕ → Option ℕ → Type 0
-Skips h entities given moved old new moves comments None = SkipsStripe h moved old new moves comments
-Skips h entities given moved old new moves comments (Some height) = SkipsTo h entities given moved old new moves comments height
+abbrev pub SkipsParts : Fields → ℕ → Bool → Bool → Option (List ℕ) → Option (List ℕ) → ℕ → ℕ → Option ℕ → Type 0
+SkipsParts h entities given moved old new moves comments None = SkipsStripe h moved old new moves comments
+SkipsParts h entities given moved old new moves comments (Some height) = SkipsTo h entities given moved old new moves comments height
 
 -- A stripe that breaks before a height is given in it.
 pub record SkipFault (h : Fields) (entities : ℕ) (given moved : Bool) (bytes : List ℕ) (fault : Fault) : Type 0 where

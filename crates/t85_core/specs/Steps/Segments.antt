@@ -8,6 +8,7 @@ use Rattle.t85_core.specs.declared.segments.Code.{Code}
 use Rattle.t85_core.specs.declared.segments.Code.TheVariants as code
 use Rattle.t85_core.specs.declared.segments.Head.{Head}
 use Rattle.t85_core.specs.declared.segments.Segments.{Segments}
+use Rattle.t85_core.specs.declared.segments.Move as move
 use Rattle.t85_core.specs.declared.segments.Next.{Next}
 use Rattle.t85_core.specs.declared.segments.Next.TheVariants as next
 use Rattle.t85_core.specs.declared.segments.Place.{Place}
@@ -73,6 +74,18 @@ Passes h place moved old new (piece.NewLength height) = (place.given ≡ false) 
 Passes h place moved old new (piece.Move to) = (moved ≡ false) × PassesSegment h old new (Move to.row to.offset)
 Passes h place moved old new piece.Comment = (text : List ℕ) × PassesSegment h old new (Comment text)
 Passes h place moved old new (piece.Code c) = IsByteOrMarker c × Consumes old new (code_bytes c)
+
+-- segments of a stripe, and the move among them, where one stood before them or none
+pub record HasPassed (h : Fields) (place : Place) (before : Bool) (old new : Option (List ℕ)) (at : Option move.Move) (moved given : Bool) (comments : ℕ) : Type 0 where
+  pub segments : List Segment
+  pub begun : IsBegun h segments []
+  pub gives : GiveOnly place.height (if place.given then 1 else 0) segments
+  pub given_is : (if given then 1 else 0) ≡ (if place.given then 1 else 0) + length (lengths segments)
+  pub move_is : option_map (λ to. (to.row, to.offset)) at ≡ move_of segments
+  pub counted : (if moved then 1 else 0) ≡ (if before then 1 else 0) + count_by is_move segments
+  pub found : (if is_some at then 1 else 0) ≡ count_by is_move segments
+  pub told : comments ≡ min (count_by is_comment segments) (2 ^ 64 - 1)
+  pub taken : Consumes old new (flat_map segment_bytes segments)
 
 -- a valid height, or what a code begins with
 abbrev pub next_bytes : Next → List ℕ

@@ -1,9 +1,9 @@
 -- The stream of a raster as an encoder sees it, carried from row to row and from stripe to stripe.
-use Rattle.std.specs.Prelude.{ℕ, ◌+◌, ◌≡◌, Bool, List, [], ◌∷◌, ◌++◌, length, Option, option_map}
+use Rattle.std.specs.Prelude.{ℕ, ◌+◌, ◌≡◌, Bool, nat_lt, if◌then◌else◌, List, [], ◌∷◌, ◌++◌, length, Option, option_map}
 use Rattle.qm_core.specs.Code.{code_of, stuffed}
 use Rattle.raster_core.specs.Lines.{Lines, Mode, may_be_typical}
 use Rattle.raster_core.specs.Offset.{chosen_offset}
-use Rattle.t85_core.specs.Grammar.{Stripe, stripe_bytes}
+use Rattle.t85_core.specs.Grammar.{NewLength, Stripe, segment_bytes, marker_bytes}
 use Rattle.t85_core.specs.Coding.{mode_of}
 use Rattle.t85_core.specs.Steps.State.{RowStart, StripeStart, first_row_start, image_start, lines_with, after_row, next_stripe_start}
 use Rattle.t85_core.specs.Jbg.{Settings, move_segments}
@@ -60,7 +60,6 @@ abbrev pub BeginsCode : Mode → Option (ℕ × ℕ) → StripeStart → ℕ →
 BeginsCode mode move c count rows bytes =
     (later : List (List Bool)) → length rows + length later ≡ count → IsBeginning bytes (stuffed (code_of (after_rows mode move 0 (first_row_start c) (rows ++ later)).state.place))
 
--- The same of a stripe with its segments and its end marker.
-abbrev pub BeginsStripe : Settings → ℕ → EncoderStart → ℕ → List (List Bool) → List ℕ → Type 0
-BeginsStripe s width at count rows bytes =
-    (later : List (List Bool)) → length rows + length later ≡ count → IsBeginning bytes (stripe_bytes (next_stripe s width at (rows ++ later)))
+-- what comes after the last stripe, where a height was written in the header
+abbrev pub ending_of : ℕ → Bool → ℕ → List ℕ
+ending_of announced reset height' = if nat_lt height' announced then segment_bytes (NewLength height') ++ marker_bytes reset else []

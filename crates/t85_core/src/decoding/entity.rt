@@ -1,6 +1,6 @@
 //! A data entity as a source of code bytes.
 
-ghost use Rattle.std.specs.Prelude.{◌≡◌, ◌<◌, ◌-◌, ◌^◌, ℕ, Bool, None, Some, IfSome, IfOk, IfErr, OnErr, IsErrOf};
+ghost use Rattle.std.specs.Prelude.{◌≡◌, ◌<◌, ℕ, Bool, None, Some, IfSome, IfOk, IfErr, OnErr, IsErrOf};
 ghost use Rattle.t85_core.specs.declared.fault.Fault.TheVariants.{Truncated, Read};
 ghost use Rattle.t85_core.specs.declared.segments.Code.TheVariants as code;
 ghost use Rattle.t85_core.specs.Steps.Entity.{EntityGives, entity_known, BreaksIn, Finishes};
@@ -25,13 +25,11 @@ pub struct EntityReader<'a, S: ByteSource> {
     failures: u64,
     ghost small: { (b : ℕ) → first ≡ Some (code.Byte b) → b < 256 },
     ghost behind: { (r : Bool) → marker ≡ Some r → first ≡ None },
-    ghost can_read: { fault ≡ None → S.failures stream.now < 2 ^ 64 - 1 },
 }
 
 impl<'a, S: ByteSource> EntityReader<'a, S> {
     /// The code that begins so.
     pub fn new(stream: &'a mut S, first: Code) -> EntityReader<'a, S>
-        requires readable { S.failures stream.old < 2 ^ 64 - 1 }
         requires code { IsByteOrMarker first }
         ensures lent { result.stream ≡ stream.entry }
         ensures first { result.first ≡ Some first }
@@ -60,20 +58,21 @@ impl<S: ByteSource> EntityReader<'_, S> {
     /// Skips what is left of the code, and answers whether its end marker resets.
     pub fn finish(&mut self) -> Result<bool, Fault>
         requires { self.old.fault ≡ None }
-        ensures ok { IfOk result (λ reset. Finishes
-            (entity_known self.old.first (S.known self.old.stream.now))
-            (entity_known self.new.first (S.known self.new.stream.now)) self.old.marker reset) }
-        ensures err { IfErr result (Ends Truncated
-            (entity_known self.old.first (S.known self.old.stream.now))
-            (entity_known self.new.first (S.known self.new.stream.now)) (BreaksIn self.old.first)) }
+        ensures ok { IfOk result (λ reset. Finishes (entity_known self.old.first (S.view
+            self.old.stream.now).known) (entity_known self.new.first (S.view
+            self.new.stream.now).known) self.old.marker reset) }
+        ensures err { IfErr result (Ends Truncated (entity_known self.old.first (S.view
+            self.old.stream.now).known) (entity_known self.new.first (S.view
+            self.new.stream.now).known) (BreaksIn self.old.first)) }
         ensures behind { self.new.first ≡ None }
         ensures open { OnErr result (self.old.marker ≡ None) }
         ensures drained { IsErrOf result Read → entity_known self.new.first
-            (S.known self.new.stream.now) ≡ S.beyond self.new.stream.now }
-        ensures counts { CountsRead (S.failures self.old.stream.now)
-            (S.failures self.new.stream.now) result }
+            (S.view self.new.stream.now).known ≡ (S.view self.new.stream.now).beyond }
+        ensures counts { CountsRead (S.view self.old.stream.now).failures
+            (S.view self.new.stream.now).failures result }
         ensures same_source { self.new.stream.ghost_name ≡ self.old.stream.ghost_name }
-        ensures same_input { S.source self.new.stream.now ≡ S.source self.old.stream.now }
+        ensures same_input { (S.view self.new.stream.now).source ≡ (S.view
+            self.old.stream.now).source }
         ensures failures { self.new.failures ≡ self.old.failures }
     {
         if let Some(reset) = self.marker {
@@ -89,16 +88,17 @@ impl<S: ByteSource> EntityReader<'_, S> {
     /// Skips what is left of a code of which nothing is read ahead.
     fn skip(&mut self) -> Result<bool, Fault>
         requires { self.old.fault ≡ None }
-        ensures ok { IfOk result (PassesCode (S.known self.old.stream.now)
-            (S.known self.new.stream.now)) }
-        ensures err { IfErr result (Ends Truncated (S.known self.old.stream.now)
-            (S.known self.new.stream.now) CodeFault) }
-        ensures drained { IsErrOf result Read → S.known self.new.stream.now ≡ S.beyond
-            self.new.stream.now }
-        ensures counts { CountsRead (S.failures self.old.stream.now)
-            (S.failures self.new.stream.now) result }
+        ensures ok { IfOk result (PassesCode (S.view self.old.stream.now).known
+            (S.view self.new.stream.now).known) }
+        ensures err { IfErr result (Ends Truncated (S.view self.old.stream.now).known
+            (S.view self.new.stream.now).known CodeFault) }
+        ensures drained { IsErrOf result Read → (S.view self.new.stream.now).known ≡ (S.view
+            self.new.stream.now).beyond }
+        ensures counts { CountsRead (S.view self.old.stream.now).failures
+            (S.view self.new.stream.now).failures result }
         ensures same_source { self.new.stream.ghost_name ≡ self.old.stream.ghost_name }
-        ensures same_input { S.source self.new.stream.now ≡ S.source self.old.stream.now }
+        ensures same_input { (S.view self.new.stream.now).source ≡ (S.view
+            self.old.stream.now).source }
         ensures first { self.new.first ≡ self.old.first }
         ensures failures { self.new.failures ≡ self.old.failures }
     {
@@ -120,7 +120,7 @@ impl<S: ByteSource> CodeBytes for EntityReader<'_, S> {
 
     fn pull(&mut self) -> Pulled {
         if self.fault.is_some() {
-            self.failures += 1;
+            self.failures = self.failures.wrapping_add(1);
             return Pulled::Fault;
         }
         let next = match self.first.take() {
@@ -135,7 +135,7 @@ impl<S: ByteSource> CodeBytes for EntityReader<'_, S> {
             }
             Err(fault) => {
                 self.fault = Some(fault);
-                self.failures += 1;
+                self.failures = self.failures.wrapping_add(1);
                 Pulled::Fault
             }
         }

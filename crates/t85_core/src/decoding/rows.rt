@@ -1,6 +1,6 @@
 //! Decoding the rows of a stripe.
 
-ghost use Rattle.std.specs.Prelude.{◌≡◌, ◌≤◌, ◌<◌, ◌+◌, ◌-◌, ◌^◌, OnOk, IsErrOf, IfSome, option_map, if◌then◌else◌};
+ghost use Rattle.std.specs.Prelude.{◌≡◌, ◌≤◌, OnOk, IsErrOf, IfSome, option_map, if◌then◌else◌};
 ghost use Rattle.qm_core.specs.Source.{Pulls};
 ghost use Rattle.raster_core.specs.Window.{width_of};
 ghost use Rattle.t85_core.specs.Steps.State.{offset_at};
@@ -32,28 +32,26 @@ pub fn decode_rows<C: CodeBytes, P: ByteTarget>(
     source: &mut C,
     target: &mut P,
 ) -> Result<(), RowFault>
-    requires source { C.failed source.old + 1 < 2 ^ 64 }
-    requires target { P.failures target.old < 2 ^ 64 - 1 }
     requires width { width_of carried.old.window.now ≡ shape.width }
     requires some { 1 ≤ shape.width }
     requires offset { carried.old.kept.offset ≤ 127 }
     requires to { IfSome at (λ to. to.offset ≤ 127) }
     ensures ok { OnOk result (RowsOfStripe (Pulls C.gives C.failed) source.old source.new shape
         (option_map pair_of at) rows
-        carried.old carried.new (P.text target.old) (P.text target.new)) }
+        carried.old carried.new (P.view target.old).text (P.view target.new).text) }
     ensures stopped { IsErrOf result row_fault.Stopped →
         RowsOfCut (Pulls C.gives C.failed) source.old source.new shape (option_map pair_of at) rows
-        carried.old (P.text target.old) (P.text target.new) }
+        carried.old (P.view target.old).text (P.view target.new).text }
     ensures unwritten { IsErrOf result row_fault.Write →
         RowsOfUnwritten (Pulls C.gives C.failed) source.old source.new shape (option_map pair_of at)
         rows
-        carried.old (P.text target.old) (P.text target.new) }
+        carried.old (P.view target.old).text (P.view target.new).text }
     ensures width { OnOk result (width_of carried.new.window.now ≡ width_of
         carried.old.window.now) }
     ensures offset { OnOk result (carried.new.kept.offset ≤ 127) }
-    ensures counts { CountsPut (P.failures target.old) (P.failures target.new) result }
-    ensures grows { P.written target.old ≤ P.written target.new }
-    ensures same_writer { P.writer target.new ≡ P.writer target.old }
+    ensures counts { CountsPut (P.view target.old).failures (P.view target.new).failures result }
+    ensures grows { (P.view target.old).written ≤ (P.view target.new).written }
+    ensures same_writer { (P.view target.new).writer ≡ (P.view target.old).writer }
 {
     let mut decoder = Decoder::start();
     'rows: for row in 0..rows {
@@ -72,30 +70,28 @@ fn decode_next_row<C: CodeBytes, P: ByteTarget>(
     source: &mut C,
     target: &mut P,
 ) -> Result<(), RowFault>
-    requires source { C.failed source.old + 1 < 2 ^ 64 }
-    requires target { P.failures target.old < 2 ^ 64 - 1 }
     requires width { width_of carried.old.window.now ≡ shape.width }
     requires some { 1 ≤ shape.width }
     requires offset { carried.old.kept.offset ≤ 127 }
     requires to { IfSome at (λ to. to.offset ≤ 127) }
     ensures ok { OnOk result (DecodeRowStep (Pulls C.gives C.failed) source.old source.new shape
-        (option_map pair_of at) row
-        carried.old carried.new decoder.old decoder.new (P.text target.old) (P.text target.new)) }
+        (option_map pair_of at) row carried.old carried.new decoder.old decoder.new (P.view
+        target.old).text (P.view target.new).text) }
     ensures stopped { IsErrOf result row_fault.Stopped →
         DecodeRowStepCut (Pulls C.gives C.failed) source.old source.new shape
         (option_map pair_of at) row
-        carried.old decoder.old (P.text target.old) (P.text target.new) }
+        carried.old decoder.old (P.view target.old).text (P.view target.new).text }
     ensures unwritten { IsErrOf result row_fault.Write →
         DecodeRowStepUnwritten (Pulls C.gives C.failed) source.old source.new shape
         (option_map pair_of at) row
-        carried.old decoder.old (P.text target.old) (P.text target.new) }
+        carried.old decoder.old (P.view target.old).text (P.view target.new).text }
     ensures width { OnOk result (width_of carried.new.window.now ≡ width_of
         carried.old.window.now) }
     ensures offset { OnOk result (carried.new.kept.offset ≤ 127) }
     ensures counted { OnOk result (C.failed source.new ≡ C.failed source.old) }
-    ensures counts { CountsPut (P.failures target.old) (P.failures target.new) result }
-    ensures grows { P.written target.old ≤ P.written target.new }
-    ensures same_writer { P.writer target.new ≡ P.writer target.old }
+    ensures counts { CountsPut (P.view target.old).failures (P.view target.new).failures result }
+    ensures grows { (P.view target.old).written ≤ (P.view target.new).written }
+    ensures same_writer { (P.view target.new).writer ≡ (P.view target.old).writer }
 {
     // What the proof cites of the coder.
     coder_laws();
@@ -120,7 +116,7 @@ fn decode_next_row<C: CodeBytes, P: ByteTarget>(
 }
 
 /// The offset in a row of a stripe, where it was another in the row before.
-fn offset_in(at: Option<Move>, row: u32, before: u8) -> u8
+pub fn offset_in(at: Option<Move>, row: u32, before: u8) -> u8
     requires at { IfSome at (λ to. to.offset ≤ 127) }
     requires before { before ≤ 127 }
     ensures bound { result ≤ 127 }

@@ -1,157 +1,82 @@
-//! Encoding the rows of a stripe.
+//! Rows that are given, and the beginning of a stream.
 
-ghost use Rattle.std.specs.Prelude.{◌≡◌, ◌≤◌, ◌<◌, ◌+◌, ◌-◌, ◌^◌, [], OnOk, IfErr, IfSome, IsErrOf, false, if◌then◌else◌};
-ghost use Rattle.pbm_core.specs.declared.fault.PbmFault.{PbmFault};
-ghost use Rattle.qm_core.specs.Encoder.{event_count, has_failed};
-ghost use Rattle.qm_core.specs.Sink.{Took};
-ghost use Rattle.raster_core.specs.Tally.{is_two_line, most_of, row_count};
+ghost use Rattle.std.specs.Prelude.{◌≡◌, ◌≤◌, ◌<◌, ◌-◌, [], ℕ, length, slice_index, OnErr, IfOk, IfErr, false};
+ghost use Rattle.pbm_core.specs.Device.{AppendsBeginning};
+ghost use Rattle.pbm_core.specs.Pbm.{bytes_of_row, masked_row};
+ghost use Rattle.pbm_core.specs.Image.{pixels_of};
 ghost use Rattle.raster_core.specs.Window.{held, width_of};
-ghost use Rattle.t85_core.specs.Encode.{IsEncodeFault};
-ghost use Rattle.t85_core.specs.Steps.EncodeRows.{IsCountedTo, EncodeRowOutcome, EndsInRow, RowTaken};
-ghost use Rattle.t85_core.specs.Steps.EncodeStripes.{EncodeRowsOutcome};
-ghost use Rattle.t85_core.specs.Failures.{CountsRead, CountsWrite};
-ghost use Rattle.t85_core.specs.declared.fault.Fault.TheVariants.{Write, Pbm};
+ghost use Rattle.t85_core.specs.Jbg.{head_of, is_low};
+ghost use Rattle.t85_core.specs.Options.{settings_of};
+ghost use Rattle.t85_core.specs.Failures.{CountsWrite};
+ghost use Rattle.t85_core.specs.Steps.Buffers.{known_length};
+ghost use Rattle.t85_core.specs.Steps.Views.{text_taken, writer_of};
+ghost use Rattle.t85_core.specs.Steps.ByRow.{view_of, MayGoOn, IsLined, IsBelow, Stands};
+ghost use Rattle.t85_core.specs.declared.fault.Fault.TheVariants.{Write};
 
+use crate::encoding::by_row::RowEncoder;
+use crate::encoding::steps::write_head;
 use crate::fault::Fault;
-use crate::laws::writing_laws;
-use crate::state::CodingState;
-use pbm_core::{Form, Input, Size, read_row};
-use qm_core::{CodeSink, Encoder, laws};
-use raster_core::{Shape, Tally, Window, encode_row};
+use crate::options::Options;
+use crate::output_buffer::OutputBuffer;
+use pbm_core::laws::masks;
+use pbm_core::{Output, Size};
+use raster_core::Window;
 
-/// Encodes the first `rows` rows of a stripe, and ends their code. They are counted against an offset where one is
-/// given.
-pub fn encode_rows<R: Input, C: CodeSink>(
-    size: Size,
-    form: Form,
-    shape: Shape,
-    rows: u32,
-    counted: Option<u8>,
-    carried: &mut CodingState<'_, '_>,
-    tally: &mut Tally,
-    source: &mut R,
-    sink: &mut C,
-) -> Result<(), Fault>
-    requires source { R.failures source.old < 2 ^ 64 - 1 }
-    requires sink { C.failed sink.old + 1 < 2 ^ 64 }
-    requires width { width_of carried.old.window.now ≡ size.width }
-    requires shape { shape.width ≡ size.width }
-    requires offset { carried.old.kept.offset ≤ 127 }
-    requires counted { IfSome counted (λ offset. offset ≤ 127) }
-    requires none { row_count tally.old ≡ 0 }
-    requires begun { IsCountedTo size.width counted tally.old [] }
-    ensures width { OnOk result (width_of carried.new.window.now ≡
-        width_of carried.old.window.now) }
-    ensures offset { OnOk result (carried.new.kept.offset ≡ carried.old.kept.offset) }
-    ensures outcome { EncodeRowsOutcome form C.took C.refused sink.old sink.new shape rows counted
-        (R.remaining source.old) (R.remaining source.new) carried.old carried.new tally.new result }
-    ensures two_line { OnOk result (is_two_line tally.new ≡ is_two_line tally.old) }
-    ensures most { OnOk result (most_of tally.new ≡ most_of tally.old) }
-    ensures among { IfErr result IsEncodeFault }
-    ensures reads { CountsRead (R.failures source.old) (R.failures source.new) result }
-    ensures writes { CountsWrite (C.failed sink.old) (C.failed sink.new) result }
-{
-    // What the proof cites of the coder.
-    writing_laws();
-    laws::pushes_join::<C>();
-    let mut encoder = Encoder::start();
-    'rows: for _ in 0..rows {
-        encode_next_row(
-            size,
-            form,
-            shape,
-            counted,
-            carried,
-            tally,
-            &mut encoder,
-            source,
-            sink,
-        )?;
-    }
-    match encoder.finish(sink) {
-        Ok(()) => Ok(()),
-        Err(_) => Err(Fault::Write),
-    }
-}
-
-/// Reads a row and encodes it.
-fn encode_next_row<R: Input, C: CodeSink>(
-    size: Size,
-    form: Form,
-    shape: Shape,
-    counted: Option<u8>,
-    carried: &mut CodingState<'_, '_>,
-    tally: &mut Tally,
-    encoder: &mut Encoder,
-    source: &mut R,
-    sink: &mut C,
-) -> Result<(), Fault>
-    requires source { R.failures source.old < 2 ^ 64 - 1 }
-    requires sink { C.failed sink.old + 1 < 2 ^ 64 }
-    requires width { width_of carried.old.window.now ≡ size.width }
-    requires shape { shape.width ≡ size.width }
-    requires offset { carried.old.kept.offset ≤ 127 }
-    requires counted { IfSome counted (λ offset. offset ≤ 127) }
-    requires going { has_failed encoder.old ≡ false }
-    requires events { event_count encoder.old + size.width + 1 ≤ 2 ^ 56 }
-    requires rows { row_count tally.old < 2 ^ 32 - 1 }
-    ensures outcome { EncodeRowOutcome form C.took C.refused sink.old sink.new shape counted
-        (R.remaining source.old) (R.remaining source.new) carried.old carried.new tally.old
-        tally.new encoder.old encoder.new result }
-    ensures width { OnOk result (width_of carried.new.window.now ≡
-        width_of carried.old.window.now) }
-    ensures offset { OnOk result (carried.new.kept.offset ≡ carried.old.kept.offset) }
-    ensures going { OnOk result (has_failed encoder.new ≡ false) }
-    ensures events { OnOk result (event_count encoder.new ≤ event_count encoder.old + size.width +
-        1) }
-    ensures rows { OnOk result (row_count tally.new ≤ row_count tally.old + 1) }
-    ensures two_line { OnOk result (is_two_line tally.new ≡ is_two_line tally.old) }
-    ensures most { OnOk result (most_of tally.new ≡ most_of tally.old) }
-    ensures among { IfErr result IsEncodeFault }
-    ensures reads { CountsRead (R.failures source.old) (R.failures source.new) result }
-    ensures writes { CountsWrite (C.failed sink.old) (C.failed sink.new) result }
-{
-    // What the proof cites of the coder.
-    writing_laws();
-    laws::pushes_join::<C>();
-    read_next_row(size, form, carried.window, source)?;
-    match encode_row(
-        shape,
-        &mut carried.kept,
-        carried.window,
-        &mut carried.learned,
-        encoder,
-        sink,
-    ) {
-        Ok(()) => {}
-        Err(_) => return Err(Fault::Write),
-    }
-    if let Some(offset) = counted {
-        tally.add_row(carried.window, size.width, offset);
-    }
-    Ok(())
-}
-
-/// Goes a row down in the window and reads that row.
-fn read_next_row<R: Input>(
-    size: Size,
-    form: Form,
-    window: &mut Window<'_>,
-    source: &mut R,
-) -> Result<(), Fault>
-    requires source { R.failures source.old < 2 ^ 64 - 1 }
+/// Goes a row down in the window, and takes that row. What is after its last pixel is not looked at.
+pub fn take_row(row: &[u8], size: Size, window: &mut Window<'_>)
+    requires whole { length row.now ≡ bytes_of_row size.width }
     requires width { width_of window.old ≡ size.width }
-    ensures ok { OnOk result (RowTaken form size.width (R.remaining source.old)
-        (R.remaining source.new) (held window.old) (held window.new)) }
-    ensures short { IfErr result (λ f. (fault : PbmFault) × (f ≡ Pbm fault) × EndsInRow form
-        size.width (R.remaining source.old) (R.remaining source.new) fault) }
+    ensures below { IsBelow (pixels_of size.width row.now) (held window.old) (held window.new) }
     ensures width { width_of window.new ≡ width_of window.old }
-    ensures among { IfErr result IsEncodeFault }
-    ensures reads { CountsRead (R.failures source.old) (R.failures source.new) result }
 {
+    // What the proof cites of rows.
+    masks();
     window.turn();
-    match read_row(source, size, form, window.current) {
-        Ok(()) => Ok(()),
-        Err(fault) => Err(Fault::Pbm(fault)),
-    }
+    copy_row(row, size, window.current);
+}
+
+/// Copies a row, and makes the bits after its last pixel 0.
+fn copy_row(row: &[u8], size: Size, to: &mut [u8])
+    requires whole { length row.now ≡ bytes_of_row size.width }
+    requires room { length to.old ≡ bytes_of_row size.width }
+    ensures masked { to.new ≡ masked_row size.width row.now }
+    ensures small { (k : ℕ) → slice_index to.new k < 256 }
+{
+    to.copy_from_slice(row);
+    let last = to.len() - 1;
+    let padding = to.len() * 8 - size.width as usize;
+    to[last] -= to[last] % (1u8 << padding);
+}
+
+/// Begins a stream, and writes what is held.
+pub fn start_held<W: Output>(
+    size: Size,
+    options: &Options<'_>,
+    window: &mut Window<'_>,
+    buffer: &mut OutputBuffer<'_, W>,
+) -> Result<RowEncoder, Fault>
+    requires width { width_of window.old ≡ size.width }
+    requires low { is_low (settings_of options.now) size.height ≡ false }
+    ensures begun { IfOk result (λ e. Stands (settings_of options.now) size.width size.height []
+        (view_of e) (held window.new) (text_taken buffer.old)
+        (W.view buffer.new.output.now).contents) }
+    ensures ready { IfOk result (λ e. MayGoOn (view_of e)) }
+    ensures going { IfOk result (λ e. e.is_closed ≡ false) }
+    ensures none { IfOk result (λ e. e.rows ≡ 0) }
+    ensures size { IfOk result (λ e. e.size ≡ size) }
+    ensures width { width_of window.new ≡ width_of window.old }
+    ensures lined { IsLined (held window.new) }
+    ensures cut { OnErr result (AppendsBeginning (text_taken buffer.old) (text_taken buffer.new)
+        (head_of (settings_of options.now) size.width size.height)) }
+    ensures err { IfErr result (λ f. f ≡ Write) }
+    ensures writes { CountsWrite (W.view buffer.old.output.now).failures
+        (W.view buffer.new.output.now).failures result }
+    ensures grows { known_length (W.view buffer.old.output.now).contents ≤ known_length
+        (W.view buffer.new.output.now).contents }
+    ensures same_writer { writer_of buffer.new ≡ writer_of buffer.old }
+{
+    window.clear();
+    write_head(size, options, buffer)?;
+    buffer.write_held()?;
+    Ok(RowEncoder::new(size, options))
 }

@@ -23,15 +23,15 @@ impl<'a, P: ByteTarget> EntitySink<'a, P> {
 
 impl<P: ByteTarget> CodeSink for EntitySink<'_, P> {
     ghost took = { λ s byte t. TakesByte
-        (sink_view P.writer P.written P.text s)
+        (sink_view P.view s)
         byte
-        (sink_view P.writer P.written P.text t) };
+        (sink_view P.view t) };
 
     ghost refused = { λ s t. RefusesByte
-        (sink_view P.writer P.written P.text s)
-        (sink_view P.writer P.written P.text t) };
+        (sink_view P.view s)
+        (sink_view P.view t) };
 
-    ghost failed = { λ s. P.failures s.target.now };
+    ghost failed = { λ s. (P.view s.target.now).failures };
 
     fn push(&mut self, byte: u8) -> Result<(), SinkFault> {
         match self.target.push(byte) {

@@ -1,4 +1,5 @@
 use Rattle.pbm_core.proofs.Judged.{one_header, one_fault, header_or_fault}
+use Rattle.pbm_core.proofs.Known.{read_header_is_theirs, read_fault_is_theirs}
 use Rattle.pbm_core.proofs.Writing.{written_is_read}
 use Rattle.pbm_core.proofs.laws.headers.Goals as goal
 
@@ -13,3 +14,9 @@ returns-clause-header_or_fault c = header_or_fault
 
 pub returns-clause-written_is_read : goal.returns-clause-written_is_read
 returns-clause-written_is_read c = written_is_read
+
+pub returns-clause-read_header_is_theirs : goal.returns-clause-read_header_is_theirs
+returns-clause-read_header_is_theirs c = read_header_is_theirs
+
+pub returns-clause-read_fault_is_theirs : goal.returns-clause-read_fault_is_theirs
+returns-clause-read_fault_is_theirs c = read_fault_is_theirs

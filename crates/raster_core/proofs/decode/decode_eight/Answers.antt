@@ -1,7 +1,6 @@
-use Rattle.std.proofs.Common.{◌≡◌, arith, refl, sym, ◌∙◌, subst, ◌*◌, ◌/◌, ◌^◌, ◌<◌, ◌+◌}
+use Rattle.std.proofs.Common.{arith}
 use Rattle.qm_core.specs.Source.{Pulls}
 use Rattle.raster_core.specs.Window.{shape_mode}
-use Rattle.raster_core.specs.Machine.Decoded.{Along, StopsAlong}
 use Rattle.raster_core.proofs.Alongs.{along_none, exit_err}
 use Rattle.raster_core.proofs.LaneContexts.{along_at, stops_at}
 use Rattle.raster_core.proofs.LaneTables.{if_ok, on_err}

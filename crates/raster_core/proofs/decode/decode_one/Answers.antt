@@ -1,9 +1,7 @@
-use Rattle.std.proofs.Common.{◌≡◌, arith, refl, sym, ◌∙◌, subst, false, ◌*◌, ◌/◌, ◌^◌, ◌<◌, ◌+◌}
+use Rattle.std.proofs.Common.{arith, refl, false}
 use Rattle.qm_core.specs.Source.{Pulls}
-use Rattle.raster_core.specs.Machine.Decoded.{Along, AlongMore, StopsMore}
 use Rattle.raster_core.proofs.Alongs.{along_next, along_stop, exit_err}
-use Rattle.raster_core.proofs.LaneContexts.{lane_context, more_then, stops_first, stops_then}
-use Rattle.raster_core.proofs.LaneTables.{if_ok, on_err}
+use Rattle.raster_core.proofs.LaneContexts.{lane_context}
 use Rattle.raster_core.proofs.decode.decode_one.Goals as goal
 
 pub returns-in_err-pixel-clause-err : goal.returns-in_err-pixel-clause-err

@@ -1,8 +1,7 @@
-use Rattle.std.proofs.Common.{◌≡◌, arith, refl, sym, ◌∙◌, subst, ◌*◌, ◌/◌, ◌^◌, ◌<◌, ◌+◌}
+use Rattle.std.proofs.Common.{arith}
 use Rattle.qm_core.specs.Source.{Pulls}
-use Rattle.raster_core.specs.Machine.Decoded.{Along, AlongMore, StopsMore}
-use Rattle.raster_core.proofs.Alongs.{along_next, along_stop, exit_err}
-use Rattle.raster_core.proofs.LaneContexts.{lane_context, more_then, stops_first, stops_then}
+use Rattle.raster_core.proofs.Alongs.{exit_err}
+use Rattle.raster_core.proofs.LaneContexts.{more_then, stops_first, stops_then}
 use Rattle.raster_core.proofs.LaneTables.{if_ok, on_err}
 use Rattle.raster_core.proofs.decode.decode_two.Goals as goal
 

@@ -1,4 +1,3 @@
-use Rattle.std.proofs.Common.{arith}
 use Rattle.raster_core.proofs.LaneTables.{above_says}
 use Rattle.raster_core.proofs.lanes.above_lanes.Goals as goal
 

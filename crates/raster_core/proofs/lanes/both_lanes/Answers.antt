@@ -1,5 +1,4 @@
-use Rattle.std.proofs.Common.{◌≡◌, ◌+◌, arith, sym, ◌∙◌, ap, subst, ◌<◌, ◌^◌}
-use Rattle.raster_core.specs.Machine.Lanes.{lane}
+use Rattle.std.proofs.Common.{arith}
 use Rattle.raster_core.proofs.LaneTables.{sum_is}
 use Rattle.raster_core.proofs.lanes.both_lanes.Goals as goal
 

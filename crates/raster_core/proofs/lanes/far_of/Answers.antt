@@ -1,6 +1,6 @@
 use Rattle.std.proofs.Common.{◌≡◌, suc, ◌-◌, true, false, arith, refl, sym, ◌∙◌, subst}
 use Rattle.raster_core.specs.Machine.Lanes.{near, HasFar}
-use Rattle.raster_core.specs.Machine.Encoded.{AreBeside}
+use Rattle.raster_core.specs.Machine.Lanes.{AreBeside}
 use Rattle.raster_core.proofs.LanePixels.{beside_nominal, beside_moved}
 use Rattle.raster_core.proofs.Moved.{set_is, clear_is, nominal_none, moved_some}
 use Rattle.raster_core.proofs.lanes.far_of.Goals as goal

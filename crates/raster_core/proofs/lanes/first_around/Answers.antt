@@ -1,4 +1,4 @@
-use Rattle.std.proofs.Common.{◌≡◌, ◌+◌, ◌*◌, ◌/◌, ◌%◌, ◌^◌, arith, ◌∙◌, ap}
+use Rattle.std.proofs.Common.{◌∙◌}
 use Rattle.raster_core.proofs.LaneTables.{first_around_is}
 use Rattle.raster_core.proofs.lanes.first_around.Goals as goal
 

@@ -1,4 +1,4 @@
-use Rattle.std.proofs.Common.{◌≡◌, ◌+◌, ◌*◌, ◌/◌, ◌%◌, ◌^◌, arith, ◌∙◌, ap}
+use Rattle.std.proofs.Common.{◌∙◌}
 use Rattle.raster_core.proofs.LaneTables.{last_around_is}
 use Rattle.raster_core.proofs.lanes.last_around.Goals as goal
 

@@ -1,4 +1,4 @@
-use Rattle.std.proofs.Common.{◌≡◌, ◌+◌, ◌*◌, ◌/◌, ◌%◌, ◌^◌, refl, sym, ◌∙◌, subst}
+use Rattle.std.proofs.Common.{◌≡◌, ◌+◌, ◌*◌, refl, sym, ◌∙◌, subst}
 use Rattle.raster_core.specs.Machine.Lanes.{lane, near, own}
 use Rattle.raster_core.proofs.LaneTables.{last_pixels_are, last_moved_are}
 use Rattle.raster_core.proofs.Moved.{set_is, clear_is}

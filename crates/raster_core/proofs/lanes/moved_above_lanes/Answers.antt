@@ -1,4 +1,3 @@
-use Rattle.std.proofs.Common.{arith}
 use Rattle.raster_core.proofs.LaneTables.{moved_above_says}
 use Rattle.raster_core.proofs.lanes.moved_above_lanes.Goals as goal
 

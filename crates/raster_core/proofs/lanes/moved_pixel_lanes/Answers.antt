@@ -1,4 +1,4 @@
-use Rattle.std.proofs.Common.{◌≡◌, ◌+◌, ◌*◌, arith, ◌∙◌, ◌<◌, ℕ}
+use Rattle.std.proofs.Common.{◌≡◌, ◌+◌, arith, ◌∙◌, ◌<◌, ℕ}
 use Rattle.raster_core.specs.Machine.Lanes.{lane, second_lane, moved_above_lane, far_lane, row_lane}
 use Rattle.raster_core.proofs.LaneTables.{sum_is}
 use Rattle.raster_core.proofs.lanes.moved_pixel_lanes.Goals as goal

@@ -1,4 +1,3 @@
-use Rattle.std.proofs.Common.{arith}
 use Rattle.raster_core.proofs.LaneTables.{row_says}
 use Rattle.raster_core.proofs.lanes.row_lanes.Goals as goal
 

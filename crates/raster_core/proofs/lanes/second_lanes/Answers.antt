@@ -1,4 +1,3 @@
-use Rattle.std.proofs.Common.{arith}
 use Rattle.raster_core.proofs.LaneTables.{second_says}
 use Rattle.raster_core.proofs.lanes.second_lanes.Goals as goal
 

@@ -1,6 +1,6 @@
 use Rattle.std.proofs.Common.{ℕ, List, Option, Some, Result, Ok, Err}
 use Rattle.std.specs.Prelude.{IfErr}
-use Rattle.pbm_core.specs.Device.{between}
+use Rattle.t85_core.specs.Change.{between}
 use Rattle.t85_core.specs.declared.fault.Fault.{Fault}
 use Rattle.t85_core.specs.declared.summary.Summary.{Summary}
 use Rattle.t85_core.specs.Height.{StreamFault}

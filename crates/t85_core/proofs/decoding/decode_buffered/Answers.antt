@@ -1,4 +1,5 @@
-use Rattle.std.proofs.Common.{◌≡◌, ◌∙◌, sym, arith}
+use Rattle.std.proofs.Common.{◌≡◌, ◌∙◌, sym, ap, arith}
+use Rattle.t85_core.specs.Failures.{writes_after}
 use Rattle.t85_core.specs.declared.fault.Fault.TheVariants.{Read, Write}
 use Rattle.t85_core.specs.Options.{fields_of}
 use Rattle.t85_core.proofs.Decodings.ImagePut.{in_use}
@@ -15,7 +16,7 @@ returns-in-Ok-clause-begun g c =
     begun_handed _ _ _ _ _ _ _ (image_begun c.coder_laws.ensures (fields_of c.args.header.now) c.args.height (in_use c.args.header.now c.args.height c.requires.from c.requires.to) _ _ _ _ c.in-Ok.ensures.ok) c.write_held.ensures.text
 
 pub returns-in-Ok-clause-reads : goal.returns-in-Ok-clause-reads
-returns-in-Ok-clause-reads g c = counts_whole _ _ c.write_held.result c.in-Ok.ensures.reads c.write_held.ensures.err
+returns-in-Ok-clause-reads g c = counts_whole _ _ c.write_held.result c.in-Ok.ensures.reads.counts c.write_held.ensures.err
 
 pub returns-in-Ok-write_held : goal.returns-in-Ok-write_held
 returns-in-Ok-write_held g c =
@@ -24,12 +25,12 @@ returns-in-Ok-write_held g c =
       ok = tt;
       err = λ n. cut_handed _ _ _ _ _ _ _ _ (c.in-Err.ensures.err n) (all_handed _ _ _ _ _ empty.0 empty.1 c.write_held-in_default.ensures.text);
       begun = begun_handed _ _ _ _ _ _ _ c.in-Err.ensures.unwritten c.write_held-in_default.ensures.text;
-      grows = (let more = c.write_held-in_default.ensures.grows in let before = c.in-Err.ensures.grows in omega (arith, more, before));
-      drained = λ is. c.in-Err.ensures.drained is;
-      reads = counts_any _ _ _ c.in-Err.ensures.reads;
-      writes = c.in-Ok-write_held.ensures.counts ∙ c.in-Err.ensures.writes;
-      same_source = c.in-Err.ensures.same_source;
-      same_writer = c.write_held-in_default.ensures.same_writer ∙ c.in-Err.ensures.same_writer;
+      grows = (let more = c.write_held-in_default.ensures.grows in let before = c.in-Err.ensures.writes.grows in omega (arith, more, before));
+      drained = λ is. c.in-Err.ensures.reads.drained is;
+      reads = counts_any _ _ _ c.in-Err.ensures.reads.counts;
+      writes = c.in-Ok-write_held.ensures.counts ∙ c.in-Err.ensures.writes.counts;
+      same_source = c.in-Err.ensures.reads.same_source;
+      same_writer = c.write_held-in_default.ensures.same_writer ∙ c.in-Err.ensures.writes.same_writer;
     }
 
 pub returns-in-Err-write_held : goal.returns-in-Err-write_held
@@ -40,12 +41,12 @@ returns-in-Err-write_held g c =
       ok = tt;
       err = λ n. absurd (n last);
       begun = begun_handed _ _ _ _ _ _ _ c.in-Err.ensures.unwritten c.write_held-in_default.ensures.text;
-      grows = (let more = c.write_held-in_default.ensures.grows in let before = c.in-Err.ensures.grows in omega (arith, more, before));
+      grows = (let more = c.write_held-in_default.ensures.grows in let before = c.in-Err.ensures.writes.grows in omega (arith, more, before));
       drained = λ is. absurd (let both : Write ≡ Read = sym last ∙ (cc) in let bot : ⊥ = cc in bot);
-      reads = counts_written _ _ c.in-Err.fault _ c.in-Err.ensures.reads last;
-      writes = (let a = c.in-Err.ensures.writes in let b = c.in-Err-write_held.ensures.counts in omega (arith, a, b, none));
-      same_source = c.in-Err.ensures.same_source;
-      same_writer = c.write_held-in_default.ensures.same_writer ∙ c.in-Err.ensures.same_writer;
+      reads = counts_written _ _ c.in-Err.fault _ c.in-Err.ensures.reads.counts last;
+      writes = c.in-Err-write_held.ensures.counts ∙ ap (writes_after _) (c.in-Err.ensures.writes.counts ∙ none _);
+      same_source = c.in-Err.ensures.reads.same_source;
+      same_writer = c.write_held-in_default.ensures.same_writer ∙ c.in-Err.ensures.writes.same_writer;
     }
 
 pub returns-in-Write-clause-err : goal.returns-in-Write-clause-err

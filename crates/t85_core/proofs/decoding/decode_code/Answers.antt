@@ -1,6 +1,7 @@
-use Rattle.std.proofs.Common.{rules, ◌≡◌, ◌+◌, Err, ◌∙◌, arith, ap}
+use Rattle.std.proofs.Common.{rules, ◌≡◌, Err, ◌∙◌, sym, arith, ap}
 use Rattle.t85_core.specs.declared.fault.Fault.TheVariants.{Read}
-use Rattle.t85_core.specs.Failures.{CountsRead, CountsWrite}
+use Rattle.t85_core.specs.Failures.{CountsRead}
+use Rattle.t85_core.specs.Steps.Buffers.{WritesOn}
 use Rattle.t85_core.proofs.Bytes.Ends.{exit}
 use Rattle.t85_core.proofs.Walks.InfoEnds.{exit_all}
 use Rattle.t85_core.proofs.Grammar.Faults.{unwritten}
@@ -15,7 +16,7 @@ returns-in-Err-Write-clause-outcome g c = record {
   ok = search rules;
   err = search rules;
   unwritten = λ h spot heights c' segments known begins.
-      let ahead = ahead_of c.decode_rows.new.source.first (g.S.ByteSource.known c.decode_rows.new.source.stream.now) in
+      let ahead = ahead_of c.decode_rows.new.source.first (g.S.ByteSource.view c.decode_rows.new.source.stream.now).known in
       code_unset _ _ c.args.entity.now c.decode_rows.new.source _ _ _ h spot heights c' segments known begins c.coder_laws.ensures _ _ _ _ ahead.0 ahead.1 (c.in-Err-Write.ensures.unwritten (ap Err c.in-Err-Write.field-0-is));
   behind = search rules;
   cut_behind = search rules;
@@ -34,7 +35,7 @@ returns-in-Err-Stopped-clause-outcome g c = record {
   err = λ _ h spot heights c' segments known begins.
       code_stopped _ _ c.args.entity.now c.decode_rows.new.source _ _ _ h spot heights c' segments known begins _ _ _ _ (c.in-Err-Stopped.ensures.stopped (ap Err c.in-Err-Stopped.field-0-is)) c.fault.ensures;
   unwritten = λ h spot heights c' segments known begins.
-      let ahead = ahead_of c.decode_rows.new.source.first (g.S.ByteSource.known c.decode_rows.new.source.stream.now) in
+      let ahead = ahead_of c.decode_rows.new.source.first (g.S.ByteSource.view c.decode_rows.new.source.stream.now).known in
       cut_unset _ _ _ _ _ _ ahead.0 _ _ _ _
       (code_stopped _ _ c.args.entity.now c.decode_rows.new.source _ _ _ h spot heights c' segments known begins _ _ _ _ (c.in-Err-Stopped.ensures.stopped (ap Err c.in-Err-Stopped.field-0-is)) c.fault.ensures) ahead.1;
   behind = search rules;
@@ -52,8 +53,8 @@ pub returns-in-Err-Stopped-clause-writes : goal.returns-in-Err-Stopped-clause-wr
 returns-in-Err-Stopped-clause-writes g c =
     let b = rows_broke _ _ c.args.entity.now c.decode_rows.new.source _ _ _ _ _ _ c.requires.begun (c.in-Err-Stopped.ensures.stopped (ap Err c.in-Err-Stopped.field-0-is)) in
     let none = (broke_fault _ _ c.fault.result b c.fault.ensures).2 in
-    let kept : g.P.ByteTarget.failures c.decode_rows.new.target ≡ g.P.ByteTarget.failures c.args.target.now + 0 = rw c.in-Err-Stopped.field-0-is at c.in-Err-Stopped.ensures.counts in
-    omega (arith, none, kept)
+    let kept : (g.P.ByteTarget.view c.decode_rows.new.target).failures ≡ (g.P.ByteTarget.view c.args.target.now).failures = rw c.in-Err-Stopped.field-0-is at c.in-Err-Stopped.ensures.counts in
+    record { counts = kept ∙ sym (none _); grows = c.decode_rows.ensures.grows; same_writer = c.decode_rows.ensures.same_writer }
 
 -- ---- the rows were read
 
@@ -65,7 +66,7 @@ returns-in_err-reset-clause-outcome g c = record {
   ok = search rules;
   err = exit _ _ c.from_residual.ensures.1 (λ _ h spot heights c' segments known begins.
       code_rest _ _ c.args.entity.now c.decode_rows.new.source _ _ _ h spot heights c' segments known begins c.coder_laws.ensures _ _ _ _ _ _ c.in-Ok.ensures.ok c.in_err-reset.ensures.open c.in_err-reset.ensures.err);
-  unwritten = (let ahead = ahead_of c.finish.new.self.first (g.S.ByteSource.known c.finish.new.self.stream.now) in
+  unwritten = (let ahead = ahead_of c.finish.new.self.first (g.S.ByteSource.view c.finish.new.self.stream.now).known in
       exit _ _ c.from_residual.ensures.1 (λ h spot heights c' segments known begins.
       cut_unset _ _ _ _ _ _ ahead.0 _ _ _ _
       (code_rest _ _ c.args.entity.now c.decode_rows.new.source _ _ _ h spot heights c' segments known begins c.coder_laws.ensures _ _ _ _ _ _ c.in-Ok.ensures.ok c.in_err-reset.ensures.open c.in_err-reset.ensures.err) ahead.1));
@@ -81,7 +82,7 @@ returns-in_err-reset-clause-outcome g c = record {
 pub returns-in_err-reset-clause-writes : goal.returns-in_err-reset-clause-writes
 returns-in_err-reset-clause-writes g c =
     let none = unwritten _ (broken_among _ _ _ _ c.in_err-reset.ensures.err) in
-    exit_all (CountsWrite _ _) c.from_residual.result c.from_residual.ensures.1 (omega (arith, none, c.in-Ok.ensures.counts))
+    exit_all (WritesOn _ _) c.from_residual.result c.from_residual.ensures.1 (record { counts = c.in-Ok.ensures.counts ∙ sym (none _); grows = c.decode_rows.ensures.grows; same_writer = c.decode_rows.ensures.same_writer })
 
 -- ---- the stripe is whole
 

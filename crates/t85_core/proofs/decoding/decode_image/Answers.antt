@@ -30,11 +30,11 @@ stripes-preserved g c =
       left = omega (arith, rows_are, c.stripes.invariant.left);
       width = c.in_ok-decode_stripe.ensures.width ∙ c.stripes.invariant.width;
       offset = c.in_ok-decode_stripe.ensures.offset;
-      unfailed = c.in_ok-decode_stripe.ensures.reads ∙ c.stripes.invariant.unfailed;
-      unwritten = c.in_ok-decode_stripe.ensures.writes ∙ c.stripes.invariant.unwritten;
-      grows = (let more = c.in_ok-decode_stripe.ensures.grows in let before = c.stripes.invariant.grows in omega (arith, more, before));
-      same_source = c.in_ok-decode_stripe.ensures.same_source ∙ c.stripes.invariant.same_source;
-      same_writer = c.in_ok-decode_stripe.ensures.same_writer ∙ c.stripes.invariant.same_writer;
+      unfailed = c.in_ok-decode_stripe.ensures.reads.counts ∙ c.stripes.invariant.unfailed;
+      unwritten = c.in_ok-decode_stripe.ensures.writes.counts ∙ c.stripes.invariant.unwritten;
+      grows = (let more = c.in_ok-decode_stripe.ensures.writes.grows in let before = c.stripes.invariant.grows in omega (arith, more, before));
+      same_source = c.in_ok-decode_stripe.ensures.reads.same_source ∙ c.stripes.invariant.same_source;
+      same_writer = c.in_ok-decode_stripe.ensures.writes.same_writer ∙ c.stripes.invariant.same_writer;
     }
 
 pub returns-clause-ok : goal.returns-clause-ok

@@ -1,4 +1,5 @@
-use Rattle.std.proofs.Common.{◌≡◌, ◌∙◌, sym, subst, arith}
+use Rattle.std.proofs.Common.{◌≡◌, ◌∙◌, sym, subst, ap, arith}
+use Rattle.t85_core.specs.Failures.{writes_after}
 use Rattle.t85_core.specs.Encode.{IsEncodeFault}
 use Rattle.t85_core.specs.declared.fault.Fault.TheVariants.{Write, Pbm}
 use Rattle.t85_core.proofs.Bytes.Ends.{on_ok, always}
@@ -23,17 +24,12 @@ returns-in-Ok-write_held g c =
       ok = tt;
       short = λ fault is. short_handed _ _ _ _ _ _ _ _ _ _ fault (c.in-Err.ensures.short fault is) (all_handed _ _ _ _ _ empty.0 empty.1 c.write_held-in_default.ensures.text);
       begun = front_handed _ _ _ _ _ _ _ _ (told_front _ _ _ _ _ _ _ _ _ c.in-Err.fault c.in-Err.ensures.among c.in_default.not-Write c.in-Err.ensures.short) c.write_held-in_default.ensures.text;
-      grows = (let more = c.write_held-in_default.ensures.grows in let before = c.in-Err.ensures.grows in omega (arith, more, before));
+      grows = (let more = c.write_held-in_default.ensures.grows in let before = c.in-Err.ensures.writes.grows in omega (arith, more, before));
       among = c.in-Err.ensures.among;
       reads = counts_any _ _ _ c.in-Err.ensures.reads;
-      writes = c.in-Ok-write_held.ensures.counts ∙ c.in-Err.ensures.writes;
-      same_writer = c.write_held-in_default.ensures.same_writer ∙ c.in-Err.ensures.same_writer;
+      writes = c.in-Ok-write_held.ensures.counts ∙ c.in-Err.ensures.writes.counts;
+      same_writer = c.write_held-in_default.ensures.same_writer ∙ c.in-Err.ensures.writes.same_writer;
     }
-
-pub write_held-requires-in_default : goal.write_held-requires-in_default
-write_held-requires-in_default g c =
-    let none = no_failed_write c.in-Err.fault c.in_default.not-Write in
-    omega (arith, c.in-Err.ensures.writes, none, c.requires.buffer)
 
 pub returns-in-Err-write_held : goal.returns-in-Err-write_held
 returns-in-Err-write_held g c =
@@ -43,9 +39,9 @@ returns-in-Err-write_held g c =
       ok = tt;
       short = λ fault is. absurd (let both : Write ≡ Pbm fault = sym last ∙ (cc) in let bot : ⊥ = cc in bot);
       begun = front_handed _ _ _ _ _ _ _ _ (told_front _ _ _ _ _ _ _ _ _ c.in-Err.fault c.in-Err.ensures.among c.in_default.not-Write c.in-Err.ensures.short) c.write_held-in_default.ensures.text;
-      grows = (let more = c.write_held-in_default.ensures.grows in let before = c.in-Err.ensures.grows in omega (arith, more, before));
+      grows = (let more = c.write_held-in_default.ensures.grows in let before = c.in-Err.ensures.writes.grows in omega (arith, more, before));
       among = subst IsEncodeFault (sym last) tt;
       reads = counts_written _ _ c.in-Err.fault _ c.in-Err.ensures.reads last;
-      writes = (let a = c.in-Err.ensures.writes in let b = c.in-Err-write_held.ensures.counts in omega (arith, a, b, none));
-      same_writer = c.write_held-in_default.ensures.same_writer ∙ c.in-Err.ensures.same_writer;
+      writes = c.in-Err-write_held.ensures.counts ∙ ap (writes_after _) (c.in-Err.ensures.writes.counts ∙ none _);
+      same_writer = c.write_held-in_default.ensures.same_writer ∙ c.in-Err.ensures.writes.same_writer;
     }

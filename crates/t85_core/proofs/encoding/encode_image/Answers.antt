@@ -1,42 +1,98 @@
-use Rattle.std.proofs.Common.{sym, ap, ◌∙◌, subst}
-use Rattle.std.specs.Prelude.{option_map}
-use Rattle.std.specs.Io.KnownBytes.{Appends}
-use Rattle.t85_core.specs.Header.{header_bytes}
-use Rattle.t85_core.specs.Jbg.{head_of}
+use Rattle.std.proofs.Common.{◌≡◌, ◌++◌, ◌∷◌, [], ◌∙◌, refl, subst, arith, length-append}
+use Rattle.pbm_core.specs.declared.fault.PbmFault.{PbmFault}
+use Rattle.raster_core.specs.Packed.{HasLines, white_lines}
+use Rattle.raster_core.specs.Window.{held}
+use Rattle.t85_core.specs.declared.fault.Fault.{Fault}
+use Rattle.t85_core.specs.declared.fault.Fault.TheVariants.{Pbm}
 use Rattle.t85_core.specs.Options.{settings_of}
-use Rattle.t85_core.proofs.Bytes.Ends.{on_ok, always}
-use Rattle.t85_core.proofs.Encodings.HeadPut.{head_plain, head_commented, header_cut, comment_cut, head_refused, image_headed, short_headed, refused_headed}
-use Rattle.t85_core.proofs.encoding.encode_image.Given as given
+use Rattle.t85_core.specs.Steps.EncodeRows.{EndsInRow}
+use Rattle.t85_core.specs.Steps.ByRow.{view_of}
+use Rattle.t85_core.proofs.Bytes.Ends.{map_ok, exit_of, err_of}
+use Rattle.t85_core.proofs.Encodings.HeadPut.{head_refused}
+use Rattle.t85_core.proofs.Encodings.RowsJoined.{reads_none, reads_join}
+use Rattle.t85_core.proofs.Encodings.ImageByRow.{front_short, cut_refused, end_refused, taken_lined}
 use Rattle.t85_core.proofs.encoding.encode_image.Goals as goal
-use Rattle.t85_core.proofs.encoding.encode_image.Goals.{in-Some+in_ok-write_comment, in_default}
 
--- the header and the comment stand before the stripes
-head_put : (g : given.Over) (c : goal.After-encode_body g) → Appends (g.P.ByteTarget.text c.args.target.now) (g.P.ByteTarget.text c.match-options.target) (head_of (settings_of c.args.options.now) c.args.size.width c.args.size.height)
-head_put g c =
-    let header = c.bytes.ensures ∙ ap header_bytes c.header-header.ensures in
-    elim c.match-options.branch [
-      | in-Some+in_ok-write_comment w ↦ subst (λ target. Appends (g.P.ByteTarget.text c.args.target.now) (g.P.ByteTarget.text target) (head_of (settings_of c.args.options.now) c.args.size.width c.args.size.height)) (sym w.target-is)
-          (head_commented (settings_of c.args.options.now) c.args.size.width c.args.size.height _ _ _ _ w.in-Some.text.now header (ap (option_map (λ text. text.now)) w.in-Some.is) c.in_ok-put.ensures.ok w.in_ok-write_comment.ensures.ok)
-      | in_default w ↦ subst (λ target. Appends (g.P.ByteTarget.text c.args.target.now) (g.P.ByteTarget.text target) (head_of (settings_of c.args.options.now) c.args.size.width c.args.size.height)) (sym w.target-is)
-          (head_plain (settings_of c.args.options.now) c.args.size.width c.args.size.height _ _ _ header (ap (option_map (λ text. text.now)) w.in_default.is) c.in_ok-put.ensures.ok)
-    ]
+pub returns-in_err-write_head-clause-unwritten : goal.returns-in_err-write_head-clause-unwritten
+returns-in_err-write_head-clause-unwritten g c is = head_refused (settings_of c.args.options.now) c.args.size.width c.args.size.height _ _ _ c.in_err-write_head.ensures.cut
+
+pub rows-init : goal.rows-init
+rows-init g c =
+    let white = subst (λ w. HasLines (held c.clear.new.self) (white_lines w)) c.requires.width c.clear.ensures.white in
+    let put = c.in_ok-write_head.ensures in
+    record {
+      come = ([], refl, reads_none c.args.form c.args.size.width _, c.new-encoder.ensures.first (held c.clear.new.self) _ _ white put.ok);
+      going = c.new-encoder.ensures.going;
+      ready = c.new-encoder.ensures.ready;
+      many = c.new-encoder.ensures.none;
+      size_is = c.new-encoder.ensures.size;
+      width = c.clear.ensures.width ∙ c.requires.width;
+      lined = (white_lines c.args.size.width, white);
+      reads = refl;
+      writes = put.writes.counts;
+      grows = put.writes.grows;
+      same_writer = put.writes.same_writer;
+    }
+
+same_fault : (a b : PbmFault) (e : Fault) → e ≡ Pbm a → e ≡ Pbm b → a ≡ b
+same_fault a b e p q = cc
+
+pub returns-in_err-read_next_row-clause-short : goal.returns-in_err-read_next_row-clause-short
+returns-in_err-read_next_row-clause-short g c fault is =
+    let s = settings_of c.args.options.now in
+    let so = c.rows.invariant.come in
+    let short = c.in_err-read_next_row.ensures.short in
+    exit_of c.from_residual-in_err-read_next_row.result c.from_residual-in_err-read_next_row.ensures.1 (λ told.
+    front_short s c.args.size.width c.args.size.height so.0 _ _ _ _ _ so.2 fault (omega (arith, so.1, c.rows-test.true))
+    (subst (λ f. EndsInRow c.args.form c.args.size.width (g.R.Input.view c.rows.source).remaining (g.R.Input.view c.read_next_row.new.source).remaining f) (same_fault short.0 fault _ short.1 told) short.2)
+    (c.fronts.ensures s c.args.size.width c.args.size.height so.0 (view_of c.rows.encoder) (held c.rows.window) _ _ so.3)) is
+
+pub put_taken-requires-clause-lined : goal.put_taken-requires-clause-lined
+put_taken-requires-clause-lined g c _ = taken_lined c.args.size.width _ _ (held c.rows.window) (held c.read_next_row.new.window) c.in_ok-read_next_row.ensures.ok c.rows.invariant.lined
+
+pub returns-in_err-put_taken-clause-unwritten : goal.returns-in_err-put_taken-clause-unwritten
+returns-in_err-put_taken-clause-unwritten g c is =
+    let s = settings_of c.args.options.now in
+    let so = c.rows.invariant.come in
+    let taken = c.in_ok-read_next_row.ensures.ok in
+    cut_refused s c.args.size.width c.args.size.height (so.0 ++ taken.row ∷ []) _ _ (g.R.Input.view c.args.source.now).remaining _ _ (reads_join c.args.form c.args.size.width _ _ _ so.0 (taken.row ∷ []) so.2 taken.read)
+    (let sum = length-append so.0 (taken.row ∷ []) in omega (arith, sum, so.1, c.rows-test.true))
+    (c.in_err-put_taken.ensures.cut c.rows.invariant.going taken.row (held c.rows.window) taken.below s c.args.size.width c.args.size.height so.0 _ so.3)
+
+pub rows-preserved : goal.rows-preserved
+rows-preserved g c =
+    let s = settings_of c.args.options.now in
+    let so = c.rows.invariant.come in
+    let taken = c.in_ok-read_next_row.ensures.ok in
+    record {
+      come = (
+        so.0 ++ taken.row ∷ [],
+        (let sum = length-append so.0 (taken.row ∷ []) in omega (arith, sum, so.1)),
+        reads_join c.args.form c.args.size.width _ _ _ so.0 (taken.row ∷ []) so.2 taken.read,
+        c.in_ok-put_taken.ensures.ok taken.row (held c.rows.window) taken.below s c.args.size.width c.args.size.height so.0 _ so.3,
+      );
+      going = c.in_ok-put_taken.ensures.going;
+      ready = c.in_ok-put_taken.ensures.ready;
+      many = (let more = c.in_ok-put_taken.ensures.rows in omega (arith, more, c.rows.invariant.many));
+      size_is = c.in_ok-put_taken.ensures.size ∙ c.rows.invariant.size_is;
+      width = c.in_ok-put_taken.ensures.width ∙ c.in_ok-read_next_row.ensures.width ∙ c.rows.invariant.width;
+      lined = c.in_ok-put_taken.ensures.lined;
+      reads = c.in_ok-read_next_row.ensures.reads ∙ c.rows.invariant.reads;
+      writes = (c.in_ok-put_taken.ensures.writes c.rows.invariant.going).counts ∙ c.rows.invariant.writes;
+      grows = (let more = (c.in_ok-put_taken.ensures.writes c.rows.invariant.going).grows in let before = c.rows.invariant.grows in omega (arith, more, before));
+      same_writer = (c.in_ok-put_taken.ensures.writes c.rows.invariant.going).same_writer ∙ c.rows.invariant.same_writer;
+    }
 
 pub returns-clause-ok : goal.returns-clause-ok
 returns-clause-ok g c =
-    on_ok c.encode_body.result (λ head image. image_headed (settings_of c.args.options.now) c.args.size.width c.args.size.height _ _ _ _ _ head image) (always c.encode_body.result (head_put g c)) c.encode_body.ensures.ok
-
-pub returns-clause-short : goal.returns-clause-short
-returns-clause-short g c fault is = short_headed (settings_of c.args.options.now) c.args.size.width c.args.size.height _ _ _ _ _ (head_put g c) fault (c.encode_body.ensures.short fault is)
-
-pub returns-in_err-put-clause-unwritten : goal.returns-in_err-put-clause-unwritten
-returns-in_err-put-clause-unwritten g c is =
-    head_refused (settings_of c.args.options.now) c.args.size.width c.args.size.height _ _ _
-    (header_cut (settings_of c.args.options.now) c.args.size.width c.args.size.height _ _ _ (c.bytes.ensures ∙ ap header_bytes c.header-header.ensures) c.in_err-put.ensures.cut)
-
-pub returns-in_err-write_comment-clause-unwritten : goal.returns-in_err-write_comment-clause-unwritten
-returns-in_err-write_comment-clause-unwritten g c is =
-    head_refused (settings_of c.args.options.now) c.args.size.width c.args.size.height _ _ _
-    (comment_cut (settings_of c.args.options.now) c.args.size.width c.args.size.height _ _ _ _ c.in-Some.text.now (c.bytes.ensures ∙ ap header_bytes c.header-header.ensures) (ap (option_map (λ text. text.now)) c.in-Some.is) c.in_ok-put.ensures.ok c.in_err-write_comment.ensures.cut)
+    let s = settings_of c.args.options.now in
+    let so = c.rows.invariant.come in
+    let ended : c.rows.counter ≡ c.args.size.height = omega (arith, c.rows.auto.counter-end, c.rows-test.false) in
+    map_ok c.end.result (λ all. record { rows = so.0; many = so.1 ∙ ended; read = so.2; appended = all s c.args.size.width c.args.size.height so.0 _ so.3 }) c.end.ensures.ok
 
 pub returns-clause-unwritten : goal.returns-clause-unwritten
-returns-clause-unwritten g c is = refused_headed (settings_of c.args.options.now) c.args.size.width c.args.size.height _ _ _ _ _ (head_put g c) (c.encode_body.ensures.unwritten is)
+returns-clause-unwritten g c is =
+    let s = settings_of c.args.options.now in
+    let so = c.rows.invariant.come in
+    let ended : c.rows.counter ≡ c.args.size.height = omega (arith, c.rows.auto.counter-end, c.rows-test.false) in
+    end_refused s c.args.size.width c.args.size.height so.0 _ _ (g.R.Input.view c.args.source.now).remaining _ _ so.2 (so.1 ∙ ended) (err_of c.end.result is (c.end.ensures.cut c.rows.invariant.going) s c.args.size.width c.args.size.height so.0 _ so.3)

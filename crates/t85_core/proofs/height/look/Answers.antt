@@ -1,4 +1,4 @@
-use Rattle.std.proofs.Common.{◌∙◌, refl, true≢false, arith}
+use Rattle.std.proofs.Common.{◌∙◌, refl, true≢false}
 use Rattle.t85_core.specs.Options.{fields_of}
 use Rattle.t85_core.proofs.Walks.Looked.{looked_none, looked_comment, looked_to, looked_open, looked_code, looked_fault, piece_faults, no_failed_read}
 use Rattle.t85_core.proofs.height.look.Goals as goal
@@ -9,7 +9,7 @@ comments-init g c = record { looked = looked_none (fields_of c.args.header.now) 
 pub comments-preserved : goal.comments-preserved
 comments-preserved g c =
     let h = rw c.in-Comment.is at c.in-Ok.ensures.ok in
-    record { looked = looked_comment c.comments.invariant.looked h.0 h.1; same_source = c.in-Ok.ensures.same_source ∙ c.comments.invariant.same_source; unfailed = c.in-Ok.ensures.counts ∙ c.comments.invariant.unfailed }
+    record { looked = looked_comment c.comments.invariant.looked h.0 h.1; same_source = c.in-Ok.ensures.reads.same_source ∙ c.comments.invariant.same_source; unfailed = c.in-Ok.ensures.reads.counts ∙ c.comments.invariant.unfailed }
 
 pub returns-in-NewLength-clause-found : goal.returns-in-NewLength-clause-found
 returns-in-NewLength-clause-found g c =
@@ -35,8 +35,10 @@ returns-in_default g c = record {
   none = λ _. looked_fault c.comments.invariant.looked c.args.entities _ c.args.header.now.not_too_tall c.requires.variable c.in_default.not-Read c.in-Err.ensures.err;
   among = tt;
   unread = λ e. absurd (let bot : ⊥ = cc in bot);
-  drained = λ e. absurd (let bot : ⊥ = cc in bot);
-  same_source = c.in-Err.ensures.same_source ∙ c.comments.invariant.same_source;
-  counts = (let none = no_failed_read c.in-Err.fault (piece_faults (fields_of c.args.header.now) c.args.entities c.in-Err.ensures.err) c.in_default.not-Read in
-      let counted = c.in-Err.ensures.counts in let before = c.comments.invariant.unfailed in omega (arith, none, counted, before));
+  reads = record {
+    drained = λ e. absurd (let bot : ⊥ = cc in bot);
+    counts = (let none = no_failed_read c.in-Err.fault (piece_faults (fields_of c.args.header.now) c.args.entities c.in-Err.ensures.err) c.in_default.not-Read in
+        c.in-Err.ensures.reads.counts ∙ none _ ∙ c.comments.invariant.unfailed);
+    same_source = c.in-Err.ensures.reads.same_source ∙ c.comments.invariant.same_source;
+  };
 }

@@ -22,6 +22,6 @@ stripes-preserved g c = record {
   has = stripes_more c.stripes.invariant.has _ _ (omega (arith, c.stripes.invariant.least)) (rw c.in-None.is at c.in_ok-skipped.ensures.ok) c.saturating_add.ensures;
   least = omega (arith, c.stripes.invariant.least);
   few = omega (arith, c.stripes.invariant.few, c.stripes.invariant.least, c.in_ok-skipped.ensures.few);
-  same_source = c.in_ok-skipped.ensures.same_source ∙ c.stripes.invariant.same_source;
-  unfailed = c.in_ok-skipped.ensures.counts ∙ c.stripes.invariant.unfailed;
+  same_source = c.in_ok-skipped.ensures.reads.same_source ∙ c.stripes.invariant.same_source;
+  unfailed = c.in_ok-skipped.ensures.reads.counts ∙ c.stripes.invariant.unfailed;
 }

@@ -13,14 +13,14 @@ loop-place-preserved g c =
     let place = c.loop-place.place in
     let held = held_of bytes place c.args.end in
     let count = c.in-Ok.count in
-    let fits : place + count ≤ c.args.end = omega (arith, c.in-Ok.ensures.bound, length-take (c.args.end - place) (drop place bytes), c.loop-place-test.true) in
+    let fits : place + count ≤ c.args.end = omega (arith, c.in-Ok.ensures.within, length-take (c.args.end - place) (drop place bytes), c.loop-place-test.true) in
     record {
       within = fits;
       text = keeps_written _ _ _ _ held (take count held) _ c.loop-place.invariant.text c.in-Ok.ensures.bytes (sym (take-append-drop count held) ∙ ap (λ z. take count held ++ z) (sym (held_after bytes place count c.args.end fits)));
       grows = (let more = grows_with _ _ _ c.in-Ok.ensures.bytes in let before = c.loop-place.invariant.grows in omega (arith, more, before));
-      no_flush = c.in-Ok.ensures.no_flush ∙ c.loop-place.invariant.no_flush;
-      same_target = c.in-Ok.ensures.same_target ∙ c.loop-place.invariant.same_target;
-      unfailed = c.in-Ok.ensures.counts ∙ c.loop-place.invariant.unfailed;
+      no_flush = c.in-Ok.ensures.flushes ∙ c.loop-place.invariant.no_flush;
+      same_target = c.in-Ok.ensures.target ∙ c.loop-place.invariant.same_target;
+      unfailed = c.in-Ok.ensures.failures ∙ c.loop-place.invariant.unfailed;
     }
 
 pub returns-in-Err-clause-err : goal.returns-in-Err-clause-err

@@ -7,11 +7,11 @@ use Rattle.t85_core.proofs.output_buffer.write_part.Given as goal
 abbrev pub invariant-loop-place : goal.invariant-loop-place
 invariant-loop-place g l = record {
   within : l.place ≤ l.end;
-  text : Keeps (append_known (g.W.Output.contents l.fn.output) (held_of l.bytes l.at l.end)) (append_known (g.W.Output.contents l.output) (held_of l.bytes l.place l.end));
-  grows : known_length (g.W.Output.contents l.fn.output) ≤ known_length (g.W.Output.contents l.output);
-  no_flush : g.W.Output.flushes l.output ≡ g.W.Output.flushes l.fn.output;
-  same_target : g.W.Output.target l.output ≡ g.W.Output.target l.fn.output;
-  unfailed : g.W.Output.failures l.output ≡ g.W.Output.failures l.fn.output;
+  text : Keeps (append_known (g.W.Output.view l.fn.output).contents (held_of l.bytes l.at l.end)) (append_known (g.W.Output.view l.output).contents (held_of l.bytes l.place l.end));
+  grows : known_length (g.W.Output.view l.fn.output).contents ≤ known_length (g.W.Output.view l.output).contents;
+  no_flush : (g.W.Output.view l.output).flushes ≡ (g.W.Output.view l.fn.output).flushes;
+  same_target : (g.W.Output.view l.output).target ≡ (g.W.Output.view l.fn.output).target;
+  unfailed : (g.W.Output.view l.output).failures ≡ (g.W.Output.view l.fn.output).failures;
 }
 
 abbrev pub decreases-loop-place : goal.decreases-loop-place

@@ -23,6 +23,6 @@ code-preserved g c =
     let h = rw c.in-Byte.is at c.in_ok-next_code.ensures.ok in
     record {
       skipped = skipped_byte _ (skipped_plain plain.0 c.code.invariant.skipped plain.1 plain.2) h.0 h.1;
-      same_source = c.in_ok-next_code.ensures.same_source ∙ c.skip_plain.ensures.same_source ∙ c.code.invariant.same_source;
-      unfailed = c.in_ok-next_code.ensures.counts ∙ c.skip_plain.ensures.unfailed ∙ c.code.invariant.unfailed;
+      same_source = c.in_ok-next_code.ensures.reads.same_source ∙ c.skip_plain.ensures.same_source ∙ c.code.invariant.same_source;
+      unfailed = c.in_ok-next_code.ensures.reads.counts ∙ c.skip_plain.ensures.unfailed ∙ c.code.invariant.unfailed;
     }

@@ -7,8 +7,8 @@ abbrev pub invariant-text : goal.invariant-text
 invariant-text g l = record {
   passed : List ℕ;
   count : length passed ≡ l.counter;
-  taken : Consumes (g.S.ByteSource.known l.initial.stream) (g.S.ByteSource.known l.stream) passed;
-  same_source : g.S.ByteSource.source l.stream ≡ g.S.ByteSource.source l.fn.stream;
-  unfailed : g.S.ByteSource.failures l.stream ≡ g.S.ByteSource.failures l.fn.stream;
-  no_more : g.S.ByteSource.left l.stream ≤ g.S.ByteSource.left l.fn.stream;
+  taken : Consumes (g.S.ByteSource.view l.initial.stream).known (g.S.ByteSource.view l.stream).known passed;
+  same_source : (g.S.ByteSource.view l.stream).source ≡ (g.S.ByteSource.view l.fn.stream).source;
+  unfailed : (g.S.ByteSource.view l.stream).failures ≡ (g.S.ByteSource.view l.fn.stream).failures;
+  no_more : (g.S.ByteSource.view l.stream).left ≤ (g.S.ByteSource.view l.fn.stream).left;
 }

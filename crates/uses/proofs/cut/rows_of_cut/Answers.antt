@@ -1,6 +1,6 @@
 use Rattle.std.proofs.Common.{ℕ, Bool, false, List, Option, Some, None, Result, ◌≤◌, ◌+◌, ◌^◌, arith}
 use Rattle.std.specs.Prelude.{IfSome}
-use Rattle.pbm_core.specs.Device.{between}
+use Rattle.t85_core.specs.Change.{between}
 use Rattle.raster_core.specs.Raster.{Raster}
 use Rattle.t85_core.specs.declared.fault.Fault.{Fault}
 use Rattle.t85_core.specs.ToPbm.{ToPbm}
@@ -20,4 +20,4 @@ known law line_law headers (Some bytes) limit in_new again_old again_new out_old
     λ raster cut. written law line_law headers raster bytes cut out_old out_new limit large in_new again_old again_new untouched reads_old reads_new again_reads_old again_reads_new writes_old writes_new flushed answer c
 
 pub returns : goal.returns
-returns g c = known c.code_denotes.ensures c.lines.ensures.line_or_fault c.headers.ensures (g.R.Input.remaining c.args.input.now) _ _ _ _ _ _ _ _ _ _ _ _ _ _ c.to_pbm.result (omega arith) c.to_pbm.ensures.outcome
+returns g c = known c.code_denotes.ensures c.lines.ensures.line_or_fault c.headers.ensures (g.R.Input.view c.args.input.now).remaining _ _ _ _ _ _ _ _ _ _ _ _ _ _ c.to_pbm.result (omega arith) c.to_pbm.ensures.outcome

@@ -1,7 +1,7 @@
 use Rattle.std.proofs.Common.{◌≡◌, ◌≤◌, ◌+◌, ◌^◌, Bool, true, arith, ◌⊎◌, inr, ℕ, List, [], ◌++◌, length, append-nil, take, Option, Some, None, Result, Ok, Err, refl, sym, ap, ◌∙◌, subst}
 use Rattle.std.specs.Prelude.{OnOk, IfErr, IfSome}
 use Rattle.std.specs.Io.KnownBytes.{Appends}
-use Rattle.pbm_core.specs.Device.{between}
+use Rattle.t85_core.specs.Change.{between}
 use Rattle.pbm_core.specs.Image.{IsPbm, OneImage, WrittenImageIsRead, pbm}
 use Rattle.t85_core.specs.declared.fault.Fault.{Fault}
 use Rattle.t85_core.specs.Denotes.{Denotes}
@@ -64,15 +64,15 @@ never_failed (Some held) = refl
 
 pub returns-clause-again : goal.returns-clause-again
 returns-clause-again g c =
-    came_back (settings_of c.args.options.now) c.written.result.now (g.W.Output.contents c.args.output.now) (g.W.Output.contents c.to_pbm.new.output) c.images.ensures.one_image c.images.ensures.written_image_is_read
-    (g.R.Input.remaining c.args.input.now) c.new-stream.result.bytes.now (take c.to_jbg.new.output.len c.to_jbg.new.output.bytes.now) c.written-2.result.now c.new-stream.result.len c.to_pbm.result
-    c.new-stream.ensures.empty c.written.ensures c.written-2.ensures
+    came_back (settings_of c.args.options.now) c.written.result.now (g.W.Output.view c.args.output.now).contents (g.W.Output.view c.to_pbm.new.output).contents c.images.ensures.one_image c.images.ensures.written_image_is_read
+    (g.R.Input.view c.args.input.now).remaining c.new-stream.result.bytes.now (take c.to_jbg.new.output.len c.to_jbg.new.output.bytes.now) c.written-2.result.now c.new-stream.result.len c.to_pbm.result
+    c.new-stream.ensures.room.0 c.written.ensures c.written-2.ensures
     c.in_ok-to_jbg.ensures.outcome.whole c.to_pbm.ensures.outcome.denoted
 
 pub returns-clause-told : goal.returns-clause-told
 returns-clause-told g c =
-    known_told (settings_of c.args.options.now) c.written.result.now (g.W.Output.contents c.args.output.now) (g.W.Output.contents c.to_pbm.new.output) c.lines.ensures.line_or_fault c.headers.ensures
-    (g.R.Input.remaining c.args.input.now) c.new-stream.result.bytes.now (take c.to_jbg.new.output.len c.to_jbg.new.output.bytes.now) c.written-2.result.now c.new-stream.result.len 4294967295
+    known_told (settings_of c.args.options.now) c.written.result.now (g.W.Output.view c.args.output.now).contents (g.W.Output.view c.to_pbm.new.output).contents c.lines.ensures.line_or_fault c.headers.ensures
+    (g.R.Input.view c.args.input.now).remaining c.new-stream.result.bytes.now (take c.to_jbg.new.output.len c.to_jbg.new.output.bytes.now) c.written-2.result.now c.new-stream.result.len 4294967295
     _ _ _ _ _ _ _ c.to_pbm.result
-    c.new-stream.ensures.empty c.written.ensures c.written-2.ensures (omega arith) (never_failed c.to_pbm.new.again)
+    c.new-stream.ensures.room.0 c.written.ensures c.written-2.ensures (omega arith) (never_failed c.to_pbm.new.again)
     c.in_ok-to_jbg.ensures.outcome.whole c.to_pbm.ensures.outcome

@@ -78,13 +78,13 @@ known_told law s (Some bytes) room stream first len (Err f) empty same written r
 
 pub returns-clause-line : goal.returns-clause-line
 returns-clause-line g c =
-    known_line (settings_of c.args.options.now) (are_settings c.args.options.now) c.written.result.now (g.W.Output.contents c.args.output.now) (g.W.Output.contents c.info.new.output)
+    known_line (settings_of c.args.options.now) (are_settings c.args.options.now) c.written.result.now (g.W.Output.view c.args.output.now).contents (g.W.Output.view c.info.new.output).contents
     c.lines.ensures.one_line c.places.ensures.start_is_place c.places.ensures.events_keep_place c.codes.ensures.one_code
-    (g.R.Input.remaining c.args.input.now) c.new-stream.result.bytes.now (take c.to_jbg.new.output.len c.to_jbg.new.output.bytes.now) c.new-stream.result.len c.info.result
-    c.new-stream.ensures.empty c.written.ensures c.in_ok-to_jbg.ensures.outcome.whole c.info.ensures.outcome.line
+    (g.R.Input.view c.args.input.now).remaining c.new-stream.result.bytes.now (take c.to_jbg.new.output.len c.to_jbg.new.output.bytes.now) c.new-stream.result.len c.info.result
+    c.new-stream.ensures.room.0 c.written.ensures c.in_ok-to_jbg.ensures.outcome.whole c.info.ensures.outcome.line
 
 pub returns-clause-told : goal.returns-clause-told
 returns-clause-told g c =
     known_told c.lines.ensures.line_or_fault (settings_of c.args.options.now)
-    (g.R.Input.remaining c.args.input.now) c.new-stream.result.bytes.now (take c.to_jbg.new.output.len c.to_jbg.new.output.bytes.now) c.written.result.now c.new-stream.result.len c.info.result
-    c.new-stream.ensures.empty c.written.ensures c.in_ok-to_jbg.ensures.outcome.whole c.info.ensures.outcome.refused c.info.ensures.outcome.reads
+    (g.R.Input.view c.args.input.now).remaining c.new-stream.result.bytes.now (take c.to_jbg.new.output.len c.to_jbg.new.output.bytes.now) c.written.result.now c.new-stream.result.len c.info.result
+    c.new-stream.ensures.room.0 c.written.ensures c.in_ok-to_jbg.ensures.outcome.whole c.info.ensures.outcome.refused c.info.ensures.outcome.reads

@@ -1,4 +1,4 @@
-use Rattle.std.proofs.Common.{arith, ap, set, not, bit_xor, ◌∙◌}
+use Rattle.std.proofs.Common.{ap, set, ◌∙◌}
 use Rattle.qm_core.specs.Cells.{estimate_from}
 use Rattle.qm_core.proofs.Cells.{set_both, xor_one}
 use Rattle.qm_core.proofs.learned.Learned.set_of.Goals as goal

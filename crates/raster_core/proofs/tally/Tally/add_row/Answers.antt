@@ -17,8 +17,8 @@ returns-clause-counts c rows lines k w =
       wide = all_push (λ l. length l.row ≡ c.args.width) rows lines k.wide long;
       each = λ lag from to.
           let low : c.least_lag-least.result ≤ lag = omega (arith, c.least_lag-least.ensures.lag, from) in
-          c.add_each.ensures.counts lag low (omega (arith, to))
-          ∙ ap (λ x. get_or c.args.self.now.counts lag 0 + x) (c.count.ensures.agreed lines e lag low to)
+          c.add_each.ensures.counts lag low (omega (arith, to, c.last_lag-most.ensures))
+          ∙ ap (λ x. get_or c.args.self.now.counts lag 0 + x) (c.count.ensures.agreed lines e lag low (omega (arith, to, c.last_lag-most.ensures)))
           ∙ ap (λ x. x + part_agreement lines c.args.width lag 0 (64 * div_ceil c.args.width 64)) (k.each lag from to)
           ∙ ap (λ x. agreement rows lag + x) (part_all lines c.args.width lag (64 * div_ceil c.args.width 64) long whole)
           ∙ sym (agreement_push rows lines lag);

@@ -12,11 +12,11 @@ use Rattle.t85_core.proofs.decoding.rows.decode_rows.Given as goal
 abbrev pub invariant-rows : goal.invariant-rows
 invariant-rows g l = record {
   read : (h : Fields) (c : StripeStart) (segments : List Segment) → option_map pair_of l.at ≡ move_of segments → IsShapeOf h l.shape → IsCarried (first_row_start c) l.fn.carried →
-      RowsRead (Pulls g.C.CodeBytes.gives g.C.CodeBytes.failed) l.fn.source l.source h l.shape c segments l.row l.carried l.decoder (g.P.ByteTarget.text l.fn.target) (g.P.ByteTarget.text l.target);
+      RowsRead (Pulls g.C.CodeBytes.gives g.C.CodeBytes.failed) l.fn.source l.source h l.shape c segments l.row l.carried l.decoder (g.P.ByteTarget.view l.fn.target).text (g.P.ByteTarget.view l.target).text;
   width : width_of l.carried.window.now ≡ width_of l.fn.carried.window.now;
   offset : l.carried.kept.offset ≤ 127;
   counted : g.C.CodeBytes.failed l.source ≡ g.C.CodeBytes.failed l.fn.source;
-  unfailed : g.P.ByteTarget.failures l.target ≡ g.P.ByteTarget.failures l.fn.target;
-  grows : g.P.ByteTarget.written l.fn.target ≤ g.P.ByteTarget.written l.target;
-  same_writer : g.P.ByteTarget.writer l.target ≡ g.P.ByteTarget.writer l.fn.target;
+  unfailed : (g.P.ByteTarget.view l.target).failures ≡ (g.P.ByteTarget.view l.fn.target).failures;
+  grows : (g.P.ByteTarget.view l.fn.target).written ≤ (g.P.ByteTarget.view l.target).written;
+  same_writer : (g.P.ByteTarget.view l.target).writer ≡ (g.P.ByteTarget.view l.fn.target).writer;
 }

@@ -1,42 +1,48 @@
-use Rattle.std.proofs.Common.{◌≡◌, ◌≤◌, ◌-◌, length, take, drop, sym, refl, ◌∙◌, take-append-drop, length-drop, length-take, arith}
+use Rattle.std.proofs.Common.{◌≡◌, ◌≤◌, ◌-◌, length, take, drop, sym, ap, refl, le_trans, ◌∙◌, take-append-drop, length-drop, length-take, arith}
 use Rattle.std.proofs.lemmas.List.{take_rest}
 use Rattle.std.proofs.Math.Seq.{take-add}
-use Rattle.std.specs.Prelude.{Result, Ok, Err, OnErr}
 use Rattle.std.specs.Io.KnownBytes.{Keeps, append_known}
-use Rattle.t85_core.specs.Steps.Buffers.{held_of, known_length}
+use Rattle.t85_core.specs.Steps.Buffers.{PutsBytes, held_of, known_length}
+use Rattle.t85_core.specs.Failures.{writes_after}
 use Rattle.t85_core.specs.Steps.Views.{writer_of}
 use Rattle.t85_core.proofs.Bytes.Streams.{Appends-more, Appends-keeps}
 use Rattle.t85_core.proofs.Bytes.Held.{Keeps-same}
+use Rattle.t85_core.proofs.Walks.InfoEnds.{exit_all}
 use Rattle.t85_core.proofs.output_buffer.OutputBufferByteTarget.put.Goals as goal
 use Rattle.t85_core.proofs.output_buffer.OutputBufferByteTarget.put.Goals.{then-self-eq-SIZE+in_ok-write_held, else-self-eq-SIZE}
 
-where_told : {T E : Type 0} (r : Result T E) (P : Type 0) → P → OnErr r P
-where_told (Ok x) P p = tt
-where_told (Err e) P p = p
-
-pub returns-in_err-write_held-clause-cut : goal.returns-in_err-write_held-clause-cut
-returns-in_err-write_held-clause-cut g c = where_told c.from_residual.result _ (record {
-  front = take c.loop-taken.taken c.args.bytes.now;
-  rest = drop c.loop-taken.taken c.args.bytes.now;
-  text_is = sym (take-append-drop c.loop-taken.taken c.args.bytes.now);
-  appends = Appends-keeps _ _ _ _ c.loop-taken.invariant.text c.write_held.ensures.text;
-})
+pub returns-in_err-write_held : goal.returns-in_err-write_held
+returns-in_err-write_held g c =
+    let v = c.loop-taken.invariant in
+    exit_all (PutsBytes _ _ _) c.from_residual.result c.from_residual.ensures.1 (record {
+      ok = tt;
+      err = c.in_err-write_held.ensures.err;
+      cut = record {
+        front = take c.loop-taken.taken c.args.bytes.now;
+        rest = drop c.loop-taken.taken c.args.bytes.now;
+        text_is = sym (take-append-drop c.loop-taken.taken c.args.bytes.now);
+        appends = Appends-keeps _ _ _ _ v.text c.in_err-write_held.ensures.text;
+      };
+      grows = le_trans v.grows c.in_err-write_held.ensures.grows;
+      counts = c.in_err-write_held.ensures.counts ∙ ap (writes_after _) v.unfailed;
+      same_writer = c.in_err-write_held.ensures.same_writer ∙ v.same_writer;
+    })
 
 pub loop-taken-preserved : goal.loop-taken-preserved
 loop-taken-preserved g c =
     let old = c.loop-taken.self in
     let new = c.if-self-eq-SIZE.self in
-    let kept : Keeps (append_known (g.W.Output.contents old.output.now) (held_of old.bytes old.at old.end)) (append_known (g.W.Output.contents new.output.now) (held_of new.bytes new.at new.end)) =
+    let kept : Keeps (append_known (g.W.Output.view old.output.now).contents (held_of old.bytes old.at old.end)) (append_known (g.W.Output.view new.output.now).contents (held_of new.bytes new.at new.end)) =
     elim c.if-self-eq-SIZE.branch [
       | then-self-eq-SIZE+in_ok-write_held w ↦ rw w.self-is w.write_held.ensures.text
       | else-self-eq-SIZE w ↦ rw w.self-is (Keeps-same _)
     ] in
-    let grows : known_length (g.W.Output.contents old.output.now) ≤ known_length (g.W.Output.contents new.output.now) =
+    let grows : known_length (g.W.Output.view old.output.now).contents ≤ known_length (g.W.Output.view new.output.now).contents =
     elim c.if-self-eq-SIZE.branch [
       | then-self-eq-SIZE+in_ok-write_held w ↦ rw w.self-is w.write_held.ensures.grows
       | else-self-eq-SIZE w ↦ rw w.self-is (omega arith)
     ] in
-    let unfailed : g.W.Output.failures new.output.now ≡ g.W.Output.failures old.output.now =
+    let unfailed : (g.W.Output.view new.output.now).failures ≡ (g.W.Output.view old.output.now).failures =
     elim c.if-self-eq-SIZE.branch [
       | then-self-eq-SIZE+in_ok-write_held w ↦ rw w.self-is w.in_ok-write_held.ensures.counts
       | else-self-eq-SIZE w ↦ rw w.self-is refl

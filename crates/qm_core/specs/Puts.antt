@@ -1,0 +1,89 @@
+-- What putting events in turn leaves of an encoder.
+use Rattle.std.specs.Prelude.{ℕ, ◌+◌, ◌≡◌, ◌≤◌, ◌^◌, ◌++◌, Bool, false, IsTrue, IsErr, List, [], ◌∷◌, length, replicate, Result, Ok, Err, OnOk, OnErr, is_err}
+use Rattle.qm_core.specs.Counts.{one_more}
+use Rattle.qm_core.specs.Place.{Place, State, Event, Estimate, after}
+use Rattle.qm_core.specs.Encoder.{EncoderIsAt, IsStuffedFront, event_count, has_failed}
+use Rattle.qm_core.specs.Sink.{Took, Refused}
+use Rattle.qm_core.specs.Skipping.{has_room}
+use Rattle.qm_core.specs.declared.coder.Coder.{Coder}
+use Rattle.qm_core.specs.declared.context.Context.{Context}
+use Rattle.qm_core.specs.declared.encoder.Encoder.{Encoder}
+use Rattle.qm_core.specs.declared.encoder.CoderFault.{CoderFault}
+use Rattle.qm_core.specs.declared.encoder.CoderFault.TheVariants.{Failed, Write}
+use Rattle.qm_core.specs.declared.sink.CodeSink.{Ghosts}
+
+-- a pixel in a context
+abbrev pub event_of : Context → Bool → Event
+event_of cx pixel = record { context = cx.number; pixel = pixel }
+
+-- From a state at which these bytes were pushed, an encoder has put these events, and the sink took what it pushed.
+pub record Encodes {S : Type 0} (took : S → ℕ → S → Type 0) (from to : S) (s : State) (pushed : List ℕ) (events : List Event)
+    (e : Encoder) (learned : List Estimate) : Type 0 where
+  pub more : List ℕ
+  pub taken : Took took from more to
+  pub codes : EncoderIsAt e (after s events).place (pushed ++ more)
+  pub taught : learned ≡ (after s events).learned
+
+-- At the last of these events the sink refused a byte: what it has is a beginning of a stuffed front of their place.
+pub record Fails {S : Type 0} (took : S → ℕ → S → Type 0) (refused : S → S → Type 0) (from to : S) (s : State) (pushed : List ℕ) (events : List Event) : Type 0 where
+  pub more : List ℕ
+  pub cut : Refused took refused from more to
+  pub begins : IsStuffedFront (pushed ++ more) (after s events).place
+
+-- The sink refused a byte at the last of the first events of these.
+pub record FailsIn {S : Type 0} (took : S → ℕ → S → Type 0) (refused : S → S → Type 0) (from to : S) (s : State) (pushed : List ℕ) (all : List Event) : Type 0 where
+  pub events : List Event
+  pub rest : List Event
+  pub all_are : all ≡ events ++ rest
+  pub fails : Fails took refused from to s pushed events
+
+-- it may take so many events more
+pub record HasRoom {S : Type 0} (count : ℕ) (c : Coder S) : Type 0 where
+  pub events : event_count c.encoder.now + count ≤ 2 ^ 56
+
+-- the same three are lent
+pub record IsSameLoan {S : Type 0} (c c' : Coder S) : Type 0 where
+  pub learned_is : c'.learned.ghost_name ≡ c.learned.ghost_name
+  pub encoder_is : c'.encoder.ghost_name ≡ c.encoder.ghost_name
+  pub out_is : c'.out.ghost_name ≡ c.out.ghost_name
+
+-- what is lent has the same values
+pub record IsUnchanged {S : Type 0} (c c' : Coder S) : Type 0 where
+  pub learned_is : c'.learned.now ≡ c.learned.now
+  pub encoder_is : c'.encoder.now ≡ c.encoder.now
+  pub out_is : c'.out.now ≡ c.out.now
+
+-- what an encoder answers that had failed before
+abbrev pub failed_answer : List Event → Result (Unit {0}) CoderFault
+failed_answer [] = Ok tt
+failed_answer (e ∷ events) = Err Failed
+
+-- the coder's state, with its encoder at a place
+abbrev pub state_at : {S : Type 0} → Coder S → Place → State
+state_at c p = record { place = p; learned = c.learned.now }
+
+-- what they leave of a coder that had not failed: these events coded, or a beginning of them and one failure more
+pub record GoesOn {S : Type 0} (sink : Ghosts S) (events : List Event) (c c' : Coder S) (result : Result (Unit {0}) CoderFault) : Type 0 where
+  pub fails : has_failed c'.encoder.now ≡ is_err result
+  pub fault : IsErr result → result ≡ Err Write
+  pub counted : OnErr result (sink.failed c'.out.now ≡ one_more (sink.failed c.out.now))
+  pub ok : OnOk result ((p : Place) (pushed : List ℕ) → EncoderIsAt c.encoder.now p pushed →
+      Encodes sink.took c.out.now c'.out.now (state_at c p) pushed events c'.encoder.now c'.learned.now)
+  pub err : OnErr result ((p : Place) (pushed : List ℕ) → EncoderIsAt c.encoder.now p pushed →
+      FailsIn sink.took sink.refused c.out.now c'.out.now (state_at c p) pushed events)
+
+-- These events were put in turn, up to a failure.
+pub record Puts {S : Type 0} (sink : Ghosts S) (events : List Event) (c c' : Coder S) (result : Result (Unit {0}) CoderFault) : Type 0 where
+  pub lends : IsSameLoan c c'
+  pub count : OnOk result (event_count c'.encoder.now ≡ event_count c.encoder.now + length events)
+  pub same : OnOk result (sink.failed c'.out.now ≡ sink.failed c.out.now)
+  pub stuck : IsTrue (has_failed c.encoder.now) → (result ≡ failed_answer events) × IsUnchanged c c'
+  pub goes : has_failed c.encoder.now ≡ false → GoesOn sink events c c' result
+
+-- This event was put so many times in one step, just if the place had room for it without a doubling.
+pub record Skips {S : Type 0} (sink : Ghosts S) (event : Event) (count : ℕ) (c c' : Coder S) (skipped : Bool) : Type 0 where
+  pub lends : IsSameLoan c c'
+  pub done : IsTrue skipped → Puts sink (replicate count event) c c' (Ok tt)
+  pub left : skipped ≡ false → IsUnchanged c c'
+  pub exact : (p : Place) (pushed : List ℕ) → has_failed c.encoder.now ≡ false → EncoderIsAt c.encoder.now p pushed →
+      skipped ≡ has_room (state_at c p) event count

@@ -1,0 +1,11 @@
+//! A choice that is no branch.
+
+ghost use Rattle.std.specs.Prelude.{◌≡◌, if◌then◌else◌};
+
+/// One of two numbers, where no processor can foresee which: a compiler makes a selection of it.
+#[inline(always)]
+pub(crate) fn pick(is_first: bool, first: u32, second: u32) -> u32
+    ensures { result ≡ (if is_first then first else second) }
+{
+    if is_first { first } else { second }
+}

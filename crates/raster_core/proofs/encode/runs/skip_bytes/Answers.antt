@@ -1,0 +1,64 @@
+use Rattle.std.proofs.Common.{◌≡◌, ◌+◌, ◌-◌, ◌*◌, arith, refl, sym, ◌∙◌, ap, subst, replicate, Ok}
+use Rattle.std.proofs.lemmas.List.{replicate-append-replicate}
+use Rattle.qm_core.specs.Puts.{Puts}
+use Rattle.raster_core.specs.Machine.Uniform.{run_of, uniform_event}
+use Rattle.raster_core.proofs.Putting.{puts_as, puts_idle, puts_join, puts_none}
+use Rattle.raster_core.proofs.RowsIn.{uniform_none, uniform_more}
+use Rattle.raster_core.proofs.RunEnds.{ends_above, ends_below, ends_full}
+use Rattle.raster_core.specs.Machine.Rows.{StopsAt}
+use Rattle.raster_core.proofs.encode.runs.skip_bytes.Goals.{then-words-test+then-is_all+else-skip_pixels, then-words-test+else-is_all, else-words-test}
+use Rattle.raster_core.proofs.encode.runs.skip_bytes.Goals as goal
+
+pub words-init : goal.words-init
+words-init g c =
+    let none : 0 ≡ 8 * (c.args.i - c.args.i) = omega arith in
+    record {
+      from = omega arith;
+      left = omega arith;
+      some = omega arith;
+      uniform = uniform_none c.args.colour c.args.rows c.args.i (c.args.i - c.args.i) (omega arith);
+      puts = puts_as g.W.CodeSink _ _ _ _ _ (ap (λ n. replicate n (uniform_event c.args.colour)) none) (puts_none g.W.CodeSink _);
+      events = omega arith;
+      same = refl;
+    }
+
+pub words-preserved : goal.words-preserved
+words-preserved g c =
+    let more : 8 * (c.words.at - c.args.i) + 64 ≡ 8 * ((c.words.at + 8) - c.args.i) = omega (arith, c.words.invariant.from) in
+    let h = c.skip_pixels.ensures.done c.if-skip_pixels.true in
+    let e = h.count in
+    record {
+      from = omega (arith, c.words.invariant.from);
+      left = omega arith;
+      some = omega arith;
+      uniform = uniform_more c.args.colour c.args.rows c.args.i c.words.at c.words.invariant.from c.words.invariant.uniform
+          (c.is_all.ensures.filled c.if-is_all.true) (c.is_all_above.ensures.above c.words-test.true) (c.is_all_above.ensures.second c.words-test.true);
+      puts = puts_as g.W.CodeSink _ _ _ _ _ (replicate-append-replicate (8 * (c.words.at - c.args.i)) 64 (uniform_event c.args.colour) ∙ ap (λ n. replicate n (uniform_event c.args.colour)) more)
+          (puts_join g.W.CodeSink _ _ _ _ _ _ c.words.invariant.puts h);
+      events = omega arith;
+      same = h.same ∙ c.words.invariant.same;
+    }
+
+pub returns : goal.returns
+returns g c =
+    let last : c.args.i + (c.words.at - c.args.i) ≡ c.words.at = omega (arith, c.words.invariant.from) in
+    record {
+      inside = omega (arith, c.words.invariant.from);
+      uniform = c.words.invariant.uniform;
+      puts = elim c.words-test.branch [
+        | then-words-test+then-is_all+else-skip_pixels w ↦
+            let h = w.skip_pixels.ensures in
+            subst (λ d. Puts g.W.CodeSink (run_of c.args.colour (8 * (c.words.at - c.args.i))) c.args.coder.now d (Ok tt)) (sym w.coder-is)
+            (puts_idle g.W.CodeSink c.args.coder.now c.words.coder w.skip_pixels.new.coder _ h.lends (h.left w.if-skip_pixels.false) c.words.invariant.puts)
+        | then-words-test+else-is_all w ↦ subst (λ d. Puts g.W.CodeSink (run_of c.args.colour (8 * (c.words.at - c.args.i))) c.args.coder.now d (Ok tt)) (sym w.coder-is) c.words.invariant.puts
+        | else-words-test w ↦ subst (λ d. Puts g.W.CodeSink (run_of c.args.colour (8 * (c.words.at - c.args.i))) c.args.coder.now d (Ok tt)) (sym w.coder-is) c.words.invariant.puts
+      ];
+      stops = subst (λ k. StopsAt c.args.colour c.args.rows k c.words-test.coder) (sym last) (elim c.words-test.branch [
+        | then-words-test+then-is_all+else-skip_pixels w ↦
+            let h = w.skip_pixels.ensures in
+            subst (λ d. StopsAt c.args.colour c.args.rows c.words.at d) (sym w.coder-is)
+            (ends_full c.args.colour c.args.rows c.words.at c.words.coder w.skip_pixels.new.coder w.skip_pixels.result h.exact w.if-skip_pixels.false (h.left w.if-skip_pixels.false))
+        | then-words-test+else-is_all w ↦ ends_below c.args.colour c.args.rows c.words.at c.words-test.coder w.is_all.result w.is_all.ensures.all w.if-is_all.false
+        | else-words-test w ↦ ends_above c.args.colour c.args.rows c.words.at c.words.left c.words-test.coder c.is_all_above.result c.words.invariant.left c.is_all_above.ensures.all w.words-test.false
+      ]);
+    }

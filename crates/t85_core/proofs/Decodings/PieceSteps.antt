@@ -1,0 +1,204 @@
+-- Steps of a walk, one after another.
+use Rattle.std.proofs.Common.{◌≡◌, ◌<◌, ◌≤◌, ◌+◌, ◌-◌, ◌*◌, ℕ, suc, ◌⊎◌, inl, inr, Bool, true, false, cond, List, [], ◌∷◌, ◌++◌, length, min, Some, None, Result, Ok, Err, refl, sym, ap, ◌∙◌, subst, append_assoc, append-nil, arith}
+use Rattle.std.specs.Int.{div_ceil}
+use Rattle.std.specs.Result.{IsErrAnd}
+use Rattle.std.proofs.lemmas.Bool.{cases_lt}
+use Rattle.std.proofs.lemmas.Grind.{div_ceil_times}
+use Rattle.std.proofs.Math.Nat.{mul-le-mul_right}
+use Rattle.t85_core.specs.declared.fault.Fault.{Fault}
+use Rattle.t85_core.specs.declared.fault.Fault.TheVariants.{Truncated}
+use Rattle.t85_core.specs.declared.pieces.walk.Walk.{Walk}
+use Rattle.raster_core.specs.Window.{held}
+use Rattle.t85_core.specs.declared.pieces.walk.Stage.{Stage}
+use Rattle.t85_core.specs.declared.pieces.walk.Stage.TheVariants as stage
+use Rattle.t85_core.specs.declared.state.CodingState.{CodingState}
+use Rattle.t85_core.specs.Header.{Fields}
+use Rattle.t85_core.specs.Steps.State.{image_start, first_row_start}
+use Rattle.t85_core.specs.Steps.DecodeRows.{IsCarried}
+use Rattle.t85_core.specs.Steps.Pieces.{CutOff, HeadStands, WalkStands, StageStands, StepsOn, StepsOff, Step, RowStep, Turn, IsOver, CodeStands, rows_in}
+use Rattle.t85_core.proofs.Walks.Passed.{passed_none}
+use Rattle.t85_core.proofs.Decodings.ImagePut.{stripes_start}
+
+-- bytes were taken, and nothing was handed out
+pub on_same : (h : Fields) (height : ℕ) (w' : Walk) (text out p p' given : List ℕ) → p ≡ given ++ p' → WalkStands h height w' (text ++ given) out →
+    (g : List ℕ) × (p ≡ g ++ p') × WalkStands h height w' (text ++ g) (out ++ [])
+on_same h height w' text out p p' given taken s = (given, taken, subst (WalkStands h height w' (text ++ given)) (sym (append-nil out)) s)
+
+-- nothing was taken
+pub stays : (h : Fields) (height : ℕ) (w : Walk) (p : List ℕ) → StepsOn h height w w p p []
+stays h height w p text out s = on_same h height w text out p p [] refl (subst (λ z. WalkStands h height w z out) (sym (append-nil text)) s)
+
+-- the stage is this
+pub at_stage : {h : Fields} {height : ℕ} {w : Walk} {text out : List ℕ} {k : Stage} → w.stage ≡ k → WalkStands h height w text out → StageStands k h height w text out
+at_stage {h} {height} {w} {text} {out} e s = subst (λ z. StageStands z h height w text out) e s.stands
+
+-- it is that of the walk
+pub put_stage : (h : Fields) (height : ℕ) (w : Walk) (text out : List ℕ) (k : Stage) → w.stage ≡ k → StageStands k h height w text out → StageStands w.stage h height w text out
+put_stage h height w text out k e s = subst (λ z. StageStands z h height w text out) (sym e) s
+
+pub nil_of : (xs : List ℕ) → length xs ≡ 0 → xs ≡ []
+nil_of [] e = refl
+nil_of (x ∷ xs) e = absurd (omega (arith, e))
+
+module _ (h : Fields) (height : ℕ) (w w1 : Walk) (p p1 : List ℕ) (on : StepsOn h height w w1 p p1 []) where
+  pub on_then : (w2 : Walk) (p2 row : List ℕ) → StepsOn h height w1 w2 p1 p2 row → StepsOn h height w w2 p p2 row
+  on_then w2 p2 row next text out s =
+      let a = on text out s in
+      let b = next (text ++ a.0) (out ++ []) a.2 in (
+        a.0 ++ b.0,
+        a.1 ∙ ap (λ z. a.0 ++ z) b.1 ∙ sym (append_assoc a.0 b.0 p2),
+        subst (λ z. WalkStands h height w2 z (out ++ row)) (append_assoc text a.0 b.0) (subst (λ z. WalkStands h height w2 ((text ++ a.0) ++ b.0) (z ++ row)) (append-nil out) b.2),
+      )
+
+  pub off_then : (f : Fault) → StepsOff h height w1 p1 f → StepsOff h height w p f
+  off_then f off text out s =
+      let a = on text out s in
+      subst (λ z. CutOff h height z out f) (append_assoc text a.0 p1 ∙ ap (λ z. text ++ z) (sym a.1))
+      (subst (λ z. CutOff h height ((text ++ a.0) ++ p1) z f) (append-nil out) (off (text ++ a.0) (out ++ []) a.2))
+
+-- ---- stripes
+
+-- an image has a stripe
+pub some_stripe : (height l : ℕ) → 1 ≤ height → 1 ≤ l → 0 < div_ceil height l
+some_stripe height l one some = went (cases_lt 0 (div_ceil height l)) where
+  times : height ≤ div_ceil height l * l
+  times = (div_ceil_times height l some).0
+
+  went : (0 < div_ceil height l) ⊎ (div_ceil height l ≤ 0) → 0 < div_ceil height l
+  went (inl lt) = lt
+  went (inr le) = let k : div_ceil height l * l ≤ 0 * l = mul-le-mul_right l le in let z : 0 * l ≡ 0 = omega arith in absurd (omega (arith, k, z, times, one))
+
+-- a stripe of the image has a row
+pub some_row : (height l e : ℕ) → 1 ≤ l → e < div_ceil height l → 0 < min (height - e * l) l
+some_row height l e some lt =
+    let k : suc e * l ≤ div_ceil height l * l = mul-le-mul_right l (omega (arith, lt)) in
+    let t = div_ceil_times height l some in
+    let s : suc e * l ≡ e * l + l = omega arith in
+    omega (arith, k, t.1, s, some)
+
+-- no row is left after the last stripe
+pub last_stripe : (height l e : ℕ) → 1 ≤ l → e < div_ceil height l → height ≤ (e + 1) * l → e + 1 ≡ div_ceil height l
+last_stripe height l e some lt le = went (cases_lt (e + 1) (div_ceil height l)) where
+  went : (e + 1 < div_ceil height l) ⊎ (div_ceil height l ≤ e + 1) → e + 1 ≡ div_ceil height l
+  went (inr few) = omega (arith, few, lt)
+  went (inl more) =
+      let k : ((e + 1) + 1) * l ≤ div_ceil height l * l = mul-le-mul_right l (omega (arith, more)) in
+      let t = div_ceil_times height l some in
+      let s : ((e + 1) + 1) * l ≡ (e + 1) * l + l = omega arith in
+      absurd (omega (arith, k, t.1, s, le))
+
+-- where rows are left a stripe is
+pub next_stripe : (height l e : ℕ) → 1 ≤ l → (e + 1) * l < height → e + 1 < div_ceil height l
+next_stripe height l e some lt = went (cases_lt (e + 1) (div_ceil height l)) where
+  went : (e + 1 < div_ceil height l) ⊎ (div_ceil height l ≤ e + 1) → e + 1 < div_ceil height l
+  went (inl more) = more
+  went (inr few) =
+      let k : div_ceil height l * l ≤ (e + 1) * l = mul-le-mul_right l few in
+      let t = div_ceil_times height l some in
+      absurd (omega (arith, k, t.0, lt))
+
+-- before the first byte
+pub head_first : (h : Fields) (height width : ℕ) (carried : CodingState) → 1 ≤ height → 1 ≤ h.l0 → width ≡ h.xd → IsCarried (first_row_start (image_start width)) carried →
+    HeadStands h height 0 false None carried [] []
+head_first h height width carried one some wide first = record {
+  before = false;
+  front = [];
+  back = [];
+  text_is = refl;
+  stripes = stripes_start h height width (Some []) (Some []) carried wide first;
+  comments = 0;
+  passed = passed_none h (record { height = height; entities = 0; given = false }) false (Some []);
+  fewer = some_stripe height h.l0 one some;
+}
+
+-- ---- exits
+
+pub step_exit : (h : Fields) (height : ℕ) (w w' : Walk) (p p' : List ℕ) (r : Result (Unit {0}) Fault) (e : Fault) → IsErrAnd r (λ y. y ≡ e) → StepsOff h height w p e → (e ≡ Truncated → StepsOn h height w w' p p' []) → Step h height w w' p p' r
+step_exit h height w w' p p' (Ok x) e a off on = absurd a
+step_exit h height w w' p p' (Err y) e a off on = record { ok = tt; err = subst (StepsOff h height w p) (sym a) off; more = λ is. on (sym a ∙ (let same : y ≡ Truncated = cc in same)) }
+
+pub row_exit : (h : Fields) (height : ℕ) (w w' : Walk) (p p' : List ℕ) (r : Result (Unit {0}) Fault) (e : Fault) → IsErrAnd r (λ y. y ≡ e) → StepsOff h height w p e → (e ≡ Truncated → StepsOn h height w w' p p' []) → RowStep h height w w' p p' r
+row_exit h height w w' p p' (Ok x) e a off on = absurd a
+row_exit h height w w' p p' (Err y) e a off on = record { ok = tt; err = subst (StepsOff h height w p) (sym a) off; more = λ is. on (sym a ∙ (let same : y ≡ Truncated = cc in same)) }
+
+-- one of two stages, and not the third
+pub two_of : {A B C : Type 0} → A ⊎ (B ⊎ C) → (A → ⊥) → B ⊎ C
+two_of (inl a) n = absurd (n a)
+two_of (inr x) n = x
+
+-- an offset stays low
+pub offset_low : (reset : Bool) (old new : ℕ) → old ≤ 127 → new ≡ cond reset 0 old → new ≤ 127
+offset_low true old new low e = omega (arith, e)
+offset_low false old new low e = omega (arith, e, low)
+
+-- a step, and then a row
+pub row_then : (h : Fields) (height : ℕ) (w w1 w2 : Walk) (p p1 p2 : List ℕ) → StepsOn h height w w1 p p1 [] → (r : Result (Unit {0}) Fault) → RowStep h height w1 w2 p1 p2 r → RowStep h height w w2 p p2 r
+row_then h height w w1 w2 p p1 p2 on (Ok x) s = record { ok = on_then h height w w1 p p1 on w2 p2 (held w2.carried.window.now).current s.ok; err = tt; more = λ e. absurd (let bot : ⊥ = cc in bot) }
+row_then h height w w1 w2 p p1 p2 on (Err f) s = record { ok = tt; err = off_then h height w w1 p p1 on f s.err; more = λ e. on_then h height w w1 p p1 on w2 p2 [] (s.more e) }
+
+-- a row, as a turn
+pub turn_row : (h : Fields) (height : ℕ) (w w' : Walk) (p p' : List ℕ) → StepsOn h height w w' p p' (held w'.carried.window.now).current → Turn h height w w' p p' (Ok true)
+turn_row h height w w' p p' on = record { row = λ _. on; done = λ e. absurd (let bot : ⊥ = cc in bot); err = tt; more = λ e. absurd (let bot : ⊥ = cc in bot) }
+
+-- the image is whole
+pub turn_done : (h : Fields) (height : ℕ) (w w' : Walk) (p p' : List ℕ) → StepsOn h height w w' p p' [] → IsOver w'.stage → Turn h height w w' p p' (Ok false)
+turn_done h height w w' p p' on is = record { row = λ e. absurd (let bot : ⊥ = cc in bot); done = λ _. (on, is); err = tt; more = λ e. absurd (let bot : ⊥ = cc in bot) }
+
+pub turn_exit : (h : Fields) (height : ℕ) (w w' : Walk) (p p' : List ℕ) (r : Result Bool Fault) (e : Fault) → IsErrAnd r (λ y. y ≡ e) → StepsOff h height w p e → (e ≡ Truncated → StepsOn h height w w' p p' []) → Turn h height w w' p p' r
+turn_exit h height w w' p p' (Ok x) e a off on = absurd a
+turn_exit h height w w' p p' (Err y) e a off on = record {
+  row = λ is. absurd (let bot : ⊥ = cc in bot);
+  done = λ is. absurd (let bot : ⊥ = cc in bot);
+  err = subst (StepsOff h height w p) (sym a) off;
+  more = λ is. on (sym a ∙ (let same : y ≡ Truncated = cc in same));
+}
+
+-- a step, and then a turn
+pub turn_then : (h : Fields) (height : ℕ) (w w1 w2 : Walk) (p p1 p2 : List ℕ) → StepsOn h height w w1 p p1 [] → (r : Result Bool Fault) → Turn h height w1 w2 p1 p2 r → Turn h height w w2 p p2 r
+turn_then h height w w1 w2 p p1 p2 on (Ok x) t = record {
+  row = λ e. on_then h height w w1 p p1 on w2 p2 (held w2.carried.window.now).current (t.row e);
+  done = λ e. (on_then h height w w1 p p1 on w2 p2 [] (t.done e).0, (t.done e).1);
+  err = tt;
+  more = λ e. absurd (let bot : ⊥ = cc in bot);
+}
+turn_then h height w w1 w2 p p1 p2 on (Err f) t = record {
+  row = λ e. absurd (let bot : ⊥ = cc in bot);
+  done = λ e. absurd (let bot : ⊥ = cc in bot);
+  err = off_then h height w w1 p p1 on f t.err;
+  more = λ e. on_then h height w w1 p p1 on w2 p2 [] (t.more e);
+}
+
+-- which stage it is
+pub over_done : (k : Stage) → IsOver k → ((n : ℕ) → k ≡ stage.Late n → ⊥) → k ≡ stage.Done
+over_done stage.Head o n = absurd o
+over_done stage.Comment o n = absurd o
+over_done stage.Code o n = absurd o
+over_done stage.Done o n = refl
+over_done (stage.Late m) o n = absurd (n m refl)
+
+pub over_not_code : (k : Stage) → IsOver k → k ≡ stage.Code → ⊥
+over_not_code stage.Head o e = o
+over_not_code stage.Comment o e = o
+over_not_code stage.Code o e = o
+over_not_code stage.Done o e = cc
+over_not_code (stage.Late m) o e = cc
+
+pub is_over : (k : Stage) → k ≡ stage.Done → IsOver k
+is_over k e = subst IsOver (sym e) tt
+
+pub is_late : (k : Stage) (n : ℕ) → k ≡ stage.Late n → IsOver k
+is_late k n e = subst IsOver (sym e) tt
+
+-- of four, not the last two
+pub first_two : {A B C D : Type 0} → A ⊎ (B ⊎ (C ⊎ D)) → (C → ⊥) → (D → ⊥) → A ⊎ B
+first_two (inl a) m n = inl a
+first_two (inr (inl b)) m n = inr b
+first_two (inr (inr (inl c))) m n = absurd (m c)
+first_two (inr (inr (inr d))) m n = absurd (n d)
+
+-- a stripe's first row is to come
+pub first_row : {h : Fields} {height : ℕ} {w : Walk} {text out : List ℕ} → 1 ≤ h.l0 → w.stage ≡ stage.Code → w.row ≡ 0 → WalkStands h height w text out → w.row < rows_in h height w.entities
+first_row {h} {height} {w} {text} {out} some is zero s =
+    let k : CodeStands h height w.entities w.given w.at w.row w.first w.marker w.carried w.decoder text out = at_stage is s in
+    let r = some_row height h.l0 w.entities some k.head.fewer in
+    omega (arith, zero, r)

@@ -1,0 +1,84 @@
+-- What a target took of a row, and of the end of a code.
+use Rattle.std.proofs.Common.{◌≡◌, ℕ, List, ◌++◌, sym, ap, ◌∙◌, subst, Option, Result, Ok, Err, arith, append_assoc}
+use Rattle.std.specs.Io.KnownBytes.{Appends}
+use Rattle.qm_core.specs.Place.{Place, State, Estimate, after}
+use Rattle.qm_core.specs.Encoder.{IsStuffedFront}
+use Rattle.qm_core.specs.Sink.{Took, Refused}
+use Rattle.qm_core.specs.declared.encoder.Encoder.{Encoder}
+use Rattle.raster_core.specs.Lines.{Lines}
+use Rattle.raster_core.specs.declared.shape.Shape.{Shape}
+use Rattle.raster_core.specs.declared.shape.Kept.{Kept}
+use Rattle.t85_core.specs.declared.fault.Fault.{Fault}
+use Rattle.t85_core.specs.Steps.Buffers.{SinkView, SameSink, TakesByte, RefusesByte}
+use Rattle.t85_core.specs.Steps.RowSteps.{RowSent, EndSent, RowOutcome, CodeFinished}
+use Rattle.t85_core.proofs.Bytes.Streams.{Appends-keeps}
+use Rattle.t85_core.proofs.Encodings.SinkTakes.{took_inked}
+
+module _ {S : Type 0} (view : S → SinkView) (from to : S) where
+  abbrev takes : S → ℕ → S → Type 0
+  takes s byte t = TakesByte (view s) byte (view t)
+
+  abbrev refuses : S → S → Type 0
+  refuses s t = RefusesByte (view s) (view t)
+
+  refused_stays : (bytes : List ℕ) → Refused takes refuses from bytes to → SameSink (view from) (view to)
+  refused_stays bytes r =
+      let front = (took_inked view from r.last r.done r.taken).0 in
+      let last = r.then.0 in
+      record { same_buffer = last.same_buffer ∙ front.same_buffer; same_writer = last.same_writer ∙ front.same_writer; grows = (let a = front.grows in let b = last.grows in omega (arith, a, b)) }
+
+  -- it is the same target
+  pub row_stays : (shape : Shape) (kept kept' : Kept) (s : State) (pushed : List ℕ) (lines : Lines) (e : Encoder) (learned : List Estimate) (answer : Result (Unit {0}) Fault)
+      → RowSent takes refuses from to shape kept kept' s pushed lines e learned answer → SameSink (view from) (view to)
+  row_stays shape kept kept' s pushed lines e learned (Ok u) r = (took_inked view from to r.ok.encodes.more r.ok.encodes.taken).0
+  row_stays shape kept kept' s pushed lines e learned (Err f) r = refused_stays r.err.fails.more r.err.fails.cut
+
+  pub end_stays : (p : Place) (pushed : List ℕ) (answer : Result (Unit {0}) Fault) → EndSent takes refuses from to p pushed answer → SameSink (view from) (view to)
+  end_stays p pushed (Ok u) r = (took_inked view from to r.more r.ok).0
+  end_stays p pushed (Err f) r = refused_stays r.more r.err
+
+  module _ (text text' : Option (List ℕ)) (text_is : (view from).text ≡ text) (text_is' : (view to).text ≡ text') where
+    taken : (bytes : List ℕ) → Took takes from bytes to → Appends text text' bytes
+    taken bytes took = subst (λ z. Appends z text' bytes) text_is (subst (λ z. Appends (view from).text z bytes) text_is' (took_inked view from to bytes took).1)
+
+    cut : (bytes : List ℕ) (r : Refused takes refuses from bytes to) → Appends text text' r.done
+    cut bytes r =
+        let kept = Appends-keeps (view from).text (view r.last).text (view to).text r.done (took_inked view from r.last r.done r.taken).1 r.then.1 in
+        subst (λ z. Appends z text' r.done) text_is (subst (λ z. Appends (view from).text z r.done) text_is' kept)
+
+    pub row_inked : (shape : Shape) (kept kept' : Kept) (s : State) (pushed : List ℕ) (lines : Lines) (e : Encoder) (learned : List Estimate) (answer : Result (Unit {0}) Fault)
+        → RowSent takes refuses from to shape kept kept' s pushed lines e learned answer → RowOutcome shape kept kept' s pushed lines e learned text text' answer
+    row_inked shape kept kept' s pushed lines e learned (Ok u) r = record {
+      ok = record {
+        more = r.ok.encodes.more;
+        appended = taken r.ok.encodes.more r.ok.encodes.taken;
+        codes = r.ok.encodes.codes;
+        taught = r.ok.encodes.taught;
+        offset_is = r.ok.offset_is;
+        flag_is = r.ok.flag_is;
+      };
+      cut = tt;
+    }
+    row_inked shape kept kept' s pushed lines e learned (Err f) r = record {
+      ok = tt;
+      cut = (let c = r.err.fails.cut in record {
+        events = r.err.events;
+        rest = r.err.rest;
+        all_are = r.err.all_are;
+        done = c.done;
+        left = c.left;
+        appended = cut r.err.fails.more c;
+        begins = subst (λ z. IsStuffedFront z (after s r.err.events).place) (ap (λ z. pushed ++ z) c.all ∙ sym (append_assoc pushed c.done c.left)) r.err.fails.begins;
+      });
+    }
+
+    pub end_inked : (p : Place) (pushed : List ℕ) (answer : Result (Unit {0}) Fault) → EndSent takes refuses from to p pushed answer → CodeFinished p pushed text text' answer
+    end_inked p pushed (Ok u) r = record { code = r.code; is = r.is; more = r.more; all = r.all; ok = taken r.more r.ok; cut = tt }
+    end_inked p pushed (Err f) r = record {
+      code = r.code;
+      is = r.is;
+      more = r.more;
+      all = r.all;
+      ok = tt;
+      cut = record { front = r.err.done; rest = r.err.left; text_is = r.err.all; appends = cut r.more r.err };
+    }

@@ -1,0 +1,540 @@
+-- A row encoder, from row to row.
+use Rattle.std.proofs.Common.{◌≡◌, ℕ, zero, suc, ◌+◌, ◌-◌, ◌*◌, ◌<◌, ◌≤◌, ◌⊎◌, inl, inr, nat_eq, true, false, Bool, List, [], ◌∷◌, ◌++◌, length, refl, sym, ◌∙◌, ap, subst, arith, Option, None, Some, append_assoc, append-nil, length-append}
+use Rattle.std.specs.Prelude.{if◌then◌else◌, is_some, unwrap_or, IfSome, ◌==◌}
+use Rattle.std.specs.List.{AllByRecursion}
+use Rattle.std.specs.Io.KnownBytes.{Appends}
+use Rattle.std.proofs.lemmas.Bool.Decides.{nat_tests}
+use Rattle.std.proofs.lemmas.Grind.{div_ceil_times}
+use Rattle.std.proofs.Math.Seq.{take-length}
+use Rattle.pbm_core.specs.Device.{AppendsBeginning}
+use Rattle.qm_core.specs.Place.{Estimate, start, fresh, after}
+use Rattle.qm_core.specs.Code.{code_of, stuffed}
+use Rattle.qm_core.specs.Encoder.{EncoderIsAt, IsStuffedFront}
+use Rattle.qm_core.specs.declared.encoder.Encoder.{Encoder}
+use Rattle.raster_core.specs.Raster.{height, white_row}
+use Rattle.raster_core.specs.Lines.{Lines, Mode, row_events, may_be_typical}
+use Rattle.raster_core.specs.Offset.{candidates}
+use Rattle.raster_core.specs.Packed.{Held, HasLines, white_lines}
+use Rattle.raster_core.specs.Row.{canonical_events}
+use Rattle.raster_core.specs.Tally.{CountsLines, is_two_line, most_of}
+use Rattle.raster_core.specs.declared.shape.Kept.{Kept}
+use Rattle.raster_core.specs.declared.tally.Tally.{Tally}
+use Rattle.t85_core.specs.Grammar.{marker_bytes, stripe_bytes, stripe_count}
+use Rattle.t85_core.specs.Coding.{mode_of}
+use Rattle.t85_core.specs.Encode.{IsBeginning, raster_of}
+use Rattle.t85_core.specs.Jbg.{Settings, head_of, jbg, jbg_up_to, ending}
+use Rattle.t85_core.specs.Steps.State.{RowStart, StripeStart, first_row_start, next_stripe_start, offset_at, lines_with, after_row}
+use Rattle.t85_core.specs.Steps.Written.{EncoderStart, first_encoder_start, next_flag, next_move, next_stripe, next_encoder_start, row_start_in, after_rows, lines_down, ending_of}
+use Rattle.t85_core.specs.Steps.CoderLaws.{WritingLaws}
+use Rattle.t85_core.specs.Steps.EncodeRows.{IsCountedTo}
+use Rattle.t85_core.specs.Steps.EncodeStripes.{IsTallied}
+use Rattle.t85_core.specs.Steps.ByRow.{RowView, MayCome, StreamCut, IsPlan, HaveCome, StripesWhole, IsHeldBy, IsStart, Runs, Waits, Stands, counted_of, move_bytes, IsBelow}
+use Rattle.t85_core.specs.Steps.RowSteps.{MoveMade, MoveCut, RowPut, RowCut, StripeEnded, StripeBegun, StripesEnded}
+use Rattle.t85_core.proofs.Bytes.Streams.{Appends-more, Appends-keeps, beginning_after, beginning_longer}
+use Rattle.t85_core.proofs.Encodings.RowsDown.{after_more, lines_more}
+use Rattle.t85_core.proofs.Encodings.RowShort.{rows_place, fails_begins}
+use Rattle.t85_core.proofs.Encodings.RowStream.{none_whole, same_announced, come_first, come_long, stripe_more, part_begins, whole_more, inside_of, front_begins, less_or_not}
+
+-- the move was made at the first row
+moved_before : (move : Option (ℕ × ℕ)) (r offset : ℕ) → IfSome move (λ m. m.0 ≡ 0) → offset ≡ offset_at move (suc r) offset
+moved_before None r offset h = refl
+moved_before (Some move) r offset h = ap (λ b. if b then move.1 else offset) (sym other) where
+  other : (move.0 == suc r) ≡ false
+  other = let test : nat_eq move.0 (suc r) ≡ false = grind (arith, nat_tests, h) in test
+
+-- at most so many events
+pub events_more : (counter width old new : ℕ) → old ≤ counter * (width + 1) → new ≤ old + width + 1 → new ≤ (counter + 1) * (width + 1)
+events_more counter width old new h more =
+    let sum : (counter + 1) * (width + 1) ≡ counter * (width + 1) + 1 * (width + 1) = Rattle.std.proofs.Math.Nat.add-mul counter 1 (width + 1) in
+    omega (arith, h, more, sum)
+
+none_counted : (width : ℕ) (counted : Option ℕ) (tally : Tally) → ((width' current : ℕ) → CountsLines tally width' current []) → IsCountedTo width counted tally []
+none_counted width None tally h = h width
+none_counted width (Some current) tally h = h width current
+
+-- ---- a stripe begins
+
+module _ (s : Settings) (width limit : ℕ) (rows : List (List Bool)) (v : RowView) (before : Held) (text mid text' : Option (List ℕ)) (w : Waits s width limit rows v before text mid) where
+  -- where rows may still come
+  waits_within : v.rows < v.plan.limit → w.i * s.stripe_rows < limit
+  waits_within left = omega (arith, left, w.plan_is.limit_is, w.come.many, w.stripes.many)
+
+  pub stripe_begun : v.rows < v.plan.limit → (kept : Kept) (tally : Tally) (is_counted : Bool)
+      → ((s' : Settings) (width' : ℕ) (at : EncoderStart) → v.kept.offset ≡ at.carry.offset → IsTallied s' width' at v.tally → MoveMade s' width' at mid text' v.kept kept)
+      → ((width' current : ℕ) → CountsLines tally width' current []) → is_two_line tally ≡ is_two_line v.tally → most_of tally ≡ most_of v.tally
+      → (v.plan.stripe_rows < v.plan.limit - v.rows → v.plan.has_candidates ≡ true → is_counted ≡ true)
+      → Runs s width limit rows (record v { kept = kept; tally = tally; is_counted = is_counted }) before text text'
+  stripe_begun left kept tally is_counted moves counts two_line most counted = record {
+    plan_is = w.plan_is;
+    come = w.come;
+    i = w.i;
+    whole = rows;
+    part = [];
+    all = sym (append-nil rows);
+    at = w.at;
+    front = w.front;
+    stripes = w.stripes;
+    in_stripe = w.in_stripe;
+    few = omega arith;
+    pushed = [];
+    running = record {
+      codes = w.codes;
+      is_held = record {
+        at_top = made.at_top;
+        offset_is = made.offset_is;
+        previous_is = made.previous_is ∙ on.is_held.previous_is;
+        learned_is = on.is_held.learned_is;
+        third = on.is_held.third;
+        lines_are = on.is_held.lines_are;
+      };
+      two_line = two_line ∙ on.is_tallied.two_line;
+      most = most ∙ on.is_tallied.most;
+      tallied = none_counted width _ tally counts;
+    };
+    counts = λ more some. counted
+        (let sum : (w.i + 1) * s.stripe_rows ≡ w.i * s.stripe_rows + 1 * s.stripe_rows = Rattle.std.proofs.Math.Nat.add-mul w.i 1 s.stripe_rows in omega (arith, w.plan_is.limit_is, w.come.many, w.stripes.many, w.plan_is.stripe_rows_is, more, sum))
+        (w.plan_is.candidates_are ∙ (grind (arith, nat_tests, some)));
+    appended = Appends-more text mid text' w.front (move_bytes s width w.at ++ []) w.appended (subst (Appends mid text') (sym (append-nil (move_bytes s width w.at))) made.appended);
+  } where
+    on : IsStart s width w.at v before
+    on = w.on_course (waits_within left)
+
+    made : MoveMade s width w.at mid text' v.kept kept
+    made = moves s width w.at on.is_held.offset_is on.is_tallied
+
+  -- a beginning of the move was written
+  pub move_cut : v.rows < v.plan.limit → (row : List Bool)
+      → ((s' : Settings) (width' : ℕ) (at : EncoderStart) → v.kept.offset ≡ at.carry.offset → IsTallied s' width' at v.tally → MoveCut s' width' at mid text')
+      → StreamCut s width limit (rows ++ row ∷ []) text text'
+  move_cut left row cuts = record {
+    bytes = w.front ++ p.front;
+    appended = Appends-more text mid text' w.front p.front w.appended p.appends;
+    begins = λ raster b. part_begins s width limit w.i rows w.at w.front w.plan_is.some w.stripes [] p.front (omega arith)
+        (λ later. record {
+          rest = p.rest ++ (stuffed (code_of (row_start_in s width w.at later).state.place) ++ marker_bytes s.reset);
+          bytes_are = ap (λ z. z ++ (stuffed (code_of (row_start_in s width w.at later).state.place) ++ marker_bytes s.reset)) p.text_is ∙ append_assoc p.front p.rest (stuffed (code_of (row_start_in s width w.at later).state.place) ++ marker_bytes s.reset);
+        })
+        raster
+        (subst (λ z. MayCome s width limit z raster) (sym (append-nil rows)) (come_first s width limit rows (row ∷ []) raster b))
+        (let long = come_long s width limit (rows ++ row ∷ []) raster b in omega (arith, long, length-append rows (row ∷ []), w.stripes.many));
+  } where
+    on : IsStart s width w.at v before
+    on = w.on_course (waits_within left)
+
+    p : AppendsBeginning mid text' (move_bytes s width w.at)
+    p = cuts s width w.at on.is_held.offset_is on.is_tallied
+
+-- ---- a row is coded
+
+all_more : (width : ℕ) (rows : List (List Bool)) (row : List Bool) → AllByRecursion (λ r. length r ≡ width) rows → length row ≡ width → AllByRecursion (λ r. length r ≡ width) (rows ++ row ∷ [])
+all_more width [] row all is = (is, tt)
+all_more width (first ∷ rows) row all is = (all.0, all_more width rows row all.1 is)
+
+module _ (s : Settings) (width limit : ℕ) (rows : List (List Bool)) (row : List Bool) (v : RowView) (before window : Held) (text mid text' : Option (List ℕ)) (below : IsBelow row before window) (wide : window.width ≡ v.plan.width)
+    (r : Runs s width limit rows v before text mid) where
+  abbrev mode : Mode
+  mode = mode_of s.options
+
+  abbrev move : Option (ℕ × ℕ)
+  move = next_move s width r.at
+
+  abbrev c : StripeStart
+  c = r.at.carry
+
+  abbrev b : RowStart
+  b = after_rows mode move 0 (first_row_start c) r.part
+
+  abbrev next : RowStart
+  next = after_row mode move (length r.part) b row (next_flag mode b row)
+
+  next_is : after_rows mode move 0 (first_row_start c) (r.part ++ row ∷ []) ≡ next
+  next_is =
+      let at : 0 + length r.part ≡ length r.part = omega arith in
+      after_more mode move 0 (first_row_start c) r.part (row ∷ []) ∙ ap (λ n. after_row mode move n b row (next_flag mode b row)) at
+
+  pub lines_are : HasLines window (lines_with b row)
+  lines_are = below (record { row = b.above; above = b.second; second = r.running.is_held.third }) r.running.is_held.lines_are
+
+  events_are : canonical_events v.plan.shape v.kept (lines_with b row) ≡ row_events mode (lines_with b row) (offset_at move (length r.part) b.offset) b.previous (next_flag mode b row)
+  events_are =
+      ap (λ m. row_events m (lines_with b row) v.kept.offset v.kept.previous_typical (may_be_typical m (lines_with b row))) r.plan_is.shape_is.mode_is
+      ∙ ap (λ o. row_events mode (lines_with b row) o v.kept.previous_typical (next_flag mode b row)) r.running.is_held.offset_is
+      ∙ ap (λ f. row_events mode (lines_with b row) (offset_at move (length r.part) b.offset) f (next_flag mode b row)) r.running.is_held.previous_is
+
+  state_is : after (record { place = b.state.place; learned = v.learned }) (canonical_events v.plan.shape v.kept (lines_with b row)) ≡ next.state
+  state_is =
+      ap (λ l. after (record { place = b.state.place; learned = l }) (canonical_events v.plan.shape v.kept (lines_with b row))) r.running.is_held.learned_is
+      ∙ ap (after b.state) events_are
+
+  many : length (r.part ++ row ∷ []) ≡ suc (length r.part)
+  many = omega (arith, length-append r.part (row ∷ []))
+
+  counted_same : (kept : Kept) → kept.offset ≡ v.kept.offset → counted_of (record v { kept = kept }) ≡ counted_of v
+  counted_same kept same = ap (λ o. if v.is_counted then Some (if v.plan.reset then 0 else o) else None) same
+
+  pub row_coded : v.rows < v.plan.limit → v.in_stripe < v.plan.stripe_rows → (kept : Kept) (learned : List Estimate) (tally : Tally) (e : Encoder) (rows' in_stripe' : ℕ) → rows' ≡ v.rows + 1 → in_stripe' ≡ v.in_stripe + 1
+      → RowPut v.plan.shape v.kept kept (record { place = b.state.place; learned = v.learned }) r.pushed (lines_with b row) e learned mid text'
+      → ((lines : List Lines) (l : Lines) → HasLines window l → IsCountedTo v.plan.width (counted_of (record v { kept = kept })) v.tally lines → IsCountedTo v.plan.width (counted_of (record v { kept = kept })) tally (lines ++ l ∷ []))
+      → is_two_line tally ≡ is_two_line v.tally → most_of tally ≡ most_of v.tally
+      → Runs s width limit (rows ++ row ∷ []) (record v { kept = kept; learned = learned; tally = tally; encoder = e; rows = rows'; in_stripe = in_stripe' }) window text text'
+  row_coded left fewer kept learned tally e rows' in_stripe' rows_is in_stripe_is put counts two_line most = record {
+    plan_is = r.plan_is;
+    come = record {
+      many = (let sum = length-append rows (row ∷ []) in omega (arith, rows_is, r.come.many, sum));
+      few = (let sum = length-append rows (row ∷ []) in omega (arith, left, r.come.many, r.plan_is.limit_is, sum));
+      wide = all_more width rows row r.come.wide (lines_are.row_wide ∙ wide ∙ r.plan_is.width_is);
+    };
+    i = r.i;
+    whole = r.whole;
+    part = r.part ++ row ∷ [];
+    all = ap (λ z. z ++ row ∷ []) r.all ∙ append_assoc r.whole r.part (row ∷ []);
+    at = r.at;
+    front = r.front;
+    stripes = r.stripes;
+    in_stripe = (let sum = length-append r.part (row ∷ []) in omega (arith, in_stripe_is, r.in_stripe, sum));
+    few = (let sum = length-append r.part (row ∷ []) in omega (arith, fewer, r.in_stripe, r.plan_is.stripe_rows_is, sum));
+    pushed = r.pushed ++ put.more;
+    running = record {
+      codes = subst (λ n. EncoderIsAt e n.state.place (r.pushed ++ put.more)) (sym next_is) (subst (λ n. EncoderIsAt e n.place (r.pushed ++ put.more)) state_is put.codes);
+      is_held = subst (λ n. IsHeldBy move n (after_rows mode move 0 (first_row_start c) (r.part ++ row ∷ [])) kept learned window) (sym many) (subst (λ n. IsHeldBy move (suc (length r.part)) n kept learned window) (sym next_is) (record {
+        at_top = r.running.is_held.at_top;
+        offset_is = put.offset_is ∙ r.running.is_held.offset_is ∙ moved_before move (length r.part) (offset_at move (length r.part) b.offset) r.running.is_held.at_top;
+        previous_is = put.flag_is ∙ ap (λ m. may_be_typical m (lines_with b row)) r.plan_is.shape_is.mode_is;
+        learned_is = put.taught ∙ ap (λ n. n.learned) state_is;
+        third = b.second;
+        lines_are = lines_are;
+      }));
+      two_line = two_line ∙ r.running.two_line;
+      most = most ∙ r.running.most;
+      tallied = subst (λ lines. IsCountedTo width (counted_of (record v { kept = kept })) tally lines) (sym (lines_more mode move 0 (first_row_start c) r.part row))
+          (subst (λ w. IsCountedTo w (counted_of (record v { kept = kept })) tally (lines_down c.above c.second r.part ++ lines_with b row ∷ [])) r.plan_is.width_is
+          (counts (lines_down c.above c.second r.part) (lines_with b row) lines_are
+          (subst (λ w. IsCountedTo w (counted_of (record v { kept = kept })) v.tally (lines_down c.above c.second r.part)) (sym r.plan_is.width_is)
+          (subst (λ o. IsCountedTo width o v.tally (lines_down c.above c.second r.part)) (sym (counted_same kept put.offset_is)) r.running.tallied))));
+    };
+    counts = r.counts;
+    appended = subst (Appends text text') (append_assoc r.front (move_bytes s width r.at ++ r.pushed) put.more ∙ ap (λ z. r.front ++ z) (append_assoc (move_bytes s width r.at) r.pushed put.more))
+        (Appends-more text mid text' (r.front ++ (move_bytes s width r.at ++ r.pushed)) put.more r.appended put.appended);
+  }
+
+  -- the target refused a byte of it
+  pub row_cut : WritingLaws → v.in_stripe < v.plan.stripe_rows → RowCut (record { place = b.state.place; learned = v.learned }) r.pushed (canonical_events v.plan.shape v.kept (lines_with b row)) mid text' → StreamCut s width limit (rows ++ row ∷ []) text text'
+  row_cut laws fewer cut = record {
+    bytes = (r.front ++ (move_bytes s width r.at ++ r.pushed)) ++ cut.done;
+    appended = Appends-more text mid text' (r.front ++ (move_bytes s width r.at ++ r.pushed)) cut.done r.appended cut.appended;
+    begins = λ raster m. subst (λ z. IsBeginning z (jbg s raster)) (sym bytes_are)
+        (part_begins s width limit r.i r.whole r.at r.front r.plan_is.some r.stripes (r.part ++ row ∷ []) (move_bytes s width r.at ++ (r.pushed ++ cut.done)) few begins raster
+        (subst (λ z. MayCome s width limit z raster) all m)
+        (let long = come_long s width limit (r.whole ++ (r.part ++ row ∷ [])) raster (subst (λ z. MayCome s width limit z raster) all m) in omega (arith, long, length-append r.whole (r.part ++ row ∷ []), length-append r.part (row ∷ []), r.stripes.many)));
+  } where
+    all : rows ++ row ∷ [] ≡ r.whole ++ (r.part ++ row ∷ [])
+    all = ap (λ z. z ++ row ∷ []) r.all ∙ append_assoc r.whole r.part (row ∷ [])
+
+    few : length (r.part ++ row ∷ []) ≤ s.stripe_rows
+    few = let sum = length-append r.part (row ∷ []) in omega (arith, fewer, r.in_stripe, r.plan_is.stripe_rows_is, sum)
+
+    bytes_are : (r.front ++ (move_bytes s width r.at ++ r.pushed)) ++ cut.done ≡ r.front ++ (move_bytes s width r.at ++ (r.pushed ++ cut.done))
+    bytes_are = append_assoc r.front (move_bytes s width r.at ++ r.pushed) cut.done ∙ ap (λ z. r.front ++ z) (append_assoc (move_bytes s width r.at) r.pushed cut.done)
+
+    front_is : IsStuffedFront ((r.pushed ++ cut.done) ++ cut.left) (after b.state cut.events).place
+    front_is = subst (λ l. IsStuffedFront ((r.pushed ++ cut.done) ++ cut.left) (after (record { place = b.state.place; learned = l }) cut.events).place) r.running.is_held.learned_is cut.begins
+
+    at : length r.part ≡ 0 + length r.part
+    at = omega arith
+
+    begins : (later : List (List Bool)) → IsBeginning (move_bytes s width r.at ++ (r.pushed ++ cut.done)) (stripe_bytes (next_stripe s width r.at ((r.part ++ row ∷ []) ++ later)))
+    begins later =
+        let p = fails_begins laws mode move c r.part row (length (r.part ++ row ∷ []) + length later) cut.events cut.rest (r.pushed ++ cut.done) cut.left
+        (ap (λ n. row_events mode (lines_with b row) (offset_at move n b.offset) b.previous (next_flag mode b row)) (sym at) ∙ sym events_are ∙ cut.all_are)
+        front_is later refl in
+        record {
+          rest = p.rest ++ marker_bytes s.reset;
+          bytes_are =
+              ap (λ z. move_bytes s width r.at ++ (z ++ marker_bytes s.reset)) p.bytes_are
+              ∙ ap (λ z. move_bytes s width r.at ++ z) (append_assoc (r.pushed ++ cut.done) p.rest (marker_bytes s.reset))
+              ∙ sym (append_assoc (move_bytes s width r.at) (r.pushed ++ cut.done) (p.rest ++ marker_bytes s.reset));
+        }
+
+-- ---- where a row encoder stands
+
+module _ (s : Settings) (width limit : ℕ) (rows : List (List Bool)) (v : RowView) (window : Held) (text text' : Option (List ℕ)) where
+  -- no stripe runs
+  pub stands_waiting : v.in_stripe ≡ 0 → Stands s width limit rows v window text text' → Waits s width limit rows v window text text'
+  stands_waiting none (inl w) = w
+  stands_waiting none (inr r) = absurd (omega (arith, r.1, none))
+
+  -- one runs
+  pub stands_running : 0 < v.in_stripe → Stands s width limit rows v window text text' → Runs s width limit rows v window text text'
+  stands_running some (inl w) = absurd (omega (arith, w.in_stripe, some))
+  stands_running some (inr r) = r.0
+
+-- ---- a stripe ends
+
+module _ (s : Settings) (width limit : ℕ) (rows : List (List Bool)) (v : RowView) (window : Held) (text mid text' : Option (List ℕ)) (some : 0 < v.in_stripe) (r : Runs s width limit rows v window text mid) where
+  abbrev last : RowStart
+  last = row_start_in s width r.at r.part
+
+  some_part : 0 < length r.part
+  some_part = omega (arith, some, r.in_stripe)
+
+  bytes_of : (laws : WritingLaws) (code more : List ℕ) → Rattle.qm_core.specs.Code.IsCode last.state.place code → r.pushed ++ more ≡ stuffed code ++ marker_bytes v.plan.reset
+      → (r.front ++ (move_bytes s width r.at ++ r.pushed)) ++ more ≡ r.front ++ stripe_bytes (next_stripe s width r.at r.part)
+  bytes_of laws code more is all =
+      append_assoc r.front (move_bytes s width r.at ++ r.pushed) more
+      ∙ ap (λ z. r.front ++ z) (append_assoc (move_bytes s width r.at) r.pushed more)
+      ∙ ap (λ z. r.front ++ (move_bytes s width r.at ++ z)) all
+      ∙ ap (λ z. r.front ++ (move_bytes s width r.at ++ (stuffed z ++ marker_bytes v.plan.reset))) ((laws.one_code last.state.place (rows_place laws (mode_of s.options) (next_move s width r.at) 0 (first_row_start r.at.carry) r.part laws.start_is_place)).only code is)
+      ∙ ap (λ b. r.front ++ (move_bytes s width r.at ++ (stuffed (code_of last.state.place) ++ marker_bytes b))) r.plan_is.reset_is
+
+  -- what is held after its rows, and its move
+  behind : IsHeldBy None 0 last v.kept v.learned window
+  behind = record {
+    at_top = tt;
+    offset_is = r.running.is_held.offset_is ∙ moved (length r.part) refl;
+    previous_is = r.running.is_held.previous_is;
+    learned_is = r.running.is_held.learned_is;
+    third = r.running.is_held.third;
+    lines_are = r.running.is_held.lines_are;
+  } where
+    moved : (n : ℕ) → length r.part ≡ n → offset_at (next_move s width r.at) (length r.part) last.offset ≡ last.offset
+    moved zero e = absurd (omega (arith, e, some_part))
+    moved (suc n) e = ap (λ k. offset_at (next_move s width r.at) k last.offset) e ∙ sym (moved_before (next_move s width r.at) n last.offset r.running.is_held.at_top)
+
+  counted_none : (lines : List Lines) → counted_of v ≡ None → IsCountedTo width (counted_of v) v.tally lines → (current : ℕ) → CountsLines v.tally width current []
+  counted_none lines none counts = subst (λ o. IsCountedTo width o v.tally lines) none counts
+
+  counted_some : (lines : List Lines) (offset : ℕ) → counted_of v ≡ Some offset → IsCountedTo width (counted_of v) v.tally lines → CountsLines v.tally width offset lines
+  counted_some lines offset is counts = subst (λ o. IsCountedTo width o v.tally lines) is counts
+
+  -- what was counted chooses the next move
+  tallied : (r.i + 1) * s.stripe_rows < limit → IsTallied s width (next_encoder_start s width r.at r.part) v.tally
+  tallied more = by_count v.is_counted refl (λ some'. r.counts more some') where
+    lines : List Lines
+    lines = lines_down r.at.carry.above r.at.carry.second r.part
+
+    next : EncoderStart
+    next = next_encoder_start s width r.at r.part
+
+    current : (b : Bool) → v.plan.reset ≡ b → (if v.plan.reset then 0 else v.kept.offset) ≡ (next_stripe_start width b last).offset
+    current true is = ap (λ z. if z then 0 else v.kept.offset) is
+    current false is = ap (λ z. if z then 0 else v.kept.offset) is ∙ behind.offset_is
+
+    same : (if v.plan.reset then 0 else v.kept.offset) ≡ next.carry.offset
+    same = current s.reset r.plan_is.reset_is
+
+    by_count : (b : Bool) → v.is_counted ≡ b → (0 < length (candidates (mode_of s.options).two_line s.most_offset) → b ≡ true) → IsTallied s width next v.tally
+    by_count true is counts = record {
+      two_line = r.running.two_line;
+      most = r.running.most;
+      lines = lines;
+      counts = subst (λ o. CountsLines v.tally width o lines) same (counted_some lines (if v.plan.reset then 0 else v.kept.offset) (ap (λ z. if z then Some (if v.plan.reset then 0 else v.kept.offset) else None) is) r.running.tallied);
+      lines_are = λ _. refl;
+    }
+    by_count false is counts = record {
+      two_line = r.running.two_line;
+      most = r.running.most;
+      lines = [];
+      counts = counted_none lines (ap (λ z. if z then Some (if v.plan.reset then 0 else v.kept.offset) else None) is) r.running.tallied next.carry.offset;
+      lines_are = λ some'. absurd (let e : false ≡ true = counts some' in let bot : ⊥ = cc in bot);
+    }
+
+  pub stripe_ended : (laws : WritingLaws) (e : Encoder) (kept : Kept) (learned : List Estimate) (window' : Held) (text'' : Option (List ℕ)) (in_stripe : ℕ) → in_stripe ≡ 0 → EncoderIsAt e start []
+      → ((last' : RowStart) → IsHeldBy None 0 last' v.kept v.learned window → IsHeldBy None 0 (first_row_start (next_stripe_start v.plan.width v.plan.reset last')) kept learned window')
+      → (code more : List ℕ) → Rattle.qm_core.specs.Code.IsCode last.state.place code → r.pushed ++ more ≡ stuffed code ++ marker_bytes v.plan.reset → Appends mid text' more → Rattle.std.specs.Io.KnownBytes.Keeps text' text''
+      → StripeEnded s width limit v.in_stripe rows (record v { kept = kept; learned = learned; encoder = e; in_stripe = in_stripe }) window' text text''
+  stripe_ended laws e kept learned window' text'' in_stripe none codes goes code more is all put keeps = record {
+    plan_is = r.plan_is;
+    come = r.come;
+    i = r.i;
+    whole = r.whole;
+    part = r.part;
+    all = r.all;
+    at = r.at;
+    front = r.front;
+    stripes = r.stripes;
+    many = sym r.in_stripe;
+    some = some_part;
+    few = r.few;
+    in_stripe = none;
+    codes = codes;
+    on_course = λ more'. record {
+      is_held = subst (λ w. IsHeldBy None 0 (first_row_start (next_stripe_start w s.reset last)) kept learned window') r.plan_is.width_is
+          (subst (λ b. IsHeldBy None 0 (first_row_start (next_stripe_start v.plan.width b last)) kept learned window') r.plan_is.reset_is (goes last behind));
+      is_tallied = tallied more';
+    };
+    appended = Appends-keeps text text' text'' (r.front ++ stripe_bytes (next_stripe s width r.at r.part))
+        (subst (Appends text text') (bytes_of laws code more is all) (Appends-more text mid text' (r.front ++ (move_bytes s width r.at ++ r.pushed)) more r.appended put)) keeps;
+  }
+
+  pub stripe_cut : (laws : WritingLaws) (code more : List ℕ) → Rattle.qm_core.specs.Code.IsCode last.state.place code → r.pushed ++ more ≡ stuffed code ++ marker_bytes v.plan.reset → AppendsBeginning mid text' more → StripeBegun s width limit v.in_stripe rows text text'
+  stripe_cut laws code more is all cut = record {
+    i = r.i;
+    whole = r.whole;
+    part = r.part;
+    all = r.all;
+    at = r.at;
+    front = r.front;
+    stripes = r.stripes;
+    many = sym r.in_stripe;
+    some = some_part;
+    few = r.few;
+    appended = subst (AppendsBeginning text text') (bytes_of laws code more is all) (beginning_after text mid text' (r.front ++ (move_bytes s width r.at ++ r.pushed)) more r.appended cut);
+  }
+
+-- ---- from a stripe that was ended
+
+module _ (s : Settings) (width limit count : ℕ) (rows : List (List Bool)) (v : RowView) (window : Held) (text text' : Option (List ℕ)) where
+  -- a stripe with all its rows
+  pub ended_waits : count ≡ v.plan.stripe_rows → StripeEnded s width limit count rows v window text text' → Waits s width limit rows v window text text'
+  ended_waits full e = record {
+    plan_is = e.plan_is;
+    come = e.come;
+    i = e.i + 1;
+    at = next_encoder_start s width e.at e.part;
+    front = e.front ++ stripe_bytes (next_stripe s width e.at e.part);
+    stripes = subst (λ z. StripesWhole s width limit (e.i + 1) z (next_encoder_start s width e.at e.part) (e.front ++ stripe_bytes (next_stripe s width e.at e.part))) (sym e.all)
+        (whole_more s width limit e.i e.whole e.at e.front e.plan_is.some e.stripes e.part (e.many ∙ full ∙ e.plan_is.stripe_rows_is));
+    in_stripe = e.in_stripe;
+    codes = e.codes;
+    on_course = e.on_course;
+    appended = e.appended;
+  }
+
+  -- a beginning of it was written
+  pub cut_stream : 1 ≤ s.stripe_rows → count ≡ s.stripe_rows → StripeBegun s width limit count rows text text' → StreamCut s width limit rows text text'
+  cut_stream some full e = record {
+    bytes = e.appended.front;
+    appended = e.appended.appends;
+    begins = λ raster b.
+        let m : MayCome s width limit (e.whole ++ e.part) raster = subst (λ z. MayCome s width limit z raster) e.all b in
+        let long = come_long s width limit (e.whole ++ e.part) raster m in
+        let sum = length-append e.whole e.part in
+        let full_part : length e.part ≡ s.stripe_rows = e.many ∙ full in
+        front_begins s raster (e.i + 1) e.appended.front
+        (let inside = inside_of (height raster) s.stripe_rows e.i some (omega (arith, long, sum, e.stripes.many, full_part, some)) in omega (arith, inside))
+        (record {
+          rest = e.appended.rest;
+          bytes_are =
+              sym (stripe_more s width limit e.i e.whole e.at e.front some e.stripes e.part raster m (omega (arith, long, sum, e.stripes.many, full_part, some)) (omega (arith, long, sum, e.stripes.many, full_part)))
+              ∙ e.appended.text_is;
+        });
+  }
+
+-- ---- an image ends
+
+count_is : (n l c : ℕ) → 1 ≤ l → n ≤ c * l → c * l < n + l → stripe_count n l ≡ c
+count_is n l c some from to = went (less_or_not c (stripe_count n l)) (less_or_not (stripe_count n l) c) where
+  times : (n ≤ stripe_count n l * l) × (stripe_count n l * l < n + l)
+  times = div_ceil_times n l some
+
+  went : (c < stripe_count n l) ⊎ (stripe_count n l ≤ c) → (stripe_count n l < c) ⊎ (c ≤ stripe_count n l) → stripe_count n l ≡ c
+  went (inl h) k =
+      let up : (c + 1) * l ≤ stripe_count n l * l = Rattle.std.proofs.Math.Nat.mul-le-mul_right l (omega (arith, h)) in
+      let sum : (c + 1) * l ≡ c * l + 1 * l = Rattle.std.proofs.Math.Nat.add-mul c 1 l in
+      let high = times.1 in
+      absurd (omega (arith, up, sum, from, high))
+  went (inr h) (inl k) =
+      let up : (stripe_count n l + 1) * l ≤ c * l = Rattle.std.proofs.Math.Nat.mul-le-mul_right l (omega (arith, k)) in
+      let sum : (stripe_count n l + 1) * l ≡ stripe_count n l * l + 1 * l = Rattle.std.proofs.Math.Nat.add-mul (stripe_count n l) 1 l in
+      let low = times.0 in
+      absurd (omega (arith, up, sum, to, low))
+  went (inr h) (inr k) = omega (arith, h, k)
+
+not_some : (o : Option ℕ) → o ≡ None → is_some o ≡ false
+not_some o none = ap is_some none
+
+module _ (s : Settings) (width limit : ℕ) (rows : List (List Bool)) (v : RowView) (plan : IsPlan s width limit v.plan) (come : HaveCome width limit rows v.rows) (some : 0 < v.rows) (whole : v.plan.may_end ≡ false → v.rows ≡ v.plan.limit) where
+  all_rows : s.announced ≡ None → length rows ≡ limit
+  all_rows none = (let full = whole (plan.may_end_is ∙ not_some s.announced none) in omega (arith, full, plan.limit_is, come.many))
+
+  -- the image itself may come
+  pub itself : MayCome s width limit rows (raster_of width rows)
+  itself = record {
+    proper = record {
+      width_from = plan.width_from;
+      width_to = plan.width_to;
+      height_from = omega (arith, some, come.many);
+      height_to = omega (arith, come.few, plan.limit_to);
+      rows = come.wide;
+    };
+    width_is = refl;
+    height_to = come.few;
+    height_is = all_rows;
+    first = take-length rows;
+  }
+
+  pub announced_at : v.plan.announced ≡ unwrap_or s.announced (length rows)
+  announced_at = plan.announced_is ∙ same_announced s.announced limit (length rows) (λ none. sym (all_rows none))
+
+  -- no stripe runs
+  pub waits_ended : (window : Held) (text text' : Option (List ℕ)) → Waits s width limit rows v window text text' → StripesEnded s width limit rows v text text'
+  waits_ended window text text' w = record {
+    rows_are = come.many;
+    reset_is = plan.reset_is;
+    announced_is = announced_at;
+    appended = subst (Appends text text')
+        (w.stripes.front_is (raster_of width rows) itself
+        ∙ ap (jbg_up_to s (raster_of width rows)) (sym (count_is (length rows) s.stripe_rows w.i plan.some (omega (arith, w.stripes.many)) (omega (arith, w.stripes.many, plan.some))))) w.appended;
+  }
+
+module _ (s : Settings) (width limit count : ℕ) (rows whole part : List (List Bool)) (i : ℕ) (at : EncoderStart) (front : List ℕ) (some : 1 ≤ s.stripe_rows) (all : rows ≡ whole ++ part) (stripes : StripesWhole s width limit i whole at front)
+    (some_part : 0 < length part) (few : length part ≤ s.stripe_rows) (m : MayCome s width limit rows (raster_of width rows)) where
+  sum : length rows ≡ i * s.stripe_rows + length part
+  sum = (let lengths : length rows ≡ length (whole ++ part) = ap length all in omega (arith, lengths, length-append whole part, stripes.many))
+
+  -- the stripes with this one are all
+  pub last_stripe : front ++ stripe_bytes (next_stripe s width at part) ≡ jbg_up_to s (raster_of width rows) (stripe_count (length rows) s.stripe_rows)
+  last_stripe =
+      stripe_more s width limit i whole at front some stripes part (raster_of width rows) (subst (λ z. MayCome s width limit z (raster_of width rows)) all m) (omega (arith, sum, some_part)) (omega (arith, sum, few))
+      ∙ ap (jbg_up_to s (raster_of width rows)) (sym (count_is (length rows) s.stripe_rows (i + 1) some (omega (arith, sum, few, product)) (omega (arith, sum, some_part, product))))
+    where
+      product : (i + 1) * s.stripe_rows ≡ i * s.stripe_rows + 1 * s.stripe_rows
+      product = Rattle.std.proofs.Math.Nat.add-mul i 1 s.stripe_rows
+
+pub ended_stripes : (s : Settings) (width limit count : ℕ) (rows : List (List Bool)) (v v' : RowView) (window window' : Held) (text mid text' : Option (List ℕ)) → 0 < v.rows → (v.plan.may_end ≡ false → v.rows ≡ v.plan.limit)
+    → Runs s width limit rows v window text mid → StripeEnded s width limit count rows v' window' text text' → StripesEnded s width limit rows v' text text'
+ended_stripes s width limit count rows v v' window window' text mid text' some whole r e = record {
+  rows_are = e.come.many;
+  reset_is = e.plan_is.reset_is;
+  announced_is = e.plan_is.announced_is ∙ same_announced s.announced limit (length rows) (λ none. sym (all_rows s width limit rows v r.plan_is r.come some whole none));
+  appended = subst (Appends text text') (last_stripe s width limit count rows e.whole e.part e.i e.at e.front r.plan_is.some e.all e.stripes e.some e.few (itself s width limit rows v r.plan_is r.come some whole)) e.appended;
+}
+
+-- no more than a beginning of the last stripe was written
+pub cut_stripes : (s : Settings) (width limit count : ℕ) (rows : List (List Bool)) (v : RowView) (window : Held) (text mid text' : Option (List ℕ)) → 0 < v.rows → (v.plan.may_end ≡ false → v.rows ≡ v.plan.limit)
+    → Runs s width limit rows v window text mid → StripeBegun s width limit count rows text text' → AppendsBeginning text text' (jbg s (raster_of width rows))
+cut_stripes s width limit count rows v window text mid text' some whole r e =
+    beginning_longer text text' (jbg_up_to s (raster_of width rows) (stripe_count (length rows) s.stripe_rows)) (ending s (length rows))
+    (subst (AppendsBeginning text text') (last_stripe s width limit count rows e.whole e.part e.i e.at e.front r.plan_is.some e.all e.stripes e.some e.few (itself s width limit rows v r.plan_is r.come some whole)) e.appended)
+
+module _ (s : Settings) (width limit : ℕ) (rows : List (List Bool)) (v : RowView) (text mid text' : Option (List ℕ)) (e : StripesEnded s width limit rows v text mid) where
+  ending_is : ending_of v.plan.announced v.plan.reset v.rows ≡ ending s (length rows)
+  ending_is =
+      ap (λ n. ending_of n v.plan.reset v.rows) e.announced_is ∙ ap (λ b. ending_of (unwrap_or s.announced (length rows)) b v.rows) e.reset_is ∙ ap (ending_of (unwrap_or s.announced (length rows)) s.reset) e.rows_are
+
+  pub stream_ended : Appends mid text' (ending_of v.plan.announced v.plan.reset v.rows) → Appends text text' (jbg s (raster_of width rows))
+  stream_ended last = Appends-more text mid text' (jbg_up_to s (raster_of width rows) (stripe_count (length rows) s.stripe_rows)) (ending s (length rows)) e.appended (subst (Appends mid text') ending_is last)
+
+  pub ending_cut : AppendsBeginning mid text' (ending_of v.plan.announced v.plan.reset v.rows) → AppendsBeginning text text' (jbg s (raster_of width rows))
+  ending_cut last = beginning_after text mid text' (jbg_up_to s (raster_of width rows) (stripe_count (length rows) s.stripe_rows)) (ending s (length rows)) e.appended (subst (AppendsBeginning mid text') ending_is last)
+
+-- ---- an image begins
+
+pub none_stand : (s : Settings) (width limit : ℕ) (v : RowView) (window : Held) (text text' : Option (List ℕ)) → IsPlan s width limit v.plan → v.rows ≡ 0 → v.in_stripe ≡ 0 → EncoderIsAt v.encoder start [] → v.kept.offset ≡ 0 → v.kept.previous_typical ≡ false → v.learned ≡ fresh
+    → HasLines window (white_lines width) → is_two_line v.tally ≡ (mode_of s.options).two_line → most_of v.tally ≡ s.most_offset → ((width' current : ℕ) → CountsLines v.tally width' current []) → Appends text text' (head_of s width limit)
+    → Stands s width limit [] v window text text'
+none_stand s width limit v window text text' plan rows_is none codes offset previous learned white two_line most counts put = inl (record {
+  plan_is = plan;
+  come = record { many = rows_is; few = omega arith; wide = tt };
+  i = 0;
+  at = first_encoder_start width;
+  front = head_of s width limit;
+  stripes = none_whole s width limit;
+  in_stripe = none;
+  codes = codes;
+  on_course = λ _. record {
+    is_held = record { at_top = tt; offset_is = offset; previous_is = previous; learned_is = learned; third = white_row width; lines_are = white };
+    is_tallied = record { two_line = two_line; most = most; lines = []; counts = counts width 0; lines_are = λ _. refl };
+  };
+  appended = put;
+})

@@ -1,0 +1,11 @@
+use Rattle.t85_core.proofs.Bytes.Ends.{map_ok, on_err}
+use Rattle.t85_core.proofs.Encodings.RowSteps.{stands_waiting}
+use Rattle.t85_core.proofs.encoding.by_row.RowEncoder.begin_where_due.Goals as goal
+
+pub returns-then-self-eq0-clause-ok : goal.returns-then-self-eq0-clause-ok
+returns-then-self-eq0-clause-ok g c =
+    map_ok c.begin_stripe.result (λ more s width limit rows before text so. more s width limit rows before text (stands_waiting s width limit rows _ before text _ c.if-self-eq0.true so)) c.begin_stripe.ensures.ok
+
+pub returns-then-self-eq0-clause-cut : goal.returns-then-self-eq0-clause-cut
+returns-then-self-eq0-clause-cut g c =
+    on_err c.begin_stripe.result (λ cut row before s width limit rows text so. cut s width limit rows row before text (stands_waiting s width limit rows _ before text _ c.if-self-eq0.true so)) c.begin_stripe.ensures.cut

@@ -1,0 +1,26 @@
+use Rattle.std.specs.Prelude.{OnErr, Result, List, Bool, Option, ℕ, ◌++◌, ◌∷◌, []}
+use Rattle.raster_core.specs.Packed.{Held}
+use Rattle.raster_core.specs.Window.{held}
+use Rattle.t85_core.specs.declared.fault.Fault.{Fault}
+use Rattle.t85_core.specs.Steps.Views.{text_taken}
+use Rattle.t85_core.specs.Steps.ByRow.{CutsRow, IsBelow, RowView, view_of}
+use Rattle.t85_core.proofs.Walks.InfoEnds.{exit_all}
+use Rattle.t85_core.proofs.Decodings.BufferDecoded.{all_handed}
+use Rattle.t85_core.proofs.Encodings.RowCalls.{stands_kept, front_cut}
+use Rattle.t85_core.proofs.encoding.by_row.RowEncoder.put_held.Goals as goal
+
+abbrev Cut : RowView → Held → Option (List ℕ) → Option (List ℕ) → Result (Unit {0}) Fault → Type 0
+Cut v window old new r = OnErr r ((row : List Bool) (before : Held) → IsBelow row before window → CutsRow row v before old new)
+
+pub returns-in_err-put_taken-clause-cut : goal.returns-in_err-put_taken-clause-cut
+returns-in_err-put_taken-clause-cut g c =
+    exit_all (Cut (view_of c.args.self.now) (held c.args.window.now) (text_taken c.args.buffer.now) (text_taken c.put_taken.new.target)) c.from_residual.result c.from_residual.ensures.1 (c.in_err-put_taken.ensures.cut c.requires.open_)
+
+pub returns-in-Ok-clause-ok : goal.returns-in-Ok-clause-ok
+returns-in-Ok-clause-ok g c row before below s width limit rows text so =
+    let empty = c.in-Ok.ensures.empty in
+    stands_kept s width limit (rows ++ row ∷ []) _ _ text _ _ (all_handed _ _ _ _ _ empty.0 empty.1 c.write_held.ensures.text) (c.in_ok-put_taken.ensures.ok row before below s width limit rows text so)
+
+pub returns-in-Err-clause-cut : goal.returns-in-Err-clause-cut
+returns-in-Err-clause-cut g c row before below s width limit rows text so =
+    front_cut s width limit (rows ++ row ∷ []) text _ _ c.write_held.ensures.text (c.fronts.ensures s width limit (rows ++ row ∷ []) _ _ text _ (c.in_ok-put_taken.ensures.ok row before below s width limit rows text so))

@@ -1,0 +1,30 @@
+use Rattle.std.specs.Prelude.{OnErr, Result, List, Bool, Option, ℕ, ◌++◌, ◌∷◌, []}
+use Rattle.raster_core.specs.Packed.{Held}
+use Rattle.raster_core.specs.Window.{held}
+use Rattle.t85_core.specs.declared.fault.Fault.{Fault}
+use Rattle.t85_core.specs.Steps.ByRow.{CutsRow, IsBelow, RowView, view_of}
+use Rattle.t85_core.proofs.Walks.InfoEnds.{exit_all}
+use Rattle.t85_core.proofs.encoding.by_row.RowEncoder.put_taken.Goals as goal
+
+-- a beginning of each stream that begins with the rows and this one
+abbrev Cut : RowView → Held → Option (List ℕ) → Option (List ℕ) → Result (Unit {0}) Fault → Type 0
+Cut v window old new r = OnErr r ((row : List Bool) (before : Held) → IsBelow row before window → CutsRow row v before old new)
+
+pub returns-in_err-begin_where_due-clause-cut : goal.returns-in_err-begin_where_due-clause-cut
+returns-in_err-begin_where_due-clause-cut g c _ =
+    exit_all (Cut (view_of c.args.self.now) (held c.args.window.now) (g.P.ByteTarget.view c.args.target.now).text (g.P.ByteTarget.view c.begin_where_due.new.target).text) c.from_residual.result c.from_residual.ensures.1
+    (λ row before below s width limit rows text so. c.in_err-begin_where_due.ensures.cut row before s width limit rows text so)
+
+pub returns-in_err-code-clause-cut : goal.returns-in_err-code-clause-cut
+returns-in_err-code-clause-cut g c _ =
+    exit_all (Cut (view_of c.args.self.now) (held c.args.window.now) (g.P.ByteTarget.view c.args.target.now).text (g.P.ByteTarget.view c.code.new.target).text) c.from_residual-in_err-code.result c.from_residual-in_err-code.ensures.1
+    (λ row before below s width limit rows text so. c.in_err-code.ensures.cut s width limit rows row before text below (c.in_ok-begin_where_due.ensures.ok s width limit rows before text so))
+
+pub returns-in_err-end_where_due-clause-cut : goal.returns-in_err-end_where_due-clause-cut
+returns-in_err-end_where_due-clause-cut g c _ =
+    exit_all (Cut (view_of c.args.self.now) (held c.args.window.now) (g.P.ByteTarget.view c.args.target.now).text (g.P.ByteTarget.view c.end_where_due.new.target).text) c.from_residual-in_err-end_where_due.result c.from_residual-in_err-end_where_due.ensures.1
+    (λ row before below s width limit rows text so. c.in_err-end_where_due.ensures.cut s width limit (rows ++ row ∷ []) text (c.in_ok-code.ensures.ok s width limit rows row before text below (c.in_ok-begin_where_due.ensures.ok s width limit rows before text so)))
+
+pub returns-clause-ok : goal.returns-clause-ok
+returns-clause-ok g c row before below s width limit rows text so =
+    c.in_ok-end_where_due.ensures.ok s width limit (rows ++ row ∷ []) text (c.in_ok-code.ensures.ok s width limit rows row before text below (c.in_ok-begin_where_due.ensures.ok s width limit rows before text so))

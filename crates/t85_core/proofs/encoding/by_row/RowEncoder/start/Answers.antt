@@ -1,0 +1,33 @@
+use Rattle.std.proofs.Common.{rules, ◌≡◌, ◌≤◌, ◌∙◌, ap, subst, []}
+use Rattle.pbm_core.specs.Device.{AppendsBeginning}
+use Rattle.raster_core.specs.Window.{held}
+use Rattle.t85_core.specs.Jbg.{head_of}
+use Rattle.t85_core.specs.Options.{settings_of}
+use Rattle.t85_core.specs.Steps.Buffers.{held_of, known_length}
+use Rattle.t85_core.specs.Steps.Views.{text_taken}
+use Rattle.t85_core.specs.Steps.ByRow.{Stands, view_of}
+use Rattle.t85_core.proofs.Bytes.Ends.{map_if_ok, err_of}
+use Rattle.t85_core.proofs.Bytes.HeldBack.{beginning_handed}
+use Rattle.t85_core.proofs.Decodings.BufferDecoded.{text_unheld}
+use Rattle.t85_core.proofs.Encodings.RowCalls.{moved}
+use Rattle.t85_core.proofs.encoding.by_row.RowEncoder.start.Goals as goal
+
+pub returns-clause-begun : goal.returns-clause-begun
+returns-clause-begun g c =
+    let buffer = c.new-buffer.result in
+    let text_is : text_taken buffer ≡ (g.W.Output.view c.args.output.now).contents = text_unheld buffer.bytes buffer.at buffer.end (g.W.Output.view buffer.output.now).contents c.new-buffer.ensures.empty ∙ ap (λ m. (g.W.Output.view m.now).contents) c.new-buffer.ensures.lent in
+    map_if_ok c.start_held.result (λ e so.
+    moved (λ w. (g.W.Output.view w).contents) (Stands (settings_of c.args.options.now) c.args.size.width c.args.size.height [] (view_of e) (held c.start_held.new.window) (g.W.Output.view c.args.output.now).contents) c.start_held.new.buffer.output.now _ (search rules)
+    (subst (λ z. Stands (settings_of c.args.options.now) c.args.size.width c.args.size.height [] (view_of e) (held c.start_held.new.window) z (g.W.Output.view c.start_held.new.buffer.output.now).contents) text_is so)) c.start_held.ensures.begun
+
+pub returns-clause-cut : goal.returns-clause-cut
+returns-clause-cut g c is =
+    let buffer = c.new-buffer.result in
+    let after = c.start_held.new.buffer in
+    let text_is : text_taken buffer ≡ (g.W.Output.view c.args.output.now).contents = text_unheld buffer.bytes buffer.at buffer.end (g.W.Output.view buffer.output.now).contents c.new-buffer.ensures.empty ∙ ap (λ m. (g.W.Output.view m.now).contents) c.new-buffer.ensures.lent in
+    let lent : (g.W.Output.view buffer.output.now).contents ≡ (g.W.Output.view c.args.output.now).contents = ap (λ m. (g.W.Output.view m.now).contents) c.new-buffer.ensures.lent in
+    let head = head_of (settings_of c.args.options.now) c.args.size.width c.args.size.height in
+    let more : known_length (g.W.Output.view c.args.output.now).contents ≤ known_length (g.W.Output.view after.output.now).contents = subst (λ z. known_length z ≤ known_length (g.W.Output.view after.output.now).contents) lent c.start_held.ensures.grows in
+    moved (λ w. (g.W.Output.view w).contents) (λ z. AppendsBeginning (g.W.Output.view c.args.output.now).contents z head) after.output.now _ (search rules)
+    (beginning_handed (g.W.Output.view c.args.output.now).contents (g.W.Output.view after.output.now).contents (held_of after.bytes after.at after.end) head more
+    (subst (λ z. AppendsBeginning z (text_taken after) head) text_is (err_of c.start_held.result is c.start_held.ensures.cut)))

@@ -1,0 +1,21 @@
+use Rattle.std.proofs.Common.{◌≡◌, ◌≤◌, false}
+use Rattle.raster_core.specs.Window.{held, width_of}
+use Rattle.t85_core.specs.Options.{settings_of}
+use Rattle.t85_core.specs.Steps.ByRow.{MayGoOn, IsLined, view_of}
+use Rattle.t85_core.proofs.Encodings.ImageByRow.{ComeTo}
+use Rattle.t85_core.proofs.encoding.encode_image.Given as goal
+
+abbrev pub invariant-rows : goal.invariant-rows
+invariant-rows g l = record {
+  come : ComeTo l.form (settings_of l.options) l.size.width l.size.height l.counter (g.R.Input.view l.fn.source).remaining (g.R.Input.view l.source).remaining (view_of l.encoder) (held l.window) (g.P.ByteTarget.view l.fn.target).text (g.P.ByteTarget.view l.target).text;
+  going : l.encoder.is_closed ≡ false;
+  ready : MayGoOn (view_of l.encoder);
+  many : l.encoder.rows ≡ l.counter;
+  size_is : l.encoder.size ≡ l.size;
+  width : width_of l.window ≡ l.size.width;
+  lined : IsLined (held l.window);
+  reads : (g.R.Input.view l.source).failures ≡ (g.R.Input.view l.fn.source).failures;
+  writes : (g.P.ByteTarget.view l.target).failures ≡ (g.P.ByteTarget.view l.fn.target).failures;
+  grows : (g.P.ByteTarget.view l.fn.target).written ≤ (g.P.ByteTarget.view l.target).written;
+  same_writer : (g.P.ByteTarget.view l.target).writer ≡ (g.P.ByteTarget.view l.fn.target).writer;
+}

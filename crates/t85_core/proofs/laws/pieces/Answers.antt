@@ -1,0 +1,17 @@
+use Rattle.t85_core.proofs.Theorems.InPieces.{taken_at, more_at, whole_at, late_at, broken_at}
+use Rattle.t85_core.proofs.laws.pieces.Goals as goal
+
+pub returns-clause-taken : goal.returns-clause-taken
+returns-clause-taken c = taken_at
+
+pub returns-clause-more : goal.returns-clause-more
+returns-clause-more c = more_at
+
+pub returns-clause-whole : goal.returns-clause-whole
+returns-clause-whole c = whole_at
+
+pub returns-clause-broken : goal.returns-clause-broken
+returns-clause-broken c = broken_at
+
+pub returns-clause-late : goal.returns-clause-late
+returns-clause-late c = late_at

@@ -1,0 +1,9 @@
+use Rattle.std.proofs.Common.{length, Some}
+use Rattle.t85_core.proofs.Walks.Passed.{HasSkipped}
+use Rattle.t85_core.proofs.pieces.code.skip_some.Given as goal
+
+abbrev pub invariant-code : goal.invariant-code
+invariant-code l = HasSkipped (Some l.fn.piece.rest.now) (Some l.piece.rest.now)
+
+abbrev pub decreases-code : goal.decreases-code
+decreases-code l = length l.piece.rest.now

@@ -1,0 +1,75 @@
+use Rattle.std.proofs.Common.{◌≡◌, ◌+◌, ◌-◌, ◌*◌, ◌++◌, Err, ap, ◌∙◌, arith}
+use Rattle.raster_core.specs.Window.{width_of}
+use Rattle.t85_core.specs.Options.{fields_of}
+use Rattle.t85_core.proofs.Decodings.ImagePut.{in_use}
+use Rattle.t85_core.proofs.Decodings.CodePut.{kept_wide}
+use Rattle.t85_core.proofs.Decodings.PieceSteps.{on_same, at_stage, put_stage, step_exit, last_stripe, next_stripe, offset_low}
+use Rattle.t85_core.proofs.Decodings.PieceWalk.{ahead_is, behind_is, marker_off, code_kept, stripe_last, stripe_on}
+use Rattle.t85_core.proofs.pieces.walk.Walk.finish_stripe.Goals as goal
+
+pub returns-in_err-reset-clause-step : goal.returns-in_err-reset-clause-step
+returns-in_err-reset-clause-step c =
+    step_exit (fields_of c.args.header.now) c.args.height c.args.self.now (record c.args.self.now { first = c.find_marker.new.first }) c.args.piece.now.rest.now c.find_marker.new.piece.rest.now c.from_residual.result c.in_err-reset.field-0.0 c.from_residual.ensures.1
+    (λ text out s.
+    let k = at_stage c.requires.stage s in
+    marker_off k c.coder_laws.ensures (in_use c.args.header.now c.args.height c.requires.from c.requires.to) c.requires.row c.args.piece.now.rest.now c.in_err-reset.field-0.0 (c.in_err-reset.ensures.err k.read.answers k.extra k.code k.code_is))
+    (λ e text out s.
+    let k = at_stage c.requires.stage s in
+    let m = c.in_err-reset.ensures.more (ap Err e) k.read.answers k.extra k.code k.code_is in
+    on_same (fields_of c.args.header.now) c.args.height _ text out c.args.piece.now.rest.now c.find_marker.new.piece.rest.now m.given m.taken (record {
+      left_is = s.left_is;
+      width_is = s.width_is;
+      offset_is = s.offset_is;
+      at_is = s.at_is;
+      code_is = ahead_is c.find_marker.new.first c.args.self.now.marker k.read.answers m.extra _ m.code_is;
+      behind = behind_is c.find_marker.new.first c.args.self.now.marker k.read.answers m.extra _ m.code_is;
+      stands = put_stage (fields_of c.args.header.now) c.args.height (record c.args.self.now { first = c.find_marker.new.first }) (text ++ m.given) out _ c.requires.stage (code_kept k c.requires.row c.args.piece.now.rest.now c.find_marker.new.piece.rest.now m);
+    }))
+
+pub returns-then-self-eq0-clause-step : goal.returns-then-self-eq0-clause-step
+returns-then-self-eq0-clause-step c = record {
+  ok = λ text out s.
+      let k = at_stage c.requires.stage s in
+      let m = c.in_ok-reset.ensures.ok k.read.answers k.extra k.code k.code_is in
+      let next = kept_wide (width_of c.args.self.now.carried.window.now) (fields_of c.args.header.now).xd c.in_ok-reset.reset c.args.self.now.carried c.end_stripe.new.self s.width_is c.end_stripe.ensures.next k.read.last k.read.is_carried in
+      let left : c.args.self.now.left ≡ c.args.height - c.args.self.now.entities * c.args.header.now.l0 = s.left_is in
+      let times : (c.args.self.now.entities + 1) * c.args.header.now.l0 ≡ c.args.self.now.entities * c.args.header.now.l0 + c.args.header.now.l0 = omega arith in
+      let none : c.args.self.now.left - c.min.result ≡ 0 = c.if-self-eq0.true in
+      let min_is = c.min.ensures in
+      let last = last_stripe c.args.height c.args.header.now.l0 c.args.self.now.entities c.args.header.now.some_rows k.head.fewer (omega (arith, left, times, none, min_is)) in
+      on_same (fields_of c.args.header.now) c.args.height _ text out c.args.piece.now.rest.now c.find_marker.new.piece.rest.now m.given m.taken (record {
+        left_is = omega (arith, left, times, min_is);
+        width_is = c.end_stripe.ensures.width ∙ s.width_is;
+        offset_is = offset_low c.in_ok-reset.reset _ _ s.offset_is c.end_stripe.ensures.offset;
+        at_is = tt;
+        code_is = tt;
+        behind = tt;
+        stands = stripe_last k c.coder_laws.ensures (in_use c.args.header.now c.args.height c.requires.from c.requires.to) c.requires.row c.args.piece.now.rest.now c.find_marker.new.piece.rest.now c.in_ok-reset.reset m c.end_stripe.new.self next last;
+      });
+  err = tt;
+  more = λ e. absurd (let bot : ⊥ = cc in bot);
+}
+
+pub returns-clause-step : goal.returns-clause-step
+returns-clause-step c = record {
+  ok = λ text out s.
+      let k = at_stage c.requires.stage s in
+      let m = c.in_ok-reset.ensures.ok k.read.answers k.extra k.code k.code_is in
+      let next = kept_wide (width_of c.args.self.now.carried.window.now) (fields_of c.args.header.now).xd c.in_ok-reset.reset c.args.self.now.carried c.end_stripe.new.self s.width_is c.end_stripe.ensures.next k.read.last k.read.is_carried in
+      let left : c.args.self.now.left ≡ c.args.height - c.args.self.now.entities * c.args.header.now.l0 = s.left_is in
+      let times : (c.args.self.now.entities + 1) * c.args.header.now.l0 ≡ c.args.self.now.entities * c.args.header.now.l0 + c.args.header.now.l0 = omega arith in
+      let min_is = c.min.ensures in
+      let some = c.if-self-eq0.false in
+      let on = next_stripe c.args.height c.args.header.now.l0 c.args.self.now.entities c.args.header.now.some_rows (omega (arith, left, times, some, min_is)) in
+      on_same (fields_of c.args.header.now) c.args.height _ text out c.args.piece.now.rest.now c.find_marker.new.piece.rest.now m.given m.taken (record {
+        left_is = omega (arith, left, times, min_is);
+        width_is = c.end_stripe.ensures.width ∙ s.width_is;
+        offset_is = offset_low c.in_ok-reset.reset _ _ s.offset_is c.end_stripe.ensures.offset;
+        at_is = tt;
+        code_is = tt;
+        behind = tt;
+        stands = stripe_on k c.coder_laws.ensures (in_use c.args.header.now c.args.height c.requires.from c.requires.to) c.requires.row c.args.piece.now.rest.now c.find_marker.new.piece.rest.now c.in_ok-reset.reset m c.end_stripe.new.self next on;
+      });
+  err = tt;
+  more = λ e. absurd (let bot : ⊥ = cc in bot);
+}

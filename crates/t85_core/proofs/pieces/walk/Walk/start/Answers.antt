@@ -1,0 +1,15 @@
+use Rattle.std.proofs.Common.{◌*◌, ◌≡◌, ◌∙◌, arith}
+use Rattle.t85_core.specs.Options.{fields_of}
+use Rattle.t85_core.proofs.Decodings.PieceSteps.{head_first}
+use Rattle.t85_core.proofs.pieces.walk.Walk.start.Goals as goal
+
+pub returns : goal.returns
+returns c = record {
+  left_is = (let z : 0 * c.args.header.now.l0 ≡ 0 = omega arith in omega (arith, z));
+  width_is = c.first.ensures.width ∙ c.requires.width;
+  offset_is = omega (arith, c.first.ensures.offset);
+  at_is = tt;
+  code_is = tt;
+  behind = tt;
+  stands = head_first (fields_of c.args.header.now) c.args.height _ c.first.result c.requires.from c.args.header.now.some_rows (c.first.ensures.width ∙ c.requires.width) c.first.ensures.first;
+}

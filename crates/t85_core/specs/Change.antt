@@ -1,0 +1,28 @@
+-- A device before a call and after it.
+use Rattle.std.specs.Prelude.{ℕ, List, Option}
+use Rattle.pbm_core.specs.Device.{InputView, OutputView}
+
+-- A device as contracts see it: its bytes, where it reports them (those that an input has still to give, or that an
+-- output has taken), and its count of failures.
+pub record View : Type 0 where
+  pub bytes : Option (List ℕ)
+  pub failures : ℕ
+
+pub record Change : Type 0 where
+  pub old : View
+  pub new : View
+
+-- by its bytes before and after, and its counts before and after
+abbrev pub between : Option (List ℕ) → Option (List ℕ) → ℕ → ℕ → Change
+between old new failures failures' =
+    record { old = record { bytes = old; failures = failures }; new = record { bytes = new; failures = failures' } }
+
+abbrev pub input_change : {R : Type 0} → (R → InputView) → R → R → Change
+input_change view old new = between (view old).remaining (view new).remaining (view old).failures (view new).failures
+
+abbrev pub output_change : {W : Type 0} → (W → OutputView) → W → W → Change
+output_change view old new = between (view old).contents (view new).contents (view old).failures (view new).failures
+
+-- the same call, from where these bytes are known
+abbrev pub known_from : Option (List ℕ) → Change → Change
+known_from known c = record { old = record { bytes = known; failures = c.old.failures }; new = c.new }

@@ -1,0 +1,249 @@
+-- What a row encoder holds, and what stands of a stream, after some rows.
+use Rattle.std.specs.Prelude.{ℕ, ◌+◌, ◌*◌, ◌^◌, ◌≡◌, ◌≤◌, ◌<◌, ◌⊎◌, Bool, true, false, List, [], ◌∷◌, ◌++◌, length, take, nat_lt, flat_map, if◌then◌else◌, Option, None, Some, IfSome, is_some, unwrap_or}
+use Rattle.std.specs.List.{AllByRecursion}
+use Rattle.std.specs.Io.KnownBytes.{Appends}
+use Rattle.pbm_core.specs.Device.{AppendsBeginning}
+use Rattle.qm_core.specs.Place.{Estimate, Place, start}
+use Rattle.qm_core.specs.Encoder.{EncoderIsAt, event_count, has_failed}
+use Rattle.qm_core.specs.declared.encoder.Encoder.{Encoder}
+use Rattle.raster_core.specs.Raster.{Raster, IsRaster, height}
+use Rattle.raster_core.specs.Lines.{Lines}
+use Rattle.raster_core.specs.Offset.{candidates}
+use Rattle.raster_core.specs.Packed.{Held, HasLines}
+use Rattle.raster_core.specs.Tally.{is_two_line, most_of, row_count}
+use Rattle.raster_core.specs.declared.shape.Shape.{Shape}
+use Rattle.raster_core.specs.declared.shape.Kept.{Kept}
+use Rattle.raster_core.specs.declared.tally.Tally.{Tally}
+use Rattle.t85_core.specs.declared.encoding.by_row.RowEncoder.{RowEncoder}
+use Rattle.t85_core.specs.Grammar.{segment_bytes}
+use Rattle.t85_core.specs.Coding.{mode_of}
+use Rattle.t85_core.specs.Encode.{IsBeginning, HoldsStripes, raster_of}
+use Rattle.t85_core.specs.Jbg.{Settings, jbg, jbg_up_to, move_segments}
+use Rattle.t85_core.specs.Steps.State.{RowStart, first_row_start, offset_at}
+use Rattle.t85_core.specs.Steps.Written.{EncoderStart, next_move, row_start_in, lines_down}
+use Rattle.t85_core.specs.Steps.EncodeRows.{IsShape, IsCountedTo}
+use Rattle.t85_core.specs.Steps.EncodeStripes.{IsTallied}
+use Rattle.t85_core.specs.Steps.Looked.{CourseAt}
+
+-- a raster of at most this height that begins with these rows; where no height is announced, of just this height
+pub record MayCome (s : Settings) (width limit : ℕ) (rows : List (List Bool)) (raster : Raster) : Type 0 where
+  pub proper : IsRaster raster
+  pub width_is : raster.width ≡ width
+  pub height_to : height raster ≤ limit
+  pub height_is : s.announced ≡ None → height raster ≡ limit
+  pub first : take (length rows) raster.rows ≡ rows
+
+-- What was written is a beginning of the stream of each raster that may still come.
+pub record StreamCut (s : Settings) (width limit : ℕ) (rows : List (List Bool)) (text text' : Option (List ℕ)) : Type 0 where
+  pub bytes : List ℕ
+  pub appended : Appends text text' bytes
+  pub begins : (raster : Raster) → MayCome s width limit rows raster → IsBeginning bytes (jbg s raster)
+
+-- The same, with each stripe whose rows all came.
+pub record StreamFront (s : Settings) (width limit : ℕ) (rows : List (List Bool)) (text text' : Option (List ℕ)) : Type 0 where
+  pub bytes : List ℕ
+  pub appended : Appends text text' bytes
+  pub begun : (raster : Raster) → MayCome s width limit rows raster → HoldsStripes s raster (length rows) bytes
+
+-- what was chosen for a stream
+pub record RowPlan : Type 0 where
+  pub width : ℕ
+  pub limit : ℕ
+  pub shape : Shape
+  pub stripe_rows : ℕ
+  pub announced : ℕ
+  pub may_end : Bool
+  pub has_candidates : Bool
+  pub reset : Bool
+
+-- what a row encoder holds, but for whether it is closed
+pub record RowView : Type 0 where
+  pub plan : RowPlan
+  pub kept : Kept
+  pub learned : List Estimate
+  pub tally : Tally
+  pub encoder : Encoder
+  pub rows : ℕ
+  pub in_stripe : ℕ
+  pub is_counted : Bool
+
+abbrev pub plan_of : RowEncoder → RowPlan
+plan_of e = record {
+  width = e.size.width;
+  limit = e.size.height;
+  shape = e.shape;
+  stripe_rows = e.stripe_rows;
+  announced = e.announced;
+  may_end = e.may_end;
+  has_candidates = e.has_candidates;
+  reset = e.reset;
+}
+
+abbrev pub view_of : RowEncoder → RowView
+view_of e = record {
+  plan = plan_of e;
+  kept = e.kept;
+  learned = e.learned;
+  tally = e.tally;
+  encoder = e.encoder;
+  rows = e.rows;
+  in_stripe = e.in_stripe;
+  is_counted = e.is_counted;
+}
+
+-- the encoder is at some place
+abbrev pub IsSomewhere : Encoder → Type 0
+IsSomewhere e = (p : Place) × (pushed : List ℕ) × EncoderIsAt e p pushed
+
+-- a window has some lines
+abbrev pub IsLined : Held → Type 0
+IsLined window = (lines : Lines) × HasLines window lines
+
+-- what a call asks for that is to code a row
+pub record IsAble (v : RowView) : Type 0 where
+  pub wide : v.plan.shape.width ≡ v.plan.width
+  pub offset : v.kept.offset ≤ 127
+  pub few : v.in_stripe ≤ v.plan.stripe_rows
+  pub few_rows : v.plan.stripe_rows < 2 ^ 32
+  pub rows_to : v.rows ≤ v.plan.limit
+  pub inside : v.in_stripe ≤ v.rows
+  pub events : event_count v.encoder ≤ v.in_stripe * (v.plan.width + 1)
+  pub going : has_failed v.encoder ≡ false
+  pub somewhere : IsSomewhere v.encoder
+
+-- between two calls
+pub record MayGoOn (v : RowView) : Type 0 where
+  pub able : IsAble v
+  pub fewer : v.in_stripe < v.plan.stripe_rows
+  pub tallied : 0 < v.in_stripe → row_count v.tally ≤ v.in_stripe
+
+-- the plan is that of these settings
+pub record IsPlan (s : Settings) (width limit : ℕ) (p : RowPlan) : Type 0 where
+  pub width_is : p.width ≡ width
+  pub limit_is : p.limit ≡ limit
+  pub shape_is : IsShape s width p.shape
+  pub stripe_rows_is : p.stripe_rows ≡ s.stripe_rows
+  pub some : 1 ≤ s.stripe_rows
+  pub announced_is : p.announced ≡ unwrap_or s.announced limit
+  pub may_end_is : p.may_end ≡ is_some s.announced
+  pub candidates_are : p.has_candidates ≡ nat_lt 0 (length (candidates (mode_of s.options).two_line s.most_offset))
+  pub reset_is : p.reset ≡ s.reset
+  pub width_from : 1 ≤ width
+  pub width_to : width ≤ 1048576
+  pub limit_to : limit < 2 ^ 32
+
+-- these rows came, so many
+pub record HaveCome (width limit : ℕ) (rows : List (List Bool)) (count : ℕ) : Type 0 where
+  pub many : count ≡ length rows
+  pub few : length rows ≤ limit
+  pub wide : AllByRecursion (λ row. length row ≡ width) rows
+
+-- i stripes are whole, and this is the stream up to there and what is carried on
+pub record StripesWhole (s : Settings) (width limit i : ℕ) (rows : List (List Bool)) (at : EncoderStart) (front : List ℕ) : Type 0 where
+  pub many : length rows ≡ i * s.stripe_rows
+  pub front_is : (raster : Raster) → MayCome s width limit rows raster → front ≡ jbg_up_to s raster i
+  pub course : (raster : Raster) → MayCome s width limit rows raster → i * s.stripe_rows < height raster → CourseAt s raster i at
+
+-- what is held before row r of a stripe, whose move is made
+pub record IsHeldBy (move : Option (ℕ × ℕ)) (r : ℕ) (b : RowStart) (kept : Kept) (learned : List Estimate) (window : Held) : Type 0 where
+  pub at_top : IfSome move (λ m. m.0 ≡ 0)
+  pub offset_is : kept.offset ≡ offset_at move r b.offset
+  pub previous_is : kept.previous_typical ≡ b.previous
+  pub learned_is : learned ≡ b.state.learned
+  pub third : List Bool
+  pub lines_are : HasLines window (record { row = b.above; above = b.second; second = third })
+
+-- the offset against which the rows of a stripe are counted, where they are
+abbrev pub counted_of : RowView → Option ℕ
+counted_of v = if v.is_counted then Some (if v.plan.reset then 0 else v.kept.offset) else None
+
+-- the bytes of the next stripe's move
+abbrev pub move_bytes : Settings → ℕ → EncoderStart → List ℕ
+move_bytes s width at = flat_map segment_bytes (move_segments (next_move s width at))
+
+-- whether a stripe begins, and there are offsets to choose from for the one after it
+abbrev pub CountsForNext : Settings → ℕ → ℕ → RowView → Type 0
+CountsForNext s limit i v = (i + 1) * s.stripe_rows < limit → 0 < length (candidates (mode_of s.options).two_line s.most_offset) → v.is_counted ≡ true
+
+-- These rows of a stripe came, and the stripe's move and the code that is sure were written.
+pub record IsRunning (s : Settings) (width : ℕ) (at : EncoderStart) (part : List (List Bool)) (v : RowView) (window : Held) (pushed : List ℕ) : Type 0 where
+  pub codes : EncoderIsAt v.encoder (row_start_in s width at part).state.place pushed
+  pub is_held : IsHeldBy (next_move s width at) (length part) (row_start_in s width at part) v.kept v.learned window
+  pub two_line : is_two_line v.tally ≡ (mode_of s.options).two_line
+  pub most : most_of v.tally ≡ s.most_offset
+  pub tallied : IsCountedTo width (counted_of v) v.tally (lines_down at.carry.above at.carry.second part)
+
+-- A stripe runs, after some that are whole.
+pub record Runs (s : Settings) (width limit : ℕ) (rows : List (List Bool)) (v : RowView) (window : Held) (text text' : Option (List ℕ)) : Type 0 where
+  pub plan_is : IsPlan s width limit v.plan
+  pub come : HaveCome width limit rows v.rows
+  pub i : ℕ
+  pub whole : List (List Bool)
+  pub part : List (List Bool)
+  pub all : rows ≡ whole ++ part
+  pub at : EncoderStart
+  pub front : List ℕ
+  pub stripes : StripesWhole s width limit i whole at front
+  pub in_stripe : v.in_stripe ≡ length part
+  pub few : length part ≤ s.stripe_rows
+  pub pushed : List ℕ
+  pub running : IsRunning s width at part v window pushed
+  pub counts : CountsForNext s limit i v
+  pub appended : Appends text text' (front ++ (move_bytes s width at ++ pushed))
+
+-- what is held where a stripe begins
+pub record IsStart (s : Settings) (width : ℕ) (at : EncoderStart) (v : RowView) (window : Held) : Type 0 where
+  pub is_held : IsHeldBy None 0 (first_row_start at.carry) v.kept v.learned window
+  pub is_tallied : IsTallied s width at v.tally
+
+-- No stripe runs: some are whole.
+pub record Waits (s : Settings) (width limit : ℕ) (rows : List (List Bool)) (v : RowView) (window : Held) (text text' : Option (List ℕ)) : Type 0 where
+  pub plan_is : IsPlan s width limit v.plan
+  pub come : HaveCome width limit rows v.rows
+  pub i : ℕ
+  pub at : EncoderStart
+  pub front : List ℕ
+  pub stripes : StripesWhole s width limit i rows at front
+  pub in_stripe : v.in_stripe ≡ 0
+  pub codes : EncoderIsAt v.encoder start []
+  pub on_course : i * s.stripe_rows < limit → IsStart s width at v window
+  pub appended : Appends text text' front
+
+-- After these rows of an image of this width, and of this height or, where a height is announced, at most this one.
+abbrev pub Stands : Settings → ℕ → ℕ → List (List Bool) → RowView → Held → Option (List ℕ) → Option (List ℕ) → Type 0
+Stands s width limit rows v window text text' =
+    Waits s width limit rows v window text text' ⊎ (Runs s width limit rows v window text text' × (0 < v.in_stripe) × (v.in_stripe < v.plan.stripe_rows))
+
+-- this row is below the lines that the window had
+abbrev pub IsBelow : List Bool → Held → Held → Type 0
+IsBelow row old new = (lines : Lines) → HasLines old lines → HasLines new (record { row = row; above = lines.row; second = lines.above })
+
+-- A row is taken, in whatever stream: what stood then stands with this row, too.
+abbrev pub TakesNextRow : List Bool → RowView → RowView → Held → Held → Option (List ℕ) → Option (List ℕ) → Type 0
+TakesNextRow row v v' window window' old new =
+    (s : Settings) (width limit : ℕ) (rows : List (List Bool)) (text : Option (List ℕ)) → Stands s width limit rows v window text old →
+    Stands s width limit (rows ++ row ∷ []) v' window' text new
+
+-- no more than a beginning was written
+abbrev pub CutsRow : List Bool → RowView → Held → Option (List ℕ) → Option (List ℕ) → Type 0
+CutsRow row v window old new =
+    (s : Settings) (width limit : ℕ) (rows : List (List Bool)) (text : Option (List ℕ)) → Stands s width limit rows v window text old →
+    StreamCut s width limit (rows ++ row ∷ []) text new
+
+-- an image ends, in whatever stream
+abbrev pub EndsImage : RowView → Held → Option (List ℕ) → Option (List ℕ) → Type 0
+EndsImage v window old new =
+    (s : Settings) (width limit : ℕ) (rows : List (List Bool)) (text : Option (List ℕ)) → Stands s width limit rows v window text old →
+    Appends text new (jbg s (raster_of width rows))
+
+abbrev pub CutsImage : RowView → Held → Option (List ℕ) → Option (List ℕ) → Type 0
+CutsImage v window old new =
+    (s : Settings) (width limit : ℕ) (rows : List (List Bool)) (text : Option (List ℕ)) → Stands s width limit rows v window text old →
+    AppendsBeginning text new (jbg s (raster_of width rows))
+
+-- What stands after some rows is a beginning of the stream of each image that begins with them and may still come, and
+-- has each stripe whose rows all came.
+abbrev pub RowFronts : Type 0
+RowFronts =
+    (s : Settings) (width limit : ℕ) (rows : List (List Bool)) (v : RowView) (window : Held) (text text' : Option (List ℕ)) →
+    Stands s width limit rows v window text text' → StreamFront s width limit rows text text'

@@ -1,0 +1,165 @@
+-- How far the code of a stripe has come of which pieces came.
+use Rattle.std.specs.Prelude.{ℕ, ◌+◌, ◌≡◌, ◌≤◌, ◌<◌, Bool, List, [], ◌++◌, length, Option, Some, None, IfSome, flat_map}
+use Rattle.std.specs.List.{AllByRecursion}
+use Rattle.qm_core.specs.Code.{stuffed}
+use Rattle.qm_core.specs.Source.{bytes_of, heard_of, Agrees}
+use Rattle.qm_core.specs.declared.source.Pulled.{Pulled}
+use Rattle.qm_core.specs.declared.source.Heard.TheVariants.{More, Ended}
+use Rattle.qm_core.specs.declared.decoder.Decoder.{Decoder}
+use Rattle.raster_core.specs.Packed.{packed_row}
+use Rattle.raster_core.specs.Window.{held}
+use Rattle.raster_core.specs.declared.shape.Shape.{Shape}
+use Rattle.t85_core.specs.declared.fault.Fault.{Fault}
+use Rattle.t85_core.specs.declared.fault.Fault.TheVariants.{Truncated}
+use Rattle.t85_core.specs.declared.segments.Code.{Code}
+use Rattle.t85_core.specs.declared.state.CodingState.{CodingState}
+use Rattle.t85_core.specs.Header.{Fields}
+use Rattle.t85_core.specs.Grammar.{Segment, marker_bytes}
+use Rattle.t85_core.specs.Coding.{move_of}
+use Rattle.t85_core.specs.Failures.{counted_as}
+use Rattle.t85_core.specs.Steps.Segments.{IsByteOrMarker, RestFault, code_bytes}
+use Rattle.t85_core.specs.Steps.State.{StripeStart}
+use Rattle.t85_core.specs.Steps.Cut.{BegunRun}
+use Rattle.t85_core.specs.Steps.DecodeRows.{RowsRead}
+
+-- a source of which only the answers count
+abbrev pub Anything : Unit {0} → Pulled → Unit {0} → Type 0
+Anything s answer t = Unit {0}
+
+-- the first rows of a stripe with these segments: decoded from these answers, and handed out
+abbrev pub RowsKnown : Fields → Shape → StripeStart → List Segment → ℕ → CodingState → Decoder → List ℕ → List ℕ → Type 0
+RowsKnown h shape c segments count carried d began out = RowsRead Anything tt tt h shape c segments count carried d (Some began) (Some out)
+
+-- what was read ahead of a code
+abbrev pub ahead_bytes : Option Code → List ℕ
+ahead_bytes None = []
+ahead_bytes (Some c) = code_bytes c
+
+-- The text of a code so far: its bytes that were answered, those that were skipped after them, and what was read ahead.
+pub record CodeOpen (first : Option Code) (answers : List Pulled) (extra text : List ℕ) : Type 0 where
+  pub going : heard_of answers ≡ More
+  pub bytes : AllByRecursion (λ b. b < 256) (bytes_of answers)
+  pub small : AllByRecursion (λ b. b < 256) extra
+  pub ahead : IfSome first IsByteOrMarker
+  pub begun : first ≡ None → 1 ≤ length (bytes_of answers ++ extra)
+  pub text_is : text ≡ stuffed (bytes_of answers ++ extra) ++ ahead_bytes first
+
+-- the same where its end marker was answered
+pub record EntityEnded (first : Option Code) (reset : Bool) (answers : List Pulled) (extra text : List ℕ) : Type 0 where
+  pub ended : heard_of answers ≡ Ended
+  pub bytes : AllByRecursion (λ b. b < 256) (bytes_of answers)
+  pub none : extra ≡ []
+  pub behind : first ≡ None
+  pub text_is : text ≡ stuffed (bytes_of answers) ++ marker_bytes reset
+
+abbrev pub CodeText : Option Code → Option Bool → List Pulled → List ℕ → List ℕ → Type 0
+CodeText first None answers extra text = CodeOpen first answers extra text
+CodeText first (Some reset) answers extra text = EntityEnded first reset answers extra text
+
+-- A code that breaks after these bytes of it, and what of the piece wasn't looked at.
+pub record CodeBreaks (text piece : List ℕ) (bytes : List ℕ) (fault : Fault) : Type 0 where
+  pub some : 1 ≤ length bytes
+  pub small : AllByRecursion (λ b. b < 256) bytes
+  pub rest : List ℕ
+  pub unread : List ℕ
+  pub text_is : text ++ piece ≡ (stuffed bytes ++ rest) ++ unread
+  pub broken : RestFault rest fault
+  pub counted : counted_as Truncated fault ≡ fault
+  pub at_end : fault ≡ Truncated → unread ≡ []
+
+-- ---- a row
+
+-- A row more was decoded, from these bytes of the piece.
+pub record PieceRowTaken (h : Fields) (shape : Shape) (c : StripeStart) (segments : List Segment) (row : ℕ) (first : Option Code) (marker : Option Bool) (carried : CodingState) (d : Decoder) (began out text piece piece' : List ℕ) : Type 0 where
+  pub given : List ℕ
+  pub taken : piece ≡ given ++ piece'
+  pub read : RowsKnown h shape c segments (row + 1) carried d began (out ++ (held carried.window.now).current)
+  pub code_is : CodeText first marker read.answers [] (text ++ given)
+
+-- No row more is decided. All is as it was.
+pub record RowMissing (h : Fields) (shape : Shape) (c : StripeStart) (segments : List Segment) (count row : ℕ) (first : Option Code) (marker : Option Bool) (carried : CodingState) (d : Decoder) (began out text piece : List ℕ) (fault : Fault) : Type 0 where
+  pub read : RowsKnown h shape c segments row carried d began out
+  pub code_is : CodeText first marker read.answers [] text
+  pub bytes : List ℕ
+  pub breaks : CodeBreaks text piece bytes fault
+  pub rows : List (List Bool)
+  pub flags : List Bool
+  pub begun : BegunRun h count c segments bytes rows flags
+  pub out_is : out ≡ began ++ flat_map packed_row rows
+
+-- what of a decoder of rows a piece may change
+pub record RowState : Type 0 where
+  pub carried : CodingState
+  pub decoder : Decoder
+  pub first : Option Code
+  pub marker : Option Bool
+  pub piece : List ℕ
+
+abbrev pub row_state : CodingState → Decoder → Option Code → Option Bool → List ℕ → RowState
+row_state carried decoder first marker piece = record { carried = carried; decoder = decoder; first = first; marker = marker; piece = piece }
+
+-- in whatever stripe
+abbrev pub TakesPieceRow : Shape → Option (ℕ × ℕ) → ℕ → RowState → RowState → Type 0
+TakesPieceRow shape move row s t =
+    (h : Fields) (c : StripeStart) (segments : List Segment) (began out text : List ℕ) → move ≡ move_of segments →
+    (r : RowsKnown h shape c segments row s.carried s.decoder began out) → CodeText s.first s.marker r.answers [] text →
+    PieceRowTaken h shape c segments row t.first t.marker t.carried t.decoder began out text s.piece t.piece
+
+abbrev pub MissesRow : Shape → Option (ℕ × ℕ) → ℕ → RowState → RowState → Fault → Type 0
+MissesRow shape move row s t fault =
+    (h : Fields) (c : StripeStart) (segments : List Segment) (began out text : List ℕ) (count : ℕ) → move ≡ move_of segments → row ≤ count →
+    (r : RowsKnown h shape c segments row s.carried s.decoder began out) → CodeText s.first s.marker r.answers [] text →
+    RowMissing h shape c segments count row t.first t.marker t.carried t.decoder began out text s.piece fault
+
+-- ---- after the last row of a stripe
+
+-- Bytes of a code were skipped, and its end marker.
+pub record SkipsSome (piece piece' : List ℕ) (reset : Bool) : Type 0 where
+  pub code : List ℕ
+  pub small : AllByRecursion (λ b. b < 256) code
+  pub taken : piece ≡ (stuffed code ++ marker_bytes reset) ++ piece'
+
+-- Bytes of a code were skipped, and then it breaks, or the piece ends.
+pub record SkipBreaks (piece piece' : List ℕ) (fault : Fault) : Type 0 where
+  pub code : List ℕ
+  pub small : AllByRecursion (λ b. b < 256) code
+  pub taken : piece ≡ stuffed code ++ piece'
+  pub rest : List ℕ
+  pub unread : List ℕ
+  pub rest_is : piece' ≡ rest ++ unread
+  pub broken : RestFault rest fault
+  pub counted : counted_as Truncated fault ≡ fault
+  pub at_end : fault ≡ Truncated → unread ≡ []
+
+-- The end marker of a code, of which the rows were answered so.
+pub record MarkerFound (answers : List Pulled) (text piece piece' : List ℕ) (reset : Bool) : Type 0 where
+  pub given : List ℕ
+  pub taken : piece ≡ given ++ piece'
+  pub code : List ℕ
+  pub small : AllByRecursion (λ b. b < 256) code
+  pub agrees : Agrees answers code
+  pub text_is : text ++ given ≡ stuffed code ++ marker_bytes reset
+
+-- however the rows were answered
+abbrev pub FindsMarker : Option Code → Option Bool → List ℕ → List ℕ → Bool → Type 0
+FindsMarker first marker piece piece' reset = (answers : List Pulled) (extra text : List ℕ) → CodeText first marker answers extra text → MarkerFound answers text piece piece' reset
+
+-- The code breaks after its rows.
+pub record MarkerMissing (answers : List Pulled) (text piece : List ℕ) (fault : Fault) : Type 0 where
+  pub more : List ℕ
+  pub small : AllByRecursion (λ b. b < 256) more
+  pub going : heard_of answers ≡ More
+  pub breaks : CodeBreaks text piece (bytes_of answers ++ more) fault
+
+abbrev pub MissesMarker : Option Code → Option Bool → List ℕ → Fault → Type 0
+MissesMarker first marker piece fault = (answers : List Pulled) (extra text : List ℕ) → CodeText first marker answers extra text → MarkerMissing answers text piece fault
+
+-- What came of the code was skipped.
+pub record CodeKept (first : Option Code) (marker : Option Bool) (answers : List Pulled) (text piece piece' : List ℕ) : Type 0 where
+  pub given : List ℕ
+  pub taken : piece ≡ given ++ piece'
+  pub extra : List ℕ
+  pub code_is : CodeText first marker answers extra (text ++ given)
+
+abbrev pub KeepsCode : Option Code → Option Code → Option Bool → List ℕ → List ℕ → Type 0
+KeepsCode first first' marker piece piece' = (answers : List Pulled) (extra text : List ℕ) → CodeText first marker answers extra text → CodeKept first' marker answers text piece piece'

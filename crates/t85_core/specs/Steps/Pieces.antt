@@ -1,0 +1,135 @@
+-- How far a decoder has come that is fed in pieces.
+use Rattle.std.specs.Prelude.{⊤, take, ℕ, ◌+◌, ◌-◌, ◌*◌, ◌^◌, ◌≡◌, ◌≤◌, ◌<◌, Bool, true, false, List, [], ◌∷◌, ◌++◌, length, min, Option, Some, None, IfSome, is_some, if◌then◌else◌, flat_map, Result, Ok, OnOk, IfErr, IsErrOf}
+use Rattle.byteorder.specs.Endian.{big_bytes}
+use Rattle.qm_core.specs.declared.decoder.Decoder.{Decoder}
+use Rattle.raster_core.specs.Packed.{packed_row}
+use Rattle.raster_core.specs.Window.{held, width_of}
+use Rattle.raster_core.specs.declared.shape.Shape.{Shape}
+use Rattle.t85_core.specs.declared.fault.Fault.{Fault}
+use Rattle.t85_core.specs.declared.fault.Fault.TheVariants.{Truncated}
+use Rattle.t85_core.specs.declared.segments.Code.{Code}
+use Rattle.t85_core.specs.declared.segments.Move as move
+use Rattle.t85_core.specs.declared.state.CodingState.{CodingState}
+use Rattle.t85_core.specs.declared.pieces.walk.Walk.{Walk}
+use Rattle.t85_core.specs.declared.pieces.walk.Stage.{Stage}
+use Rattle.t85_core.specs.declared.pieces.walk.Stage.TheVariants as stage
+use Rattle.t85_core.specs.Header.{Fields}
+use Rattle.t85_core.specs.Grammar.{stripe_count, ESC, COMMENT}
+use Rattle.t85_core.specs.Height.{GivesHeight}
+use Rattle.t85_core.specs.Denotes.{DenotesAt}
+use Rattle.t85_core.specs.Failures.{counted_as}
+use Rattle.t85_core.specs.Steps.Segments.{HasPassed, IsByteOrMarker}
+use Rattle.t85_core.specs.Steps.DecodeStripes.{StripesRead, ImageRead, ImageCut}
+use Rattle.t85_core.specs.Steps.PieceCode.{RowsKnown, CodeText}
+
+-- These bytes are broken, or end too early, and fix the rows that were handed out.
+pub record CutOff (h : Fields) (height : ℕ) (text out : List ℕ) (fault : Fault) : Type 0 where
+  pub counted : counted_as Truncated fault ≡ fault
+  pub unread : List ℕ
+  pub cut : ImageCut h height (Some text) (Some unread) (Some []) (Some out) fault
+
+-- A place in the head of a stripe: the stripes before it are decoded, and these segments of it were read.
+pub record HeadStands (h : Fields) (height entities : ℕ) (given : Bool) (at : Option move.Move) (carried : CodingState) (text out : List ℕ) : Type 0 where
+  pub before : Bool
+  pub front : List ℕ
+  pub back : List ℕ
+  pub text_is : text ≡ front ++ back
+  pub stripes : StripesRead h height (Some front) (Some []) entities (if before then 1 else 0) carried (Some []) (Some out)
+  pub comments : ℕ
+  pub passed : HasPassed h (record { height = height; entities = entities; given = before }) false (Some back) (Some []) at (is_some at) given comments
+  pub fewer : entities < stripe_count height h.l0
+
+-- A place in a comment there, of which this many bytes are to come.
+pub record CommentStands (h : Fields) (height entities : ℕ) (given : Bool) (at : Option move.Move) (carried : CodingState) (left : ℕ) (text out : List ℕ) : Type 0 where
+  pub before : List ℕ
+  pub head : HeadStands h height entities given at carried before out
+  pub part : List ℕ
+  pub small : length part + left < 2 ^ 32
+  pub text_is : text ≡ before ++ (ESC ∷ COMMENT ∷ (big_bytes 4 (length part + left) ++ part))
+
+-- how many rows a stripe has
+abbrev pub rows_in : Fields → ℕ → ℕ → ℕ
+rows_in h height entities = min (height - entities * h.l0) h.l0
+
+-- A place in the code of a stripe, of which this many rows are decoded.
+pub record CodeStands (h : Fields) (height entities : ℕ) (given : Bool) (at : Option move.Move) (row : ℕ) (first : Option Code) (marker : Option Bool) (carried : CodingState) (d : Decoder) (text out : List ℕ) : Type 0 where
+  pub before : List ℕ
+  pub began : List ℕ
+  pub start : CodingState
+  pub head : HeadStands h height entities given at start before began
+  pub shape : Shape
+  pub read : RowsKnown h shape head.stripes.next head.passed.segments row carried d began out
+  pub few : row ≤ rows_in h height entities
+  pub extra : List ℕ
+  pub rows_first : row < rows_in h height entities → extra ≡ []
+  pub code : List ℕ
+  pub code_is : CodeText first marker read.answers extra code
+  pub text_is : text ≡ before ++ code
+
+-- The height of a body is this one, and it denotes the first of these rows there.
+pub record LateHeight (h : Fields) (n : ℕ) (body : List ℕ) (rows : List (List Bool)) : Type 0 where
+  pub gives : GivesHeight h body n
+  pub denotes : DenotesAt h n body (record { width = h.xd; rows = take n rows })
+
+-- A height came late, which needs no row more than was handed out.
+pub record LateStands (h : Fields) (n : ℕ) (text out : List ℕ) : Type 0 where
+  pub rows : List (List Bool)
+  pub out_is : out ≡ flat_map packed_row rows
+  pub late : (rest : List ℕ) → LateHeight h n (text ++ rest) rows
+
+-- whether the image is whole
+abbrev pub IsOver : Stage → Type 0
+IsOver stage.Head = ⊥
+IsOver stage.Comment = ⊥
+IsOver stage.Code = ⊥
+IsOver stage.Done = ⊤
+IsOver (stage.Late n) = ⊤
+
+abbrev pub StageStands : Stage → Fields → ℕ → Walk → List ℕ → List ℕ → Type 0
+StageStands stage.Head h height w text out = HeadStands h height w.entities w.given w.at w.carried text out
+StageStands stage.Comment h height w text out = CommentStands h height w.entities w.given w.at w.carried w.comment text out
+StageStands stage.Code h height w text out = CodeStands h height w.entities w.given w.at w.row w.first w.marker w.carried w.decoder text out
+-- whatever comes after it
+StageStands stage.Done h height w text out = ImageRead h height (Some text) (Some []) (Some []) (Some out)
+StageStands (stage.Late n) h height w text out = LateStands h n text out
+
+-- A walk has taken these bytes, and has handed out these.
+pub record WalkStands (h : Fields) (height : ℕ) (w : Walk) (text out : List ℕ) : Type 0 where
+  pub left_is : w.left ≡ height - w.entities * h.l0
+  pub width_is : width_of w.carried.window.now ≡ h.xd
+  pub offset_is : w.carried.kept.offset ≤ 127
+  pub at_is : IfSome w.at (λ to. to.offset ≤ 127)
+  pub code_is : IfSome w.first IsByteOrMarker
+  pub behind : IfSome w.marker (λ _. w.first ≡ None)
+  pub stands : StageStands w.stage h height w text out
+
+-- it has, of some
+abbrev pub SomeStands : Fields → ℕ → Walk → Type 0
+SomeStands h height w = (text : List ℕ) × (out : List ℕ) × WalkStands h height w text out
+
+-- A step takes bytes of the piece, and hands these out.
+abbrev pub StepsOn : Fields → ℕ → Walk → Walk → List ℕ → List ℕ → List ℕ → Type 0
+StepsOn h height w w' piece piece' row = (text out : List ℕ) → WalkStands h height w text out → (given : List ℕ) × (piece ≡ given ++ piece') × WalkStands h height w' (text ++ given) (out ++ row)
+
+-- What came is broken, or ends too early, and fixes what was handed out.
+abbrev pub StepsOff : Fields → ℕ → Walk → List ℕ → Fault → Type 0
+StepsOff h height w piece fault = (text out : List ℕ) → WalkStands h height w text out → CutOff h height (text ++ piece) out fault
+
+-- What a step leaves that hands out no row.
+pub record Step (h : Fields) (height : ℕ) (w w' : Walk) (piece piece' : List ℕ) (answer : Result (Unit {0}) Fault) : Type 0 where
+  pub ok : OnOk answer (StepsOn h height w w' piece piece' [])
+  pub err : IfErr answer (λ f. StepsOff h height w piece f)
+  pub more : IsErrOf answer Truncated → StepsOn h height w w' piece piece' []
+
+-- What a step leaves that hands out a row.
+pub record RowStep (h : Fields) (height : ℕ) (w w' : Walk) (piece piece' : List ℕ) (answer : Result (Unit {0}) Fault) : Type 0 where
+  pub ok : OnOk answer (StepsOn h height w w' piece piece' (held w'.carried.window.now).current)
+  pub err : IfErr answer (λ f. StepsOff h height w piece f)
+  pub more : IsErrOf answer Truncated → StepsOn h height w w' piece piece' []
+
+-- What a step leaves that may hand out a row, or find that the image is whole.
+pub record Turn (h : Fields) (height : ℕ) (w w' : Walk) (piece piece' : List ℕ) (answer : Result Bool Fault) : Type 0 where
+  pub row : answer ≡ Ok true → StepsOn h height w w' piece piece' (held w'.carried.window.now).current
+  pub done : answer ≡ Ok false → StepsOn h height w w' piece piece' [] × IsOver w'.stage
+  pub err : IfErr answer (λ f. StepsOff h height w piece f)
+  pub more : IsErrOf answer Truncated → StepsOn h height w w' piece piece' []

@@ -1,0 +1,200 @@
+-- What the steps of a row encoder leave.
+use Rattle.std.specs.Prelude.{ℕ, ◌+◌, ◌*◌, ◌≡◌, ◌≤◌, ◌<◌, Bool, List, [], ◌∷◌, ◌++◌, length, Option, IfSome, unwrap_or, Result, OnOk, OnErr}
+use Rattle.std.specs.Io.KnownBytes.{Appends}
+use Rattle.pbm_core.specs.Device.{AppendsBeginning}
+use Rattle.qm_core.specs.Place.{Estimate, Place, State, start}
+use Rattle.qm_core.specs.Encoder.{EncoderIsAt, IsStuffedFront}
+use Rattle.qm_core.specs.Code.{stuffed, IsCode}
+use Rattle.qm_core.specs.Place as place
+use Rattle.qm_core.specs.Sink.{Took, Refused}
+use Rattle.qm_core.specs.declared.encoder.Encoder.{Encoder}
+use Rattle.raster_core.specs.Lines.{Lines}
+use Rattle.raster_core.specs.Packed.{Held, HasLines, white_lines}
+use Rattle.raster_core.specs.Row.{RowCoded, canonical_events}
+use Rattle.qm_core.specs.Puts.{FailsIn}
+use Rattle.raster_core.specs.Window.{shape_mode}
+use Rattle.raster_core.specs.Lines.{may_be_typical}
+use Rattle.raster_core.specs.declared.shape.Shape.{Shape}
+use Rattle.raster_core.specs.declared.shape.Kept.{Kept}
+use Rattle.t85_core.specs.Grammar.{marker_bytes, stripe_bytes, stripe_count}
+use Rattle.t85_core.specs.Encode.{raster_of}
+use Rattle.t85_core.specs.Jbg.{Settings, head_of, jbg_up_to}
+use Rattle.t85_core.specs.Steps.State.{offset_at}
+use Rattle.t85_core.specs.Steps.Written.{EncoderStart, next_move, next_stripe, next_encoder_start}
+use Rattle.t85_core.specs.Steps.ByRow.{IsPlan, HaveCome, StripesWhole, IsStart, RowView, Stands, Waits, Runs, StreamCut, IsBelow, move_bytes}
+
+-- The move of a stripe was written and made.
+pub record MoveMade (s : Settings) (width : ℕ) (at : EncoderStart) (text text' : Option (List ℕ)) (kept kept' : Kept) : Type 0 where
+  pub at_top : IfSome (next_move s width at) (λ m. m.0 ≡ 0)
+  pub offset_is : kept'.offset ≡ offset_at (next_move s width at) 0 at.carry.offset
+  pub previous_is : kept'.previous_typical ≡ kept.previous_typical
+  pub appended : Appends text text' (move_bytes s width at)
+
+-- a beginning of it was written
+abbrev pub MoveCut : Settings → ℕ → EncoderStart → Option (List ℕ) → Option (List ℕ) → Type 0
+MoveCut s width at text text' = AppendsBeginning text text' (move_bytes s width at)
+
+-- What coding a row leaves, for an encoder at a place with these bytes pushed, and a window with these lines.
+pub record RowPut (shape : Shape) (kept kept' : Kept) (s : State) (pushed : List ℕ) (lines : Lines) (e : Encoder) (learned : List Estimate) (text text' : Option (List ℕ)) : Type 0 where
+  pub more : List ℕ
+  pub appended : Appends text text' more
+  pub codes : EncoderIsAt e (place.after s (canonical_events shape kept lines)).place (pushed ++ more)
+  pub taught : learned ≡ (place.after s (canonical_events shape kept lines)).learned
+  pub offset_is : kept'.offset ≡ kept.offset
+  pub flag_is : kept'.previous_typical ≡ may_be_typical (shape_mode shape) lines
+
+-- the target refused a byte of it
+pub record RowCut (s : State) (pushed : List ℕ) (all : List place.Event) (text text' : Option (List ℕ)) : Type 0 where
+  pub events : List place.Event
+  pub rest : List place.Event
+  pub all_are : all ≡ events ++ rest
+  pub done : List ℕ
+  pub left : List ℕ
+  pub appended : Appends text text' done
+  pub begins : IsStuffedFront ((pushed ++ done) ++ left) (place.after s events).place
+
+-- what a sink has of a row that was coded
+pub record RowSent {S : Type 0} {E : Type 0} (took : S → ℕ → S → Type 0) (refused : S → S → Type 0) (from to : S) (shape : Shape) (kept kept' : Kept) (s : State) (pushed : List ℕ) (lines : Lines)
+    (e : Encoder) (learned : List Estimate) (answer : Result (Unit {0}) E) : Type 0 where
+  pub ok : OnOk answer (RowCoded took from to shape kept kept' s pushed lines e learned)
+  pub err : OnErr answer (FailsIn took refused from to s pushed (canonical_events shape kept lines))
+
+-- and of the end of a code
+pub record EndSent {S : Type 0} {E : Type 0} (took : S → ℕ → S → Type 0) (refused : S → S → Type 0) (from to : S) (p : Place) (pushed : List ℕ) (answer : Result (Unit {0}) E) : Type 0 where
+  pub code : List ℕ
+  pub is : IsCode p code
+  pub more : List ℕ
+  pub all : pushed ++ more ≡ stuffed code
+  pub ok : OnOk answer (Took took from more to)
+  pub err : OnErr answer (Refused took refused from more to)
+
+-- what a call that codes a row leaves
+pub record RowOutcome {E : Type 0} (shape : Shape) (kept kept' : Kept) (s : State) (pushed : List ℕ) (lines : Lines) (e : Encoder) (learned : List Estimate) (text text' : Option (List ℕ)) (answer : Result (Unit {0}) E) : Type 0 where
+  pub ok : OnOk answer (RowPut shape kept kept' s pushed lines e learned text text')
+  pub cut : OnErr answer (RowCut s pushed (canonical_events shape kept lines) text text')
+
+-- The code of a place was ended, behind the bytes that were pushed, or a beginning of that was written.
+pub record CodeFinished {E : Type 0} (p : Place) (pushed : List ℕ) (text text' : Option (List ℕ)) (answer : Result (Unit {0}) E) : Type 0 where
+  pub code : List ℕ
+  pub is : IsCode p code
+  pub more : List ℕ
+  pub all : pushed ++ more ≡ stuffed code
+  pub ok : OnOk answer (Appends text text' more)
+  pub cut : OnErr answer (AppendsBeginning text text' more)
+
+-- The same with the end marker after it.
+pub record CodeEnded {E : Type 0} (p : Place) (reset : Bool) (pushed : List ℕ) (text text' : Option (List ℕ)) (answer : Result (Unit {0}) E) : Type 0 where
+  pub code : List ℕ
+  pub is : IsCode p code
+  pub more : List ℕ
+  pub all : pushed ++ more ≡ stuffed code ++ marker_bytes reset
+  pub ok : OnOk answer (Appends text text' more)
+  pub cut : OnErr answer (AppendsBeginning text text' more)
+
+-- A stripe was ended that had so many rows.
+pub record StripeEnded (s : Settings) (width limit count : ℕ) (rows : List (List Bool)) (v : RowView) (window : Held) (text text' : Option (List ℕ)) : Type 0 where
+  pub plan_is : IsPlan s width limit v.plan
+  pub come : HaveCome width limit rows v.rows
+  pub i : ℕ
+  pub whole : List (List Bool)
+  pub part : List (List Bool)
+  pub all : rows ≡ whole ++ part
+  pub at : EncoderStart
+  pub front : List ℕ
+  pub stripes : StripesWhole s width limit i whole at front
+  pub many : length part ≡ count
+  pub some : 0 < length part
+  pub few : length part ≤ s.stripe_rows
+  pub in_stripe : v.in_stripe ≡ 0
+  pub codes : EncoderIsAt v.encoder start []
+  pub on_course : (i + 1) * s.stripe_rows < limit → IsStart s width (next_encoder_start s width at part) v window
+  pub appended : Appends text text' (front ++ stripe_bytes (next_stripe s width at part))
+
+-- no more than a beginning of it was written
+pub record StripeBegun (s : Settings) (width limit count : ℕ) (rows : List (List Bool)) (text text' : Option (List ℕ)) : Type 0 where
+  pub i : ℕ
+  pub whole : List (List Bool)
+  pub part : List (List Bool)
+  pub all : rows ≡ whole ++ part
+  pub at : EncoderStart
+  pub front : List ℕ
+  pub stripes : StripesWhole s width limit i whole at front
+  pub many : length part ≡ count
+  pub some : 0 < length part
+  pub few : length part ≤ s.stripe_rows
+  pub appended : AppendsBeginning text text' (front ++ stripe_bytes (next_stripe s width at part))
+
+-- All stripes were written, of an image that may end here.
+pub record StripesEnded (s : Settings) (width limit : ℕ) (rows : List (List Bool)) (v : RowView) (text text' : Option (List ℕ)) : Type 0 where
+  pub rows_are : v.rows ≡ length rows
+  pub reset_is : v.plan.reset ≡ s.reset
+  pub announced_is : v.plan.announced ≡ unwrap_or s.announced (length rows)
+  pub appended : Appends text text' (jbg_up_to s (raster_of width rows) (stripe_count (length rows) s.stripe_rows))
+
+-- ---- what the steps of a call do, in whatever stream
+
+-- A stripe runs now, where one waited or ran.
+abbrev pub StandsToRun : RowView → RowView → Option (List ℕ) → Option (List ℕ) → Type 0
+StandsToRun v v' old new =
+    (s : Settings) (width limit : ℕ) (rows : List (List Bool)) (before : Held) (text : Option (List ℕ)) → Stands s width limit rows v before text old →
+    Runs s width limit rows v' before text new
+
+-- A stripe that waited runs now.
+abbrev pub WaitsToRun : RowView → RowView → Option (List ℕ) → Option (List ℕ) → Type 0
+WaitsToRun v v' old new =
+    (s : Settings) (width limit : ℕ) (rows : List (List Bool)) (before : Held) (text : Option (List ℕ)) → Waits s width limit rows v before text old →
+    Runs s width limit rows v' before text new
+
+-- no more than a beginning of its move was written
+abbrev pub CutsMove : RowView → Option (List ℕ) → Option (List ℕ) → Type 0
+CutsMove v old new =
+    (s : Settings) (width limit : ℕ) (rows : List (List Bool)) (row : List Bool) (before : Held) (text : Option (List ℕ)) → Waits s width limit rows v before text old →
+    StreamCut s width limit (rows ++ row ∷ []) text new
+
+-- The row that a window has was coded, in a stripe that runs.
+abbrev pub CodesRow : RowView → RowView → Held → Option (List ℕ) → Option (List ℕ) → Type 0
+CodesRow v v' window old new =
+    (s : Settings) (width limit : ℕ) (rows : List (List Bool)) (row : List Bool) (before : Held) (text : Option (List ℕ)) → IsBelow row before window →
+    Runs s width limit rows v before text old →
+    Runs s width limit (rows ++ row ∷ []) v' window text new
+
+-- no more than a beginning was written
+abbrev pub CutsCode : RowView → Held → Option (List ℕ) → Option (List ℕ) → Type 0
+CutsCode v window old new =
+    (s : Settings) (width limit : ℕ) (rows : List (List Bool)) (row : List Bool) (before : Held) (text : Option (List ℕ)) → IsBelow row before window →
+    Runs s width limit rows v before text old →
+    StreamCut s width limit (rows ++ row ∷ []) text new
+
+-- The stripe that ran was ended, if it has all its rows.
+abbrev pub RunsToStand : RowView → RowView → Held → Held → Option (List ℕ) → Option (List ℕ) → Type 0
+RunsToStand v v' window window' old new =
+    (s : Settings) (width limit : ℕ) (rows : List (List Bool)) (text : Option (List ℕ)) → Runs s width limit rows v window text old →
+    Stands s width limit rows v' window' text new
+
+abbrev pub CutsRunning : RowView → Held → Option (List ℕ) → Option (List ℕ) → Type 0
+CutsRunning v window old new =
+    (s : Settings) (width limit : ℕ) (rows : List (List Bool)) (text : Option (List ℕ)) → Runs s width limit rows v window text old →
+    StreamCut s width limit rows text new
+
+-- The stripe that ran was ended.
+abbrev pub EndsStripe : RowView → RowView → Held → Held → Option (List ℕ) → Option (List ℕ) → Type 0
+EndsStripe v v' window window' old new =
+    (s : Settings) (width limit : ℕ) (rows : List (List Bool)) (text : Option (List ℕ)) → Runs s width limit rows v window text old →
+    StripeEnded s width limit v.in_stripe rows v' window' text new
+
+abbrev pub CutsStripe : RowView → Held → Option (List ℕ) → Option (List ℕ) → Type 0
+CutsStripe v window old new =
+    (s : Settings) (width limit : ℕ) (rows : List (List Bool)) (text : Option (List ℕ)) → Runs s width limit rows v window text old →
+    StripeBegun s width limit v.in_stripe rows text new
+
+-- All stripes of an image that may end here were written.
+abbrev pub EndsStripes : RowView → RowView → Held → Option (List ℕ) → Option (List ℕ) → Type 0
+EndsStripes v v' window old new =
+    (s : Settings) (width limit : ℕ) (rows : List (List Bool)) (text : Option (List ℕ)) → Stands s width limit rows v window text old →
+    StripesEnded s width limit rows v' text new
+
+-- Once the head of a stream is written, and a window is white, no row has come.
+abbrev pub StandsFirst : Settings → ℕ → ℕ → RowView → Type 0
+StandsFirst s width limit v =
+    (window : Held) (text text' : Option (List ℕ)) → HasLines window (white_lines width) → Appends text text' (head_of s width limit) →
+    Stands s width limit [] v window text text'

@@ -1,0 +1,227 @@
+//! The steps of an encoder: the head, the move of a stripe, a row, and the end of a code.
+
+ghost use Rattle.std.specs.Prelude.{[], ◌∷◌, ◌++◌, nat_lt, length, None, IfSome, ◌≡◌, ◌≤◌, ◌<◌, ◌+◌, ◌-◌, ◌^◌, List, ℕ, OnOk, OnErr, IfErr, false};
+ghost use Rattle.std.specs.Io.KnownBytes.{Appends};
+ghost use Rattle.pbm_core.specs.Device.{AppendsBeginning};
+ghost use Rattle.qm_core.specs.Place.{Place};
+ghost use Rattle.raster_core.specs.Tally.{is_two_line, most_of, row_count};
+ghost use Rattle.raster_core.specs.Offset.{candidates};
+ghost use Rattle.qm_core.specs.Encoder.{EncoderIsAt, event_count, has_failed};
+ghost use Rattle.raster_core.specs.Lines.{Lines};
+ghost use Rattle.raster_core.specs.Packed.{HasLines};
+ghost use Rattle.raster_core.specs.Window.{held, width_of};
+ghost use Rattle.t85_core.specs.Jbg.{Settings, head_of, is_low};
+ghost use Rattle.t85_core.specs.Options.{settings_of};
+ghost use Rattle.t85_core.specs.Steps.State.{RowStart, first_row_start, next_stripe_start};
+ghost use Rattle.t85_core.specs.Steps.Written.{EncoderStart};
+ghost use Rattle.t85_core.specs.Steps.EncodeRows.{IsCountedTo};
+ghost use Rattle.t85_core.specs.Steps.EncodeStripes.{IsTallied};
+ghost use Rattle.t85_core.specs.Steps.ByRow.{IsSomewhere, IsLined, IsHeldBy};
+ghost use Rattle.t85_core.specs.Steps.Buffers.{WritesOn};
+ghost use Rattle.t85_core.specs.Steps.RowSteps.{MoveMade, MoveCut, RowOutcome, RowSent, EndSent, CodeFinished, CodeEnded};
+ghost use Rattle.t85_core.specs.Failures.{CountsWrite};
+ghost use Rattle.t85_core.specs.declared.fault.Fault.TheVariants.{Write};
+
+use crate::encoding::segments::{write_comment, write_marker, write_move};
+use crate::encoding::sink::EntitySink;
+use crate::fault::Fault;
+use crate::options::Options;
+use crate::output_buffer::ByteTarget;
+use pbm_core::Size;
+use qm_core::{CodeSink, Encoder, Learned};
+use raster_core::{Kept, Shape, Tally, Window, encode_row};
+
+/// Writes the header of the stream, and the comment, if there is one.
+pub fn write_head<P: ByteTarget>(
+    size: Size,
+    options: &Options<'_>,
+    target: &mut P,
+) -> Result<(), Fault>
+    requires low { is_low (settings_of options.now) size.height ≡ false }
+    ensures ok { OnOk result (Appends (P.view target.old).text (P.view target.new).text
+        (head_of (settings_of options.now) size.width size.height)) }
+    ensures cut { OnErr result (AppendsBeginning (P.view target.old).text (P.view target.new).text
+        (head_of (settings_of options.now) size.width size.height)) }
+    ensures err { IfErr result (λ f. f ≡ Write) }
+    ensures writes { WritesOn (P.view target.old) (P.view target.new) result }
+{
+    let header = options.header(size);
+    target.put(&header.bytes())?;
+    match options.comment {
+        Some(text) => write_comment(text, target),
+        None => Ok(()),
+    }
+}
+
+/// Moves the adaptive pixel where that would have served the stripe before, and writes the move.
+pub fn move_pixel<P: ByteTarget>(
+    kept: &mut Kept,
+    tally: &Tally,
+    target: &mut P,
+) -> Result<(), Fault>
+    requires offset { kept.old.offset ≤ 127 }
+    ensures offset { kept.new.offset ≤ 127 }
+    ensures ok { OnOk result ((s : Settings) (width : ℕ) (at : EncoderStart) →
+        kept.old.offset ≡ at.carry.offset → IsTallied s width at tally.now →
+        MoveMade s width at (P.view target.old).text (P.view target.new).text kept.old kept.new) }
+    ensures cut { OnErr result ((s : Settings) (width : ℕ) (at : EncoderStart) →
+        kept.old.offset ≡ at.carry.offset → IsTallied s width at tally.now →
+        MoveCut s width at (P.view target.old).text (P.view target.new).text) }
+    ensures err { IfErr result (λ f. f ≡ Write) }
+    ensures writes { WritesOn (P.view target.old) (P.view target.new) result }
+{
+    match tally.choose(kept.offset) {
+        Some(offset) => {
+            write_move(offset, target)?;
+            kept.offset = offset;
+            Ok(())
+        }
+        None => Ok(()),
+    }
+}
+
+/// Codes the row that the window has.
+pub fn code_row<P: ByteTarget>(
+    shape: Shape,
+    window: &Window<'_>,
+    kept: &mut Kept,
+    learned: &mut Learned,
+    encoder: &mut Encoder,
+    target: &mut P,
+) -> Result<(), Fault>
+    requires offset { kept.old.offset ≤ 127 }
+    requires width { width_of window.now ≡ shape.width }
+    requires some { 1 ≤ shape.width }
+    requires events { event_count encoder.old + shape.width + 1 ≤ 2 ^ 56 }
+    requires going { has_failed encoder.old ≡ false }
+    requires somewhere { IsSomewhere encoder.old }
+    requires lined { IsLined (held window.now) }
+    ensures row { (p : Place) (pushed : List ℕ) (lines : Lines) → EncoderIsAt encoder.old p pushed →
+        HasLines (held window.now) lines →
+        RowOutcome shape kept.old kept.new (record { place = p; learned = learned.old }) pushed
+        lines encoder.new learned.new (P.view target.old).text (P.view target.new).text result }
+    ensures going { OnOk result (has_failed encoder.new ≡ false) }
+    ensures events { OnOk result (event_count encoder.new ≤ event_count encoder.old + shape.width +
+        1) }
+    ensures offset { OnOk result (kept.new.offset ≡ kept.old.offset) }
+    ensures err { IfErr result (λ f. f ≡ Write) }
+    ensures writes { WritesOn (P.view target.old) (P.view target.new) result }
+{
+    let mut ink = EntitySink::new(target);
+    send_row(shape, window, kept, learned, encoder, &mut ink)
+}
+
+/// Codes the row that the window has into a sink.
+fn send_row<C: CodeSink>(
+    shape: Shape,
+    window: &Window<'_>,
+    kept: &mut Kept,
+    learned: &mut Learned,
+    encoder: &mut Encoder,
+    sink: &mut C,
+) -> Result<(), Fault>
+    requires offset { kept.old.offset ≤ 127 }
+    requires width { width_of window.now ≡ shape.width }
+    requires some { 1 ≤ shape.width }
+    requires events { event_count encoder.old + shape.width + 1 ≤ 2 ^ 56 }
+    requires going { has_failed encoder.old ≡ false }
+    ensures row { (p : Place) (pushed : List ℕ) (lines : Lines) → EncoderIsAt encoder.old p pushed →
+        HasLines (held window.now) lines →
+        RowSent C.took C.refused sink.old sink.new shape kept.old kept.new
+        (record { place = p; learned = learned.old }) pushed lines encoder.new learned.new result }
+    ensures going { OnOk result (has_failed encoder.new ≡ false) }
+    ensures events { OnOk result (event_count encoder.new ≤ event_count encoder.old + shape.width +
+        1) }
+    ensures offset { OnOk result (kept.new.offset ≡ kept.old.offset) }
+    ensures err { IfErr result (λ f. f ≡ Write) }
+    ensures writes { CountsWrite (C.failed sink.old) (C.failed sink.new) result }
+{
+    match encode_row(shape, kept, window, learned, encoder, sink) {
+        Ok(()) => Ok(()),
+        Err(_) => Err(Fault::Write),
+    }
+}
+
+/// Ends a code.
+fn end_code<P: ByteTarget>(encoder: Encoder, target: &mut P) -> Result<(), Fault>
+    requires going { has_failed encoder ≡ false }
+    requires somewhere { IsSomewhere encoder }
+    ensures ended { (p : Place) (pushed : List ℕ) → EncoderIsAt encoder p pushed →
+        CodeFinished p pushed (P.view target.old).text (P.view target.new).text result }
+    ensures err { IfErr result (λ f. f ≡ Write) }
+    ensures writes { WritesOn (P.view target.old) (P.view target.new) result }
+{
+    let mut ink = EntitySink::new(target);
+    send_end(encoder, &mut ink)
+}
+
+/// Ends a code into a sink.
+fn send_end<C: CodeSink>(encoder: Encoder, sink: &mut C) -> Result<(), Fault>
+    requires going { has_failed encoder ≡ false }
+    ensures ended { (p : Place) (pushed : List ℕ) → EncoderIsAt encoder p pushed →
+        EndSent C.took C.refused sink.old sink.new p pushed result }
+    ensures err { IfErr result (λ f. f ≡ Write) }
+    ensures writes { CountsWrite (C.failed sink.old) (C.failed sink.new) result }
+{
+    match encoder.finish(sink) {
+        Ok(()) => Ok(()),
+        Err(_) => Err(Fault::Write),
+    }
+}
+
+/// Ends a code, and writes the end marker.
+pub fn end_entity<P: ByteTarget>(encoder: Encoder, reset: bool, target: &mut P) -> Result<(), Fault>
+    requires going { has_failed encoder ≡ false }
+    requires somewhere { IsSomewhere encoder }
+    ensures ended { (p : Place) (pushed : List ℕ) → EncoderIsAt encoder p pushed →
+        CodeEnded p reset pushed (P.view target.old).text (P.view target.new).text result }
+    ensures err { IfErr result (λ f. f ≡ Write) }
+    ensures writes { WritesOn (P.view target.old) (P.view target.new) result }
+{
+    end_code(encoder, target)?;
+    write_marker(reset, target)
+}
+
+/// Counts the row that the window has, against an offset where one is given.
+pub fn count_row(counted: Option<u8>, width: u32, window: &Window<'_>, tally: &mut Tally)
+    requires width { width_of window.now ≡ width }
+    requires offset { IfSome counted (λ offset. offset ≤ 127) }
+    requires rows { row_count tally.old < 2 ^ 32 - 1 }
+    ensures counts { (lines : List Lines) (l : Lines) → HasLines (held window.now) l →
+        IsCountedTo width counted tally.old lines →
+        IsCountedTo width counted tally.new (lines ++ l ∷ []) }
+    ensures rows { row_count tally.new ≤ row_count tally.old + 1 }
+    ensures two_line { is_two_line tally.new ≡ is_two_line tally.old }
+    ensures most { most_of tally.new ≡ most_of tally.old }
+{
+    if let Some(offset) = counted {
+        tally.add_row(window, width, offset);
+    }
+}
+
+/// Goes on after an end marker. All stays, or is as at the top of an image where the marker resets.
+pub fn go_on(reset: bool, window: &mut Window<'_>, kept: &mut Kept, learned: &mut Learned)
+    ensures next { (last : RowStart) →
+        IsHeldBy None 0 last kept.old learned.old (held window.old) →
+        IsHeldBy None 0 (first_row_start (next_stripe_start (width_of window.old) reset last))
+        kept.new learned.new (held window.new) }
+    ensures offset { kept.old.offset ≤ 127 → kept.new.offset ≤ 127 }
+    ensures lined { IsLined (held window.old) → IsLined (held window.new) }
+    ensures width { width_of window.new ≡ width_of window.old }
+{
+    if reset {
+        window.clear();
+        *kept = Kept {
+            offset: 0,
+            previous_typical: false,
+        };
+        *learned = Learned::new();
+    }
+}
+
+/// Whether there are offsets to choose from.
+pub fn has_candidates(shape: Shape, most: u8) -> bool
+    ensures { result ≡ nat_lt 0 (length (candidates shape.two_line most)) }
+{
+    most >= if shape.two_line { 5 } else { 3 }
+}

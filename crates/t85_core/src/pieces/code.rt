@@ -1,0 +1,50 @@
+//! What is left of a code after the last row of its stripe.
+
+ghost use Rattle.std.specs.Prelude.{None, IfErr, IfOk, IsErrOf, Some};
+ghost use Rattle.t85_core.specs.declared.fault.Fault.TheVariants.{Truncated};
+ghost use Rattle.t85_core.specs.Steps.PieceCode.{FindsMarker, MissesMarker, KeepsCode, SkipsSome, SkipBreaks};
+
+use crate::fault::Fault;
+use crate::input_buffer::ByteSource;
+use crate::pieces::piece::Piece;
+use crate::segments::{Code, next_code};
+
+/// Skips what is left of a code, and answers whether its end marker resets. If that hasn't come yet, what came is skipped.
+pub fn find_marker(
+    first: &mut Option<Code>,
+    marker: Option<bool>,
+    piece: &mut Piece<'_>,
+) -> Result<bool, Fault>
+    ensures ok { IfOk result (FindsMarker first.old marker piece.old.rest.now piece.new.rest.now) }
+    ensures err { IfErr result (MissesMarker first.old marker piece.old.rest.now) }
+    ensures more { IsErrOf result Truncated → KeepsCode first.old first.new marker
+        piece.old.rest.now piece.new.rest.now }
+{
+    if let Some(reset) = marker {
+        return Ok(reset);
+    }
+    match first.take() {
+        Some(Code::Marker(reset)) => Ok(reset),
+        Some(Code::Byte(_)) => skip_some(piece),
+        None => skip_some(piece),
+    }
+}
+
+/// Skips bytes of a code, and its end marker, as far as they came.
+fn skip_some(piece: &mut Piece<'_>) -> Result<bool, Fault>
+    ensures ok { IfOk result (SkipsSome piece.old.rest.now piece.new.rest.now) }
+    ensures err { IfErr result (SkipBreaks piece.old.rest.now piece.new.rest.now) }
+{
+    'code: loop {
+        piece.skip_plain();
+        let rest = piece.rest;
+        match next_code(piece) {
+            Ok(Code::Byte(_)) => {}
+            Ok(Code::Marker(reset)) => return Ok(reset),
+            Err(fault) => {
+                piece.rest = rest;
+                return Err(fault);
+            }
+        }
+    }
+}

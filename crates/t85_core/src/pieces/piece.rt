@@ -1,0 +1,116 @@
+//! A piece of a stream.
+
+ghost use Rattle.std.specs.Prelude.{◌≡◌, ◌<◌, ℕ, Bool, None, Some, IfSome, [], length};
+ghost use Rattle.t85_core.specs.declared.segments.Code.TheVariants as code;
+
+use crate::fault::Fault;
+use crate::input_buffer::{ByteSource, ESCAPE, plain_len};
+use crate::segments::{Code, next_code};
+use qm_core::{CodeBytes, Pulled};
+
+/// The bytes of a piece, which are all there.
+#[derive(Drop)]
+pub struct Piece<'a> {
+    pub rest: &'a [u8],
+}
+
+impl ByteSource for Piece<'_> {
+    ghost view = { λ s. record {
+      known = Some s.rest.now;
+      beyond = Some [];
+      left = length s.rest.now;
+      failures = 0;
+      source = 0;
+    } };
+
+    fn next(&mut self) -> Result<u8, Fault> {
+        match self.rest {
+            [] => Err(Fault::Truncated),
+            [first, rest @ ..] => {
+                self.rest = rest;
+                Ok(*first)
+            }
+        }
+    }
+
+    fn next_plain(&mut self) -> Option<u8> {
+        match self.rest {
+            [] => None,
+            [first, rest @ ..] => {
+                if *first == ESCAPE {
+                    return None;
+                }
+                self.rest = rest;
+                Some(*first)
+            }
+        }
+    }
+
+    fn skip_plain(&mut self) {
+        let len = plain_len(self.rest);
+        self.rest = &self.rest[len..];
+    }
+}
+
+/// The code of a data entity of which a piece came, unstuffed, and then its end marker.
+#[derive(Drop)]
+pub struct PieceCode<'a> {
+    pub piece: Piece<'a>,
+    /// What was read ahead to see where the code begins.
+    pub first: Option<Code>,
+    /// Whether the end marker resets, once it was read.
+    pub marker: Option<bool>,
+    /// Why the code has broken, or that the piece has ended.
+    pub fault: Option<Fault>,
+    pub failures: u64,
+    ghost small: { (b : ℕ) → first ≡ Some (code.Byte b) → b < 256 },
+    ghost behind: { (r : Bool) → marker ≡ Some r → first ≡ None },
+}
+
+impl PieceCode<'_> {
+    /// Why the code has broken.
+    pub fn fault(&self) -> Fault
+        ensures { IfSome self.now.fault (λ f. result ≡ f) }
+    {
+        self.fault.unwrap_or(Fault::Truncated)
+    }
+}
+
+impl CodeBytes for PieceCode<'_> {
+    ghost use Rattle.t85_core.specs.Steps.Entity.{EntityGives};
+    ghost use Rattle.t85_core.specs.Steps.Views.{piece_view};
+
+    ghost gives = { λ s answer t. EntityGives
+        (piece_view s)
+        answer
+        (piece_view t) };
+
+    ghost failed = { λ s. s.failures };
+
+    fn pull(&mut self) -> Pulled {
+        if self.fault.is_some() {
+            self.failures = self.failures.wrapping_add(1);
+            return Pulled::Fault;
+        }
+        let next = match self.first.take() {
+            Some(code) => Ok(code),
+            None => next_code(&mut self.piece),
+        };
+        match next {
+            Ok(Code::Byte(byte)) => Pulled::Byte(byte),
+            Ok(Code::Marker(reset)) => {
+                self.marker = Some(reset);
+                Pulled::End
+            }
+            Err(fault) => {
+                self.fault = Some(fault);
+                self.failures = self.failures.wrapping_add(1);
+                Pulled::Fault
+            }
+        }
+    }
+
+    fn failures(&self) -> u64 {
+        self.failures
+    }
+}

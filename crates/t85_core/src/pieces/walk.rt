@@ -1,0 +1,443 @@
+//! How far a stream has been decoded that comes in pieces.
+
+ghost use Rattle.std.specs.Prelude.{◌≡◌, ◌≢◌, ◌*◌, false, ◌≤◌, ◌<◌, ◌⊎◌, ◌∷◌, [], ℕ, List, true, length, OnOk};
+ghost use Rattle.raster_core.specs.Window.{width_of};
+ghost use Rattle.t85_core.specs.declared.fault.Fault.TheVariants.{Truncated};
+ghost use Rattle.t85_core.specs.declared.pieces.walk.Stage.TheVariants as stage;
+ghost use Rattle.t85_core.specs.Options.{fields_of};
+ghost use Rattle.t85_core.specs.Steps.Pieces.{WalkStands, SomeStands, IsOver, Step, RowStep, Turn, rows_in};
+
+use crate::fault::Fault;
+use crate::header::Header;
+use crate::input_buffer::ESCAPE;
+use crate::laws::coder_laws;
+use crate::pieces::code::find_marker;
+use crate::pieces::piece::Piece;
+use crate::pieces::rows::try_row;
+use crate::segments::{self, COMMENT, Code, Move, Place, next_piece, number};
+use crate::state::CodingState;
+use qm_core::Decoder;
+use raster_core::Window;
+
+/// What comes next in a stream.
+#[derive(Clone, Copy)]
+pub enum Stage {
+    /// A segment of a stripe, or its code.
+    Head,
+    /// The rest of a comment.
+    Comment,
+    /// A row of a stripe, or what is left of its code.
+    Code,
+    /// Nothing: the image is whole.
+    Done,
+    /// Nothing: this height came late, and needs no row more.
+    Late(u32),
+}
+
+/// How far a stream has been decoded.
+#[derive(Drop)]
+pub struct Walk<'a, 'b> {
+    pub carried: CodingState<'a, 'b>,
+    pub decoder: Decoder,
+    pub stage: Stage,
+    /// How many data entities are whole.
+    pub entities: u32,
+    /// How many rows come after those.
+    pub left: u32,
+    /// Whether a height was given.
+    pub given: bool,
+    /// The move of the stripe.
+    pub at: Option<Move>,
+    /// How many bytes of a comment are to come.
+    pub comment: u32,
+    /// How many rows of the stripe are decoded.
+    pub row: u32,
+    /// What was read ahead to see where the code begins.
+    pub first: Option<Code>,
+    /// Whether the end marker resets, once it was read.
+    pub marker: Option<bool>,
+}
+
+impl<'a, 'b> Walk<'a, 'b> {
+    /// Before the first byte after the header. The window is made white.
+    pub fn start(header: &Header, height: u32, window: &'a mut Window<'b>) -> Walk<'a, 'b>
+        requires width { width_of window.old ≡ header.now.xd }
+        requires from { 1 ≤ height }
+        ensures { WalkStands (fields_of header.now) height result [] [] }
+    {
+        // The proof reads from this value that a stripe has rows.
+        let _rows = header.l0;
+        Walk {
+            carried: CodingState::first(window),
+            decoder: Decoder::start(),
+            stage: Stage::Head,
+            entities: 0,
+            left: height,
+            given: false,
+            at: None,
+            comment: 0,
+            row: 0,
+            first: None,
+            marker: None,
+        }
+    }
+}
+
+impl Walk<'_, '_> {
+    /// Skips the rest of a comment, if one has begun.
+    fn leave_comment(
+        &mut self,
+        header: &Header,
+        height: u32,
+        piece: &mut Piece<'_>,
+    ) -> Result<(), Fault>
+        requires from { 1 ≤ height }
+        requires to { height ≤ header.now.yd }
+        requires stage { (self.old.stage ≡ stage.Head) ⊎ (self.old.stage ≡ stage.Comment) }
+        ensures step { Step (fields_of header.now) height self.old self.new piece.old.rest.now
+            piece.new.rest.now result }
+        ensures stage { OnOk result (self.new.stage ≡ stage.Head) }
+        ensures no_more { length piece.new.rest.now ≤ length piece.old.rest.now }
+    {
+        if let Stage::Comment = self.stage {
+            self.pass_comment(header, height, piece)
+        } else {
+            Ok(())
+        }
+    }
+
+    /// Skips the rest of a comment.
+    fn pass_comment(
+        &mut self,
+        header: &Header,
+        height: u32,
+        piece: &mut Piece<'_>,
+    ) -> Result<(), Fault>
+        requires from { 1 ≤ height }
+        requires to { height ≤ header.now.yd }
+        requires stage { self.old.stage ≡ stage.Comment }
+        ensures step { Step (fields_of header.now) height self.old self.new piece.old.rest.now
+            piece.new.rest.now result }
+        ensures stage { OnOk result (self.new.stage ≡ stage.Head) }
+        ensures no_more { length piece.new.rest.now ≤ length piece.old.rest.now }
+    {
+        // What the proof cites of the coder.
+        coder_laws();
+        let len = piece.rest.len().min(self.comment as usize);
+        let (_, rest) = piece.rest.split_at(len);
+        piece.rest = rest;
+        self.comment -= len as u32;
+        if self.comment > 0 {
+            return Err(Fault::Truncated);
+        }
+        self.stage = Stage::Head;
+        Ok(())
+    }
+
+    /// Reads a segment of a stripe, or what its code begins with. Of a comment it reads the length.
+    fn read_segment(
+        &mut self,
+        header: &Header,
+        height: u32,
+        piece: &mut Piece<'_>,
+    ) -> Result<(), Fault>
+        requires from { 1 ≤ height }
+        requires to { height ≤ header.now.yd }
+        requires stage { self.old.stage ≡ stage.Head }
+        ensures step { Step (fields_of header.now) height self.old self.new piece.old.rest.now
+            piece.new.rest.now result }
+        ensures row { OnOk result (self.new.stage ≡ stage.Code → self.new.row ≡ 0) }
+        ensures stage { OnOk result (IsOver self.new.stage ⊎ (self.new.stage ≡ stage.Code)
+            ⊎ (self.new.stage ≡ stage.Head) ⊎ (self.new.stage ≡ stage.Comment)) }
+        ensures lowers { OnOk result (length piece.new.rest.now < length piece.old.rest.now) }
+    {
+        if is_comment(piece.rest) {
+            self.enter_comment(header, height, piece)
+        } else {
+            self.pass_segment(header, height, piece)
+        }
+    }
+
+    /// Reads the length of a comment.
+    fn enter_comment(
+        &mut self,
+        header: &Header,
+        height: u32,
+        piece: &mut Piece<'_>,
+    ) -> Result<(), Fault>
+        requires from { 1 ≤ height }
+        requires to { height ≤ header.now.yd }
+        requires stage { self.old.stage ≡ stage.Head }
+        requires comment { (rest : List ℕ) × (piece.old.rest.now ≡ 255 ∷ 7 ∷ rest) }
+        ensures step { Step (fields_of header.now) height self.old self.new piece.old.rest.now
+            piece.new.rest.now result }
+        ensures stage { OnOk result (self.new.stage ≡ stage.Comment) }
+        ensures lowers { OnOk result (length piece.new.rest.now < length piece.old.rest.now) }
+    {
+        // What the proof cites of the coder.
+        coder_laws();
+        let bytes = piece.rest;
+        let (_, rest) = bytes.split_at(2);
+        piece.rest = rest;
+        match number(piece) {
+            Ok(len) => {
+                self.comment = len;
+                self.stage = Stage::Comment;
+                Ok(())
+            }
+            Err(fault) => {
+                piece.rest = bytes;
+                Err(fault)
+            }
+        }
+    }
+
+    /// Reads a segment of a stripe, or what its code begins with.
+    fn pass_segment(
+        &mut self,
+        header: &Header,
+        height: u32,
+        piece: &mut Piece<'_>,
+    ) -> Result<(), Fault>
+        requires from { 1 ≤ height }
+        requires to { height ≤ header.now.yd }
+        requires stage { self.old.stage ≡ stage.Head }
+        ensures step { Step (fields_of header.now) height self.old self.new piece.old.rest.now
+            piece.new.rest.now result }
+        ensures row { OnOk result (self.new.stage ≡ stage.Code → self.new.row ≡ 0) }
+        ensures stage { OnOk result (IsOver self.new.stage ⊎ (self.new.stage ≡ stage.Code)
+            ⊎ (self.new.stage ≡ stage.Head)) }
+        ensures lowers { OnOk result (length piece.new.rest.now < length piece.old.rest.now) }
+    {
+        // What the proof cites of the coder.
+        coder_laws();
+        let bytes = piece.rest;
+        let place = Place {
+            height,
+            entities: self.entities,
+            given: self.given,
+        };
+        let item = match next_piece(header, place, self.at.is_some(), piece) {
+            Ok(item) => item,
+            Err(fault) => {
+                piece.rest = bytes;
+                return Err(fault);
+            }
+        };
+        match item {
+            segments::Piece::NewLength(other) => {
+                if other == height {
+                    self.given = true;
+                    return Ok(());
+                }
+                if needs_no_more(header, height, self.entities, other) {
+                    self.stage = Stage::Late(other);
+                    return Ok(());
+                }
+                Err(Fault::Changed)
+            }
+            segments::Piece::Move(to) => {
+                self.at = Some(to);
+                Ok(())
+            }
+            segments::Piece::Comment => Ok(()),
+            segments::Piece::Code(code) => {
+                self.stage = Stage::Code;
+                self.decoder = Decoder::start();
+                self.row = 0;
+                self.first = Some(code);
+                self.marker = None;
+                Ok(())
+            }
+        }
+    }
+}
+
+impl Walk<'_, '_> {
+    /// Reads the segments of a stripe, and what its code begins with.
+    fn read_head(
+        &mut self,
+        header: &Header,
+        height: u32,
+        piece: &mut Piece<'_>,
+    ) -> Result<(), Fault>
+        requires from { 1 ≤ height }
+        requires to { height ≤ header.now.yd }
+        requires stage { (self.old.stage ≡ stage.Head) ⊎ (self.old.stage ≡ stage.Comment) }
+        ensures step { Step (fields_of header.now) height self.old self.new piece.old.rest.now
+            piece.new.rest.now result }
+        ensures stage { OnOk result (IsOver self.new.stage ⊎ (self.new.stage ≡ stage.Code)) }
+        ensures row { OnOk result (self.new.stage ≡ stage.Code → self.new.row ≡ 0) }
+    {
+        'segments: loop {
+            self.leave_comment(header, height, piece)?;
+            self.read_segment(header, height, piece)?;
+            if !self.is_in_head() {
+                return Ok(());
+            }
+        }
+    }
+
+    /// Whether the code of a stripe is still to begin.
+    fn is_in_head(&self) -> bool
+        ensures head { result ≡ true → (self.now.stage ≡ stage.Head) ⊎ (self.now.stage ≡
+            stage.Comment) }
+        ensures behind { result ≡ false → (self.now.stage ≢ stage.Head) × (self.now.stage ≢
+            stage.Comment) }
+    {
+        match self.stage {
+            Stage::Head => true,
+            Stage::Comment => true,
+            _ => false,
+        }
+    }
+
+    /// Decodes the next row of a stripe.
+    fn read_row(&mut self, header: &Header, height: u32, piece: &mut Piece<'_>) -> Result<(), Fault>
+        requires from { 1 ≤ height }
+        requires to { height ≤ header.now.yd }
+        requires stage { self.old.stage ≡ stage.Code }
+        requires row { self.old.row < rows_in (fields_of header.now) height self.old.entities }
+        requires stands { SomeStands (fields_of header.now) height self.old }
+        ensures step { RowStep (fields_of header.now) height self.old self.new piece.old.rest.now
+            piece.new.rest.now result }
+    {
+        // What the proof cites of the coder.
+        coder_laws();
+        try_row(
+            header.shape(),
+            self.at,
+            self.row,
+            &mut self.carried,
+            &mut self.decoder,
+            &mut self.first,
+            &mut self.marker,
+            piece,
+        )?;
+        self.row += 1;
+        Ok(())
+    }
+
+    /// Skips what is left of the code of a stripe, after its last row.
+    fn finish_stripe(
+        &mut self,
+        header: &Header,
+        height: u32,
+        piece: &mut Piece<'_>,
+    ) -> Result<(), Fault>
+        requires from { 1 ≤ height }
+        requires to { height ≤ header.now.yd }
+        requires stage { self.old.stage ≡ stage.Code }
+        requires row { self.old.row ≡ rows_in (fields_of header.now) height self.old.entities }
+        requires stands { SomeStands (fields_of header.now) height self.old }
+        ensures step { Step (fields_of header.now) height self.old self.new piece.old.rest.now
+            piece.new.rest.now result }
+        ensures stage { OnOk result ((self.new.stage ≡ stage.Done)
+            ⊎ (self.new.stage ≡ stage.Head)) }
+    {
+        // What the proof cites of the coder.
+        coder_laws();
+        let reset = find_marker(&mut self.first, self.marker, piece)?;
+        self.carried.end_stripe(reset);
+        self.entities += 1;
+        self.left -= self.left.min(header.l0);
+        self.at = None;
+        self.first = None;
+        self.marker = None;
+        if self.left == 0 {
+            self.stage = Stage::Done;
+            return Ok(());
+        }
+        self.stage = Stage::Head;
+        Ok(())
+    }
+}
+
+impl Walk<'_, '_> {
+    /// Reads the head of a stripe, and decodes its first row, if there is one.
+    fn begin_stripe(
+        &mut self,
+        header: &Header,
+        height: u32,
+        piece: &mut Piece<'_>,
+    ) -> Result<bool, Fault>
+        requires from { 1 ≤ height }
+        requires to { height ≤ header.now.yd }
+        requires stage { (self.old.stage ≡ stage.Head) ⊎ (self.old.stage ≡ stage.Comment) }
+        requires stands { SomeStands (fields_of header.now) height self.old }
+        ensures step { Turn (fields_of header.now) height self.old self.new piece.old.rest.now
+            piece.new.rest.now result }
+    {
+        // The proof reads from this value that a stripe has rows.
+        let _rows = header.l0;
+        self.read_head(header, height, piece)?;
+        if let Stage::Code = self.stage {
+            self.read_row(header, height, piece)?;
+            return Ok(true);
+        }
+        Ok(false)
+    }
+
+    /// Goes on after the last row of a stripe. Answers whether a row was decoded.
+    fn go_on(&mut self, header: &Header, height: u32, piece: &mut Piece<'_>) -> Result<bool, Fault>
+        requires from { 1 ≤ height }
+        requires to { height ≤ header.now.yd }
+        requires stage { self.old.stage ≡ stage.Code }
+        requires row { self.old.row ≡ rows_in (fields_of header.now) height self.old.entities }
+        requires stands { SomeStands (fields_of header.now) height self.old }
+        ensures step { Turn (fields_of header.now) height self.old self.new piece.old.rest.now
+            piece.new.rest.now result }
+    {
+        self.finish_stripe(header, height, piece)?;
+        if let Stage::Done = self.stage {
+            return Ok(false);
+        }
+        self.begin_stripe(header, height, piece)
+    }
+
+    /// Decodes the next row, and answers whether there is one.
+    pub fn next(
+        &mut self,
+        header: &Header,
+        height: u32,
+        piece: &mut Piece<'_>,
+    ) -> Result<bool, Fault>
+        requires from { 1 ≤ height }
+        requires to { height ≤ header.now.yd }
+        requires stands { SomeStands (fields_of header.now) height self.old }
+        ensures step { Turn (fields_of header.now) height self.old self.new piece.old.rest.now
+            piece.new.rest.now result }
+    {
+        match self.stage {
+            Stage::Head | Stage::Comment => self.begin_stripe(header, height, piece),
+            Stage::Code => {
+                if self.row < self.left.min(header.l0) {
+                    self.read_row(header, height, piece)?;
+                    Ok(true)
+                } else {
+                    self.go_on(header, height, piece)
+                }
+            }
+            Stage::Done => Ok(false),
+            Stage::Late(_) => Ok(false),
+        }
+    }
+}
+
+/// Whether a height needs no more rows than those of so many data entities at the header's height.
+fn needs_no_more(header: &Header, height: u32, entities: u32, other: u32) -> bool
+    ensures announced { result ≡ true → height ≡ header.now.yd }
+    ensures some { result ≡ true → 1 ≤ entities }
+    ensures enough { result ≡ true → other ≤ entities * header.now.l0 }
+{
+    height == header.yd
+        && entities >= 1
+        && u64::from(other) <= u64::from(entities) * u64::from(header.l0)
+}
+
+/// Whether a comment comes next.
+fn is_comment(bytes: &[u8]) -> bool
+    ensures { result ≡ true → (rest : List ℕ) × (bytes.now ≡ 255 ∷ 7 ∷ rest) }
+{
+    bytes.len() >= 2 && bytes[0] == ESCAPE && bytes[1] == COMMENT
+}

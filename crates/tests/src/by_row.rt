@@ -1,0 +1,321 @@
+//! Rows that are given to an encoder one by one, beside `encode` of the whole image.
+
+ghost use Rattle.std.specs.Prelude.{◌≡◌};
+ghost use Rattle.raster_core.specs.Window.{width_of};
+
+use crate::random::{Choices, Encoded, Image, Kinds, Random, add, encode_rows};
+use pbm_core::trial::Drip;
+use pbm_core::{PbmFault, Size, row_bytes};
+use raster_core::{Window, window_bytes};
+use std::alloc::Global;
+use std::test::Fail;
+use t85_core::{Fault, Options, RowEncoder};
+
+/// How a run ends whose rows are given one by one.
+#[derive(Clone, Copy, Debug, PartialEq, Eq)]
+enum End {
+    /// The stream is whole.
+    Whole,
+    /// No row is taken, since the announced height is low.
+    Low,
+    /// A write of the head fails.
+    HeadFails,
+    /// A write of a row fails.
+    RowFails,
+    /// A write of the end fails.
+    EndFails,
+    /// Something is not as it has to be.
+    Wrong(&'static str),
+}
+
+/// Rows that are given one by one, and the stream that they have to give.
+#[derive(Drop)]
+struct Rows<'a> {
+    /// The most rows that may come, and how wide they are.
+    size: Size,
+    options: &'a Options<'a>,
+    rows: &'a [Vec<u8>],
+    /// What `encode` writes of an image of just these rows.
+    whole: &'a [u8],
+    /// How many bytes `encode` writes where the input ends after each of the rows.
+    fronts: &'a [usize],
+}
+
+impl Rows<'_> {
+    /// Gives the rows, and ends the stream.
+    fn run(&self, window: &mut Window<'_>, output: &mut Drip<'_>) -> End
+        requires { width_of window.old ≡ self.now.size.width }
+    {
+        let mut encoder = match RowEncoder::start(self.size, self.options, window, output) {
+            Ok(encoder) => encoder,
+            Err(Fault::Write) => return End::HeadFails,
+            Err(Fault::AnnouncedLow) => return End::Low,
+            Err(_) => return End::Wrong("the fault of the start"),
+        };
+        let mut left = self.size.height;
+        'rows: for (row, front) in self.rows.iter().zip(self.fronts) {
+            if encoder.left() != left || left == 0 || row.len() != row_bytes(self.size.width) {
+                return End::Wrong("how many rows may come");
+            }
+            match encoder.put_row(row, window, output) {
+                Ok(()) => left -= 1,
+                Err(_) => return self.closed(&mut encoder, window, output, End::RowFails),
+            }
+            if encoder.may_finish() != (left == 0 || self.options.announced.is_some()) {
+                return End::Wrong("whether the image may end");
+            }
+            if !self.stands(output.written(), *front) {
+                return End::Wrong("the bytes after a row");
+            }
+        }
+        if encoder.is_closed() || !encoder.may_finish() {
+            return End::Wrong("whether the image may end");
+        }
+        let end = match encoder.finish(window, output) {
+            Ok(()) => End::Whole,
+            Err(_) => End::EndFails,
+        };
+        self.closed(&mut encoder, window, output, end)
+    }
+
+    /// Whether these bytes begin the stream, and there are at least so many.
+    fn stands(&self, written: &[u8], least: usize) -> bool {
+        self.whole.starts_with(written) && written.len() >= least
+    }
+
+    /// This end, where the encoder is closed, and each later call answers that a write failed and writes nothing.
+    fn closed(
+        &self,
+        encoder: &mut RowEncoder,
+        window: &mut Window<'_>,
+        output: &mut Drip<'_>,
+        end: End,
+    ) -> End
+        requires size { encoder.old.size ≡ self.now.size }
+        requires width { width_of window.old ≡ self.now.size.width }
+    {
+        let count = output.written().len();
+        let Some(row) = self.rows.first() else {
+            return End::Wrong("no row");
+        };
+        if !encoder.is_closed() || row.len() != row_bytes(self.size.width) {
+            return End::Wrong("an encoder that is not closed");
+        }
+        // A window may be lent again once it is white.
+        window.clear();
+        let put = encoder.put_row(row, window, output);
+        window.clear();
+        let finished = encoder.finish(window, output);
+        if put == Err(Fault::Write)
+            && finished == Err(Fault::Write)
+            && encoder.is_closed()
+            && output.written().len() == count
+        {
+            end
+        } else {
+            End::Wrong("a call after the end")
+        }
+    }
+}
+
+/// An image, a height that its encoder is told, and what is chosen for the stream.
+#[derive(Drop)]
+struct Case {
+    image: Image,
+    /// How many of the image's rows come.
+    height: u32,
+    choices: Choices,
+}
+
+/// A run of a case: how it ended, what `encode` wrote, and what the row encoder wrote.
+#[derive(Drop)]
+struct Ran {
+    end: End,
+    encoded: Encoded,
+    written: Vec<u8>,
+}
+
+impl Case {
+    /// A random image, all of whose rows come.
+    fn random(alloc: Global, random: &mut Random) -> Result<Case, Fail> {
+        let image = Image::random(alloc, random)?;
+        Ok(Case {
+            height: image.size.height,
+            choices: Choices::random(alloc, random)?,
+            image,
+        })
+    }
+
+    /// The rows that come.
+    fn rows(&self) -> &[Vec<u8>] {
+        let all = self.image.rows.as_slice();
+        all.get(..self.height as usize).unwrap_or(all)
+    }
+
+    /// How many bytes `encode` writes where the input ends after each of the rows; after all of the image it has no end, and
+    /// they are as many as before the last.
+    fn fronts(&self, alloc: Global, options: &Options<'_>) -> Result<Vec<usize>, Fail> {
+        let mut fronts = Vec::new(alloc);
+        let mut front = 0;
+        for count in 1..=self.rows().len() {
+            let rows = self.image.rows.as_slice().get(..count).unwrap_or(&[]);
+            let cut = encode_rows(alloc, self.image.size, rows, options)?;
+            if cut.answer == Err(Fault::Pbm(PbmFault::Truncated)) {
+                front = cut.bytes.len();
+            }
+            fronts.push(front)?;
+        }
+        Ok(fronts)
+    }
+
+    /// Gives the rows over an output that takes so many bytes a write, and fails the write of this number.
+    fn run(&self, alloc: Global, most: usize, failing: Option<u64>) -> Result<Ran, Fail> {
+        let options = self.choices.options()?;
+        let size = Size {
+            width: self.image.size.width,
+            height: self.height.max(1),
+        };
+        let encoded = encode_rows(alloc, size, self.rows(), &options)?;
+        let fronts = self.fronts(alloc, &options)?;
+        let rows = Rows {
+            size: self.image.size,
+            options: &options,
+            rows: self.rows(),
+            whole: &encoded.bytes,
+            fronts: &fronts,
+        };
+        let mut lent = Vec::from_elem(alloc, 0u8, window_bytes(size.width))?;
+        let mut window = Window::over(lent.as_mut_slice(), size.width);
+        let mut room = Vec::from_elem(alloc, 0u8, encoded.bytes.len().saturating_add(64))?;
+        let mut output = Drip::new(room.as_mut_slice(), most.max(1), failing, true);
+        let end = rows.run(&mut window, &mut output);
+        let written = output.written().to_vec(alloc)?;
+        Ok(Ran {
+            end,
+            encoded,
+            written,
+        })
+    }
+}
+
+/// Rows of whole images give the stream of `encode`, and after each row what was written is a beginning of it.
+#[test]
+fn rows_give_the_stream(rt: HostRuntime) -> Result<(), Fail> {
+    let mut random = Random::new(1);
+    let mut kinds = Kinds::NONE;
+    for number in 0..4000u32 {
+        let mut case = Case::random(rt.alloc(), &mut random)?;
+        if random.is_one_in(2) {
+            case.choices.announced = Some(random.height_from(case.height));
+        }
+        let ran = case.run(rt.alloc(), 3, None)?;
+        assert!(rt; ran.encoded.answer == Ok(()), "case {number}");
+        assert!(rt; ran.end == End::Whole, "case {number}: {:?}", ran.end);
+        assert!(rt; ran.written == ran.encoded.bytes, "case {number}");
+        kinds.count(&ran.written)?;
+    }
+    assert_eq!(rt; kinds.streams, 4000);
+    assert!(rt; kinds.striped >= 1500 && kinds.moved >= 200, "{kinds:?}");
+    assert!(rt;
+        kinds.commented >= 1000 && kinds.lowered >= 1500,
+        "{kinds:?}"
+    );
+    Ok(())
+}
+
+/// An image that ends early, where a height is announced, gives the stream of the image of just its rows.
+#[test]
+fn fewer_rows_give_the_stream(rt: HostRuntime) -> Result<(), Fail> {
+    let mut random = Random::new(2);
+    let mut kinds = Kinds::NONE;
+    for number in 0..3000u32 {
+        let mut case = Case::random(rt.alloc(), &mut random)?;
+        case.choices.announced = Some(random.height_from(case.height));
+        case.height = random.between(1, case.image.size.height);
+        let ran = case.run(rt.alloc(), 3, None)?;
+        assert!(rt; ran.encoded.answer == Ok(()), "case {number}");
+        assert!(rt; ran.end == End::Whole, "case {number}: {:?}", ran.end);
+        assert!(rt; ran.written == ran.encoded.bytes, "case {number}");
+        kinds.count(&ran.written)?;
+    }
+    assert!(rt; kinds.streams == 3000 && kinds.lowered >= 2500, "{kinds:?}");
+    Ok(())
+}
+
+/// How many runs end where.
+#[derive(Clone, Copy, Debug)]
+struct Ends {
+    head: u32,
+    row: u32,
+    end: u32,
+    whole: u32,
+}
+
+impl Ends {
+    fn count(&mut self, end: End) {
+        add(&mut self.head, end == End::HeadFails);
+        add(&mut self.row, end == End::RowFails);
+        add(&mut self.end, end == End::EndFails);
+        add(&mut self.whole, end == End::Whole);
+    }
+}
+
+/// Where a write fails, just the bytes before it are out, and the encoder is closed.
+#[test]
+fn failing_writes(rt: HostRuntime) -> Result<(), Fail> {
+    let mut random = Random::new(3);
+    let mut ends = Ends {
+        head: 0,
+        row: 0,
+        end: 0,
+        whole: 0,
+    };
+    for number in 0..4000u32 {
+        let mut case = Case::random(rt.alloc(), &mut random)?;
+        if random.is_one_in(2) {
+            case.choices.announced = Some(random.height_from(case.height));
+        }
+        let whole = case.run(rt.alloc(), 1, None)?.encoded.bytes;
+        let stays = random.below(whole.len());
+        let ran = case.run(rt.alloc(), 1, Some((stays as u64).saturating_add(1)))?;
+        assert!(rt;
+            whole.as_slice().get(..stays) == Some(ran.written.as_slice()),
+            "case {number}"
+        );
+        assert!(rt;
+            !matches!(&ran.end, End::Wrong(_)),
+            "case {number}: {:?}",
+            ran.end
+        );
+        ends.count(ran.end);
+    }
+    assert!(rt;
+        ends.head >= 100 && ends.row >= 1000 && ends.end >= 100,
+        "{ends:?}"
+    );
+    assert_eq!(rt; ends.whole, 0);
+    Ok(())
+}
+
+/// An announced height below the image's is refused, as by `encode`, and nothing is written.
+#[test]
+fn refuses_a_low_height(rt: HostRuntime) -> Result<(), Fail> {
+    let mut random = Random::new(4);
+    let mut low = 0;
+    for number in 0..500u32 {
+        let mut case = Case::random(rt.alloc(), &mut random)?;
+        case.choices.announced = Some(random.between(0, case.height.saturating_sub(1)));
+        let ran = case.run(rt.alloc(), 3, None)?;
+        assert!(rt;
+            ran.encoded.answer == Err(Fault::AnnouncedLow),
+            "case {number}"
+        );
+        assert!(rt;
+            ran.end == End::Low && ran.written.is_empty(),
+            "case {number}"
+        );
+        add(&mut low, true);
+    }
+    assert_eq!(rt; low, 500);
+    Ok(())
+}
