@@ -1,18 +1,21 @@
 # make               builds both programs into bin/, and shows them on a real page
 # make static        both programs again in bin/static/, linked with the C library, and their stored runs
 # make library       builds bin/libt85.a and bin/libt85.so.1.0.0
-# make test          the gate: the documents, every proof, every edit that must fail, every test, runs of the built
-#                    programs; ends in `rt ci`
+# make test          the gate: the documents, this file, every proof, every edit that must fail, every test, runs of the
+#                    built programs; ends in `rt ci`
 # make turns         makes each allocation of the programs fail in turn
 # make library-test  the library beside the programs, as C and Python call it, and installed
 # make manuals       checks the manual pages
 # make interop       exchanges streams with JBIG-KIT's programs, and compares the images
-# make charts        has programs and library code the test charts of the CCITT, beside JBIG-KIT's programs
+# make charts        has programs and library code the test charts of the CCITT, beside JBIG-KIT's programs; `apt-get`
+#                    fetches them
 # make fuzz          calls the library with random streams for FUZZ_SECONDS, beside JBIG-KIT's library
 # make bench         measures beside JBIG-KIT and netpbm; no test is timed
 # make against       compares with another build of both programs, in the folder OTHER
 # make install       installs the programs and the library, with what belongs to them; docs/PACKAGING.md has the rest
 # make uninstall     removes what `make install` with the same variables installed
+#
+# What each target needs beside `rt` is in README.md.
 
 PREFIX ?= /usr/local
 BINDIR ?= $(PREFIX)/bin
@@ -25,54 +28,97 @@ ZSHDIR ?= $(DATADIR)/zsh/site-functions
 FISHDIR ?= $(DATADIR)/fish/vendor_completions.d
 # The Python module is installed where a folder is named.
 PYTHONDIR ?=
+# The interpreter that the module is tested with.
+PYTHON ?= python3
+export PYTHON
 # What stands in front of the names of the programs, and of what belongs to them.
 PROGRAM_PREFIX ?=
 FUZZ_SECONDS ?= 600
+# What says which instructions the processor has.
+CPUINFO ?= /proc/cpuinfo
 
 PROGRAMS = pbmtojbg85 jbgtopbm85
 VERSION = 1.0.0
 SHARED = libt85.so.$(VERSION)
 SONAME = libt85.so.1
 CALLS = $(shell sed -n 's/^ *\(t85_.*\);/\1/p' t85.map)
+MODULE = $(patsubst bindings/python/%,%,$(wildcard bindings/python/t85/*.py bindings/python/t85/py.typed))
 
-show: build
+BUILT = $(PROGRAMS:%=bin/%)
+LIBRARY = bin/libt85.a bin/$(SHARED) bin/$(SONAME) bin/libt85.so
+# The targets that build the programs first, and those that build the library first.
+OF_PROGRAMS = show static test turns library-test interop charts against bench
+OF_LIBRARY = test library-test charts fuzz bench
+
+# quoted TEXT: one word of a shell, with its blanks
+quoted = '$(subst ','\'',$(1))'
+# at FOLDER: where it is put, one word of a shell
+at = $(call quoted,$(DESTDIR)$(1))
+
+show:
 	bin/pbmtojbg85 examples/letter.pbm bin/letter.jbg
 	bin/jbgtopbm85 --info bin/letter.jbg
 	bin/jbgtopbm85 bin/letter.jbg bin/letter.pbm
 	cmp bin/letter.pbm examples/letter.pbm && echo "decoded, it is examples/letter.pbm again"
 
-# A program is proved before it is built.
-build:
-	@mkdir -p bin
-	@for program in $(PROGRAMS); do \
-		echo "proving and building $$program"; \
-		(cd crates/$$program && rt run -- --help) > bin/$$program.log 2>&1 || { cat bin/$$program.log; exit 1; }; \
-		cp crates/$$program/out/$$program bin/$$program; \
-	done
+build: $(BUILT)
 
-# What was proved and compiled is linked again, so that no loader is asked: a start takes half the instructions.
-static: build
-	@mkdir -p bin/static
-	@kit=$$(dirname "$$(rt doc)"); for program in $(PROGRAMS); do \
-		$(CC) $(LDFLAGS) -static -o bin/static/$$program crates/$$program/out/$$program.o \
-			"$$kit/c/libos_c.a" "$$kit/c/liblibc_c.a" || exit 1; \
-	done
-	tests/stored bin/static
+library: $(LIBRARY)
 
-# So is the library.
-library:
-	@mkdir -p bin
-	@echo "proving and building libt85.a"
-	@(cd crates/t85 && rt lib) > bin/libt85.log 2>&1 || { cat bin/libt85.log; exit 1; }
-	@cp crates/t85/out/libt85.a bin/libt85.a
-	@$(MAKE) --no-print-directory bin/$(SHARED)
+$(OF_PROGRAMS): build
+$(OF_LIBRARY): library
+
+# An installation alone takes what is in bin/ as it is. The other targets ask `rt`, which knows what has changed.
+ifneq ($(filter build $(OF_PROGRAMS),$(or $(MAKECMDGOALS),show)),)
+.PHONY: $(BUILT)
+endif
+ifneq ($(filter library $(OF_LIBRARY),$(MAKECMDGOALS)),)
+.PHONY: bin/libt85.a
+endif
+
+# The order of the command line is kept where files are removed, where `rt ci` sets aside what was built, and where the
+# machine is measured. A dependency can't say that: these targets need nothing of those that are named beside them.
+ifneq ($(filter clean uninstall test bench,$(MAKECMDGOALS)),)
+.NOTPARALLEL:
+endif
+
+# One `rt` at a time, whichever `make` calls it: two would write the same files below crates/, and one takes the memory
+# of the whole machine.
+locked = mkdir -p bin && exec 9> bin/lock && flock 9
+
+# proved CRATE,COMMAND,LOG: a program is proved before it is built, and so is the library. What is made goes into bin/
+# under another name, and gets its own there: who reads that file sees the one before or this one, and never a half.
+proved = $(locked) && echo "proving and building $(@F)" && \
+	{ (cd crates/$(1) && $(2)) > bin/$(3).log 2>&1 9>&- || { cat bin/$(3).log; exit 1; }; } && \
+	cp crates/$(1)/out/$(@F) $@.$$$$ && mv -f $@.$$$$ $@
+
+$(BUILT): bin/%: | processor
+	@$(call proved,$*,rt run -- --help,$*)
+
+bin/libt85.a: | processor
+	@$(call proved,t85,rt lib,libt85)
 
 # Copies stand under the names that are links once it is installed: `rt ci` takes no links.
 bin/$(SHARED): bin/libt85.a t85.map
 	$(CC) $(LDFLAGS) -shared -Wl,-soname,$(SONAME) -Wl,--version-script=t85.map -Wl,--no-undefined-version -Wl,-z,defs \
-		-Wl,-z,relro -Wl,-z,now -Wl,--whole-archive bin/libt85.a -Wl,--no-whole-archive -o $@
-	cp $@ bin/$(SONAME)
-	cp $@ bin/libt85.so
+		-Wl,-z,relro -Wl,-z,now -Wl,--whole-archive bin/libt85.a -Wl,--no-whole-archive -o $@.$$$$ && mv -f $@.$$$$ $@
+
+bin/$(SONAME) bin/libt85.so: bin/$(SHARED)
+	cp $< $@.$$$$ && mv -f $@.$$$$ $@
+
+# What was proved and compiled is linked again, so that no loader is asked: a start takes half the instructions.
+static:
+	@mkdir -p bin/static
+	@kit=$$(dirname "$$(rt doc)"); for program in $(PROGRAMS); do \
+		made=bin/static/$$program && \
+		$(CC) $(LDFLAGS) -static -o $$made.$$$$ crates/$$program/out/$$program.o \
+			"$$kit/c/libos_c.a" "$$kit/c/liblibc_c.a" && mv -f $$made.$$$$ $$made || exit 1; \
+	done
+	tests/stored bin/static
+
+# Says so where programs and library can't run on this machine.
+processor:
+	@tools/processor $(call quoted,$(CPUINFO))
 
 # The documents speak of what is there, and clauses can be read.
 documents:
@@ -82,20 +128,25 @@ documents:
 	tools/names
 	tools/prose
 	tools/interface
+	tools/recipes
 
-test: documents build library
+test: documents
+	tests/makefile
+	tests/interface
 	tools/must-not-compile
 	tests/turns bin
 	tests/stored bin
+	tests/closed bin
+	tests/memory bin
 	tests/options bin
 	tests/library bin
 	tests/python bin
-	rt ci
+	@$(locked) && echo "rt ci" && rt ci 9>&-
 
-turns: build
+turns:
 	tests/turns bin
 
-library-test: build library
+library-test:
 	tests/options bin
 	tests/library bin
 	tests/python bin
@@ -104,27 +155,27 @@ library-test: build library
 manuals:
 	tests/manuals
 
-interop: build
+interop:
 	tests/interop bin
 
 # The charts are fetched, since they may not be kept.
 bin/charts:
 	bench/charts $@
 
-charts: build library bin/charts
+charts: bin/charts
 	tests/library bin bin/charts/*.pbm
 	tests/python bin bin/charts/*.pbm
 	tests/interop bin bin/charts/*.pbm
 
-fuzz: library
+fuzz:
 	tests/fuzz bin $(FUZZ_SECONDS)
 
 # Compares with another build: make against OTHER=folder
-against: build
+against:
 	tests/against bin $(OTHER)
 
 # Without the charts where they can't be fetched.
-bench: build library
+bench:
 	@[ -d bin/charts ] || bench/charts bin/charts || echo "the test charts of the CCITT are left out"
 	bench/info bin/jbgtopbm85
 	bench/decode bin/jbgtopbm85
@@ -136,58 +187,63 @@ bench: build library
 # What is in bin/ is installed; what is not there is built first.
 install: install-programs install-library
 
-$(PROGRAMS:%=bin/%):
-	@$(MAKE) --no-print-directory build
-
-bin/libt85.a:
-	@$(MAKE) --no-print-directory library
-
-# named FROM,TO,MODE: installs a file in which the programs are named, with their prefix
-upper = $(shell printf %s '$(1)' | tr a-z A-Z)
-named = sed -e 's/pbmtojbg85/$(PROGRAM_PREFIX)&/g; s/jbgtopbm85/$(PROGRAM_PREFIX)&/g' \
+# named FROM,TO: installs a file in which the programs are named, with their prefix
+upper = $(shell printf %s $(call quoted,$(1)) | tr a-z A-Z)
+named = new=$$(mktemp) && sed -e 's/pbmtojbg85/$(PROGRAM_PREFIX)&/g; s/jbgtopbm85/$(PROGRAM_PREFIX)&/g' \
 	-e 's/PBMTOJBG85/$(call upper,$(PROGRAM_PREFIX))&/g; s/JBGTOPBM85/$(call upper,$(PROGRAM_PREFIX))&/g' \
-	$(1) > bin/named && install -D -m 644 bin/named $(2) && rm bin/named
+	$(1) > "$$new" && install -D -m 644 "$$new" $(2) && rm "$$new"
 
-install-programs: $(PROGRAMS:%=bin/%)
+install-programs: $(BUILT)
 	@for program in $(PROGRAMS); do \
-		as=$(PROGRAM_PREFIX)$$program; \
-		install -D -m 755 bin/$$program $(DESTDIR)$(BINDIR)/$$as && \
-		$(call named,man/$$program.1,$(DESTDIR)$(MANDIR)/man1/$$as.1) && \
-		$(call named,completions/bash/$$program,$(DESTDIR)$(BASHDIR)/$$as) && \
-		$(call named,completions/zsh/_$$program,$(DESTDIR)$(ZSHDIR)/_$$as) && \
-		$(call named,completions/fish/$$program.fish,$(DESTDIR)$(FISHDIR)/$$as.fish) || exit 1; \
+		as=$(call quoted,$(PROGRAM_PREFIX))$$program && \
+		install -D -m 755 bin/$$program $(call at,$(BINDIR))/"$$as" && \
+		$(call named,man/$$program.1,$(call at,$(MANDIR))/man1/"$$as".1) && \
+		$(call named,completions/bash/$$program,$(call at,$(BASHDIR))/"$$as") && \
+		$(call named,completions/zsh/_$$program,$(call at,$(ZSHDIR))/_"$$as") && \
+		$(call named,completions/fish/$$program.fish,$(call at,$(FISHDIR))/"$$as".fish) || exit 1; \
 	done
 
-install-library: bin/$(SHARED)
-	install -D -m 644 bin/libt85.a $(DESTDIR)$(LIBDIR)/libt85.a
-	install -D -m 644 bin/$(SHARED) $(DESTDIR)$(LIBDIR)/$(SHARED)
-	ln -sf $(SHARED) $(DESTDIR)$(LIBDIR)/$(SONAME)
-	ln -sf $(SONAME) $(DESTDIR)$(LIBDIR)/libt85.so
-	install -D -m 644 include/t85.h $(DESTDIR)$(INCLUDEDIR)/t85.h
-	sed -e 's|@PREFIX@|$(PREFIX)|; s|@LIBDIR@|$(LIBDIR)|; s|@INCLUDEDIR@|$(INCLUDEDIR)|; s|@VERSION@|$(VERSION)|' \
-		t85.pc.in > bin/t85.pc
-	install -D -m 644 bin/t85.pc $(DESTDIR)$(LIBDIR)/pkgconfig/t85.pc
-	@$(call named,man/t85.3,$(DESTDIR)$(MANDIR)/man3/t85.3)
-	for call in $(CALLS); do ln -sf t85.3 $(DESTDIR)$(MANDIR)/man3/$$call.3; done
+# written TEXT: a folder as it is written in t85.pc, where a backslash stands before a blank, and as sed takes it
+written = "$$(printf %s $(call quoted,$(1)) | sed -e 's/ /\\ /g' -e 's/[\\&|]/\\&/g')"
+
+install-library: $(LIBRARY)
+	install -D -m 644 bin/libt85.a $(call at,$(LIBDIR))/libt85.a
+	install -D -m 644 bin/$(SHARED) $(call at,$(LIBDIR))/$(SHARED)
+	ln -sf $(SHARED) $(call at,$(LIBDIR))/$(SONAME)
+	ln -sf $(SONAME) $(call at,$(LIBDIR))/libt85.so
+	install -D -m 644 include/t85.h $(call at,$(INCLUDEDIR))/t85.h
+	new=$$(mktemp) && sed -e 's|@PREFIX@|'$(call written,$(PREFIX))'|; s|@LIBDIR@|'$(call written,$(LIBDIR))'|' \
+		-e 's|@INCLUDEDIR@|'$(call written,$(INCLUDEDIR))'|; s|@VERSION@|$(VERSION)|' t85.pc.in > "$$new" && \
+		install -D -m 644 "$$new" $(call at,$(LIBDIR))/pkgconfig/t85.pc && rm "$$new"
+	@$(call named,man/t85.3,$(call at,$(MANDIR))/man3/t85.3)
+	for call in $(CALLS); do ln -sf t85.3 $(call at,$(MANDIR))/man3/$$call.3 || exit 1; done
 ifneq ($(PYTHONDIR),)
-	install -D -m 644 bindings/python/t85.py $(DESTDIR)$(PYTHONDIR)/t85.py
+	for file in $(MODULE); do \
+		install -D -m 644 bindings/python/$$file $(call at,$(PYTHONDIR))/$$file || exit 1; \
+	done
+endif
+ifeq ($(DESTDIR),)
+	@printf '%s%s\n' 'run `ldconfig` as root, and the loader finds $(SONAME); in a folder that it does not know set LD_LIBRARY_PATH=' \
+		$(call quoted,$(LIBDIR))
 endif
 
 uninstall:
 	for program in $(PROGRAMS); do \
-		as=$(PROGRAM_PREFIX)$$program; \
-		rm -f $(DESTDIR)$(BINDIR)/$$as $(DESTDIR)$(MANDIR)/man1/$$as.1 $(DESTDIR)$(BASHDIR)/$$as \
-			$(DESTDIR)$(ZSHDIR)/_$$as $(DESTDIR)$(FISHDIR)/$$as.fish; \
+		as=$(call quoted,$(PROGRAM_PREFIX))$$program && \
+		rm -f $(call at,$(BINDIR))/"$$as" $(call at,$(MANDIR))/man1/"$$as".1 $(call at,$(BASHDIR))/"$$as" \
+			$(call at,$(ZSHDIR))/_"$$as" $(call at,$(FISHDIR))/"$$as".fish || exit 1; \
 	done
-	rm -f $(DESTDIR)$(LIBDIR)/libt85.a $(DESTDIR)$(LIBDIR)/libt85.so $(DESTDIR)$(LIBDIR)/$(SONAME) \
-		$(DESTDIR)$(LIBDIR)/$(SHARED) $(DESTDIR)$(LIBDIR)/pkgconfig/t85.pc $(DESTDIR)$(INCLUDEDIR)/t85.h
-	for page in t85 $(CALLS); do rm -f $(DESTDIR)$(MANDIR)/man3/$$page.3; done
+	rm -f $(call at,$(LIBDIR))/libt85.a $(call at,$(LIBDIR))/libt85.so $(call at,$(LIBDIR))/$(SONAME) \
+		$(call at,$(LIBDIR))/$(SHARED) $(call at,$(LIBDIR))/pkgconfig/t85.pc $(call at,$(INCLUDEDIR))/t85.h
+	for page in t85 $(CALLS); do rm -f $(call at,$(MANDIR))/man3/$$page.3 || exit 1; done
 ifneq ($(PYTHONDIR),)
-	rm -f $(DESTDIR)$(PYTHONDIR)/t85.py
+	for file in $(MODULE); do rm -f $(call at,$(PYTHONDIR))/$$file || exit 1; done
+	rm -rf $(call at,$(PYTHONDIR))/t85/__pycache__
+	[ ! -d $(call at,$(PYTHONDIR))/t85 ] || rmdir --ignore-fail-on-non-empty $(call at,$(PYTHONDIR))/t85
 endif
 
 clean:
 	rm -rf bin crates/*/out
 
-.PHONY: show build library documents test turns library-test manuals interop charts fuzz against bench install \
-	install-programs install-library uninstall clean
+.PHONY: show build library static processor documents test turns library-test manuals interop charts fuzz against \
+	bench install install-programs install-library uninstall clean

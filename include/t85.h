@@ -3,8 +3,8 @@
    The manual page t85(3) says the same at length, and docs/FORMAT.md has the bytes of a stream.
 
    What the caller owes, at each call:
-   - No pointer is null, also with a length of 0. T85_NOTHING is a pointer that may be passed there,
-     and t85_or_nothing turns a pointer that may be null into one.
+   - A pointer may be null where it has a length and that is 0; no other pointer is. The macros at
+     the end of this header see to that, and say what is owed where they are not used.
    - Each pointer points to as many bytes as its length says, PTRDIFF_MAX at most; a struct is
      aligned as its type has to be.
    - No two buffers of a call overlap, and what is written to overlaps nothing: not a struct, not
@@ -25,10 +25,11 @@
 extern "C" {
 #endif
 
+/* The places of the parameters that are never null, counted from 1. */
 #if defined(__GNUC__)
-#define T85_NO_NULL __attribute__((nonnull))
+#define T85_NO_NULL(places) __attribute__((nonnull places))
 #else
-#define T85_NO_NULL
+#define T85_NO_NULL(places)
 #endif
 
 /* This header's version: 65536 times the major, 256 times the minor number, and the patch. */
@@ -44,10 +45,21 @@ static inline size_t t85_row_bytes(uint32_t width)
 /* A pointer for a length of 0. Nothing is read from it or written to it. */
 #define T85_NOTHING ((uint8_t *)1)
 
-/* The pointer, or T85_NOTHING where it is null: for a length that is 0 then. */
+/* The pointer, or T85_NOTHING where it is null: for a length that is 0 then. The second takes no
+   pointer of another type, and the third is for what is written. */
 static inline const uint8_t *t85_or_nothing(const void *bytes)
 {
     return bytes ? (const uint8_t *)bytes : (const uint8_t *)T85_NOTHING;
+}
+
+static inline const uint8_t *t85_bytes_or_nothing(const uint8_t *bytes)
+{
+    return t85_or_nothing(bytes);
+}
+
+static inline uint8_t *t85_room_or_nothing(uint8_t *room)
+{
+    return room ? room : T85_NOTHING;
 }
 
 /* A status is 0, or the number of a fault. Of a stream the first from the front is reported. */
@@ -140,11 +152,13 @@ uint32_t t85_version(void);
 size_t t85_window_bytes(uint32_t width);
 
 /* Reads a stream's header. 0, and `fields` has what it says; or 1 to 8, and it is as it was. */
-T85_NO_NULL uint8_t t85_header(const uint8_t *stream, size_t len, t85_header_fields *fields);
+T85_NO_NULL((3))
+uint8_t t85_header(const uint8_t *stream, size_t len, t85_header_fields *fields);
 
 /* Reads a stream without decoding it. 0, and `summary` has what was found; or 1 to 15, and it is as
    it was. */
-T85_NO_NULL uint8_t t85_info(const uint8_t *stream, size_t len, t85_summary *summary);
+T85_NO_NULL((3))
+uint8_t t85_info(const uint8_t *stream, size_t len, t85_summary *summary);
 
 /* Writes the stream of an image.
 
@@ -160,19 +174,20 @@ T85_NO_NULL uint8_t t85_info(const uint8_t *stream, size_t len, t85_summary *sum
    beginning of the next.
    Others, with nothing written, *written being 0, by the first that applies: 50; 20, 21, 22, 26;
    33, 34; 51; 23; 19. */
-T85_NO_NULL uint8_t t85_encode(uint32_t width, uint32_t height, const uint8_t *rows,
-                               size_t rows_len, size_t stride, const t85_options *options,
-                               const uint8_t *comment, size_t comment_len, uint8_t *window,
-                               size_t window_len, uint8_t *stream, size_t stream_room,
-                               size_t *written);
+T85_NO_NULL((6, 13))
+uint8_t t85_encode(uint32_t width, uint32_t height, const uint8_t *rows, size_t rows_len,
+                   size_t stride, const t85_options *options, const uint8_t *comment,
+                   size_t comment_len, uint8_t *window, size_t window_len, uint8_t *stream,
+                   size_t stream_room, size_t *written);
 
 /* Bytes that are enough for the stream of any image of this size, with these options and a comment of
    this length; 0 where t85_encode refuses the width, the rows of a stripe or the comment.
 
    That is about four bytes a pixel, and far more than images take: begin with a room that is likely
    to do, and double it after T85_NO_ROOM. */
-T85_NO_NULL uint64_t t85_encode_bound(uint32_t width, uint32_t height, const t85_options *options,
-                                      size_t comment_len);
+T85_NO_NULL((3))
+uint64_t t85_encode_bound(uint32_t width, uint32_t height, const t85_options *options,
+                          size_t comment_len);
 
 /* Writes the image of a stream as a raw PBM: "P4", LF, width, a space, height, LF, and the rows
    without gaps. An image of more than max_rows rows is refused; UINT32_MAX refuses none.
@@ -186,9 +201,9 @@ T85_NO_NULL uint64_t t85_encode_bound(uint32_t width, uint32_t height, const t85
    T85_NO_ROOM: that has no room. It is full, *written is image_room, and it holds a beginning of
    what would be written, at 0 or at a fault.
    Others, with nothing written, *written being 0, by the first that applies: 1 to 8; 24; 19. */
-T85_NO_NULL uint8_t t85_decode(const uint8_t *stream, size_t len, uint32_t max_rows,
-                               uint8_t *window, size_t window_len, uint8_t *image,
-                               size_t image_room, size_t *written);
+T85_NO_NULL((8))
+uint8_t t85_decode(const uint8_t *stream, size_t len, uint32_t max_rows, uint8_t *window,
+                   size_t window_len, uint8_t *image, size_t image_room, size_t *written);
 
 /* The same, with the rows alone: row y begins at rows + y * stride. Bytes between two rows stay as
    they were.
@@ -196,13 +211,42 @@ T85_NO_NULL uint8_t t85_decode(const uint8_t *stream, size_t len, uint32_t max_r
    *rows_written is the number of whole rows that were written, at each status; at T85_NO_ROOM as
    many as fit. A stride below t85_row_bytes(width) is refused with T85_SHORT_STRIDE, which comes
    after 24 and before 19. */
-T85_NO_NULL uint8_t t85_decode_rows(const uint8_t *stream, size_t len, uint32_t max_rows,
-                                    size_t stride, uint8_t *window, size_t window_len,
-                                    uint8_t *rows, size_t rows_room, uint32_t *rows_written);
+T85_NO_NULL((9))
+uint8_t t85_decode_rows(const uint8_t *stream, size_t len, uint32_t max_rows, size_t stride,
+                        uint8_t *window, size_t window_len, uint8_t *rows, size_t rows_room,
+                        uint32_t *rows_written);
 
 /* Writes what a status means in English, without a line feed and without a zero byte: as much of it
    as there is room for. Gives the length of the whole text. */
-T85_NO_NULL size_t t85_message(uint8_t status, uint8_t *text, size_t room);
+size_t t85_message(uint8_t status, uint8_t *text, size_t room);
+
+/* For null pointers with a length of 0, each call that takes such pointers is a macro as well. It
+   puts T85_NOTHING in the place of a null pointer, and evaluates each argument once. Parentheses go
+   around an argument that has a comma outside of any, as a compound literal may have.
+
+   The functions take no null pointer. Where one is called as (t85_info)(..), by its address, or
+   from a language that does not read this header, T85_NOTHING is passed. */
+#define t85_header(stream, len, fields) t85_header(t85_bytes_or_nothing(stream), len, fields)
+
+#define t85_info(stream, len, summary) t85_info(t85_bytes_or_nothing(stream), len, summary)
+
+#define t85_encode(width, height, rows, rows_len, stride, options, comment, comment_len, window, \
+                   window_len, stream, stream_room, written)                                     \
+    t85_encode(width, height, t85_bytes_or_nothing(rows), rows_len, stride, options,             \
+               t85_bytes_or_nothing(comment), comment_len, t85_room_or_nothing(window),          \
+               window_len, t85_room_or_nothing(stream), stream_room, written)
+
+#define t85_decode(stream, len, max_rows, window, window_len, image, image_room, written)      \
+    t85_decode(t85_bytes_or_nothing(stream), len, max_rows, t85_room_or_nothing(window),       \
+               window_len, t85_room_or_nothing(image), image_room, written)
+
+#define t85_decode_rows(stream, len, max_rows, stride, window, window_len, rows, rows_room,    \
+                        rows_written)                                                          \
+    t85_decode_rows(t85_bytes_or_nothing(stream), len, max_rows, stride,                       \
+                    t85_room_or_nothing(window), window_len, t85_room_or_nothing(rows),        \
+                    rows_room, rows_written)
+
+#define t85_message(status, text, room) t85_message(status, t85_room_or_nothing(text), room)
 
 #ifdef __cplusplus
 }

@@ -7,9 +7,12 @@
      clib missing IMAGE.pbm FOLDER           FOLDER/N is what `pbmtojbg85` wrote of the image's first N bytes of rows
      clib faults IMAGE.pbm                   what each call refuses
      clib rooms STREAM IMAGE.pbm INFO        as decode, with every room from 0 to the whole
+     clib null STREAM                        null pointers with a length of 0
    Each buffer that is lent ends at a page that can't be touched, and in a second round begins behind
    one. An output of fewer than 1,000 bytes is tried with every room, a longer one with some. */
+#ifndef _GNU_SOURCE
 #define _GNU_SOURCE
+#endif
 #include "t85.h"
 
 #include <stdarg.h>
@@ -45,8 +48,8 @@ static void fail(const char *format, ...)
 static buffer lend(size_t len)
 {
     size_t page = (size_t)sysconf(_SC_PAGESIZE), middle = (len + page - 1) / page * page;
-    uint8_t *base = mmap(NULL, middle + 2 * page, PROT_NONE,
-                         MAP_PRIVATE | MAP_ANONYMOUS | MAP_NORESERVE, -1, 0);
+    uint8_t *base = (uint8_t *)mmap(NULL, middle + 2 * page, PROT_NONE,
+                                    MAP_PRIVATE | MAP_ANONYMOUS | MAP_NORESERVE, -1, 0);
     buffer lent = {NULL, len};
     if (base == MAP_FAILED || (middle && mprotect(base + page, middle, PROT_READ | PROT_WRITE)))
         fail("no memory for %zu bytes", len);
@@ -83,7 +86,7 @@ static buffer read_file(const char *name)
     if (!from || fseek(from, 0, SEEK_END))
         fail("%s can't be read", name);
     file.len = (size_t)ftell(from);
-    file.bytes = malloc(file.len + 1);
+    file.bytes = (uint8_t *)malloc(file.len + 1);
     rewind(from);
     if (fread(file.bytes, 1, file.len, from) != file.len)
         fail("%s can't be read", name);
@@ -182,7 +185,7 @@ static void decode_in(buffer stream, size_t window_len, uint8_t wanted, buffer w
     size_t written = 77;
     uint8_t status = t85_decode(stream.bytes, stream.len, UINT32_MAX, window.bytes, window.len,
                                 image.bytes, image.len, &written);
-    if (status != (room < whole.len ? T85_NO_ROOM : wanted) ||
+    if (status != (room < whole.len ? (uint8_t)T85_NO_ROOM : wanted) ||
         written != (room < whole.len ? room : whole.len))
         fail("t85_decode: status %d and %zu bytes of %zu, with a room of %zu", status, written,
              whole.len, room);
@@ -203,7 +206,7 @@ static void decode_rows_in(buffer stream, uint32_t width, uint8_t wanted, buffer
     fit = room < row ? 0 : (room - row) / stride + 1;
     if (fit > count)
         fit = count;
-    if (status != (fit < count ? T85_NO_ROOM : wanted) || written != fit)
+    if (status != (fit < count ? (uint8_t)T85_NO_ROOM : wanted) || written != fit)
         fail(
             "t85_decode_rows: status %d and %u rows of %zu, with a stride of %zu and a room of %zu",
             status, written, count, stride, room);
@@ -306,7 +309,7 @@ static void cut(buffer stream, const char *folder, size_t count)
     t85_summary summary;
     uint32_t width, height;
     status = t85_header(lent.bytes, count, &fields);
-    refused_as = wanted >= T85_SHORT_HEADER && wanted <= T85_PRIVATE_TABLE ? wanted : T85_OK;
+    refused_as = wanted <= T85_PRIVATE_TABLE ? wanted : (uint8_t)T85_OK;
     if (status != refused_as)
         fail("t85_header: status %d of %zu bytes", status, count);
     if (status != T85_OK) {
@@ -502,6 +505,8 @@ static void bounds(void)
     t85_options options = T85_OPTIONS;
     if (t85_encode_bound(T85_MOST_WIDTH, UINT32_MAX, &options, 0) == 0
         || t85_encode_bound(T85_MOST_WIDTH + 1, 1, &options, 0) != 0
+        || t85_encode_bound(0, 1, &options, 0) != 0
+        || t85_encode_bound(1, 0, &options, 0) != 0
         || t85_encode_bound(8, 8, &options, SIZE_MAX) != t85_encode_bound(8, 8, &options, 0))
         fail("t85_encode_bound");
     options.has_comment = true;
@@ -552,6 +557,249 @@ static void faults(char **words)
     messages();
 }
 
+static void or_nothing(void)
+{
+    uint8_t byte = FILL;
+    if (T85_NOTHING == NULL || t85_or_nothing(NULL) != T85_NOTHING ||
+        t85_bytes_or_nothing(NULL) != T85_NOTHING || t85_room_or_nothing(NULL) != T85_NOTHING)
+        fail("t85_or_nothing of a null pointer");
+    if (t85_or_nothing(&byte) != &byte || t85_bytes_or_nothing(&byte) != &byte ||
+        t85_room_or_nothing(&byte) != &byte)
+        fail("t85_or_nothing of another pointer");
+}
+
+/* The pointers with a length that came last, in their order. */
+static const uint8_t *came[4];
+
+static uint8_t see(const uint8_t *a, const uint8_t *b, const uint8_t *c, const uint8_t *d)
+{
+    came[0] = a, came[1] = b, came[2] = c, came[3] = d;
+    return T85_OK;
+}
+
+static uint8_t see_header(const uint8_t *stream, size_t len, t85_header_fields *fields)
+{
+    return fields->width == len ? see(stream, NULL, NULL, NULL) : 255;
+}
+
+static uint8_t see_info(const uint8_t *stream, size_t len, t85_summary *summary)
+{
+    return summary->width == len ? see(stream, NULL, NULL, NULL) : 255;
+}
+
+static uint8_t see_encode(uint32_t width, uint32_t height, const uint8_t *rows, size_t rows_len,
+                          size_t stride, const t85_options *options, const uint8_t *comment,
+                          size_t comment_len, uint8_t *window, size_t window_len, uint8_t *stream,
+                          size_t stream_room, size_t *written)
+{
+    bool in_order = width == 1 && height == 2 && rows_len == 3 && stride == 4 && comment_len == 5 &&
+                    window_len == 6 && stream_room == 7 && *written == 8 && options->version == 9;
+    return in_order ? see(rows, comment, window, stream) : 255;
+}
+
+static uint8_t see_decode(const uint8_t *stream, size_t len, uint32_t max_rows, uint8_t *window,
+                          size_t window_len, uint8_t *image, size_t image_room, size_t *written)
+{
+    bool in_order =
+        len == 1 && max_rows == 2 && window_len == 3 && image_room == 4 && *written == 5;
+    return in_order ? see(stream, window, image, NULL) : 255;
+}
+
+static uint8_t see_decode_rows(const uint8_t *stream, size_t len, uint32_t max_rows, size_t stride,
+                               uint8_t *window, size_t window_len, uint8_t *rows, size_t rows_room,
+                               uint32_t *rows_written)
+{
+    bool in_order = len == 1 && max_rows == 2 && stride == 3 && window_len == 4 && rows_room == 5 &&
+                    *rows_written == 6;
+    return in_order ? see(stream, window, rows, NULL) : 255;
+}
+
+static size_t see_message(uint8_t status, uint8_t *text, size_t room)
+{
+    return status == room ? see(text, NULL, NULL, NULL) : 255;
+}
+
+typedef struct {
+    uint8_t (*t85_header)(const uint8_t *, size_t, t85_header_fields *);
+    uint8_t (*t85_info)(const uint8_t *, size_t, t85_summary *);
+    uint8_t (*t85_encode)(uint32_t, uint32_t, const uint8_t *, size_t, size_t, const t85_options *,
+                          const uint8_t *, size_t, uint8_t *, size_t, uint8_t *, size_t, size_t *);
+    uint8_t (*t85_decode)(const uint8_t *, size_t, uint32_t, uint8_t *, size_t, uint8_t *, size_t,
+                          size_t *);
+    uint8_t (*t85_decode_rows)(const uint8_t *, size_t, uint32_t, size_t, uint8_t *, size_t,
+                               uint8_t *, size_t, uint32_t *);
+    size_t (*t85_message)(uint8_t, uint8_t *, size_t);
+} calls;
+
+static void have_come(const char *call, size_t status, unsigned count, const uint8_t *wanted)
+{
+    unsigned i;
+    for (i = 0; i < 4; i++)
+        if (status != T85_OK || came[i] != (i >= count ? NULL : wanted ? wanted + i : T85_NOTHING))
+            fail("the macro %s passes another argument %u, or status %zu", call, i, status);
+}
+
+/* What the macros pass on, `a` being null or the first of four pointers. They are used here on
+   functions of the calls' names, which lie in a struct. */
+static void passed(uint8_t *a)
+{
+    static const calls seen = {see_header, see_info,        see_encode,
+                               see_decode, see_decode_rows, see_message};
+    uint8_t *b = a ? a + 1 : NULL, *c = a ? a + 2 : NULL, *d = a ? a + 3 : NULL;
+    t85_header_fields fields = {8, 0, 0, 0, 0};
+    t85_summary summary = {8, 0, 0, 0, 0, 0, 0, 0, 0};
+    t85_options options = T85_OPTIONS;
+    size_t written = 8;
+    uint32_t rows_written = 6;
+    options.version = 9;
+    have_come("t85_header", seen.t85_header(a, 8, &fields), 1, a);
+    have_come("t85_info", seen.t85_info(a, 8, &summary), 1, a);
+    have_come("t85_encode",
+              seen.t85_encode(1, 2, a, 3, 4, &options, b, 5, c, 6, d, 7, &written), 4, a);
+    written = 5;
+    have_come("t85_decode", seen.t85_decode(a, 1, 2, b, 3, c, 4, &written), 3, a);
+    have_come("t85_decode_rows",
+              seen.t85_decode_rows(a, 1, 2, 3, b, 4, c, 5, &rows_written), 3, a);
+    have_come("t85_message", seen.t85_message(8, a, 8), 1, a);
+}
+
+/* Whether arguments are evaluated once: each goes on by one. */
+static void once(void)
+{
+    uint8_t text[9], *at = text, status = T85_OK;
+    const uint8_t *stream = text;
+    size_t room = sizeof text, len = 1;
+    t85_header_fields fields[2], *field = fields;
+    if (t85_message(status++, at++, room--) != 4 || status != 1 || at != text + 1 || room != 8)
+        fail("t85_message evaluates an argument again");
+    if (t85_header(stream++, len++, field++) != T85_SHORT_HEADER || stream != text + 1 ||
+        len != 2 || field != fields + 1)
+        fail("t85_header evaluates an argument again");
+}
+
+/* Calls that read, with null pointers and 0. */
+static void read_null(buffer stream, size_t window_len)
+{
+    buffer window = lend(window_len);
+    size_t written = 77;
+    uint32_t rows = 77;
+    t85_header_fields fields = {77, 0, 0, 0, 0};
+    t85_summary summary = {77, 0, 0, 0, 0, 0, 0, 0, 0};
+    if (t85_header(NULL, 0, &fields) != T85_SHORT_HEADER || fields.width != 77)
+        fail("t85_header of a null pointer");
+    if (t85_info(NULL, 0, &summary) != T85_SHORT_HEADER || summary.width != 77)
+        fail("t85_info of a null pointer");
+    if (t85_decode(NULL, 0, 9, NULL, 0, NULL, 0, &written) != T85_SHORT_HEADER || written != 0)
+        fail("t85_decode of null pointers");
+    if (t85_decode_rows(NULL, 0, 9, 9, NULL, 0, NULL, 0, &rows) != T85_SHORT_HEADER || rows != 0)
+        fail("t85_decode_rows of null pointers");
+    written = rows = 77;
+    if (t85_decode(stream.bytes, stream.len, UINT32_MAX, NULL, 0, NULL, 0, &written) !=
+            T85_SHORT_WINDOW ||
+        written != 0)
+        fail("t85_decode with no window");
+    if (t85_decode_rows(stream.bytes, stream.len, UINT32_MAX, window_len, NULL, 0, NULL, 0,
+                        &rows) != T85_SHORT_WINDOW ||
+        rows != 0)
+        fail("t85_decode_rows with no window");
+    written = rows = 77;
+    if (t85_decode(stream.bytes, stream.len, UINT32_MAX, window.bytes, window.len, NULL, 0,
+                   &written) != T85_NO_ROOM ||
+        written != 0)
+        fail("t85_decode with no room");
+    if (t85_decode_rows(stream.bytes, stream.len, UINT32_MAX, window_len, window.bytes, window.len,
+                        NULL, 0, &rows) != T85_NO_ROOM ||
+        rows != 0)
+        fail("t85_decode_rows with no room");
+    if (t85_message(T85_OK, NULL, 0) != 4)
+        fail("t85_message with no room");
+    give_back(window);
+}
+
+/* Calls of the encoder with null pointers and 0, for an image of eight pixels. */
+static void write_null(void)
+{
+    buffer window = lend(3), row = filled(1);
+    t85_options options = T85_OPTIONS;
+    t85_summary summary;
+    uint8_t code[2][100];
+    size_t written = 77, again = 77;
+    options.has_comment = true;
+    if (t85_encode(8, 1, NULL, 0, 1, &options, NULL, 0, NULL, 0, NULL, 0, &written) !=
+            T85_SHORT_WINDOW ||
+        written != 0)
+        fail("t85_encode with no window");
+    written = 77;
+    if (t85_encode(8, 1, NULL, 0, 1, &options, NULL, 0, window.bytes, 3, NULL, 0, &written) !=
+            T85_NO_ROOM ||
+        written != 0)
+        fail("t85_encode with no room");
+    if (t85_encode(8, 1, NULL, 0, 1, &options, NULL, 0, window.bytes, 3, code[0], 100,
+                   &written) != T85_ROWS_MISSING ||
+        written < 20)
+        fail("t85_encode with no rows");
+    if (t85_encode(8, 1, row.bytes, 1, 1, &options, NULL, 0, window.bytes, 3, code[0], 100,
+                   &written) != T85_OK ||
+        t85_info(code[0], written, &summary) != T85_OK || summary.comments != 1)
+        fail("t85_encode with an empty comment");
+    if (t85_encode(8, 1, row.bytes, 1, 1, &options, row.bytes, 0, window.bytes, 3, code[1], 100,
+                   &again) != T85_OK ||
+        again != written || memcmp(code[0], code[1], written))
+        fail("t85_encode with an empty comment that has a place");
+    give_back(row);
+    give_back(window);
+}
+
+/* The functions, by their addresses and in parentheses: no macro stands before them. */
+static void by_address(buffer stream)
+{
+    static const calls table = {&t85_header, &t85_info,        &t85_encode,
+                                &t85_decode, &t85_decode_rows, &t85_message};
+    t85_options options = T85_OPTIONS;
+    t85_header_fields fields, same;
+    t85_summary summary;
+    size_t written = 77;
+    uint32_t rows = 77;
+    if (table.t85_header != (t85_header) || table.t85_message != t85_message)
+        fail("a function has two addresses");
+    if ((t85_header)(stream.bytes, stream.len, &fields) != T85_OK ||
+        (*table.t85_header)(stream.bytes, stream.len, &same) != T85_OK ||
+        memcmp(&fields, &same, sizeof fields))
+        fail("t85_header in parentheses");
+    if ((t85_info)(T85_NOTHING, 0, &summary) != T85_SHORT_HEADER ||
+        (*table.t85_info)(T85_NOTHING, 0, &summary) != T85_SHORT_HEADER)
+        fail("t85_info in parentheses");
+    if ((t85_encode)(8, 1, T85_NOTHING, 0, 1, &options, T85_NOTHING, 0, T85_NOTHING, 0,
+                     T85_NOTHING, 0, &written) != T85_SHORT_WINDOW ||
+        written != 0)
+        fail("t85_encode in parentheses");
+    if ((t85_decode)(T85_NOTHING, 0, 9, T85_NOTHING, 0, T85_NOTHING, 0, &written) !=
+            T85_SHORT_HEADER ||
+        (t85_decode_rows)(T85_NOTHING, 0, 9, 9, T85_NOTHING, 0, T85_NOTHING, 0, &rows) !=
+            T85_SHORT_HEADER)
+        fail("t85_decode or t85_decode_rows in parentheses");
+    if ((t85_message)(T85_OK, T85_NOTHING, 0) != 4)
+        fail("t85_message in parentheses");
+}
+
+static void null(char **words)
+{
+    buffer file = read_file(words[0]), stream = copied(file.bytes, file.len);
+    uint8_t four[4];
+    t85_header_fields fields;
+    or_nothing();
+    passed(four);
+    passed(NULL);
+    once();
+    if (t85_header(stream.bytes, stream.len, &fields) != T85_OK)
+        fail("t85_header");
+    read_null(stream, t85_window_bytes(fields.width));
+    write_null();
+    by_address(stream);
+    give_back(stream);
+    free(file.bytes);
+}
+
 int main(int count, char **words)
 {
     static const struct {
@@ -559,7 +807,8 @@ int main(int count, char **words)
         void (*run)(char **);
         int words;
     } parts[] = {{"encode", encode, 8}, {"decode", decode, 3},   {"rooms", rooms, 3},
-                 {"cuts", cuts, 2},     {"missing", missing, 2}, {"faults", faults, 1}};
+                 {"cuts", cuts, 2},     {"missing", missing, 2}, {"faults", faults, 1},
+                 {"null", null, 1}};
     size_t i;
     for (i = 0; i < sizeof parts / sizeof *parts; i++)
         if (count == parts[i].words + 2 && !strcmp(words[1], parts[i].name)) {

@@ -23,8 +23,8 @@ int main(int count, char **names)
         stream = realloc(stream, room *= 2);
         if (!stream)
             return 1;
-        status = t85_encode(width, height, rows, size, row, &options, T85_NOTHING, 0, window,
-                            3 * row, stream, room, &written);
+        status = t85_encode(width, height, rows, size, row, &options, NULL, 0, window, 3 * row,
+                            stream, room, &written);
     } while (status == T85_NO_ROOM);
     if (status != T85_OK) {
         uint8_t text[80];

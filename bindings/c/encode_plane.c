@@ -24,9 +24,8 @@ static int encode_plane(uint32_t width, uint32_t height, const unsigned char *pl
     options.most_offset = T85_MOST_OFFSET;
     while (window && status == T85_NO_ROOM && (more = realloc(stream, room)) != NULL) {
         stream = more;
-        status =
-            t85_encode(width, height, t85_or_nothing(plane), row * height, row, &options,
-                       T85_NOTHING, 0, window, t85_window_bytes(width), stream, room, &written);
+        status = t85_encode(width, height, plane, row * height, row, &options, NULL, 0, window,
+                            t85_window_bytes(width), stream, room, &written);
         room *= 2;
     }
     if (status == T85_OK)

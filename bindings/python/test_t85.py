@@ -5,12 +5,18 @@
 import mmap
 import os
 import pickle
+import random
+import subprocess
+import sys
 import threading
+import tracemalloc
 import unittest
+from unittest import mock
 
 import t85
 
-EXAMPLES = os.path.join(os.path.dirname(os.path.abspath(__file__)), "../../examples")
+HERE = os.path.dirname(os.path.abspath(__file__))
+EXAMPLES = os.path.join(HERE, "../../examples")
 
 
 def example(name):
@@ -82,6 +88,202 @@ class Whole(unittest.TestCase):
 
     def test_version(self):
         self.assertEqual(t85.version(), (1, 0, 0))
+
+
+class Counted:
+    """Stands in for the library, and counts the calls of each name."""
+
+    def __init__(self, library):
+        self.library, self.counts = library, {}
+
+    def __getattr__(self, name):
+        def call(*words):
+            self.counts[name] = self.counts.get(name, 0) + 1
+            return getattr(self.library, name)(*words)
+
+        return call
+
+
+class Once(unittest.TestCase):
+    """An image is coded by one call of the library, and decoded by one."""
+
+    SIZE = 1728, 2200
+
+    def setUp(self):
+        self.counted = Counted(t85._LIBRARY)
+        patch = mock.patch.object(t85, "_LIBRARY", self.counted)
+        patch.start()
+        self.addCleanup(patch.stop)
+
+    def counting(self, name, call, *words, **names):
+        """What a call of the module gives, which calls the library by this name once."""
+        self.counted.counts = {}
+        try:
+            return call(*words, **names)
+        except t85.Error as error:
+            return error.partial
+        finally:
+            self.assertEqual(self.counted.counts.get(name), 1, name)
+
+    def both_ways(self, rows, width, height, **names):
+        stream = self.counting("t85_encode", t85.encode, rows, width, height, **names)
+        image = self.counting("t85_decode", t85.decode, stream)
+        self.assertTrue(image == b"P4\n%d %d\n" % (width, height) + rows)
+        self.assertTrue(self.counting("t85_decode_rows", t85.decode_rows, stream).data == rows)
+        return stream
+
+    def test_pages(self):
+        width, height = self.SIZE
+        text = b"".join(ROWS[y % 160 * 52 :][:52] * 4 + bytes(8) for y in range(height))
+        noise = random.Random(1).randbytes(216 * height)
+        for name, rows in {"text": text, "noise": noise, "white": bytes(216 * height)}.items():
+            for names in ({}, dict(most_offset=127, two_lines=True, stripe_rows=1), dict(announced_height=1 << 20)):
+                with self.subTest(page=name, **names):
+                    stream = self.both_ways(rows, width, height, **names)
+                    for count in (20, len(stream) // 2, len(stream) - 1):
+                        self.counting("t85_decode", t85.decode, stream[:count])
+                        self.counting("t85_decode_rows", t85.decode_rows, stream[:count])
+
+    def test_small(self):
+        for width in (1, 3, 8, 9, 64):
+            row, noise = (width + 7) // 8, random.Random(width)
+            rows = b"".join(
+                (noise.getrandbits(width) << 8 * row - width).to_bytes(row, "big") for _ in range(2000)
+            )
+            for stripe_rows in (1, 2, 128):
+                with self.subTest(width=width, stripe_rows=stripe_rows):
+                    self.both_ways(rows, width, 2000, stripe_rows=stripe_rows, reset=True, most_offset=127)
+
+    def test_comment(self):
+        self.both_ways(bytes(8), 8, 8, comment=b"x" * 200000)
+
+    def test_little_rows(self):
+        # Rows that are missing want no room.
+        self.counting("t85_encode", t85.encode, b"", 1 << 20, (1 << 32) - 1, stripe_rows=1)
+
+    def test_room_grows(self):
+        noise = random.Random(1).randbytes(216 * 100)
+        stream = t85.encode(noise, 1728, 100)
+        with mock.patch.object(t85, "_likely_room", return_value=16):
+            self.assertTrue(t85.encode(noise, 1728, 100) == stream)
+        self.assertGreater(self.counted.counts["t85_encode"], 5)
+        with self.assertRaises(t85.Error) as whole:
+            t85.decode(stream[:-1])
+        with mock.patch.object(t85, "_FIRST_ROOM", 16), self.assertRaises(t85.Error) as grown:
+            t85.decode(stream[:-1])
+        self.assertEqual((grown.exception.number, grown.exception.partial), (9, whole.exception.partial))
+
+
+# Decodes a stream in 64 MiB beside what Python and the module take, and says what came of it.
+LIMITED = """
+import resource, sys, t85
+
+with open("/proc/self/statm") as file:
+    pages = int(file.read().split()[0])
+most = pages * resource.getpagesize() + (64 << 20)
+resource.setrlimit(resource.RLIMIT_AS, (most, most))
+stream = bytes.fromhex(sys.argv[1])
+for call in (t85.decode, t85.decode_rows):
+    try:
+        call(stream)
+        print("decoded")
+    except t85.Error as error:
+        print(error)
+"""
+
+
+class Hostile(unittest.TestCase):
+    """Streams of few bytes that have, or announce, very large images."""
+
+    TALL = (1 << 32) - 1
+
+    def limited(self, stream):
+        """What decode and decode_rows say of a stream, in a process with little memory."""
+        environment = {**os.environ, "PYTHONPATH": HERE}
+        command = [sys.executable, "-c", LIMITED, stream.hex()]
+        ran = subprocess.run(command, env=environment, capture_output=True, text=True, timeout=300)
+        self.assertEqual((ran.stderr, ran.returncode), ("", 0))
+        return ran.stdout.splitlines()
+
+    def test_truncated(self):
+        for width in (1, 1728, 1 << 20):
+            for options in (0, 0x08, 0x48, 0x28):
+                with self.subTest(width=width, options=options):
+                    stream = head(width, self.TALL, 128, 0, options)
+                    self.assertEqual(self.limited(stream), ["input ends too early (9)"] * 2)
+
+    def test_whole(self):
+        for width in (1, 1728, 1 << 20):
+            with self.subTest(width=width):
+                stream = head(width, self.TALL, self.TALL, 0, 8) + b"\xff\x02"
+                bytes_needed = (width + 7) // 8 * self.TALL
+                text = f"rows take {bytes_needed} bytes, and max_bytes is 1073741824: "
+                text += "give a greater max_bytes, or max_bytes=None for no limit (18)"
+                self.assertEqual(self.limited(stream), [text] * 2)
+
+    def test_memory_grows_with_rows(self):
+        # A header that announces all rows that there can be, before the code of few, which are broken off.
+        stream = head(416, self.TALL, self.TALL, 127, 8) + STREAM[20:-200]
+        for first in (1 << 10, 1 << 23):
+            with self.subTest(first=first), mock.patch.object(t85, "_FIRST_ROOM", first):
+                tracemalloc.start()
+                try:
+                    with self.assertRaises(t85.Error) as caught:
+                        t85.decode_rows(stream)
+                    taken = tracemalloc.get_traced_memory()[1]
+                finally:
+                    tracemalloc.stop()
+                rows = caught.exception.partial
+                self.assertGreater(rows.count, 10)
+                self.assertLess(taken, first + 3 * len(rows.data) + 20000)
+
+
+class Limits(unittest.TestCase):
+    def refused(self, call, *words, **names):
+        with self.assertRaises(t85.Error) as caught:
+            call(*words, **names)
+        self.assertEqual((caught.exception.number, caught.exception.partial), (18, b""))
+        for said in (f"max_bytes is {names['max_bytes']}: give a greater max_bytes", "max_bytes=None for no limit"):
+            self.assertIn(said, str(caught.exception))
+
+    def test_whole(self):
+        self.assertEqual(t85.MAX_BYTES, 1 << 30)
+        late = t85.encode(ROWS, 416, 160, announced_height=1 << 31)
+        for stream in (STREAM, late):
+            for most in (len(ROWS), None):
+                self.assertEqual(t85.decode(stream, max_bytes=most), PBM)
+                self.assertEqual(t85.decode_rows(stream, max_bytes=most).data, ROWS)
+            for most in (0, 1, len(ROWS) - 1):
+                self.refused(t85.decode, stream, max_bytes=most)
+                self.refused(t85.decode_rows, stream, max_bytes=most)
+        spread = 159 * 55 + 52
+        self.assertEqual(len(t85.decode_rows(STREAM, stride=55, max_bytes=spread).data), spread)
+        self.refused(t85.decode_rows, STREAM, stride=55, max_bytes=spread - 1)
+        self.refused(t85.decode_rows, STREAM, stride=1 << 62, max_bytes=1 << 30)
+
+    def test_broken(self):
+        broken = STREAM[:500]
+        with self.assertRaises(t85.Error) as caught:
+            t85.decode_rows(broken)
+        rows = caught.exception.partial
+        self.assertTrue(0 < rows.count < 160)
+        for call in (t85.decode, t85.decode_rows):
+            with self.assertRaises(t85.Error) as again:
+                call(broken, max_bytes=len(rows.data))
+            self.assertEqual(again.exception.number, 9)
+            self.refused(call, broken, max_bytes=len(rows.data) - 1)
+
+    def test_other_faults_first(self):
+        for call, names, number in (
+            (t85.decode, dict(max_rows=159), 24),
+            (t85.decode_rows, dict(max_rows=159), 24),
+            (t85.decode_rows, dict(stride=51), 51),
+        ):
+            with self.assertRaises(t85.Error) as caught:
+                call(STREAM, max_bytes=0, **names)
+            self.assertEqual(caught.exception.number, number)
+        with self.assertRaises(OverflowError):
+            t85.decode(STREAM, max_bytes=-1)
 
 
 class Buffers(unittest.TestCase):
@@ -194,6 +396,8 @@ class Faults(unittest.TestCase):
         self.assertEqual(str(error), "input ends too early (9)")
         again = pickle.loads(pickle.dumps(error))
         self.assertEqual((again.number, again.text, again.partial), (error.number, error.text, error.partial))
+        error = self.fault(t85.decode, STREAM, max_bytes=0)
+        self.assertEqual(str(pickle.loads(pickle.dumps(error))), str(error))
 
 
 if __name__ == "__main__":

@@ -9,26 +9,71 @@
 Rows are packed eight pixels a byte, the leftmost in the highest bit, 1 for black, as in a raw PBM. What is read may be any
 object with a buffer: bytes, bytearray, memoryview, mmap. What comes back is bytes.
 
+Other packages have pixels in other ways, and nothing is turned unless it is asked for:
+
+    >>> page = pack(array, black=True)            # a 2-D array of NumPy, in which True or 1 is black
+    >>> page = from_image(image)                  # an image of Pillow in mode 1, in which 1 is white
+    >>> stream = encode(page.data, page.width, page.count)
+    >>> image = to_image(decode_rows(stream))
+
+A stream of a few bytes may have an image of terabytes. So decode and decode_rows refuse images whose rows take more than
+MAX_BYTES, 1 GiB, where max_bytes says nothing else. For a moment a call has twice what the rows take, and where a stream
+is broken up to three times as much and 8 MiB.
+
 The library is looked for as T85_LIBRARY names it, else as libt85.so.1 by the system. Calls may run in several threads at
 once, and let other threads run meanwhile.
 """
 from __future__ import annotations
 
+import array
 import ctypes
+import enum
+import mmap
 import os
 from ctypes import POINTER, byref, c_bool, c_char, c_size_t, c_uint8, c_uint32, c_uint64, c_void_p
 from dataclasses import dataclass
-from typing import Optional, Union
+from typing import TYPE_CHECKING, Any, Callable, Optional, Union
 
-__all__ = ["Error", "Header", "Rows", "Summary", "decode", "decode_rows", "encode", "header", "info", "version"]
+from ._rows import Rows, from_image, pack, to_image
+from ._rows import refuse_pixels as _refuse_pixels
+from ._rows import row_bytes as _row_bytes
 
-Buffer = Union[bytes, bytearray, memoryview]
+__all__ = [
+    "MAX_BYTES",
+    "Error",
+    "Header",
+    "Rows",
+    "Summary",
+    "decode",
+    "decode_rows",
+    "encode",
+    "from_image",
+    "header",
+    "info",
+    "pack",
+    "to_image",
+    "version",
+]
+
+MAX_BYTES = 1 << 30
+
+Buffer = Union[bytes, bytearray, memoryview, mmap.mmap, "array.array[Any]"]
+if TYPE_CHECKING:
+    _Memory = ctypes.Array[c_char]
+    # Gets memory and the room in it, and gives a status.
+    _Writer = Callable[[_Memory, int], int]
 
 _NO_ROOM = 18
-_TWO_LINES, _VARIABLE_HEIGHT, _TYPICAL = 0x40, 0x20, 0x08
 _NO_LIMIT = 0xFFFFFFFF
-_FIRST_ROOM = 1 << 16
-_PBM_HEADER = 22
+_FIRST_ROOM = 1 << 23
+
+
+class _Option(enum.IntFlag):
+    """The options that a stream has in its header."""
+
+    TWO_LINES = 0x40
+    VARIABLE_HEIGHT = 0x20
+    TYPICAL = 0x08
 
 
 class _Options(ctypes.Structure):
@@ -102,27 +147,17 @@ class Summary(Header):
     comments: int
 
 
-@dataclass(frozen=True)
-class Rows:
-    """The rows of an image: `count` of them, each `stride` bytes after the one before."""
-
-    width: int
-    count: int
-    stride: int
-    data: bytes
-
-
 class Error(ValueError):
     """A fault: its number, its text, and what was written before it: of a stream the image as far as it can be had."""
 
-    def __init__(self, number: int, partial: Union[bytes, Rows] = b"") -> None:
+    def __init__(self, number: int, partial: Union[bytes, Rows] = b"", text: Optional[str] = None) -> None:
         self.number = number
-        self.text = _message(number)
+        self.text = _message(number) if text is None else text
         self.partial = partial
         super().__init__(f"{self.text} ({number})")
 
-    def __reduce__(self):
-        return type(self), (self.number, self.partial)
+    def __reduce__(self) -> tuple[type[Error], tuple[int, Union[bytes, Rows], str]]:
+        return type(self), (self.number, self.partial, self.text)
 
 
 def _message(number: int) -> str:
@@ -131,7 +166,7 @@ def _message(number: int) -> str:
     return ctypes.string_at(text, min(length, len(text))).decode("ascii")
 
 
-def _bytes(data: Buffer):
+def _bytes(data: Buffer) -> Union[bytes, _Memory]:
     """What ctypes can lend: the bytes themselves, or a writable buffer in place; of other buffers a copy."""
     if isinstance(data, bytes):
         return data
@@ -157,23 +192,73 @@ def _length(name: str, value: int) -> int:
     return value
 
 
-def _window(width: int):
+def _window(width: int) -> _Memory:
     return ctypes.create_string_buffer(max(_LIBRARY.t85_window_bytes(width), 1))
 
 
-def _row_bytes(width: int) -> int:
-    return (width + 7) // 8
-
-
-def _with_room(call, first: int, most: int):
-    """The status of a call that writes, and the buffer that it wrote to: the room is doubled while it is too little."""
+def _with_room(write: _Writer, first: int, most: int) -> tuple[int, _Memory]:
+    """The status of a call that writes, and the memory that it wrote to: the room is doubled while it is too little."""
     room = min(first, most)
     while True:
         output = ctypes.create_string_buffer(max(room, 1))
-        status = call(output, room)
+        status = write(output, room)
         if status != _NO_ROOM or room == most:
             return status, output
+        del output
         room = min(2 * room, most)
+
+
+def _likely_room(row: int, step: int, height: int, stripe_rows: int, given: int, said: int) -> int:
+    """Room that a stream is likely to fit into: noise takes a twentieth more than its rows, and each stripe has its end.
+
+    Only the rows that are there count: `given` is the bytes of all of them, `said` those of the comment.
+    """
+    there = min(height, given // max(step, 1) + 1)
+    rows = min(there * row, given)
+    return 4096 + rows + rows // 8 + 16 * (there // max(stripe_rows, 1) + 1) + said
+
+
+@dataclass(frozen=True)
+class _Extent:
+    """How far the rows of a stream's image reach: `height` of them where the stream is whole, else no more than that."""
+
+    height: int
+    whole: bool
+    row: int
+    step: int
+
+    @property
+    def length(self) -> int:
+        """Bytes from the first of the rows to the last."""
+        return (self.height - 1) * self.step + self.row if self.height else 0
+
+
+def _extent(stream: Buffer, fields: Header, step: int) -> _Extent:
+    """What the header of a stream and its parts tell of the rows, which are `step` bytes apart, without decoding them."""
+    summary = _Summary()
+    status = _LIBRARY.t85_info(_bytes(stream), _size(stream), byref(summary))
+    height = fields.height if status else summary.image_height
+    return _Extent(height, whole=not status, row=_row_bytes(fields.width), step=step)
+
+
+def _decoded(write: _Writer, extent: _Extent, before: int, max_bytes: Optional[int]) -> tuple[int, _Memory]:
+    """The status of a call that decodes, and the memory that it wrote to: `before` bytes, and rows of max_bytes at most.
+
+    Of a whole stream all rows are decoded, else those that can be had, which may be far fewer: the room grows with them.
+    """
+    limit = extent.length if max_bytes is None else _length("max_bytes", max_bytes)
+    fits = extent.length <= limit
+    if not extent.whole:
+        status, output = _with_room(write, before + _FIRST_ROOM, before + min(extent.length, limit))
+    else:
+        # Without room the library still says what else is wrong.
+        room = before + extent.length if fits else 0
+        status, output = _with_room(write, room, room)
+    if status == _NO_ROOM and not fits:
+        taken = f"{extent.length} bytes" if extent.whole else f"more than {limit} bytes"
+        text = f"rows take {taken}, and max_bytes is {limit}: give a greater max_bytes, or max_bytes=None for no limit"
+        raise Error(_NO_ROOM, text=text)
+    return status, output
 
 
 def version() -> tuple[int, int, int]:
@@ -215,7 +300,7 @@ def encode(
     reset: bool = False,
     comment: Optional[Buffer] = None,
 ) -> bytes:
-    """The stream of an image.
+    """The stream of an image, whose rows are packed bytes. An array with an item a pixel is refused: see pack.
 
     stride            bytes from a row to the next; without one the rows are close together
     stripe_rows       rows of a stripe
@@ -229,9 +314,12 @@ def encode(
 
     Where rows are missing the Error has the stream of the stripes that are whole, and a beginning of the next.
     """
+    _refuse_pixels(rows, width, height, stride)
     chosen = _Options(
         version=1,
-        options=_TWO_LINES * bool(two_lines) + _VARIABLE_HEIGHT * bool(variable_height) + _TYPICAL * bool(typical),
+        options=(_Option.TWO_LINES if two_lines else 0)
+        | (_Option.VARIABLE_HEIGHT if variable_height else 0)
+        | (_Option.TYPICAL if typical else 0),
         stripe_rows=_word("stripe_rows", stripe_rows),
         most_offset=_word("most_offset", most_offset),
         announced_height=_word("announced_height", announced_height or 0),
@@ -245,75 +333,75 @@ def encode(
     _word("height", height)
     written = c_size_t()
 
-    def call(stream, room):
-        return _LIBRARY.t85_encode(
-            width,
-            height,
-            _bytes(rows),
-            _size(rows),
-            step,
-            byref(chosen),
-            _bytes(said),
-            _size(said),
-            window,
-            len(window),
-            stream,
-            room,
-            byref(written),
-        )
+    def write(stream: _Memory, room: int) -> int:
+        lent = _bytes(rows), _size(rows), step, byref(chosen), _bytes(said), _size(said), window, len(window)
+        return int(_LIBRARY.t85_encode(width, height, *lent, stream, room, byref(written)))
 
     most = _LIBRARY.t85_encode_bound(width, height, byref(chosen), _size(said))
-    status, stream = _with_room(call, _FIRST_ROOM + _size(rows) // 4 + _size(said), most)
+    first = _likely_room(_row_bytes(width), step, height, stripe_rows, _size(rows), _size(said))
+    status, stream = _with_room(write, first, most)
     found = ctypes.string_at(stream, written.value)
     if status:
         raise Error(status, found)
     return found
 
 
-def decode(stream: Buffer, *, max_rows: Optional[int] = None) -> bytes:
-    """The image of a stream, as a raw PBM. One of more than max_rows rows is refused.
+def decode(stream: Buffer, *, max_rows: Optional[int] = None, max_bytes: Optional[int] = MAX_BYTES) -> bytes:
+    """The image of a stream, as a raw PBM.
+
+    max_rows   an image of more rows is refused; without one, or with None, none is
+    max_bytes  an image whose rows take more bytes is refused; with None none is
 
     Where the stream is broken the Error has the PBM's header with the full height, and each row that can be had.
     """
     fields = header(stream)
     window = _window(fields.width)
     limit = _NO_LIMIT if max_rows is None else _word("max_rows", max_rows)
+    extent = _extent(stream, fields, _row_bytes(fields.width))
     written = c_size_t()
 
-    def call(image, room):
-        return _LIBRARY.t85_decode(
-            _bytes(stream), _size(stream), limit, window, len(window), image, room, byref(written)
-        )
+    def write(image: _Memory, room: int) -> int:
+        lent = _bytes(stream), _size(stream), limit, window, len(window)
+        return int(_LIBRARY.t85_decode(*lent, image, room, byref(written)))
 
-    status, image = _with_room(call, _FIRST_ROOM, _PBM_HEADER + fields.height * _row_bytes(fields.width))
+    before = len(f"P4\n{fields.width} {extent.height}\n")
+    status, image = _decoded(write, extent, before, max_bytes)
     found = ctypes.string_at(image, written.value)
     if status:
         raise Error(status, found)
     return found
 
 
-def decode_rows(stream: Buffer, *, stride: Optional[int] = None, max_rows: Optional[int] = None) -> Rows:
-    """The rows of a stream's image. One of more than max_rows rows is refused.
+def decode_rows(
+    stream: Buffer,
+    *,
+    stride: Optional[int] = None,
+    max_rows: Optional[int] = None,
+    max_bytes: Optional[int] = MAX_BYTES,
+) -> Rows:
+    """The rows of a stream's image.
 
-    stride  bytes from a row to the next; without one the rows are close together. Bytes between two rows are 0.
+    stride     bytes from a row to the next; without one the rows are close together. Bytes between two rows are 0.
+    max_rows   an image of more rows is refused; without one, or with None, none is
+    max_bytes  an image whose rows, with the bytes between them, take more bytes is refused; with None none is
 
     Where the stream is broken the Error has each row that can be had.
     """
     fields = header(stream)
     window = _window(fields.width)
-    row = _row_bytes(fields.width)
-    step = row if stride is None else _length("stride", stride)
     limit = _NO_LIMIT if max_rows is None else _word("max_rows", max_rows)
-    count = c_uint32()
+    step = _row_bytes(fields.width) if stride is None else _length("stride", stride)
+    extent = _extent(stream, fields, step)
+    written = c_uint32()
 
-    def call(rows, room):
-        return _LIBRARY.t85_decode_rows(
-            _bytes(stream), _size(stream), limit, step, window, len(window), rows, room, byref(count)
-        )
+    def write(rows: _Memory, room: int) -> int:
+        lent = _bytes(stream), _size(stream), limit, step, window, len(window)
+        return int(_LIBRARY.t85_decode_rows(*lent, rows, room, byref(written)))
 
-    status, rows = _with_room(call, _FIRST_ROOM, (fields.height - 1) * step + row)
-    length = (count.value - 1) * step + row if count.value else 0
-    found = Rows(fields.width, count.value, step, ctypes.string_at(rows, length))
+    status, rows = _decoded(write, extent, 0, max_bytes)
+    count = written.value
+    length = (count - 1) * step + extent.row if count else 0
+    found = Rows(fields.width, count, step, ctypes.string_at(rows, length))
     if status:
         raise Error(status, found)
     return found

@@ -1,0 +1,115 @@
+"""The types of the module t85, by mypy: those of the module itself, and as a program sees them that uses the module.
+
+    T85_LIBRARY=bin/libt85.so.1 python3 -m unittest discover bindings/python
+"""
+import os
+import shutil
+import subprocess
+import sys
+import tempfile
+import unittest
+
+import t85
+
+HERE = os.path.dirname(os.path.abspath(__file__))
+STRICT = ["--strict", "--config-file=", "--cache-dir=" + os.devnull]
+
+USER = """
+import mmap
+import t85
+
+stream: bytes = t85.encode(b"", 8, 0, comment=bytearray(b"said"), stride=1)
+image: bytes = t85.decode(memoryview(stream), max_rows=9, max_bytes=None)
+rows: t85.Rows = t85.decode_rows(mmap.mmap(-1, 100), max_bytes=2 * t85.MAX_BYTES)
+width: int = t85.header(stream).width + t85.info(stream).image_height + rows.count
+page: t85.Rows = t85.pack([[0, 1], [1, 1]], black=False)
+again: t85.Rows = t85.from_image(t85.to_image(page))
+try:
+    t85.decode(image)
+except t85.Error as error:
+    said: tuple[int, str] = error.number, error.text
+"""
+WRONG = {
+    "width: str = t85.header(b'').width": "assignment",
+    "t85.decode('text')": "arg-type",
+    "t85.encode(b'', 8)": "call-arg",
+    "t85.header(b'').image_height": "attr-defined",
+    "t85.Rows(8, 1, 1, b'').count = 2": "misc",
+    "t85.pack([[0, 1]])": "call-arg",
+    "t85.from_image(b'')": "arg-type",
+}
+
+
+def has_mypy(interpreter):
+    return subprocess.run([*interpreter, "-m", "mypy", "--version"], capture_output=True).returncode == 0
+
+
+def found_interpreter():
+    """The words that run an interpreter which has mypy: this one, else the one that the command `mypy` names, if any."""
+    if has_mypy([sys.executable]):
+        return [sys.executable]
+    program = shutil.which("mypy")
+    if program:
+        with open(program, "rb") as file:
+            line = file.readline().decode("utf-8", "replace")
+        named = line[2:].split() if line.startswith("#!") and "python" in line else []
+        if named and has_mypy(named):
+            return named
+    return []
+
+
+PYTHON = found_interpreter()
+
+
+class Package(unittest.TestCase):
+    def test_names(self):
+        # What the module had as one file it has as a package.
+        self.assertTrue(os.path.isfile(os.path.join(os.path.dirname(t85.__file__), "py.typed")))
+        names = ["Error", "Header", "Rows", "Summary", "decode", "decode_rows", "encode", "header", "info", "version"]
+        self.assertLessEqual(set(names), set(t85.__all__))
+        for name in [*t85.__all__, "Buffer"]:
+            self.assertTrue(hasattr(t85, name), name)
+
+
+@unittest.skipUnless(PYTHON, "mypy is not installed")
+class Types(unittest.TestCase):
+    def setUp(self):
+        folder = tempfile.TemporaryDirectory()
+        self.addCleanup(folder.cleanup)
+        self.folder = folder.name
+
+    def checked(self, *words):
+        """What mypy says, and its status."""
+        environment = {name: value for name, value in os.environ.items() if name != "MYPYPATH"}
+        command = [*PYTHON, "-m", "mypy", *STRICT, *words]
+        ran = subprocess.run(command, cwd=self.folder, env=environment, capture_output=True, text=True)
+        self.assertEqual(ran.stderr, "")
+        return ran.stdout, ran.returncode
+
+    def test_module(self):
+        said, status = self.checked(os.path.join(HERE, "t85"))
+        self.assertEqual(status, 0, said)
+
+    def test_user(self):
+        # A program finds the types of the package where it is installed.
+        place = os.path.join(self.folder, "place")
+        subprocess.run([*PYTHON, "-m", "venv", "--without-pip", place], check=True)
+        python = os.path.join(place, "bin", "python")
+        line = "import sysconfig; print(sysconfig.get_path('purelib'))"
+        packages = subprocess.run([python, "-c", line], check=True, capture_output=True, text=True).stdout.strip()
+        shutil.copytree(os.path.join(HERE, "t85"), os.path.join(packages, "t85"))
+        program = os.path.join(self.folder, "user.py")
+        with open(program, "w") as file:
+            file.write(USER)
+        said, status = self.checked("--python-executable", python, program)
+        self.assertEqual(status, 0, said)
+        with open(program, "w") as file:
+            file.write("import t85\n" + "\n".join(WRONG) + "\n")
+        said, status = self.checked("--python-executable", python, program)
+        self.assertEqual(status, 1, said)
+        for number, (line, kind) in enumerate(WRONG.items(), 2):
+            self.assertRegex(said, rf"user\.py:{number}: error: .*\[{kind}\]", line)
+
+
+if __name__ == "__main__":
+    unittest.main()
