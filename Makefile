@@ -138,6 +138,7 @@ test: documents
 	tests/stored bin
 	tests/closed bin
 	tests/memory bin
+	tests/instructions bin
 	tests/options bin
 	tests/library bin
 	tests/python bin
