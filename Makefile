@@ -137,6 +137,7 @@ test: documents
 	tests/turns bin
 	tests/stored bin
 	tests/closed bin
+	tests/names bin
 	tests/memory bin
 	tests/instructions bin
 	tests/options bin

@@ -1,9 +1,14 @@
 /* Refuses one allocation of a program: the one whose number, counted from 1, REFUSE gives. At the end of the program the
-   file that REFUSED names gets the count of all that were asked for. */
+   file that REFUSED names gets the count of all that were asked for. Also refuses one opening of the file that
+   REFUSE_FILE names: the one whose number REFUSE_OPENING gives. */
 #define _GNU_SOURCE
 #include <dlfcn.h>
+#include <errno.h>
+#include <fcntl.h>
+#include <stdarg.h>
 #include <stdio.h>
 #include <stdlib.h>
+#include <string.h>
 
 static long count, refused = -1;
 
@@ -46,6 +51,27 @@ void *aligned_alloc(size_t align, size_t size)
     if (!next)
         next = (void *(*)(size_t, size_t))dlsym(RTLD_NEXT, "aligned_alloc");
     return refuses() ? NULL : next(align, size);
+}
+
+int open(const char *name, int flags, ...)
+{
+    static int (*next)(const char *, int, ...);
+    static long openings;
+    const char *file = getenv("REFUSE_FILE"), *number = getenv("REFUSE_OPENING");
+    mode_t mode = 0;
+    if (flags & O_CREAT) {
+        va_list more;
+        va_start(more, flags);
+        mode = va_arg(more, mode_t);
+        va_end(more);
+    }
+    if (!next)
+        next = (int (*)(const char *, int, ...))dlsym(RTLD_NEXT, "open");
+    if (file && number && !strcmp(file, name) && ++openings == atol(number)) {
+        errno = EACCES;
+        return -1;
+    }
+    return next(name, flags, mode);
 }
 
 __attribute__((destructor)) static void tell(void)
