@@ -1,13 +1,14 @@
 //! Rows that are handed one by one.
 
-ghost use Rattle.std.specs.Prelude.{◌≡◌, ◌∷◌, [], length, OnOk};
+ghost use Rattle.std.specs.Prelude.{◌≡◌, ◌<◌, ◌∷◌, [], length, false, true, Ok, OnOk};
 ghost use Rattle.std.specs.Io.KnownBytes.{Appends};
 ghost use Rattle.pbm_core.specs.Pbm.{bytes_of_row};
 ghost use Rattle.pbm_core.specs.Image.{pixels_of};
-ghost use Rattle.raster_core.specs.Window.{width_of};
+ghost use Rattle.raster_core.specs.Window.{held, width_of};
 ghost use Rattle.t85_core.specs.Encode.{raster_of};
 ghost use Rattle.t85_core.specs.Jbg.{jbg};
 ghost use Rattle.t85_core.specs.Options.{settings_of};
+ghost use Rattle.t85_core.specs.Steps.ByRow.{view_of, MayGoOn, IsLined, EndsImage};
 
 use pbm_core::{Output, Size};
 use raster_core::Window;
@@ -34,4 +35,38 @@ pub fn two_rows<W: Output>(
     encoder.put_row(first, window, output)?;
     encoder.put_row(second, window, output)?;
     encoder.finish(window, output)
+}
+
+/// Whether the encoder takes a row more.
+pub fn takes_row(encoder: &RowEncoder) -> bool
+    requires ready { encoder.now.is_closed ≡ false → MayGoOn (view_of encoder.now) }
+    ensures open_ { result ≡ true → encoder.now.is_closed ≡ false }
+    ensures left { result ≡ true → encoder.now.rows < encoder.now.size.height }
+    ensures all { encoder.now.is_closed ≡ false → encoder.now.rows < encoder.now.size.height →
+        result ≡ true }
+{
+    !encoder.is_closed() && encoder.left() > 0
+}
+
+/// Ends the stream where the image may end here, and says whether it did.
+pub fn end_where_allowed<W: Output>(
+    encoder: &mut RowEncoder,
+    window: &mut Window<'_>,
+    output: &mut W,
+) -> Result<bool, Fault>
+    requires width { width_of window.old ≡ encoder.old.size.width }
+    requires lined { IsLined (held window.old) }
+    requires going { encoder.old.is_closed ≡ false }
+    requires ready { MayGoOn (view_of encoder.old) }
+    ensures ended { result ≡ Ok true → EndsImage (view_of encoder.old) (held window.old)
+        (W.view output.old).contents (W.view output.new).contents }
+    ensures kept { result ≡ Ok false → (encoder.new ≡ encoder.old) × (output.new ≡ output.old) }
+    ensures whole { result ≡ Ok false → 0 < encoder.old.rows → encoder.old.rows <
+        encoder.old.size.height }
+{
+    if !encoder.may_finish() {
+        return Ok(false);
+    }
+    encoder.finish(window, output)?;
+    Ok(true)
 }

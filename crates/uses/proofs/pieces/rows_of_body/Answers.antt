@@ -2,7 +2,7 @@ use Rattle.std.proofs.Common.{◌++◌, [], subst}
 use Rattle.std.specs.Prelude.{flat_map}
 use Rattle.std.proofs.lemmas.Result.{IfOk-weaker}
 use Rattle.t85_core.specs.Pieces.{row_given}
-use Rattle.uses.specs.Pieces.{SaysOfRows, TextRead}
+use Rattle.uses.specs.Pieces.{SaysOfRows}
 use Rattle.uses.proofs.pieces.rows_of_body.Goals as goal
 
 pub returns : goal.returns
