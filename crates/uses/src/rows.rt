@@ -1,14 +1,16 @@
 //! Rows that are handed one by one.
 
-ghost use Rattle.std.specs.Prelude.{◌≡◌, ◌<◌, ◌∷◌, [], length, false, true, Ok, OnOk};
+ghost use Rattle.std.specs.Prelude.{◌≡◌, ◌≢◌, ◌<◌, ◌∷◌, [], length, false, true, Ok, OnOk, OnErr, IfErr};
 ghost use Rattle.std.specs.Io.KnownBytes.{Appends};
 ghost use Rattle.pbm_core.specs.Pbm.{bytes_of_row};
 ghost use Rattle.pbm_core.specs.Image.{pixels_of};
 ghost use Rattle.raster_core.specs.Window.{held, width_of};
 ghost use Rattle.t85_core.specs.Encode.{raster_of};
 ghost use Rattle.t85_core.specs.Jbg.{jbg};
+ghost use Rattle.t85_core.specs.Failures.{OnlyWrites};
 ghost use Rattle.t85_core.specs.Options.{settings_of};
-ghost use Rattle.t85_core.specs.Steps.ByRow.{view_of, MayGoOn, IsLined, EndsImage};
+ghost use Rattle.t85_core.specs.Steps.ByRow.{view_of, MayGoOn, IsLined, EndsImage, CutsImage};
+ghost use Rattle.t85_core.specs.declared.fault.Fault.TheVariants.{Write};
 
 use pbm_core::{Output, Size};
 use raster_core::Window;
@@ -61,8 +63,13 @@ pub fn end_where_allowed<W: Output>(
     ensures ended { result ≡ Ok true → EndsImage (view_of encoder.old) (held window.old)
         (W.view output.old).contents (W.view output.new).contents }
     ensures kept { result ≡ Ok false → (encoder.new ≡ encoder.old) × (output.new ≡ output.old) }
-    ensures whole { result ≡ Ok false → 0 < encoder.old.rows → encoder.old.rows <
-        encoder.old.size.height }
+    ensures whole { result ≡ Ok false → 0 < encoder.old.rows → encoder.old.may_end ≡ false }
+    ensures left { result ≡ Ok false → 0 < encoder.old.rows →
+        encoder.old.rows ≢ encoder.old.size.height }
+    ensures cut { OnErr result (CutsImage (view_of encoder.old) (held window.old)
+        (W.view output.old).contents (W.view output.new).contents) }
+    ensures err { IfErr result (λ f. f ≡ Write) }
+    ensures writes { OnlyWrites (W.view output.old) (W.view output.new) result }
 {
     if !encoder.may_finish() {
         return Ok(false);
