@@ -72,7 +72,7 @@ impl Decoder {
     ghost use Rattle.qm_core.specs.Code.{wanted_bytes};
     ghost use Rattle.qm_core.specs.Place.{Place, State, start, renormalised, step, after};
     ghost use Rattle.qm_core.specs.Machine.{Registers};
-    ghost use Rattle.qm_core.specs.Source.{Pulls, bytes_of, heard_of};
+    ghost use Rattle.qm_core.specs.Source.{Pulls, bytes_of, heard_of, before_fault};
     ghost use Rattle.qm_core.specs.Decoder.{has_stopped, DecoderIsAt, Fills, Next};
     ghost use Rattle.qm_core.specs.Skipping.{IsRun, CanSkip};
     ghost use Rattle.qm_core.specs.declared.source.Heard.TheVariants.{More};
@@ -100,6 +100,20 @@ impl Decoder {
             span: self.span,
             bits: self.bits,
             heard: self.heard,
+        }
+    }
+
+    /// Goes on after `Stop`: the source is asked again for the byte that it did not give.
+    pub fn resume(&mut self)
+        ensures going { has_stopped self.new ≡ false }
+        ensures unchanged { has_stopped self.old ≡ false → self.new ≡ self.old }
+        ensures stands { (p : Place) (answers : List Pulled) → DecoderIsAt self.old p answers →
+            DecoderIsAt self.new p (before_fault answers) }
+    {
+        match self.heard {
+            Heard::Stopped => self.heard = Heard::More,
+            Heard::More => {}
+            Heard::Ended => {}
         }
     }
 

@@ -1,6 +1,6 @@
 -- The pixels of a byte, decoded one after another.
 use Rattle.std.proofs.Common.{◌≡◌, ℕ, ◌+◌, ◌-◌, ◌*◌, ◌/◌, ◌%◌, ◌^◌, ◌<◌, Bool, List, [], ◌∷◌, ◌++◌, length, refl, sym, ◌∙◌, ap, arith, subst, append_assoc, Ok, Err}
-use Rattle.std.specs.Prelude.{Result, OnErr}
+use Rattle.std.specs.Prelude.{Result, OnErr, IfErr, IsErrAnd}
 use Rattle.std.proofs.lemmas.List.{length-append, append-nil}
 use Rattle.qm_core.specs.Place.{Place, Event, Estimate, after}
 use Rattle.qm_core.specs.Decoder.{DecoderIsAt, Next}
@@ -10,6 +10,7 @@ use Rattle.qm_core.specs.declared.decoder.Stop.{Stop}
 use Rattle.raster_core.specs.Lines.{Lines, Mode, context_at, pixel_events}
 use Rattle.raster_core.specs.Machine.Registers.{bit, before, past_bits, AreAt}
 use Rattle.raster_core.specs.Events.{Decodes}
+use Rattle.raster_core.specs.declared.place.Pause.{Pause}
 use Rattle.raster_core.specs.Machine.Decoded.{with_row, PixelsSoFar, Along, StopsAlong}
 use Rattle.raster_core.proofs.Before.{some_past, second_in, above_in}
 use Rattle.raster_core.proofs.Runs.{decodes_next, decodes_stop}
@@ -74,20 +75,23 @@ along_next {S} pull old mid to mode offset second above past₀ d₀ learned₀ 
     one_event c k b h = cc
 
 pub along_stop : {S : Type 0} (pull : S → Pulled → S → Type 0) (old mid to : S) (mode : Mode) (offset second above past₀ : ℕ) (d₀ : Decoder) (learned₀ : List Estimate)
-    (n all past : ℕ) (d d' : Decoder) (learned learned' : List Estimate) (cx : ℕ) (result : Result Bool Stop) (fault : Stop) →
-    n < all → result ≡ Err fault →
+    (n all past : ℕ) (d d' : Decoder) (learned learned' : List Estimate) (cx : ℕ) (result : Result Bool Stop) (fault : Stop) (pause : Pause) →
+    n < all → pause.count ≡ n → pause.past ≡ past → result ≡ Err fault →
     ((p : Place) (answers : List Pulled) → DecoderIsAt d p answers → Next pull mid to (record { place = p; learned = learned }) answers cx d' learned' result) →
     Along pull old mid mode offset second above past₀ d₀ learned₀ n past d learned →
-    StopsAlong pull old to mode offset second above past₀ d₀ learned₀ all d'
-along_stop {S} pull old mid to mode offset second above past₀ d₀ learned₀ n all past d d' learned learned' cx result fault few is next along = λ from first s answers lines done so_far s2 a2.
+    StopsAlong pull old to mode offset second above past₀ d₀ learned₀ all pause d' learned'
+along_stop {S} pull old mid to mode offset second above past₀ d₀ learned₀ n all past d d' learned learned' cx result fault pause few count_is past_is is next along = λ from first s answers lines done so_far s2 a2.
     let m = along from first s answers lines done so_far s2 a2 in
     let t = decodes_stop pull from mid to s answers m.so_far.more (first ++ pixel_events mode (with_row lines (done ++ m.pixels)) offset) d d' learned learned' cx result fault is m.so_far.decodes
     (next (after s (first ++ pixel_events mode (with_row lines (done ++ m.pixels)) offset)).place (answers ++ m.so_far.more) m.so_far.decodes.stands) in
-    let long : length (done ++ m.pixels) ≡ length done + length m.pixels = length-append done m.pixels in
-    let count = m.count in
-    record { done = done ++ m.pixels; few = omega arith; more = t.0; stops = t.1 }
+    record { few = omega (arith, count_is, few); pixels = m.pixels; many = m.count ∙ sym count_is; past_is = past_is ∙ m.so_far.past_is; more = t.0; stops = t.1 }
 
 -- a fact of what is left, at an `Err`
 pub exit_err : {T E : Type 0} (r : Result T E) (P : Type 0) → P → OnErr r P
 exit_err (Ok x) P h = tt
 exit_err (Err e) P h = h
+
+-- a fact of where it stopped, at an `Err`
+pub exit_as : {T E : Type 0} (r : Result T E) (e : E) (P : E → Type 0) → IsErrAnd r (λ x. x ≡ e) → P e → IfErr r P
+exit_as (Ok x) e P is h = tt
+exit_as (Err y) e P is h = subst P (sym is) h

@@ -14,6 +14,7 @@ use Rattle.raster_core.specs.Raster.{pixel_at}
 use Rattle.raster_core.specs.Lines.{Mode}
 use Rattle.raster_core.specs.Packed.{packed_row}
 use Rattle.raster_core.specs.Machine.Registers.{bit, before, past_bits}
+use Rattle.raster_core.specs.declared.place.RowPlace.{RowPlace}
 use Rattle.raster_core.specs.Machine.Decoded.{with_row, PixelsSoFar, BytesAlong, SkipsFilledAlong}
 use Rattle.raster_core.specs.Machine.Uniform.{filled, uniform_event, AreFilled, StaysUniform}
 use Rattle.raster_core.proofs.Causal.{before_front}
@@ -54,15 +55,15 @@ run_filled colour done i n long j few =
     let e : length done + (8 * j + k) ≡ 8 * (i + j) + k = omega (arith, long) in
     ap (pixel_at (done ++ replicate (8 * n) colour)) (sym e) ∙ run_pixels done (8 * n) colour (8 * j + k) (omega (arith, few, less)))
 
-pub bytes_skipped : {S : Type 0} (pull : S → Pulled → S → Type 0) (old mid : S) (mode : Mode) (offset : ℕ) (above second : List ℕ) (d₀ : Decoder) (learned₀ : List Estimate)
+pub bytes_skipped : {S : Type 0} (pull : S → Pulled → S → Type 0) (old mid : S) (mode : Mode) (offset : ℕ) (above second : List ℕ) (place : RowPlace) (current₀ : List ℕ) (d₀ : Decoder) (learned₀ : List Estimate)
     (width left left' i n second' above' past : ℕ) (current current' : List ℕ) (d d' : Decoder) (learned : List Estimate) (colour : Bool) → offset ≤ 127 → left ≡ width - 8 * i → 8 * i < width → 8 * n ≤ left → left' ≡ left - 8 * n →
     1 ≤ n → second' ≡ filled colour 24 → above' ≡ filled colour 24 → past ≡ filled colour (past_bits offset) → has_stopped d ≡ false →
     ((k : ℕ) → i ≤ k → k < i + n → slice_index current' k ≡ bit colour * 255) → ((k : ℕ) → k < i → slice_index current' k ≡ slice_index current k) →
     SkipsFilledAlong colour above second i n d learned d' →
-    BytesAlong pull old mid mode offset above second d₀ learned₀ width left i second' above' past current d learned →
-    BytesAlong pull old mid mode offset above second d₀ learned₀ width left' (i + n) second' above' past current' d' learned
-bytes_skipped {S} pull old mid mode offset above second d₀ learned₀ width left left' i n second' above' past current current' d d' learned colour high left_is inside within left_to some sf af pf going fill kept skips along = λ from first s answers lines so_far a s2.
-    let b = along from first s answers lines so_far a s2 in
+    BytesAlong pull old mid mode offset above second place current₀ d₀ learned₀ width left i second' above' past current d learned →
+    BytesAlong pull old mid mode offset above second place current₀ d₀ learned₀ width left' (i + n) second' above' past current' d' learned
+bytes_skipped {S} pull old mid mode offset above second place current₀ d₀ learned₀ width left left' i n second' above' past current current' d d' learned colour high left_is inside within left_to some sf af pf going fill kept skips along = λ from first s answers lines done₀ had so_far a s2.
+    let b = along from first s answers lines done₀ had so_far a s2 in
     let rest = b.rest in
     let wide : length b.done ≡ 8 * i = omega (arith, rest, left_is, inside) in
     let row = b.done ++ replicate (8 * n) colour in
@@ -91,12 +92,12 @@ bytes_skipped {S} pull old mid mode offset above second d₀ learned₀ width le
     }
 
 -- the same bytes, and the same decoder
-pub kept_along : {S : Type 0} (pull : S → Pulled → S → Type 0) (old mid : S) (mode : Mode) (offset : ℕ) (above second : List ℕ) (d₀ : Decoder) (learned₀ : List Estimate)
+pub kept_along : {S : Type 0} (pull : S → Pulled → S → Type 0) (old mid : S) (mode : Mode) (offset : ℕ) (above second : List ℕ) (place : RowPlace) (current₀ : List ℕ) (d₀ : Decoder) (learned₀ : List Estimate)
     (width left i second' above' past : ℕ) (current current' : List ℕ) (d d' : Decoder) (learned : List Estimate) → d' ≡ d → ((k : ℕ) → k < i → slice_index current' k ≡ slice_index current k) →
-    BytesAlong pull old mid mode offset above second d₀ learned₀ width left i second' above' past current d learned →
-    BytesAlong pull old mid mode offset above second d₀ learned₀ width left i second' above' past current' d' learned
-kept_along {S} pull old mid mode offset above second d₀ learned₀ width left i second' above' past current current' d d' learned same kept along = λ from first s answers lines so_far a s2.
-    let b = along from first s answers lines so_far a s2 in
+    BytesAlong pull old mid mode offset above second place current₀ d₀ learned₀ width left i second' above' past current d learned →
+    BytesAlong pull old mid mode offset above second place current₀ d₀ learned₀ width left i second' above' past current' d' learned
+kept_along {S} pull old mid mode offset above second place current₀ d₀ learned₀ width left i second' above' past current current' d d' learned same kept along = λ from first s answers lines done₀ had so_far a s2.
+    let b = along from first s answers lines done₀ had so_far a s2 in
     record {
       done = b.done;
       rest = b.rest;

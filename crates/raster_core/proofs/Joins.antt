@@ -1,7 +1,7 @@
 -- What a source answered and a sink took, one after another.
 use Rattle.std.proofs.Common.{◌≡◌, ℕ, suc, Bool, true, false, List, [], ◌∷◌, ◌++◌, length, refl, sym, ap, subst, Ok, Err}
 use Rattle.std.specs.Prelude.{◌↔◌, Result, IsTrue, IsErr}
-use Rattle.qm_core.specs.Source.{bytes_of, heard_of, Gives}
+use Rattle.qm_core.specs.Source.{bytes_of, heard_of, IsClosed, Gives, before_fault}
 use Rattle.qm_core.specs.Sink.{Took}
 use Rattle.qm_core.specs.declared.source.Pulled.{Pulled}
 use Rattle.qm_core.specs.declared.source.Pulled.TheVariants.{Byte, End, Fault}
@@ -21,6 +21,13 @@ length-bytes_of [] h = refl
 length-bytes_of (Byte b ∷ xs) h = ap (λ n. suc n) (length-bytes_of xs h)
 length-bytes_of (End ∷ xs) h = cc
 length-bytes_of (Fault ∷ xs) h = cc
+
+-- nothing is behind a fault
+pub bytes_before : (xs : List Pulled) → IsClosed xs → bytes_of (before_fault xs) ≡ bytes_of xs
+bytes_before [] h = refl
+bytes_before (Byte b ∷ xs) h = ap (λ bytes. b ∷ bytes) (bytes_before xs h)
+bytes_before (End ∷ xs) h = subst (λ r. bytes_of (before_fault r) ≡ bytes_of r) (sym h) refl
+bytes_before (Fault ∷ xs) h = sym (ap bytes_of h)
 
 pub Gives-append : {S : Type 0} (pull : S → Pulled → S → Type 0) (a b c : S) (xs ys : List Pulled) → Gives pull a xs b → Gives pull b ys c → Gives pull a (xs ++ ys) c
 Gives-append pull a b c [] ys h k = subst (λ s. Gives pull s ys c) (sym h) k
@@ -43,6 +50,6 @@ pub not_both : (b : Bool) → IsTrue b → b ≡ false → ⊥
 not_both true h e = cc
 not_both false h e = cc
 
-pub had_not_stopped : {T : Type 0} (b : Bool) (result : Result T Stop) (x : T) → (IsTrue b → IsErr result) → result ≡ Ok x → b ≡ false
+pub had_not_stopped : {T E : Type 0} (b : Bool) (result : Result T E) (x : T) → (IsTrue b → IsErr result) → result ≡ Ok x → b ≡ false
 had_not_stopped false result x h is = refl
 had_not_stopped true result x h is = let e = subst (λ r. IsErr r) is (h refl) in cc

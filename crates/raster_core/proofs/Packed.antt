@@ -1,5 +1,5 @@
 -- Rows in bytes, and registers that take a byte in.
-use Rattle.std.proofs.Common.{◌≡◌, ℕ, zero, suc, ◌+◌, ◌-◌, ◌*◌, ◌%◌, ◌^◌, ◌<◌, ◌≤◌, Bool, false, inl, inr, List, length, refl, sym, ◌∙◌, ap, arith, subst, get_or}
+use Rattle.std.proofs.Common.{◌≡◌, ℕ, zero, suc, ◌+◌, ◌-◌, ◌*◌, ◌/◌, ◌%◌, ◌^◌, ◌<◌, ◌≤◌, Bool, false, inl, inr, List, length, refl, sym, ◌∙◌, ap, arith, subst, get_or}
 use Rattle.std.specs.Prelude.{map, slice_index}
 use Rattle.std.proofs.lemmas.Bool.{cases_lt}
 use Rattle.std.proofs.lemmas.List.{length-map, ext_get_or}
@@ -9,7 +9,7 @@ use Rattle.raster_core.specs.Raster.{pixel_at}
 use Rattle.raster_core.specs.Lines.{numbers_from, binary}
 use Rattle.raster_core.specs.Packed.{row_bytes, packed_row}
 use Rattle.raster_core.specs.Machine.Registers.{before, past_bits}
-use Rattle.raster_core.proofs.Before.{before_suc, before_lt, before_none, before_zero, before_mod, before_far, before_split, left_at, low_part}
+use Rattle.raster_core.proofs.Before.{before_div, before_suc, before_lt, before_none, before_zero, before_mod, before_far, before_split, left_at, low_part}
 use Rattle.raster_core.proofs.Contexts.{binary_bit}
 
 pub length-numbers : (k n : ℕ) → length (numbers_from k n) ≡ n
@@ -93,3 +93,37 @@ byte_out done offset past i n h long few =
     let m : before done (length done) 8 * 2 ^ (8 - n) ≡ before done (8 * i + 8) ((8 - n) + 8) = sym (subst (λ z. before done z ((8 - n) + 8) ≡ before done (length done) 8 * 2 ^ (8 - n)) e
     (ap (λ k. before done (length done + (8 - n)) k) (sym c) ∙ (s ∙ rw white (omega arith)))) in
     rw (low, m) (before_mod done (8 * i + 8) (8 - n) 8)
+
+-- a register from its three bytes
+two_bytes : (row : List Bool) (k : ℕ) → before row (8 * k + 8) 8 * 256 + before row (8 * k + 16) 8 ≡ before row (8 * k + 16) 16
+two_bytes row k =
+    let e : (8 * k + 8) + 8 ≡ 8 * k + 16 = omega arith in
+    sym (subst (λ z. before row z 16 ≡ before row (8 * k + 8) 8 * 256 + before row z 8) e (before_split row (8 * k + 8) 8 8))
+
+pub three_bytes : (row : List Bool) (k : ℕ) → (before row (8 * k + 8) 8 * 65536 + before row (8 * k + 16) 8 * 256) + before row (8 * k + 24) 8 ≡ before row (8 * k + 24) 24
+three_bytes row k =
+    let e : (8 * k + 16) + 8 ≡ 8 * k + 24 = omega arith in
+    let s : before row (8 * k + 24) 24 ≡ before row (8 * k + 16) 16 * 256 + before row (8 * k + 24) 8 =
+    subst (λ z. before row z 24 ≡ before row (8 * k + 16) 16 * 256 + before row z 8) e (before_split row (8 * k + 16) 16 8) in
+    omega (arith, s, two_bytes row k)
+
+pub second_byte : (row : List Bool) → before row 8 8 * 256 + before row 16 8 ≡ before row 16 24
+second_byte row =
+    let a : before row 16 24 ≡ before row 8 16 * 256 + before row 16 8 = before_split row 8 16 8 in
+    let b : before row 8 16 ≡ before row 0 8 * 256 + before row 8 8 = before_split row 0 8 8 in
+    omega (arith, a, b, before_none row 8)
+
+-- a register moves on by some pixels of the next byte
+pub moves_on : (row : List Bool) (i k register next : ℕ) → k < 8 → register ≡ before row (8 * i + 16) 24 → next ≡ before row (8 * i + 24) 8 →
+    (register * 2 ^ k + next / 2 ^ (8 - k)) % 2 ^ 24 ≡ before row ((8 * i + k) + 16) 24
+moves_on row i k register next few r n =
+    let e : ((8 * i + k) + 16) + (8 - k) ≡ 8 * i + 24 = omega arith in
+    let w : k + (8 - k) ≡ 8 = omega arith in
+    let low : next / 2 ^ (8 - k) ≡ before row ((8 * i + k) + 16) k =
+    ap (λ z. z / 2 ^ (8 - k)) (n ∙ ap (λ x. before row x 8) (sym e) ∙ ap (λ z. before row (((8 * i + k) + 16) + (8 - k)) z) (sym w)) ∙ before_div row ((8 * i + k) + 16) k (8 - k) in
+    let f : (8 * i + 16) + k ≡ (8 * i + k) + 16 = omega arith in
+    let c : 24 + k ≡ k + 24 = omega arith in
+    let s : before row ((8 * i + k) + 16) (k + 24) ≡ register * 2 ^ k + before row ((8 * i + k) + 16) k =
+    subst (λ x. before row x (k + 24) ≡ register * 2 ^ k + before row x k) f
+    (ap (λ z. before row ((8 * i + 16) + k) z) (sym c) ∙ (before_split row (8 * i + 16) 24 k ∙ ap (λ z. z * 2 ^ k + before row ((8 * i + 16) + k) k) (sym r))) in
+    rw low (ap (λ z. z % 2 ^ 24) (sym s) ∙ before_mod row ((8 * i + k) + 16) k 24)

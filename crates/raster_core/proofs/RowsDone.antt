@@ -1,11 +1,14 @@
 -- A row that was decoded, or at which the source stopped.
 use Rattle.std.proofs.Common.{◌≡◌, ◌≢◌, ℕ, ◌<◌, ◌≤◌, Bool, true, false, ◌⊎◌, inl, inr, List, [], ◌∷◌, ◌++◌, length, refl, sym, ◌∙◌, ap, arith, subst, append_assoc, Ok, Err}
-use Rattle.std.specs.Prelude.{Result, IsErr, IsTrue, if◌then◌else◌, ◌&&◌}
+use Rattle.std.specs.Prelude.{Result, IsErr, IsTrue, ◌↔◌, if◌then◌else◌, ◌&&◌, not}
+use Rattle.qm_core.specs.declared.source.Heard.{Heard}
+use Rattle.qm_core.specs.declared.source.Heard.TheVariants.{Stopped}
+use Rattle.raster_core.proofs.Joins.{bytes_before}
 use Rattle.std.proofs.lemmas.List.{append-nil}
 use Rattle.qm_core.specs.Place.{Place, IsPlace, State, Event, Estimate, step, after, same}
 use Rattle.qm_core.specs.Code.{Lies, wanted_bytes}
-use Rattle.qm_core.specs.Source.{bytes_of, Agrees}
-use Rattle.qm_core.specs.Decoder.{DecoderIsAt}
+use Rattle.qm_core.specs.Source.{bytes_of, heard_of, is_stopped, Agrees, before_fault}
+use Rattle.qm_core.specs.Decoder.{DecoderIsAt, has_stopped}
 use Rattle.qm_core.specs.declared.source.Pulled.{Pulled}
 use Rattle.qm_core.specs.declared.decoder.Decoder.{Decoder}
 use Rattle.qm_core.specs.declared.decoder.Stop.{Stop}
@@ -15,8 +18,9 @@ use Rattle.raster_core.specs.Window.{shape_mode}
 use Rattle.raster_core.specs.Packed.{packed_row, Held, HasLines}
 use Rattle.raster_core.specs.Events.{Decodes}
 use Rattle.raster_core.specs.Enough.{AreEnough}
-use Rattle.raster_core.specs.Machine.Decoded.{with_row, PixelsSoFar, PixelsStop, RowPixels}
-use Rattle.raster_core.specs.Row.{first_events, events_after, FirstDecoded, FirstStopped, RowIs, IsRowUndecided, RowDecoded}
+use Rattle.raster_core.specs.Machine.Decoded.{with_row, PixelsSoFar, PixelsHeld, RowPaused, RowPixels}
+use Rattle.raster_core.specs.Row.{first_events, events_after, plain_events_of, FirstDecoded, FirstStopped, RowIs, IsRowUndecided, RowDecoded, IsRowStart, HasAbove, StandsInPixels, StandsInRow, RowBegins, RowGoesOn, RowPasses}
+use Rattle.raster_core.specs.declared.place.RowPlace.{RowPlace}
 use Rattle.raster_core.specs.Machine.Registers.{past_bits}
 use Rattle.raster_core.specs.declared.shape.Shape.{Shape}
 use Rattle.raster_core.specs.declared.shape.Kept.{Kept}
@@ -184,44 +188,114 @@ not_err x h = cc
 no_false : false ≡ true → ⊥
 no_false e = cc
 
-pub stop_first : {S : Type 0} (pull : S → Pulled → S → Type 0) (from to : S) (shape : Shape) (kept kept' : Kept) (p : Place) (learned learned' : List Estimate) (answers : List Pulled) (lines : Lines)
-    (window : Held) (d : Decoder) (result : Result (Unit {0}) Stop) → IsErr result → FirstStopped pull from to (shape_mode shape) p learned answers d →
-    RowDecoded pull from to shape kept kept' (record { place = p; learned = learned }) answers lines window learned' d result
-stop_first pull from to shape kept kept' p learned learned' answers lines window d (Ok x) err f = absurd (not_err x err)
-stop_first pull from to shape kept kept' p learned learned' answers lines window d (Err e) err f =
+not_begun : (b : Bool) → b ≡ false → b ≡ true → ⊥
+not_begun b e f = no_false (sym e ∙ f)
+
+pub stop_first : {S : Type 0} (pull : S → Pulled → S → Type 0) (from to : S) (shape : Shape) (kept kept' : Kept) (s : State) (learned' : List Estimate) (answers : List Pulled) (lines : Lines)
+    (window : Held) (place : RowPlace) (d : Decoder) (result : Result (Unit {0}) Stop) → IsErr result → HasAbove window lines → IsRowStart place → FirstStopped pull from to (shape_mode shape) s.place s.learned answers d learned' →
+    RowGoesOn pull from to shape kept kept' s answers lines window place learned' d result
+stop_first pull from to shape kept kept' s learned' answers lines window place d (Ok x) err above start f = absurd (not_err x err)
+stop_first pull from to shape kept kept' s learned' answers lines window place d (Err e) err above start f =
     record {
-      more = f.more;
-      gives = f.stops.gives;
-      ok = tt;
-      stop = ((λ _. f.stops.stopped), (λ _. is_err e));
-      undecided = λ _. undecided_first shape kept (record { place = p; learned = learned }) (answers ++ f.more) lines f.typical f.stops.short;
-      stays = (p, f.stops.stays);
+      decoded = record {
+        more = f.more;
+        gives = f.stops.gives;
+        ok = tt;
+        stop = ((λ _. f.stops.stopped), (λ _. is_err e));
+        undecided = λ _. undecided_first shape kept s (answers ++ f.more) lines f.typical f.stops.short;
+        stays = (s.place, f.stops.stays);
+      };
+      waits = record {
+        above = above;
+        before_it = λ _. record { start = start; stands = f.stops.stays; taught = f.stops.taught };
+        in_it = λ b. absurd (not_begun place.is_begun start.is_begun b);
+      };
     }
 
 pub stop_pixels : AnswersLie → PartForever → {S : Type 0} (pull : S → Pulled → S → Type 0) (from to : S) (shape : Shape) (kept kept' : Kept) (s : State) (learned' : List Estimate) (answers : List Pulled) (lines : Lines)
-    (window : Held) (d : Decoder) (result : Result (Unit {0}) Stop) → IsErr result →
-    PixelsStop pull from to (shape_mode shape) kept.offset (first_events (shape_mode shape) kept.previous_typical false) s answers lines shape.width d →
-    RowDecoded pull from to shape kept kept' s answers lines window learned' d result
-stop_pixels lie apart pull from to shape kept kept' s learned' answers lines window d (Ok x) err f = absurd (not_err x err)
-stop_pixels lie apart pull from to shape kept kept' s learned' answers lines window d (Err e) err f =
+    (window : Held) (place : RowPlace) (d : Decoder) (result : Result (Unit {0}) Stop) → IsErr result → HasAbove window lines →
+    RowPaused pull from to (shape_mode shape) kept.offset (first_events (shape_mode shape) kept.previous_typical false) s answers lines shape.width place window.current d learned' →
+    RowGoesOn pull from to shape kept kept' s answers lines window place learned' d result
+stop_pixels lie apart pull from to shape kept kept' s learned' answers lines window place d (Ok x) err above f = absurd (not_err x err)
+stop_pixels lie apart pull from to shape kept kept' s learned' answers lines window place d (Err e) err above f =
     record {
-      more = f.more;
-      gives = f.stops.gives;
-      ok = tt;
-      stop = ((λ _. f.stops.stopped), (λ _. is_err e));
-      undecided = λ place. undecided_row lie apart shape kept s (answers ++ f.more) lines f.done d place f.few f.stops.stays f.stops.short;
-      stays = (_, f.stops.stays);
+      decoded = record {
+        more = f.more;
+        gives = f.stops.gives;
+        ok = tt;
+        stop = ((λ _. f.stops.stopped), (λ _. is_err e));
+        undecided = λ in_place. undecided_row lie apart shape kept s (answers ++ f.more) lines f.done d in_place f.few f.stops.stays f.stops.short;
+        stays = (_, f.stops.stays);
+      };
+      waits = record {
+        above = above;
+        before_it = λ e. absurd (not_begun place.is_begun e f.begun);
+        in_it = λ _. record { done = f.done; held = f.held; stands = f.stops.stays; taught = f.stops.taught; enough = f.stops.enough };
+      };
     }
 
-pub begin_pixels : {S : Type 0} (pull : S → Pulled → S → Type 0) (from to : S) (shape : Shape) (previous : Bool) (offset : ℕ) (p : Place) (learned learned' : List Estimate) (answers : List Pulled) (lines : Lines) (d : Decoder) →
-    (f : FirstDecoded pull from to (shape_mode shape) previous false p learned answers d learned') →
-    PixelsSoFar pull from to (shape_mode shape) offset (first_events (shape_mode shape) previous false) (record { place = p; learned = learned }) answers lines [] 0 d learned'
-begin_pixels pull from to shape previous offset p learned learned' answers lines d f =
+-- before the row's pixels
+held_none : (offset : ℕ) (place : RowPlace) (current : List ℕ) → IsRowStart place → PixelsHeld offset place current []
+held_none offset place current start =
+    record { count = start.done; past_is = start.past ∙ sym (before_none [] (past_bits offset)); bytes = λ k h. absurd (omega arith) }
+
+pub begin_pixels : {S : Type 0} (pull : S → Pulled → S → Type 0) (from to : S) (shape : Shape) (kept : Kept) (place : RowPlace) (s : State) (learned' : List Estimate) (answers : List Pulled) (lines : Lines) (window : Held) (d : Decoder) (flag : Bool) →
+    IsRowStart place → (flag ≡ true → shape.typical ≡ true) → FirstDecoded pull from to (shape_mode shape) kept.previous_typical flag s.place s.learned answers d learned' →
+    RowBegins pull from to shape kept place s answers lines window flag learned' d
+begin_pixels {S} pull from to shape kept place s learned' answers lines window d flag start typical f =
     record {
-      past_is = sym (before_none [] (past_bits offset));
-      more = f.more;
-      decodes = subst (λ es. Decodes pull from to (record { place = p; learned = learned }) answers f.more es d learned') (sym (append-nil (first_events (shape_mode shape) previous false))) f.decodes;
+      plain = λ e. ([], held_none kept.offset place window.current start, so_far (subst (λ b. FirstDecoded pull from to (shape_mode shape) kept.previous_typical b s.place s.learned answers d learned') e f));
+      typical = λ e. (typical e, subst (λ b. FirstDecoded pull from to (shape_mode shape) kept.previous_typical b s.place s.learned answers d learned') e f);
     }
+  where
+    so_far : FirstDecoded pull from to (shape_mode shape) kept.previous_typical false s.place s.learned answers d learned' →
+        PixelsSoFar pull from to (shape_mode shape) kept.offset (first_events (shape_mode shape) kept.previous_typical false) s answers lines [] place.past d learned'
+    so_far g =
+        record {
+          past_is = start.past ∙ sym (before_none [] (past_bits kept.offset));
+          more = g.more;
+          decodes = subst (λ es. Decodes pull from to s answers g.more es d learned') (sym (append-nil (first_events (shape_mode shape) kept.previous_typical false))) g.decodes;
+        }
+
+-- whether some of them are decoded or not
+pub by_begun : (b : Bool) (P : Type 0) → (b ≡ true → P) → (b ≡ false → P) → P
+by_begun true P yes' no' = yes' refl
+by_begun false P yes' no' = no' refl
+
+pub not_true : (b : Bool) → not b ≡ true → b ≡ false
+not_true true h = cc
+not_true false h = refl
+
+pub not_false : (b : Bool) → not b ≡ false → b ≡ true
+not_false true h = refl
+not_false false h = cc
+
+-- some of them are decoded
+pub begun_pixels : {S : Type 0} (pull : S → Pulled → S → Type 0) (from : S) (shape : Shape) (kept : Kept) (place : RowPlace) (s : State) (learned : List Estimate) (answers : List Pulled) (lines : Lines) (window : Held) (d : Decoder) →
+    has_stopped d ≡ false → StandsInPixels shape kept place s answers lines window learned d →
+    RowBegins pull from from shape kept place s answers lines window false learned d
+begun_pixels pull from shape kept place s learned answers lines window d going h =
+    record {
+      plain = λ _. (
+        h.done,
+        h.held,
+        record {
+          past_is = h.held.past_is;
+          more = [];
+          decodes = record {
+            gives = refl;
+            stands = subst (DecoderIsAt d (after s (plain_events_of shape kept lines h.done)).place) (sym (append-nil answers)) h.stands;
+            taught = h.taught;
+            enough = λ _. subst (λ a. AreEnough (length (bytes_of a)) s (plain_events_of shape kept lines h.done)) (sym (append-nil answers)) h.enough;
+            going = λ e. absurd (no_stop (heard_of answers) (ap is_stopped (sym h.stands.heard) ∙ going) (subst (λ a. heard_of a ≡ Stopped) (append-nil answers) e));
+          };
+        },
+      );
+      typical = λ e. absurd (no_false e);
+    }
+  where
+    no_stop : (t : Heard) → is_stopped t ≡ false → t ≡ Stopped → ⊥
+    no_stop t e f = let z : is_stopped Stopped ≡ false = subst (λ u. is_stopped u ≡ false) f e in cc
 
 pub done_plain : AnswersLie → {S : Type 0} (pull : S → Pulled → S → Type 0) (from to : S) (shape : Shape) (kept kept' : Kept) (s : State) (learned : List Estimate) (answers : List Pulled) (lines : Lines) (current : List ℕ)
     (window : Held) (d : Decoder) → 1 ≤ shape.width → kept'.offset ≡ kept.offset → kept'.previous_typical ≡ false →
@@ -261,36 +335,103 @@ done_typical lie {S} pull from to shape kept kept' p learned learned' answers li
     some_first true e h = cc
     some_first false e h = cc
 
+-- a row that is decoded waits for nothing
+pub all_done : {S : Type 0} (pull : S → Pulled → S → Type 0) (from to : S) (shape : Shape) (kept kept' : Kept) (s : State) (answers : List Pulled) (lines : Lines) (window : Held) (place : RowPlace) (learned : List Estimate) (d : Decoder) →
+    RowDecoded pull from to shape kept kept' s answers lines window learned d (Ok tt) → RowGoesOn pull from to shape kept kept' s answers lines window place learned d (Ok tt)
+all_done pull from to shape kept kept' s answers lines window place learned d h = record { decoded = h; waits = tt }
+
 -- the same for equal states
-pub carried : {S : Type 0} {pull : S → Pulled → S → Type 0} {from : S} {shape : Shape} {kept kept' : Kept} {s : State} {answers : List Pulled} {lines : Lines} {result : Result (Unit {0}) Stop}
+pub carried : {S : Type 0} {pull : S → Pulled → S → Type 0} {from : S} {shape : Shape} {kept kept' : Kept} {s : State} {answers : List Pulled} {lines : Lines} {result : Result (Unit {0}) Stop} {place : RowPlace}
     (width : ℕ) (above second : List ℕ) (to to' : S) (current current' : List ℕ) (learned learned' : List Estimate) (d d' : Decoder) →
     to' ≡ to → current' ≡ current → learned' ≡ learned → d' ≡ d →
-    RowDecoded pull from to shape kept kept' s answers lines (record { width = width; current = current; above = above; second = second }) learned d result →
-    RowDecoded pull from to' shape kept kept' s answers lines (record { width = width; current = current'; above = above; second = second }) learned' d' result
-carried {S} {pull} {from} {shape} {kept} {kept'} {s} {answers} {lines} {result} width above second to to' current current' learned learned' d d' a b e f h =
-    subst (λ x. RowDecoded pull from x shape kept kept' s answers lines (record { width = width; current = current'; above = above; second = second }) learned' d' result) (sym a)
-    (subst (λ x. RowDecoded pull from to shape kept kept' s answers lines (record { width = width; current = x; above = above; second = second }) learned' d' result) (sym b)
-    (subst (λ x. RowDecoded pull from to shape kept kept' s answers lines (record { width = width; current = current; above = above; second = second }) x d' result) (sym e)
-    (subst (λ x. RowDecoded pull from to shape kept kept' s answers lines (record { width = width; current = current; above = above; second = second }) learned x result) (sym f) h)))
+    RowGoesOn pull from to shape kept kept' s answers lines (record { width = width; current = current; above = above; second = second }) place learned d result →
+    RowGoesOn pull from to' shape kept kept' s answers lines (record { width = width; current = current'; above = above; second = second }) place learned' d' result
+carried {S} {pull} {from} {shape} {kept} {kept'} {s} {answers} {lines} {result} {place} width above second to to' current current' learned learned' d d' a b e f h =
+    subst (λ x. RowGoesOn pull from x shape kept kept' s answers lines (record { width = width; current = current'; above = above; second = second }) place learned' d' result) (sym a)
+    (subst (λ x. RowGoesOn pull from to shape kept kept' s answers lines (record { width = width; current = x; above = above; second = second }) place learned' d' result) (sym b)
+    (subst (λ x. RowGoesOn pull from to shape kept kept' s answers lines (record { width = width; current = current; above = above; second = second }) place x d' result) (sym e)
+    (subst (λ x. RowGoesOn pull from to shape kept kept' s answers lines (record { width = width; current = current; above = above; second = second }) place learned x result) (sym f) h)))
 
 -- the same for a window that holds the same
 pub moved : {S : Type 0} {pull : S → Pulled → S → Type 0} {from to : S} {shape : Shape} {kept kept' : Kept} {s : State} {learned : List Estimate} {answers : List Pulled} {lines : Lines}
-    {d : Decoder} {result : Result (Unit {0}) Stop} (width width' : ℕ) (current above second above' second' : List ℕ) →
-    RowDecoded pull from to shape kept kept' s answers lines (record { width = width; current = current; above = above; second = second }) learned d result →
+    {d : Decoder} {result : Result (Unit {0}) Stop} {place : RowPlace} (width width' : ℕ) (current above second above' second' : List ℕ) →
+    RowGoesOn pull from to shape kept kept' s answers lines (record { width = width; current = current; above = above; second = second }) place learned d result →
     width' ≡ width → above' ≡ above → second' ≡ second →
-    RowDecoded pull from to shape kept kept' s answers lines (record { width = width'; current = current; above = above'; second = second' }) learned d result
-moved {S} {pull} {from} {to} {shape} {kept} {kept'} {s} {learned} {answers} {lines} {d} {result} width width' current above second above' second' h w e f =
-    subst (λ n. RowDecoded pull from to shape kept kept' s answers lines (record { width = n; current = current; above = above'; second = second' }) learned d result) (sym w)
-    (subst (λ a. RowDecoded pull from to shape kept kept' s answers lines (record { width = width; current = current; above = a; second = second' }) learned d result) (sym e)
-    (subst (λ a. RowDecoded pull from to shape kept kept' s answers lines (record { width = width; current = current; above = above; second = a }) learned d result) (sym f) h))
+    RowGoesOn pull from to shape kept kept' s answers lines (record { width = width'; current = current; above = above'; second = second' }) place learned d result
+moved {S} {pull} {from} {to} {shape} {kept} {kept'} {s} {learned} {answers} {lines} {d} {result} {place} width width' current above second above' second' h w e f =
+    subst (λ n. RowGoesOn pull from to shape kept kept' s answers lines (record { width = n; current = current; above = above'; second = second' }) place learned d result) (sym w)
+    (subst (λ a. RowGoesOn pull from to shape kept kept' s answers lines (record { width = width; current = current; above = a; second = second' }) place learned d result) (sym e)
+    (subst (λ a. RowGoesOn pull from to shape kept kept' s answers lines (record { width = width; current = current; above = above; second = a }) place learned d result) (sym f) h))
 
-pub same_lines : (w v : Held) (lines : Lines) → w.width ≡ v.width → v.current ≡ w.current → v.above ≡ w.above → v.second ≡ w.second → HasLines w lines → HasLines v lines
-same_lines w v lines e c a s h =
+-- a row before which its source stood so
+pub fresh_row : (shape : Shape) (kept : Kept) (place : RowPlace) (p : Place) (learned : List Estimate) (answers : List Pulled) (lines : Lines) (w : Held) (d : Decoder) → IsRowStart place → DecoderIsAt d p answers → HasAbove w lines →
+    StandsInRow shape kept place (record { place = p; learned = learned }) answers lines w learned d
+fresh_row shape kept place p learned answers lines w d start stands above =
     record {
-      row_is = c ∙ h.row_is;
-      above_is = a ∙ h.above_is;
-      second_is = s ∙ h.second_is;
-      row_wide = h.row_wide ∙ e;
-      above_wide = h.above_wide ∙ e;
-      second_wide = h.second_wide ∙ e;
+      above = above;
+      before_it = λ _. record { start = start; stands = stands; taught = refl };
+      in_it = λ b. absurd (not_begun place.is_begun start.is_begun b);
+    }
+
+pub above_lines : (w : Held) (lines : Lines) → HasLines w lines → HasAbove w lines
+above_lines w lines h = record { above_is = h.above_is; second_is = h.second_is; above_wide = h.above_wide; second_wide = h.second_wide }
+
+pub same_above : (w v : Held) (lines : Lines) → w.width ≡ v.width → v.above ≡ w.above → v.second ≡ w.second → HasAbove w lines → HasAbove v lines
+same_above w v lines e a s h = record { above_is = a ∙ h.above_is; second_is = s ∙ h.second_is; above_wide = h.above_wide ∙ e; second_wide = h.second_wide ∙ e }
+
+pub same_stand : (shape : Shape) (kept : Kept) (place : RowPlace) (s : State) (answers : List Pulled) (lines : Lines) (w v : Held) (learned : List Estimate) (d : Decoder) → w.width ≡ v.width → v.current ≡ w.current → v.above ≡ w.above → v.second ≡ w.second →
+    StandsInRow shape kept place s answers lines w learned d → StandsInRow shape kept place s answers lines v learned d
+same_stand shape kept place s answers lines w v learned d e c a f h =
+    record {
+      above = same_above w v lines e a f h.above;
+      before_it = h.before_it;
+      in_it = λ b. let i = h.in_it b in record { done = i.done; held = subst (λ z. PixelsHeld kept.offset place z i.done) (sym c) i.held; stands = i.stands; taught = i.taught; enough = i.enough };
+    }
+
+-- the source is asked again
+pub waits_again : (shape : Shape) (kept : Kept) (place : RowPlace) (s : State) (answers : List Pulled) (lines : Lines) (w : Held) (learned : List Estimate) (d d' : Decoder) →
+    ((p : Place) (given : List Pulled) → DecoderIsAt d p given → DecoderIsAt d' p (before_fault given)) →
+    StandsInRow shape kept place s answers lines w learned d → StandsInRow shape kept place s (before_fault answers) lines w learned d'
+waits_again shape kept place s answers lines w learned d d' again h =
+    record {
+      above = h.above;
+      before_it = λ e. let b = h.before_it e in record { start = b.start; stands = again s.place answers b.stands; taught = b.taught };
+      in_it = λ e.
+          let i = h.in_it e in
+          record {
+            done = i.done;
+            held = i.held;
+            stands = again (after s (plain_events_of shape kept lines i.done)).place answers i.stands;
+            taught = i.taught;
+            enough = subst (λ bytes. AreEnough (length bytes) s (plain_events_of shape kept lines i.done)) (sym (bytes_before answers i.stands.closed)) i.enough;
+          };
+    }
+
+pub passes : {S : Type 0} (pull : S → Pulled → S → Type 0) (from to : S) (shape : Shape) (kept kept' : Kept) (s : State) (answers : List Pulled) (lines : Lines) (w : Held) (place place' : RowPlace) (learned : List Estimate) (d d' : Decoder) (result : Result (Unit {0}) Stop) →
+    (IsErr result → place' ≡ place) → (has_stopped d ≡ false → d' ≡ d) → (IsTrue (has_stopped d) ↔ IsErr result) → ((p : Place) (given : List Pulled) → DecoderIsAt d p given → DecoderIsAt d' p (before_fault given)) →
+    RowGoesOn pull from to shape kept kept' s answers lines w place learned d result → RowPasses pull from to shape kept kept' s answers lines w place' learned d' result
+passes pull from to shape kept kept' s answers lines w place place' learned d d' (Ok x) there same stops again h =
+    record {
+      more = h.decoded.more;
+      gives = h.decoded.gives;
+      ok = subst (RowIs shape kept kept' s (answers ++ h.decoded.more) lines w learned) (sym (same (going (has_stopped d) (λ t. not_err x (stops.0 t))))) h.decoded.ok;
+      stop = h.decoded.stop;
+      undecided = tt;
+      closed = tt;
+      waits = tt;
+    }
+  where
+    going : (b : Bool) → (IsTrue b → ⊥) → b ≡ false
+    going true none = absurd (none refl)
+    going false _ = refl
+passes pull from to shape kept kept' s answers lines w place place' learned d d' (Err e) there same stops again h =
+    record {
+      more = h.decoded.more;
+      gives = h.decoded.gives;
+      ok = tt;
+      stop = h.decoded.stop;
+      undecided = h.decoded.undecided;
+      closed = (h.decoded.stays.1.closed, h.decoded.stays.1.bytes);
+      waits = subst (λ z. StandsInRow shape kept z s (before_fault (answers ++ h.decoded.more)) lines w learned d') (sym (there (is_err e)))
+          (waits_again shape kept place s (answers ++ h.decoded.more) lines w learned d d' again h.waits);
     }

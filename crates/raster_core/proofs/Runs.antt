@@ -8,7 +8,8 @@ use Rattle.qm_core.specs.Source.{bytes_of, heard_of}
 use Rattle.qm_core.specs.Decoder.{DecoderIsAt, Next}
 use Rattle.qm_core.specs.declared.source.Pulled.{Pulled}
 use Rattle.qm_core.specs.declared.source.Pulled.TheVariants.{Byte, End, Fault}
-use Rattle.qm_core.specs.declared.source.Heard.TheVariants.{More, Stopped}
+use Rattle.qm_core.specs.declared.source.Heard.{Heard}
+use Rattle.qm_core.specs.declared.source.Heard.TheVariants.{More, Ended, Stopped}
 use Rattle.qm_core.specs.declared.decoder.Decoder.{Decoder}
 use Rattle.qm_core.specs.declared.decoder.Stop.{Stop}
 use Rattle.raster_core.specs.Events.{Decodes, Stops}
@@ -47,6 +48,25 @@ enough_more (e ∷ events) m n s l h =
 pub enough_append : (xs ys : List Event) (n : ℕ) (s : State) → AreEnough n s xs → AreEnough n (after s xs) ys → AreEnough n s (xs ++ ys)
 enough_append [] ys n s h k = k
 enough_append (e ∷ xs) ys n s h k = (h.0, enough_append xs ys n (step s e.context e.pixel) h.1 k)
+
+-- an end is heard whatever is asked after it
+end_stays : (xs ys : List Pulled) → heard_of xs ≡ Ended → heard_of (xs ++ ys) ≡ Ended
+end_stays [] ys h = cc
+end_stays (Byte b ∷ xs) ys h = end_stays xs ys h
+end_stays (End ∷ xs) ys h = h
+end_stays (Fault ∷ xs) ys h = cc
+
+-- what was enough before the source stopped is enough with what it gave since
+enough_kept : (events : List Event) (s : State) (xs ys : List Pulled) → (heard_of xs ≡ More → AreEnough (length (bytes_of xs)) s events) → (heard_of xs ≡ Stopped → events ≡ []) →
+    heard_of (xs ++ ys) ≡ Stopped → AreEnough (length (bytes_of (xs ++ ys))) s events
+enough_kept events s xs ys enough going stopped = by (heard_of xs) refl
+  where
+    by : (h : Heard) → heard_of xs ≡ h → AreEnough (length (bytes_of (xs ++ ys))) s events
+    by More is =
+        let bytes : length (bytes_of (xs ++ ys)) ≡ length (bytes_of xs) + length (bytes_of ys) = ap length (bytes_of-append xs ys) ∙ length-append (bytes_of xs) (bytes_of ys) in
+        enough_more events (length (bytes_of xs)) (length (bytes_of (xs ++ ys))) s (omega arith) (enough is)
+    by Ended is = let e = end_stays xs ys is in cc
+    by Stopped is = subst (AreEnough (length (bytes_of (xs ++ ys))) s) (sym (going is)) tt
 
 no_err : (pixel : Bool) → IsErr {T = Bool} {E = Stop} (Ok pixel) → ⊥
 no_err pixel h = cc
@@ -95,14 +115,14 @@ pub decodes_stop : {S : Type 0} (pull : S → Pulled → S → Type 0) (from mid
     (d d' : Decoder) (learned learned' : List Estimate) (cx : ℕ) (result : Result Bool Stop) (fault : Stop) → result ≡ Err fault →
     Decodes pull from mid s answers more events d learned →
     Next pull mid to (record { place = (after s events).place; learned = learned }) (answers ++ more) cx d' learned' result →
-    (more' : List Pulled) × Stops pull from to s answers more' events d'
+    (more' : List Pulled) × Stops pull from to s answers more' events d' learned'
 decodes_stop {S} pull from mid to s answers more events d d' learned learned' cx result fault is h n =
     let at : Next pull mid to (after s events) (answers ++ more) cx d' learned' (Err fault) =
     subst (λ r. Next pull mid to (after s events) (answers ++ more) cx d' learned' r) is
     (subst (λ l. Next pull mid to (record { place = (after s events).place; learned = l }) (answers ++ more) cx d' learned' result) h.taught n) in
     (more ++ at.more, parts at)
   where
-    parts : (at : Next pull mid to (after s events) (answers ++ more) cx d' learned' (Err fault)) → Stops pull from to s answers (more ++ at.more) events d'
+    parts : (at : Next pull mid to (after s events) (answers ++ more) cx d' learned' (Err fault)) → Stops pull from to s answers (more ++ at.more) events d' learned'
     parts at =
         let assoc : (answers ++ more) ++ at.more ≡ answers ++ (more ++ at.more) = append_assoc answers more at.more in
         let stopped : heard_of ((answers ++ more) ++ at.more) ≡ Stopped = at.stop.0 refl in
@@ -114,4 +134,6 @@ decodes_stop {S} pull from mid to s answers more events d d' learned learned' cx
           stopped = rw (← assoc) stopped;
           short = rw (← assoc) short;
           stays = rw (← assoc) at.unchanged.1;
+          taught = at.unchanged.0;
+          enough = subst (λ a. AreEnough (length (bytes_of a)) s events) assoc (enough_kept events s (answers ++ more) at.more h.enough h.going stopped);
         }

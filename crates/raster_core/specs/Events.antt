@@ -20,8 +20,10 @@ pub record Decodes {S : Type 0} (pull : S → Pulled → S → Type 0) (from to 
 
 -- It has decoded these events, and the source stopped at a byte that the next one wants.
 pub record Stops {S : Type 0} (pull : S → Pulled → S → Type 0) (from to : S) (s : State) (answers more : List Pulled) (events : List Event)
-    (d : Decoder) : Type 0 where
+    (d : Decoder) (learned : List Estimate) : Type 0 where
   pub gives : Gives pull from more to
   pub stopped : heard_of (answers ++ more) ≡ Stopped
   pub short : length (bytes_of (answers ++ more)) < wanted_bytes (after s events).place.doublings
   pub stays : DecoderIsAt d (after s events).place (answers ++ more)
+  pub taught : learned ≡ (after s events).learned
+  pub enough : AreEnough (length (bytes_of (answers ++ more))) s events

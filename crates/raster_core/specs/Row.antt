@@ -1,24 +1,25 @@
 -- What a row leaves that was encoded or decoded.
-use Rattle.std.specs.Prelude.{ℕ, ◌≡◌, List, ◌++◌, Result, OnOk, OnErr, ◌↔◌, Bool, [], ◌∷◌, length, IsErr, IsTrue, if◌then◌else◌}
+use Rattle.std.specs.Prelude.{ℕ, ◌≡◌, List, ◌++◌, Result, OnOk, OnErr, ◌↔◌, Bool, true, false, [], ◌∷◌, length, IsErr, IsTrue, if◌then◌else◌}
 use Rattle.qm_core.specs.Place.{State, Event, Estimate, Place, IsPlace, after}
 use Rattle.qm_core.specs.declared.encoder.Encoder.{Encoder}
 use Rattle.qm_core.specs.declared.encoder.CoderFault.{CoderFault}
-use Rattle.raster_core.specs.Lines.{Lines, row_events, may_be_typical, Mode, pseudo_event, IsLegalFlag}
+use Rattle.raster_core.specs.Lines.{Lines, row_events, pixel_events, may_be_typical, Mode, pseudo_event, IsLegalFlag}
 use Rattle.raster_core.specs.Window.{shape_mode}
 use Rattle.qm_core.specs.Puts.{Encodes, FailsIn}
 use Rattle.raster_core.specs.Events.{Decodes, Stops}
 use Rattle.raster_core.specs.declared.shape.Shape.{Shape}
 use Rattle.raster_core.specs.declared.shape.Kept.{Kept}
-use Rattle.qm_core.specs.Code.{Lies}
-use Rattle.qm_core.specs.Source.{bytes_of, heard_of, Agrees, Gives}
+use Rattle.qm_core.specs.Code.{Lies, IsBytes}
+use Rattle.qm_core.specs.Source.{bytes_of, heard_of, IsClosed, Agrees, Gives, before_fault}
 use Rattle.qm_core.specs.Decoder.{DecoderIsAt}
 use Rattle.qm_core.specs.declared.source.Pulled.{Pulled}
 use Rattle.qm_core.specs.declared.source.Heard.TheVariants.{More, Stopped}
 use Rattle.qm_core.specs.declared.decoder.Decoder.{Decoder}
 use Rattle.qm_core.specs.declared.decoder.Stop.{Stop}
-use Rattle.raster_core.specs.Packed.{Held, HasLines}
+use Rattle.raster_core.specs.Packed.{Held, HasLines, packed_row}
 use Rattle.raster_core.specs.Enough.{AreEnough}
-use Rattle.raster_core.specs.Machine.Decoded.{with_row}
+use Rattle.raster_core.specs.Machine.Decoded.{with_row, PixelsSoFar, PixelsHeld}
+use Rattle.raster_core.specs.declared.place.RowPlace.{RowPlace}
 
 -- a row is typical wherever it may be
 abbrev pub canonical_events : Shape → Kept → Lines → List Event
@@ -48,9 +49,9 @@ pub record FirstDecoded {S : Type 0} (pull : S → Pulled → S → Type 0) (old
 
 -- the source stopped there
 pub record FirstStopped {S : Type 0} (pull : S → Pulled → S → Type 0) (old new : S) (mode : Mode) (p : Place) (learned : List Estimate)
-    (answers : List Pulled) (d' : Decoder) : Type 0 where
+    (answers : List Pulled) (d' : Decoder) (learned' : List Estimate) : Type 0 where
   pub more : List Pulled
-  pub stops : Stops pull old new (record { place = p; learned = learned }) answers more [] d'
+  pub stops : Stops pull old new (record { place = p; learned = learned }) answers more [] d' learned'
   pub typical : IsTrue mode.typical
 
 -- what a row's events are, for a coder that keeps this
@@ -95,3 +96,73 @@ pub record RowDecoded {S : Type 0} (pull : S → Pulled → S → Type 0) (from 
   pub stop : IsErr result ↔ (heard_of (answers ++ more) ≡ Stopped)
   pub undecided : OnErr result (IsPlace s.place → IsRowUndecided shape kept s (answers ++ more) lines)
   pub stays : OnErr result (StaysStopped d (answers ++ more))
+
+-- ---- a row whose code comes in parts
+
+-- before a row
+pub record IsRowStart (place : RowPlace) : Type 0 where
+  pub is_begun : place.is_begun ≡ false
+  pub done : place.done ≡ 0
+  pub past : place.past ≡ 0
+
+-- a window holds the two rows above a row
+pub record HasAbove (w : Held) (lines : Lines) : Type 0 where
+  pub above_is : w.above ≡ packed_row lines.above
+  pub second_is : w.second ≡ packed_row lines.second
+  pub above_wide : length lines.above ≡ w.width
+  pub second_wide : length lines.second ≡ w.width
+
+-- what is coded for a plain row of which these are the first pixels
+abbrev pub plain_events_of : Shape → Kept → Lines → List Bool → List Event
+plain_events_of shape kept lines done =
+    first_events (shape_mode shape) kept.previous_typical false ++ pixel_events (shape_mode shape) (with_row lines done) kept.offset
+
+-- Pixels of a plain row are decoded, for a decoder that was at this state before the row: its source has answered so
+-- since its code began, and that was enough for them.
+pub record StandsInPixels (shape : Shape) (kept : Kept) (place : RowPlace) (s : State) (answers : List Pulled) (lines : Lines) (window : Held)
+    (learned : List Estimate) (d : Decoder) : Type 0 where
+  pub done : List Bool
+  pub held : PixelsHeld kept.offset place window.current done
+  pub stands : DecoderIsAt d (after s (plain_events_of shape kept lines done)).place answers
+  pub taught : learned ≡ (after s (plain_events_of shape kept lines done)).learned
+  pub enough : AreEnough (length (bytes_of answers)) s (plain_events_of shape kept lines done)
+
+-- nothing of a row is decoded
+pub record StandsBeforeRow (place : RowPlace) (s : State) (answers : List Pulled) (learned : List Estimate) (d : Decoder) : Type 0 where
+  pub start : IsRowStart place
+  pub stands : DecoderIsAt d s.place answers
+  pub taught : learned ≡ s.learned
+
+-- A row has come as far as its place says.
+pub record StandsInRow (shape : Shape) (kept : Kept) (place : RowPlace) (s : State) (answers : List Pulled) (lines : Lines) (window : Held)
+    (learned : List Estimate) (d : Decoder) : Type 0 where
+  pub above : HasAbove window lines
+  pub before_it : place.is_begun ≡ false → StandsBeforeRow place s answers learned d
+  pub in_it : place.is_begun ≡ true → StandsInPixels shape kept place s answers lines window learned d
+
+-- What comes before a row's pixels is decoded, of a row that had come as far as its place says.
+pub record RowBegins {S : Type 0} (pull : S → Pulled → S → Type 0) (from to : S) (shape : Shape) (kept : Kept) (place : RowPlace) (s : State) (answers : List Pulled) (lines : Lines) (window : Held)
+    (flag : Bool) (learned : List Estimate) (d : Decoder) : Type 0 where
+  pub plain : flag ≡ false → (done : List Bool) × PixelsHeld kept.offset place window.current done
+      × PixelsSoFar pull from to (shape_mode shape) kept.offset (first_events (shape_mode shape) kept.previous_typical false) s answers lines done place.past d learned
+  pub typical : flag ≡ true → (shape.typical ≡ true) × FirstDecoded pull from to (shape_mode shape) kept.previous_typical true s.place s.learned answers d learned
+
+-- What going on with a row leaves, of which the source has stopped for good or not.
+pub record RowGoesOn {S : Type 0} (pull : S → Pulled → S → Type 0) (from to : S) (shape : Shape) (kept kept' : Kept)
+    (s : State) (answers : List Pulled) (lines : Lines) (window : Held) (place : RowPlace) (learned : List Estimate) (d : Decoder) (result : Result (Unit {0}) Stop) : Type 0 where
+  pub decoded : RowDecoded pull from to shape kept kept' s answers lines window learned d result
+  pub waits : OnErr result (StandsInRow shape kept place s (answers ++ decoded.more) lines window learned d)
+
+-- What a call of `go_on_row` leaves, for a row that had come so far while the source answered so.
+pub record RowPasses {S : Type 0} (pull : S → Pulled → S → Type 0) (from to : S) (shape : Shape) (kept kept' : Kept)
+    (s : State) (answers : List Pulled) (lines : Lines) (window : Held) (place : RowPlace) (learned : List Estimate) (d : Decoder) (result : Result (Unit {0}) Stop) : Type 0 where
+  -- what the source answered in this call
+  pub more : List Pulled
+  pub gives : Gives pull from more to
+  pub ok : OnOk result (RowIs shape kept kept' s (answers ++ more) lines window learned d)
+  -- it stops where the source has
+  pub stop : IsErr result ↔ (heard_of (answers ++ more) ≡ Stopped)
+  pub undecided : OnErr result (IsPlace s.place → IsRowUndecided shape kept s (answers ++ more) lines)
+  pub closed : OnErr result (IsClosed (answers ++ more) × IsBytes (bytes_of (answers ++ more)))
+  -- the row has come further, and waits for what follows
+  pub waits : OnErr result (StandsInRow shape kept place s (before_fault (answers ++ more)) lines window learned d)

@@ -10,6 +10,7 @@ mod counted;
 mod decode;
 mod encode;
 mod lanes;
+mod place;
 mod row_byte;
 mod rows;
 mod shape;
@@ -18,8 +19,9 @@ mod uniform;
 mod window;
 mod words;
 
-pub use decode::decode_row;
+pub use decode::{decode_row, go_on_row};
 pub use encode::encode_row;
+pub use place::RowPlace;
 pub use shape::{Kept, Shape};
 pub use tally::Tally;
 pub use window::{Window, window_bytes};

@@ -1,5 +1,6 @@
 -- What decoding the pixels of a row leaves, on the way.
-use Rattle.std.specs.Prelude.{ℕ, ◌+◌, ◌*◌, ◌≡◌, ◌≤◌, ◌<◌, Bool, false, List, [], ◌++◌, length, replicate, slice_index}
+use Rattle.std.specs.Prelude.{ℕ, ◌+◌, ◌*◌, ◌≡◌, ◌≤◌, ◌<◌, Bool, true, false, List, ◌++◌, length, replicate, slice_index}
+use Rattle.std.specs.Int.{div_ceil}
 use Rattle.qm_core.specs.Place.{Place, State, Event, Estimate, after}
 use Rattle.qm_core.specs.Source.{bytes_of, heard_of}
 use Rattle.qm_core.specs.Code.{wanted_bytes}
@@ -13,6 +14,8 @@ use Rattle.raster_core.specs.Machine.Registers.{bit, before, past_bits}
 use Rattle.raster_core.specs.Events.{Decodes, Stops}
 use Rattle.raster_core.specs.Packed.{packed_row}
 use Rattle.raster_core.specs.Machine.Lanes.{HasAround}
+use Rattle.raster_core.specs.declared.place.Pause.{Pause}
+use Rattle.raster_core.specs.declared.place.RowPlace.{RowPlace}
 use Rattle.raster_core.specs.Machine.Uniform.{uniform_event, StaysUniform, AreFilled}
 
 -- the lines with another current row
@@ -33,13 +36,15 @@ pub record MorePixels {S : Type 0} (pull : S → Pulled → S → Type 0) (from 
   pub count : length pixels ≡ n
   pub so_far : PixelsSoFar pull from to mode offset first s answers lines (done ++ pixels) past d learned
 
--- The source stopped at one of the first `width` pixels.
+-- The source stopped at one of the n pixels after these, behind so many of them.
 pub record PixelsStop {S : Type 0} (pull : S → Pulled → S → Type 0) (from to : S) (mode : Mode) (offset : ℕ) (first : List Event)
-    (s : State) (answers : List Pulled) (lines : Lines) (width : ℕ) (d : Decoder) : Type 0 where
-  pub done : List Bool
-  pub few : length done < width
+    (s : State) (answers : List Pulled) (lines : Lines) (done : List Bool) (n : ℕ) (pause : Pause) (d : Decoder) (learned : List Estimate) : Type 0 where
+  pub few : pause.count < n
+  pub pixels : List Bool
+  pub many : length pixels ≡ pause.count
+  pub past_is : pause.past ≡ before (done ++ pixels) (length (done ++ pixels)) (past_bits offset)
   pub more : List Pulled
-  pub stops : Stops pull from to s answers more (first ++ pixel_events mode (with_row lines done) offset) d
+  pub stops : Stops pull from to s answers more (first ++ pixel_events mode (with_row lines (done ++ pixels)) offset) d learned
 
 -- n pixels more were decoded of a byte, for which the registers of the rows above are these
 abbrev pub Along : {S : Type 0} (pull : S → Pulled → S → Type 0) (old new : S) (mode : Mode) (offset second above past : ℕ) (d : Decoder) (learned : List Estimate)
@@ -52,12 +57,16 @@ Along {S} pull old new mode offset second above past d learned n past' d' learne
 
 -- the source stopped at one of n pixels
 abbrev pub StopsAlong : {S : Type 0} (pull : S → Pulled → S → Type 0) (old new : S) (mode : Mode) (offset second above past : ℕ) (d : Decoder) (learned : List Estimate)
-    (n : ℕ) (d' : Decoder) → Type 0
-StopsAlong {S} pull old new mode offset second above past d learned n d' =
+    (n : ℕ) (pause : Pause) (d' : Decoder) (learned' : List Estimate) → Type 0
+StopsAlong {S} pull old new mode offset second above past d learned n pause d' learned' =
     (from : S) (first : List Event) (s : State) (answers : List Pulled) (lines : Lines) (done : List Bool) →
     PixelsSoFar pull from old mode offset first s answers lines done past d learned →
     second ≡ before lines.second (length done + 16) 24 → above ≡ before lines.above (length done + 16) 24 →
-    PixelsStop pull from new mode offset first s answers lines (length done + n) d'
+    PixelsStop pull from new mode offset first s answers lines done n pause d' learned'
+
+-- the same, counted from n pixels before
+abbrev pub later : ℕ → Pause → Pause
+later n pause = record { count = n + pause.count; past = pause.past }
 
 -- Pixels more were decoded of a byte, to whose contexts the rows above give these lanes: with three lines, and the
 -- adaptive pixel in its nominal place.
@@ -69,11 +78,11 @@ AlongMore {S} pull mid new lanes past d learned count past' d' learned' =
     Along pull old new (record { two_line = false; typical = typical }) 0 second above past₀ d₀ learned₀ (n + count) past' d' learned'
 
 -- the source stopped at one of them
-abbrev pub StopsMore : {S : Type 0} (pull : S → Pulled → S → Type 0) (mid new : S) (lanes past : ℕ) (d : Decoder) (learned : List Estimate) (count : ℕ) (d' : Decoder) → Type 0
-StopsMore {S} pull mid new lanes past d learned count d' =
+abbrev pub StopsMore : {S : Type 0} (pull : S → Pulled → S → Type 0) (mid new : S) (lanes past : ℕ) (d : Decoder) (learned : List Estimate) (count : ℕ) (pause : Pause) (d' : Decoder) (learned' : List Estimate) → Type 0
+StopsMore {S} pull mid new lanes past d learned count pause d' learned' =
     (typical : Bool) (old : S) (second above past₀ : ℕ) (d₀ : Decoder) (learned₀ : List Estimate) (n : ℕ) → n + count ≤ 8 → HasAround lanes second above n count →
     Along pull old mid (record { two_line = false; typical = typical }) 0 second above past₀ d₀ learned₀ n past d learned →
-    StopsAlong pull old new (record { two_line = false; typical = typical }) 0 second above past₀ d₀ learned₀ 8 d'
+    StopsAlong pull old new (record { two_line = false; typical = typical }) 0 second above past₀ d₀ learned₀ 8 (later n pause) d' learned'
 
 -- A byte of one colour was decoded in one step, with no byte asked for: each of its pixels is in the context of that colour.
 pub record SkipsAlong (mode : Mode) (offset second above byte past : ℕ) (d : Decoder) (learned : List Estimate) (d' : Decoder) : Type 0 where
@@ -107,12 +116,25 @@ pub record BytesSoFar {S : Type 0} (pull : S → Pulled → S → Type 0) (from 
   pub second_is : second ≡ before lines.second (8 * i + 8) 24
   pub above_is : above ≡ before lines.above (8 * i + 8) 24
 
-abbrev pub BytesAlong : {S : Type 0} (pull : S → Pulled → S → Type 0) (old new : S) (mode : Mode) (offset : ℕ) (above second : List ℕ) (d : Decoder) (learned : List Estimate)
-    (width left i second' above' past : ℕ) (current : List ℕ) (d' : Decoder) (learned' : List Estimate) → Type 0
-BytesAlong {S} pull old new mode offset above second d learned width left i second' above' past current d' learned' =
-    (from : S) (first : List Event) (s : State) (answers : List Pulled) (lines : Lines) →
-    PixelsSoFar pull from old mode offset first s answers lines [] 0 d learned → above ≡ packed_row lines.above → second ≡ packed_row lines.second →
-    BytesSoFar pull from new mode offset first s answers lines width left i second' above' past current d' learned'
+-- Pixels of a row that are decoded, as its place says, and written as far as they fill bytes.
+pub record PixelsHeld (offset : ℕ) (place : RowPlace) (current : List ℕ) (done : List Bool) : Type 0 where
+  pub count : place.done ≡ length done
+  pub past_is : place.past ≡ before done (length done) (past_bits offset)
+  pub bytes : (k : ℕ) → 8 * k + 8 ≤ length done → slice_index current k ≡ before done (8 * k + 8) 8
+
+-- What a step leaves of a row, whichever pixels of it were decoded before.
+abbrev pub FromPixels : {S : Type 0} (pull : S → Pulled → S → Type 0) (old : S) (mode : Mode) (offset : ℕ) (above second : List ℕ) (place : RowPlace) (current : List ℕ) (d : Decoder) (learned : List Estimate)
+    (Leaves : S → List Event → State → List Pulled → Lines → List Bool → Type 0) → Type 0
+FromPixels {S} pull old mode offset above second place current d learned Leaves =
+    (from : S) (first : List Event) (s : State) (answers : List Pulled) (lines : Lines) (done : List Bool) → PixelsHeld offset place current done →
+    PixelsSoFar pull from old mode offset first s answers lines done place.past d learned → above ≡ packed_row lines.above → second ≡ packed_row lines.second →
+    Leaves from first s answers lines done
+
+abbrev pub BytesAlong : {S : Type 0} (pull : S → Pulled → S → Type 0) (old new : S) (mode : Mode) (offset : ℕ) (above second : List ℕ) (place : RowPlace) (current : List ℕ) (d : Decoder) (learned : List Estimate)
+    (width left i second' above' past : ℕ) (current' : List ℕ) (d' : Decoder) (learned' : List Estimate) → Type 0
+BytesAlong {S} pull old new mode offset above second place current d learned width left i second' above' past current' d' learned' =
+    FromPixels pull old mode offset above second place current d learned
+    (λ from first s answers lines done. BytesSoFar pull from new mode offset first s answers lines width left i second' above' past current' d' learned')
 
 -- a row was decoded
 pub record RowPixels {S : Type 0} (pull : S → Pulled → S → Type 0) (from to : S) (mode : Mode) (offset : ℕ) (first : List Event)
@@ -123,16 +145,35 @@ pub record RowPixels {S : Type 0} (pull : S → Pulled → S → Type 0) (from t
   pub more : List Pulled
   pub decodes : Decodes pull from to s answers more (first ++ pixel_events mode (with_row lines row) offset) d learned
 
-abbrev pub RowAlong : {S : Type 0} (pull : S → Pulled → S → Type 0) (old new : S) (mode : Mode) (offset : ℕ) (above second : List ℕ) (d : Decoder) (learned : List Estimate)
-    (width : ℕ) (current : List ℕ) (d' : Decoder) (learned' : List Estimate) → Type 0
-RowAlong {S} pull old new mode offset above second d learned width current d' learned' =
-    (from : S) (first : List Event) (s : State) (answers : List Pulled) (lines : Lines) →
-    PixelsSoFar pull from old mode offset first s answers lines [] 0 d learned → above ≡ packed_row lines.above → second ≡ packed_row lines.second →
-    RowPixels pull from new mode offset first s answers lines width current d' learned'
+abbrev pub RowAlong : {S : Type 0} (pull : S → Pulled → S → Type 0) (old new : S) (mode : Mode) (offset : ℕ) (above second : List ℕ) (place : RowPlace) (current : List ℕ) (d : Decoder) (learned : List Estimate)
+    (width : ℕ) (current' : List ℕ) (d' : Decoder) (learned' : List Estimate) → Type 0
+RowAlong {S} pull old new mode offset above second place current d learned width current' d' learned' =
+    FromPixels pull old mode offset above second place current d learned (λ from first s answers lines done. RowPixels pull from new mode offset first s answers lines width current' d' learned')
 
-abbrev pub RowStops : {S : Type 0} (pull : S → Pulled → S → Type 0) (old new : S) (mode : Mode) (offset : ℕ) (above second : List ℕ) (d : Decoder) (learned : List Estimate)
-    (width : ℕ) (d' : Decoder) → Type 0
-RowStops {S} pull old new mode offset above second d learned width d' =
-    (from : S) (first : List Event) (s : State) (answers : List Pulled) (lines : Lines) →
-    PixelsSoFar pull from old mode offset first s answers lines [] 0 d learned → above ≡ packed_row lines.above → second ≡ packed_row lines.second →
-    PixelsStop pull from new mode offset first s answers lines width d'
+-- The source stopped in a row, at this place.
+pub record RowPaused {S : Type 0} (pull : S → Pulled → S → Type 0) (from to : S) (mode : Mode) (offset : ℕ) (first : List Event)
+    (s : State) (answers : List Pulled) (lines : Lines) (width : ℕ) (place : RowPlace) (current : List ℕ) (d : Decoder) (learned : List Estimate) : Type 0 where
+  pub begun : place.is_begun ≡ true
+  pub done : List Bool
+  pub few : length done < width
+  pub held : PixelsHeld offset place current done
+  pub more : List Pulled
+  pub stops : Stops pull from to s answers more (first ++ pixel_events mode (with_row lines done) offset) d learned
+
+abbrev pub RowStops : {S : Type 0} (pull : S → Pulled → S → Type 0) (old new : S) (mode : Mode) (offset : ℕ) (above second : List ℕ) (place : RowPlace) (current : List ℕ) (d : Decoder) (learned : List Estimate)
+    (width : ℕ) (place' : RowPlace) (current' : List ℕ) (d' : Decoder) (learned' : List Estimate) → Type 0
+RowStops {S} pull old new mode offset above second place current d learned width place' current' d' learned' =
+    FromPixels pull old mode offset above second place current d learned (λ from first s answers lines done. RowPaused pull from new mode offset first s answers lines width place' current' d' learned')
+
+-- What is left of a byte was decoded and written, up to its last pixel or the row's.
+pub record ByteEnded {S : Type 0} (pull : S → Pulled → S → Type 0) (from to : S) (mode : Mode) (offset : ℕ) (first : List Event)
+    (s : State) (answers : List Pulled) (lines : Lines) (place : RowPlace) (current : List ℕ) (d : Decoder) (learned : List Estimate) : Type 0 where
+  pub done : List Bool
+  pub count : place.done ≡ length done
+  pub bytes : (k : ℕ) → k < div_ceil (length done) 8 → slice_index current k ≡ before done (8 * k + 8) 8
+  pub so_far : PixelsSoFar pull from to mode offset first s answers lines done place.past d learned
+
+abbrev pub ByteEnds : {S : Type 0} (pull : S → Pulled → S → Type 0) (old new : S) (mode : Mode) (offset : ℕ) (above second : List ℕ) (place : RowPlace) (current : List ℕ) (d : Decoder) (learned : List Estimate)
+    (place' : RowPlace) (current' : List ℕ) (d' : Decoder) (learned' : List Estimate) → Type 0
+ByteEnds {S} pull old new mode offset above second place current d learned place' current' d' learned' =
+    FromPixels pull old mode offset above second place current d learned (λ from first s answers lines done. ByteEnded pull from new mode offset first s answers lines place' current' d' learned')

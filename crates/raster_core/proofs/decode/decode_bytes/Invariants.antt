@@ -10,9 +10,9 @@ abbrev pub invariant-bytes : goal.invariant-bytes
 invariant-bytes g l = record {
   same : g.S.CodeBytes.failed l.source ≡ g.S.CodeBytes.failed l.fn.source;
   going : has_stopped l.decoder ≡ has_stopped l.fn.decoder;
-  stuck : IsTrue (has_stopped l.fn.decoder) → (l.i ≡ 0) × (l.decoder ≡ l.fn.decoder) × (l.source ≡ l.fn.source);
+  stuck : IsTrue (has_stopped l.fn.decoder) → (8 * l.i ≡ l.fn.place.done) × (l.decoder ≡ l.fn.decoder) × (l.source ≡ l.fn.source);
   left : l.left ≡ l.shape.width - 8 * l.i;
-  along : BytesAlong (Pulls g.S.CodeBytes.gives g.S.CodeBytes.failed) l.fn.source l.source (shape_mode l.shape) l.offset l.above l.second l.fn.decoder l.fn.learned
+  along : BytesAlong (Pulls g.S.CodeBytes.gives g.S.CodeBytes.failed) l.fn.source l.source (shape_mode l.shape) l.offset l.above l.second l.fn.place l.fn.current l.fn.decoder l.fn.learned
       l.shape.width l.left l.i l.second_bytes l.above_bytes l.past l.current l.decoder l.learned;
 }
 

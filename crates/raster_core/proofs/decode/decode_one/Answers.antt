@@ -1,20 +1,19 @@
-use Rattle.std.proofs.Common.{arith, refl, false}
+use Rattle.std.proofs.Common.{arith, refl, false, Ok, Err, add-zero}
 use Rattle.qm_core.specs.Source.{Pulls}
-use Rattle.raster_core.proofs.Alongs.{along_next, along_stop, exit_err}
+use Rattle.raster_core.proofs.Alongs.{along_next, along_stop}
 use Rattle.raster_core.proofs.LaneContexts.{lane_context}
 use Rattle.raster_core.proofs.decode.decode_one.Goals as goal
 
-pub returns-in_err-pixel-clause-err : goal.returns-in_err-pixel-clause-err
-returns-in_err-pixel-clause-err g c =
-    exit_err c.from_residual.result _ (λ typical old second above past₀ d₀ learned₀ n few has so_far.
+pub returns-in-Err-clause-err : goal.returns-in-Err-clause-err
+returns-in-Err-clause-err g c = λ typical old second above past₀ d₀ learned₀ n few has so_far.
     along_stop (Pulls g.S.CodeBytes.gives g.S.CodeBytes.failed) old c.args.source.now c.next.new.source (record { two_line = false; typical = typical }) 0 second above past₀ d₀ learned₀
-    n 8 c.args.before c.args.decoder.now c.next.new.self c.args.learned.now c.next.new.learned c.of-cx.result.number c.next.result _ (omega arith) c.in_err-pixel.was
-    c.next.ensures.next so_far)
+    n 8 c.args.before c.args.decoder.now c.next.new.self c.args.learned.now c.next.new.learned c.of-cx.result.number (Err _) _ _ (omega arith) (omega arith) refl refl
+    c.in-Err.ensures.next so_far
 
-pub returns-clause-ok : goal.returns-clause-ok
-returns-clause-ok g c = λ typical old second above past₀ d₀ learned₀ n few has so_far.
+pub returns-in-Ok-clause-ok : goal.returns-in-Ok-clause-ok
+returns-in-Ok-clause-ok g c = λ typical old second above past₀ d₀ learned₀ n few has so_far.
     along_next (Pulls g.S.CodeBytes.gives g.S.CodeBytes.failed) old c.args.source.now c.next.new.source (record { two_line = false; typical = typical }) 0 second above past₀ d₀ learned₀
-    n c.args.before _ c.args.decoder.now c.next.new.self c.args.learned.now c.next.new.learned c.of-cx.result.number c.next.result c.in_ok-pixel.pixel
-    (omega arith) c.in_ok-pixel.was (c.past_and.ensures 0 refl)
+    n c.args.before _ c.args.decoder.now c.next.new.self c.args.learned.now c.next.new.learned c.of-cx.result.number (Ok c.in-Ok.pixel) c.in-Ok.pixel
+    (omega arith) refl (c.past_and.ensures 0 refl)
     (λ lines x r. lane_context typical c.args.lanes second above n c.args.before c.of-cx.result.number has c.of-cx.ensures lines x r)
-    c.next.ensures.next so_far
+    c.in-Ok.ensures.next so_far

@@ -1,0 +1,25 @@
+use Rattle.std.proofs.Common.{ℕ, ◌≡◌, ◌+◌, ◌*◌, ◌-◌, ◌/◌, ◌%◌, ◌^◌, ◌<◌, arith, sym, ◌∙◌, ap, slice_index, subst}
+use Rattle.std.proofs.Math.Nat.{div-le_self}
+use Rattle.raster_core.specs.Machine.Registers.{before}
+use Rattle.raster_core.proofs.Packed.{packed_byte, moves_on}
+use Rattle.raster_core.proofs.place.around_at.Goals as goal
+
+pub overflow_add-result : goal.overflow_add-result
+overflow_add-result c =
+    let small = div-le_self c.byte_at-next.result (2 ^ (8 - c.args.x % 8)) in
+    omega (arith, small, c.byte_at-next.ensures.small)
+
+wrapped : (a b : ℕ) → (a % 4294967296 % 16777216 + b) % 16777216 ≡ (a + b) % 16777216
+wrapped a b = omega arith
+
+pub returns-clause-is : goal.returns-clause-is
+returns-clause-is c = λ row is.
+    let i : ℕ = c.args.x / 8 in
+    let k : ℕ = c.args.x % 8 in
+    let x : 8 * i + k ≡ c.args.x = omega arith in
+    let there : 8 * (i + 1) + 8 ≡ 8 * i + 16 = omega arith in
+    let far : 8 * (i + 2) + 8 ≡ 8 * i + 24 = omega arith in
+    let register : c.register_at-register.result ≡ before row (8 * i + 16) 24 = c.register_at-register.ensures.is row is ∙ ap (λ z. before row z 24) there in
+    let next : c.byte_at-next.result ≡ before row (8 * i + 24) 8 = c.byte_at-next.ensures.byte ∙ (ap (λ l. slice_index l (i + 2)) is ∙ (packed_byte row (i + 2) ∙ ap (λ z. before row z 8) far)) in
+    wrapped (c.register_at-register.result * 2 ^ k) (c.byte_at-next.result / 2 ^ (8 - k))
+    ∙ (moves_on row i k c.register_at-register.result c.byte_at-next.result (omega arith) register next ∙ ap (λ z. before row (z + 16) 24) x)
