@@ -6,7 +6,6 @@ use Rattle.qm_core.specs.Sink.{Took}
 use Rattle.qm_core.specs.declared.source.Pulled.{Pulled}
 use Rattle.qm_core.specs.declared.source.Pulled.TheVariants.{Byte, End, Fault}
 use Rattle.qm_core.specs.declared.source.Heard.TheVariants.{More}
-use Rattle.qm_core.specs.declared.decoder.Stop.{Stop}
 use Rattle.qm_core.specs.declared.encoder.CoderFault.{CoderFault}
 use Rattle.qm_core.specs.declared.encoder.CoderFault.TheVariants.{Failed}
 

@@ -1,4 +1,4 @@
-use Rattle.std.proofs.Common.{◌≡◌, true, false, refl, subst, sym}
+use Rattle.std.proofs.Common.{◌≡◌, true, false, subst}
 use Rattle.qm_core.specs.Source.{Pulls}
 use Rattle.raster_core.specs.Window.{shape_mode}
 use Rattle.raster_core.specs.Row.{FirstDecoded, FirstStopped}

@@ -1,7 +1,7 @@
-use Rattle.std.proofs.Common.{◌≡◌, true, false, refl, sym, ◌∙◌, subst, Err, arith}
+use Rattle.std.proofs.Common.{false, refl, ◌∙◌, Err, arith}
 use Rattle.qm_core.specs.Source.{Pulls}
 use Rattle.raster_core.specs.Window.{shape_mode}
-use Rattle.raster_core.specs.Row.{first_events, RowBegins}
+use Rattle.raster_core.specs.Row.{first_events}
 use Rattle.raster_core.proofs.RowsDone.{stop_first, stop_pixels, done_plain, done_typical, all_done, carried}
 use Rattle.raster_core.proofs.decode.decode_below.Goals as goal
 use Rattle.raster_core.proofs.decode.decode_below.Goals.{then-flag, else-flag+in-Ok}

@@ -1,4 +1,4 @@
-use Rattle.std.proofs.Common.{arith, refl, zero-add, sym}
+use Rattle.std.proofs.Common.{arith, refl}
 use Rattle.qm_core.specs.Source.{Pulls}
 use Rattle.raster_core.specs.Window.{shape_mode}
 use Rattle.raster_core.proofs.Alongs.{along_none, exit_as}

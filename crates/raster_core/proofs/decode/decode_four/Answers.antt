@@ -1,4 +1,4 @@
-use Rattle.std.proofs.Common.{arith, refl}
+use Rattle.std.proofs.Common.{arith}
 use Rattle.qm_core.specs.Source.{Pulls}
 use Rattle.raster_core.proofs.Alongs.{exit_as}
 use Rattle.raster_core.proofs.LaneContexts.{more_then, stops_first, stops_then}

@@ -1,4 +1,4 @@
-use Rattle.std.proofs.Common.{arith, refl, false, Ok, Err, add-zero}
+use Rattle.std.proofs.Common.{arith, refl, false, Ok, Err}
 use Rattle.qm_core.specs.Source.{Pulls}
 use Rattle.raster_core.proofs.Alongs.{along_next, along_stop}
 use Rattle.raster_core.proofs.LaneContexts.{lane_context}

@@ -1,4 +1,4 @@
-use Rattle.std.proofs.Common.{arith, ◌∙◌}
+use Rattle.std.proofs.Common.{◌∙◌}
 use Rattle.qm_core.specs.Source.{Pulls}
 use Rattle.raster_core.specs.Window.{shape_mode}
 use Rattle.raster_core.proofs.LaneTables.{if_err, on_ok}

@@ -1,4 +1,4 @@
-use Rattle.std.proofs.Common.{refl, sym}
+use Rattle.std.proofs.Common.{refl}
 use Rattle.qm_core.specs.Source.{Pulls}
 use Rattle.raster_core.proofs.RowsDone.{moved, same_stand, passes}
 use Rattle.raster_core.proofs.decode.go_on_row.Goals as goal

@@ -1,4 +1,4 @@
-use Rattle.std.proofs.Common.{ℕ, ◌≡◌, ◌+◌, ◌*◌, ◌-◌, ◌/◌, ◌%◌, ◌^◌, ◌<◌, arith, sym, ◌∙◌, ap, slice_index, subst}
+use Rattle.std.proofs.Common.{ℕ, ◌≡◌, ◌+◌, ◌*◌, ◌-◌, ◌/◌, ◌%◌, ◌^◌, arith, ◌∙◌, ap, slice_index}
 use Rattle.std.proofs.Math.Nat.{div-le_self}
 use Rattle.raster_core.specs.Machine.Registers.{before}
 use Rattle.raster_core.proofs.Packed.{packed_byte, moves_on}
