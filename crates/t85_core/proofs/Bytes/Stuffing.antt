@@ -1,5 +1,5 @@
 -- The bytes of a code as they stand in a stream.
-use Rattle.std.proofs.Common.{cond, ◌≡◌, ◌≢◌, ◌⊎◌, inl, inr, ℕ, false, List, [], ◌∷◌, ◌++◌, nat_eq, refl, sym, ap, ◌∙◌, append-nil, arith}
+use Rattle.std.proofs.Common.{cond, subst, ◌≡◌, ◌≢◌, ◌⊎◌, inl, inr, ℕ, false, List, [], ◌∷◌, ◌++◌, nat_eq, refl, sym, ap, ◌∙◌, append-nil, arith}
 use Rattle.std.specs.Prelude.{if◌then◌else◌}
 use Rattle.std.proofs.lemmas.Bool.{cases_eq}
 use Rattle.std.proofs.lemmas.Bool.Decides.{nat_tests}
@@ -49,3 +49,43 @@ one_stuff b d x y e = went (stuff_cases b) (stuff_cases d) where
   went (inl p) (inr q) = let k : 255 ∷ 0 ∷ x ≡ d ∷ y = ap (λ z. z ++ x) (sym p.1) ∙ e ∙ ap (λ z. z ++ y) q.1 in absurd (q.0 (cc))
   went (inr p) (inl q) = let k : b ∷ x ≡ 255 ∷ 0 ∷ y = ap (λ z. z ++ x) (sym p.1) ∙ e ∙ ap (λ z. z ++ y) q.1 in absurd (p.0 (cc))
   went (inr p) (inr q) = let k : b ∷ x ≡ d ∷ y = ap (λ z. z ++ x) (sym p.1) ∙ e ∙ ap (λ z. z ++ y) q.1 in ((cc), (cc))
+
+-- ---- no code ends in an escape
+
+last_of : List ℕ → ℕ
+last_of [] = 0
+last_of (x ∷ []) = x
+last_of (x ∷ y ∷ ys) = last_of (y ∷ ys)
+
+last_right : (xs : List ℕ) (y : ℕ) (ys : List ℕ) → last_of (xs ++ y ∷ ys) ≡ last_of (y ∷ ys)
+unfolding last_of
+last_right [] y ys = refl
+last_right (x ∷ []) y ys = refl
+last_right (x ∷ z ∷ xs) y ys = last_right (z ∷ xs) y ys
+
+last_end : (xs : List ℕ) (y : ℕ) → last_of (xs ++ y ∷ []) ≡ y
+unfolding last_of
+last_end xs y = last_right xs y []
+
+stuffed_last : (code : List ℕ) → last_of (stuffed code) ≡ 255 → ⊥
+unfolding last_of
+stuffed_last [] e = absurd (omega (arith, e))
+stuffed_last (b ∷ []) e = went (stuff_cases b) (sym (append-nil (stuffed (b ∷ []))) ∙ stuffed_cons b [] [])
+  where
+    went : ((b ≡ 255) × (stuff b ≡ 255 ∷ 0 ∷ [])) ⊎ ((b ≢ 255) × (stuff b ≡ b ∷ [])) → stuffed (b ∷ []) ≡ stuff b ++ [] → ⊥
+    went (inl p) is = let f : last_of (255 ∷ 0 ∷ []) ≡ 255 = subst (λ z. last_of z ≡ 255) (is ∙ append-nil (stuff b) ∙ p.1) e in omega (arith, f)
+    went (inr p) is = p.0 (subst (λ z. last_of z ≡ 255) (is ∙ append-nil (stuff b) ∙ p.1) e)
+stuffed_last (b ∷ c ∷ code) e = stuffed_last (c ∷ code) (went (stuff_cases c) (sym (append-nil (stuffed (c ∷ code))) ∙ stuffed_cons c code []))
+  where
+    all : stuffed (b ∷ c ∷ code) ≡ stuff b ++ stuffed (c ∷ code)
+    all = sym (append-nil (stuffed (b ∷ c ∷ code))) ∙ stuffed_cons b (c ∷ code) [] ∙ ap (λ z. stuff b ++ z) (append-nil (stuffed (c ∷ code)))
+
+    from : (y : ℕ) (ys : List ℕ) → stuffed (c ∷ code) ≡ y ∷ ys → last_of (stuffed (c ∷ code)) ≡ 255
+    from y ys is = ap last_of is ∙ (sym (last_right (stuff b) y ys) ∙ (ap (λ z. last_of (stuff b ++ z)) (sym is) ∙ (ap last_of (sym all) ∙ e)))
+
+    went : ((c ≡ 255) × (stuff c ≡ 255 ∷ 0 ∷ [])) ⊎ ((c ≢ 255) × (stuff c ≡ c ∷ [])) → stuffed (c ∷ code) ≡ stuff c ++ (stuffed code ++ []) → last_of (stuffed (c ∷ code)) ≡ 255
+    went (inl p) is = from 255 (0 ∷ (stuffed code ++ [])) (is ∙ ap (λ z. z ++ (stuffed code ++ [])) p.1)
+    went (inr p) is = from c (stuffed code ++ []) (is ∙ ap (λ z. z ++ (stuffed code ++ [])) p.1)
+
+pub no_escape_last : (code x : List ℕ) → stuffed code ≡ x ++ 255 ∷ [] → ⊥
+no_escape_last code x e = stuffed_last code (ap last_of e ∙ last_end x 255)

@@ -1,26 +1,30 @@
 -- The code of a stripe that comes in pieces.
 use Rattle.std.proofs.Common.{◌≡◌, ◌≤◌, ◌⊎◌, inl, inr, ℕ, Bool, true, false, List, [], ◌∷◌, ◌++◌, length, Option, None, Some, refl, sym, ap, ◌∙◌, subst, append_assoc, append-nil, length-append, arith}
-use Rattle.std.specs.Prelude.{IfSome}
+use Rattle.std.specs.Prelude.{◌≢◌, ◌==◌, ◌||◌, IfSome, if◌then◌else◌}
+use Rattle.std.proofs.lemmas.Bool.{cases_eq}
+use Rattle.std.proofs.lemmas.Bool.Decides.{nat_tests}
 use Rattle.std.specs.Io.KnownBytes.{Consumes, IsAtEnd}
 use Rattle.std.proofs.lemmas.List.{append_cancel_left}
 use Rattle.qm_core.specs.Code.{stuffed, IsBytes}
-use Rattle.qm_core.specs.Source.{bytes_of, heard_of, IsClosed, Gives}
+use Rattle.qm_core.specs.Source.{bytes_of, heard_of, IsClosed, Gives, before_fault}
 use Rattle.qm_core.specs.declared.source.Pulled.{Pulled}
 use Rattle.qm_core.specs.declared.source.Pulled.TheVariants.{Byte, End, Fault}
 use Rattle.qm_core.specs.declared.source.Heard.{Heard}
 use Rattle.qm_core.specs.declared.source.Heard.TheVariants.{More, Ended, Stopped}
 use Rattle.t85_core.specs.declared.fault.Fault as fault
-use Rattle.t85_core.specs.declared.fault.Fault.TheVariants.{Truncated, Read}
+use Rattle.t85_core.specs.declared.fault.Fault.TheVariants.{Truncated, BadEscape, Aborted, Read}
 use Rattle.t85_core.specs.declared.segments.Code.{Code}
 use Rattle.t85_core.specs.declared.segments.Code.TheVariants as code
-use Rattle.t85_core.specs.Grammar.{marker_bytes}
+use Rattle.t85_core.specs.Header.{Fields}
+use Rattle.t85_core.specs.Grammar.{marker_bytes, ESC}
+use Rattle.t85_core.specs.Refusal.{escape_fault}
 use Rattle.t85_core.specs.Failures.{reads_after}
 use Rattle.t85_core.specs.Steps.Segments.{code_bytes, IsByteOrMarker, RestFault}
 use Rattle.t85_core.specs.Steps.Entity.{EntityView, GivesEnd, GivesFault, entity_known}
 use Rattle.t85_core.specs.Steps.PieceCode.{ahead_bytes, CodeOpen, EntityEnded, CodeText, CodeBreaks}
 use Rattle.t85_core.proofs.Bytes.Known.{counted-other}
 use Rattle.t85_core.proofs.Bytes.Streams.{Consumes-more}
-use Rattle.t85_core.proofs.Bytes.Stuffing.{stuff, stuffed_cons, stuffed_append, one_stuff, second}
+use Rattle.t85_core.proofs.Bytes.Stuffing.{no_escape_last, stuff, stuffed_cons, stuffed_append, one_stuff, second}
 use Rattle.t85_core.proofs.Grammar.Cut.{marker_no_code}
 use Rattle.t85_core.proofs.Decodings.Entities.{Pull, LastIs, Parted, pulls_part}
 use Rattle.t85_core.proofs.Decodings.RowsSoFar.{bytes_append}
@@ -97,6 +101,48 @@ small_right : (xs ys : List ℕ) → IsBytes (xs ++ ys) → IsBytes ys
 small_right [] ys h = h
 small_right (x ∷ xs) ys h = small_right xs ys h.1
 
+-- without the fault
+bytes_again : (xs : List Pulled) → IsClosed xs → bytes_of (before_fault xs) ≡ bytes_of xs
+bytes_again [] c = refl
+bytes_again (Byte b ∷ xs) c = ap (λ z. b ∷ z) (bytes_again xs c)
+bytes_again (End ∷ xs) c = subst (λ z. bytes_of (before_fault z) ≡ bytes_of z) (sym c) refl
+bytes_again (Fault ∷ xs) c = sym (ap bytes_of c)
+
+heard_again : (xs : List Pulled) → heard_of xs ≡ Stopped → heard_of (before_fault xs) ≡ More
+heard_again [] h = refl
+heard_again (Byte b ∷ xs) h = heard_again xs h
+heard_again (End ∷ xs) h = absurd (let bot : ⊥ = cc in bot)
+heard_again (Fault ∷ xs) h = refl
+
+pub again_right : (xs ys : List Pulled) → heard_of xs ≡ More → before_fault (xs ++ ys) ≡ xs ++ before_fault ys
+again_right [] ys h = refl
+again_right (Byte b ∷ xs) ys h = ap (λ z. Byte b ∷ z) (again_right xs ys h)
+again_right (End ∷ xs) ys h = absurd (let bot : ⊥ = cc in bot)
+again_right (Fault ∷ xs) ys h = absurd (let bot : ⊥ = cc in bot)
+
+-- a rest of a code that is cut short
+cut_short : (a b c : Bool) (w : Option fault.Fault) → (if a then None else if b then Some Aborted else if c || true then Some BadEscape else w) ≡ Some Truncated → ⊥
+cut_short true b c w e = cc
+cut_short false true c w e = cc
+cut_short false false true w e = cc
+cut_short false false false w e = cc
+
+rest_is : (h : Fields) (rest : List ℕ) → RestFault rest Truncated → (rest ≡ []) ⊎ (rest ≡ 255 ∷ [])
+rest_is h [] f = inl refl
+rest_is h (b ∷ []) f = by (cases_eq b 255)
+  where
+    at : (if b == ESC then Some Truncated else None) ≡ Some Truncated
+    at = f h (record { height = 0; entities = 0; heights = 0 }) 0
+
+    by : (b ≡ 255) ⊎ (b ≢ 255) → (b ∷ [] ≡ []) ⊎ (b ∷ [] ≡ 255 ∷ [])
+    by (inl e) = inr (ap (λ z. z ∷ []) e)
+    by (inr n) = let t : (b == ESC) ≡ false = grind (arith, nat_tests) in absurd (let z : None ≡ Some Truncated = subst (λ u. (if u then Some Truncated else None) ≡ Some Truncated) t at in let bot : ⊥ = cc in bot)
+rest_is h (b ∷ e ∷ bytes) f = by (b == ESC) (f h (record { height = 0; entities = 0; heights = 0 }) 0)
+  where
+    by : (u : Bool) → (if u then escape_fault h (record { height = 0; entities = 0; heights = 0 }) 0 true e bytes else None) ≡ Some Truncated → (b ∷ e ∷ bytes ≡ []) ⊎ (b ∷ e ∷ bytes ≡ 255 ∷ [])
+    by true k = absurd (cut_short _ _ _ _ k)
+    by false k = absurd (let bot : ⊥ = cc in bot)
+
 known_is : (first : Option Code) (p : List ℕ) → entity_known first (Some p) ≡ Some (ahead_bytes first ++ p)
 known_is None p = refl
 known_is (Some c) p = refl
@@ -133,6 +179,15 @@ module _ {T : Type 0} (standing : T → EntityView) (failed : T → ℕ) (s t : 
       ∙ ap (λ z. stuffed A ++ z) same
       ∙ sym (append_assoc (stuffed A) (stuffed B) all)
       ∙ ap (λ z. z ++ all) (sym (stuffed_append A B) ∙ ap stuffed (sym both_are))
+
+  -- The code waits for what follows: all of the piece is taken but an escape that is its last byte.
+  pub record Waits : Type 0 where
+    pub given : List ℕ
+    pub rest : List ℕ
+    pub taken : p ≡ given ++ rest
+    pub few : (rest ≡ []) ⊎ (rest ≡ 255 ∷ [])
+    pub plain : (x : List ℕ) → given ≡ x ++ 255 ∷ [] → ⊥
+    pub code_is : CodeOpen None (before_fault (answers ++ more)) [] (text ++ given)
 
   -- the code goes on
   abbrev pub Went : Type 0
@@ -261,6 +316,71 @@ module _ {T : Type 0} (standing : T → EntityView) (failed : T → ℕ) (s t : 
       some (inl b) = let long = length-append A B in omega (arith, long, b.0)
       some (inr b) = let old = o.begun (sym first_s ∙ sym b.1 ∙ g.begun) in let long = length-append A B in let long' = length-append A [] in omega (arith, old, long, long')
 
+    -- it waits for what follows
+    waits_open : (standing s).reads ≡ 0 → (standing t).reads ≡ 0 → heard_of (answers ++ more) ≡ Stopped → (h : Fields) → (standing t).fault ≡ Some Truncated → Waits
+    waits_open reads_s reads_t stopped h fault_is =
+        record {
+          given = k.given;
+          rest = g.ends.given;
+          taken = k.taken;
+          few = rest_is h g.ends.given (subst (RestFault g.ends.given) (counted-other Truncated g.why unread_not ∙ why_is) g.ends.has_fault);
+          plain = λ x is.
+              no_escape_last B (ahead_bytes first ++ x)
+              (sym (append-nil (stuffed B)) ∙ sym k.same ∙ ap (λ z. ahead_bytes first ++ z) is ∙ sym (append_assoc (ahead_bytes first) x (255 ∷ [])));
+          code_is = record {
+            going = heard_again (answers ++ more) stopped;
+            bytes = subst IsBytes (sym same_bytes) small;
+            small = tt;
+            ahead = tt;
+            begun = λ _. subst (λ z. 1 ≤ length z) (sym (append-nil (bytes_of (before_fault (answers ++ more))) ∙ same_bytes ∙ both_are)) (some part.went.begun);
+            text_is = grown k.given [] o.text_is k.same ∙ ap (λ z. stuffed z ++ []) (sym same_bytes ∙ sym (append-nil (bytes_of (before_fault (answers ++ more)))));
+          };
+        }
+      where
+        last : LastIs standing part.mid Stopped t
+        last = subst (λ k. LastIs standing part.mid k t) (sym going ∙ stopped) part.last
+
+        g : GivesFault (standing part.mid) (standing t)
+        g = last.0
+
+        some_is : (a b : fault.Fault) → Some a ≡ Some b → a ≡ b
+        some_is a b e = cc
+
+        why_is : g.why ≡ Truncated
+        why_is = some_is g.why Truncated (sym g.fault ∙ fault_is)
+
+        unread_not : g.why ≡ Read → ⊥
+        unread_not e = let z : Truncated ≡ Read = sym why_is ∙ e in cc
+
+        behind : first1 ≡ None
+        behind = sym first_t ∙ g.behind
+
+        known : (standing t).known ≡ Some p1
+        known = known_t ∙ known_is first1 p1 ∙ ap (λ z. Some (ahead_bytes z ++ p1)) behind
+
+        nothing_left : p1 ≡ []
+        nothing_left = subst (λ z. IsAtEnd z) known (g.ends.at_end why_is)
+
+        taken : ahead_bytes first ++ p ≡ (stuffed B ++ g.ends.given) ++ p1
+        taken = subst (λ z. Consumes (Some (ahead_bytes first ++ p)) z (stuffed B ++ g.ends.given)) known (in_all (standing t).known g.ends.given g.ends.taken)
+
+        all : ahead_bytes first ++ p ≡ stuffed B ++ ([] ++ g.ends.given)
+        all = taken ∙ ap (λ z. (stuffed B ++ g.ends.given) ++ z) nothing_left ∙ append-nil (stuffed B ++ g.ends.given)
+
+        ahead_read : ((1 ≤ length B) × ((standing part.mid).first ≡ None)) ⊎ ((B ≡ []) × ((standing part.mid).first ≡ (standing s).first)) → (first ≡ None) ⊎ (1 ≤ length B)
+        ahead_read (inl b) = inr b.0
+        ahead_read (inr b) = inl (sym first_s ∙ sym b.1 ∙ g.begun)
+
+        k : Taken first p g.ends.given (stuffed B ++ [])
+        k = taken_bytes first B [] p g.ends.given (ahead_read part.went.begun) all
+
+        same_bytes : bytes_of (before_fault (answers ++ more)) ≡ bytes_of (answers ++ more)
+        same_bytes = bytes_again (answers ++ more) closed
+
+        some : ((1 ≤ length B) × ((standing part.mid).first ≡ None)) ⊎ ((B ≡ []) × ((standing part.mid).first ≡ (standing s).first)) → 1 ≤ length (A ++ B)
+        some (inl b) = let long = length-append A B in omega (arith, long, b.0)
+        some (inr b) = let old = o.begun (sym first_s ∙ sym b.1 ∙ g.begun) in let long = length-append A B in let long' = length-append A [] in omega (arith, old, long, long')
+
   -- it had ended
   ended_before : (reset : Bool) → EntityEnded first reset answers [] text → marker ≡ Some reset → more ≡ []
   ended_before reset o is = nothing_after answers more o.ended closed
@@ -295,6 +415,14 @@ module _ {T : Type 0} (standing : T → EntityView) (failed : T → ℕ) (s t : 
   code_broke o reads_s reads_t stopped = by_marker marker refl o where
     by_marker : (m : Option Bool) → marker ≡ m → CodeText first m answers [] text → (why : fault.Fault) × ((standing t).fault ≡ Some why) × CodeBreaks text p (bytes_of (answers ++ more)) why
     by_marker None e o = broke_open o e reads_s reads_t stopped
+    by_marker (Some reset) e o =
+        let none = ended_before reset o e in
+        absurd (let both : Stopped ≡ Ended = sym stopped ∙ ap (λ z. heard_of (answers ++ z)) none ∙ ap heard_of (append-nil answers) ∙ o.ended in let bot : ⊥ = cc in bot)
+
+  pub code_waits : CodeText first marker answers [] text → (standing s).reads ≡ 0 → (standing t).reads ≡ 0 → heard_of (answers ++ more) ≡ Stopped → (h : Fields) → (standing t).fault ≡ Some Truncated → (marker ≡ None) × Waits
+  code_waits o reads_s reads_t stopped h fault_is = by_marker marker refl o where
+    by_marker : (m : Option Bool) → marker ≡ m → CodeText first m answers [] text → (marker ≡ None) × Waits
+    by_marker None e o = (e, waits_open o e reads_s reads_t stopped h fault_is)
     by_marker (Some reset) e o =
         let none = ended_before reset o e in
         absurd (let both : Stopped ≡ Ended = sym stopped ∙ ap (λ z. heard_of (answers ++ z)) none ∙ ap heard_of (append-nil answers) ∙ o.ended in let bot : ⊥ = cc in bot)

@@ -173,6 +173,7 @@ pub over_done : (k : Stage) → IsOver k → ((n : ℕ) → k ≡ stage.Late n �
 over_done stage.Head o n = absurd o
 over_done stage.Comment o n = absurd o
 over_done stage.Code o n = absurd o
+over_done stage.Row o n = absurd o
 over_done stage.Done o n = refl
 over_done (stage.Late m) o n = absurd (n m refl)
 
@@ -180,6 +181,7 @@ pub over_not_code : (k : Stage) → IsOver k → k ≡ stage.Code → ⊥
 over_not_code stage.Head o e = o
 over_not_code stage.Comment o e = o
 over_not_code stage.Code o e = o
+over_not_code stage.Row o e = o
 over_not_code stage.Done o e = cc
 over_not_code (stage.Late m) o e = cc
 

@@ -1,12 +1,18 @@
 -- The code of a stripe in a walk: a row more, or the stripe's end.
-use Rattle.std.proofs.Common.{cond, ◌≡◌, ◌<◌, ◌+◌, ℕ, Bool, false, List, [], ◌++◌, count_by, Option, None, Some, refl, sym, ap, ◌∙◌, subst, append_assoc, append-nil, arith}
+use Rattle.std.proofs.Common.{cond, ◌≡◌, ◌<◌, ◌+◌, ℕ, Bool, true, false, List, [], ◌++◌, count_by, Option, None, Some, refl, sym, ap, ◌∙◌, subst, append_assoc, append-nil, arith}
 use Rattle.std.specs.Prelude.{flat_map, option_map, IfSome}
 use Rattle.qm_core.specs.Code.{stuffed}
-use Rattle.qm_core.specs.Source.{bytes_of}
+use Rattle.qm_core.specs.Place.{Place}
+use Rattle.qm_core.specs.Source.{bytes_of, heard_of, is_stopped}
+use Rattle.qm_core.specs.Decoder.{DecoderIsAt, has_stopped}
+use Rattle.qm_core.specs.declared.source.Heard.{Heard}
+use Rattle.qm_core.specs.declared.source.Heard.TheVariants.{More, Ended, Stopped}
 use Rattle.qm_core.specs.declared.source.Pulled.{Pulled}
 use Rattle.qm_core.specs.declared.decoder.Decoder.{Decoder}
 use Rattle.raster_core.specs.Packed.{packed_row}
-use Rattle.raster_core.specs.Window.{held}
+use Rattle.raster_core.specs.Row.{IsRowStart, HasAbove, StandsInRow}
+use Rattle.raster_core.specs.Window.{held, turned}
+use Rattle.raster_core.specs.declared.place.RowPlace.{RowPlace}
 use Rattle.raster_core.specs.declared.shape.Shape.{Shape}
 use Rattle.t85_core.specs.declared.fault.Fault.{Fault}
 use Rattle.t85_core.specs.declared.segments.Code as code_type
@@ -18,12 +24,12 @@ use Rattle.t85_core.specs.Refusal.{spot_behind, rest_fault}
 use Rattle.t85_core.specs.Laws.{IsInUse}
 use Rattle.t85_core.specs.Steps.CoderLaws.{CoderLaws}
 use Rattle.t85_core.specs.Steps.Segments.{IsByteOrMarker, spot_at}
-use Rattle.t85_core.specs.Steps.State.{StripeStart, first_row_start, next_stripe_start}
+use Rattle.t85_core.specs.Steps.State.{StripeStart, first_row_start, next_stripe_start, offset_at}
 use Rattle.t85_core.specs.Steps.Cut.{BegunRun}
 use Rattle.t85_core.specs.Steps.DecodeRows.{pair_of, IsShapeOf, IsCarried}
 use Rattle.t85_core.specs.Steps.DecodeStripes.{StripeCut, StripeRead, StripesRead, ImageRead}
-use Rattle.t85_core.specs.Steps.PieceCode.{CodeText, CodeBreaks, PieceRowTaken, RowMissing, RowState, TakesPieceRow, MissesRow, MarkerFound, MarkerMissing, CodeKept}
-use Rattle.t85_core.specs.Steps.Pieces.{CutOff, HeadStands, CodeStands, rows_in}
+use Rattle.t85_core.specs.Steps.PieceCode.{CodeText, CodeBreaks, PieceRowTaken, RowBroken, RowWaits, MarkerFound, MarkerMissing, CodeKept}
+use Rattle.t85_core.specs.Steps.Pieces.{CutOff, HeadStands, CodeStands, InRowStands, rows_in}
 use Rattle.t85_core.proofs.Walks.Passed.{passed_none}
 use Rattle.t85_core.proofs.Decodings.ImagePut.{stripes_next, image_read}
 use Rattle.t85_core.proofs.Decodings.RowsSoFar.{rows_whole, rows_full}
@@ -38,6 +44,119 @@ ahead_is first (Some reset) answers extra text o = subst (λ z. IfSome z IsByteO
 pub behind_is : (first : Option code_type.Code) (marker : Option Bool) (answers : List Pulled) (extra text : List ℕ) → CodeText first marker answers extra text → IfSome marker (λ _. first ≡ None)
 behind_is first None answers extra text o = tt
 behind_is first (Some reset) answers extra text o = o.behind
+
+-- ---- a stripe whose code breaks
+
+module _ {h : Fields} {height entities : ℕ} {given : Bool} {at : Option move.Move} {start : CodingState} {before began : List ℕ} (head : HeadStands h height entities given at start before began)
+    (code text out : List ℕ) (text_is : text ≡ before ++ code) (q : CoderLaws) (use_ : IsInUse h height) where
+  abbrev head_segments : List Segment
+  head_segments = head.passed.segments
+
+  head_more : (p : List ℕ) → before ++ (code ++ p) ≡ text ++ p
+  head_more p = sym (append_assoc before code p) ∙ ap (λ z. z ++ p) (sym text_is)
+
+  head_back : head.back ≡ flat_map segment_bytes head_segments
+  head_back = head.passed.taken ∙ append-nil (flat_map segment_bytes head_segments)
+
+  code_off : (p bytes : List ℕ) (f : Fault) (rows : List (List Bool)) (flags : List Bool) → CodeBreaks code p bytes f → BegunRun h (rows_in h height entities) head.stripes.next head_segments bytes rows flags → out ≡ began ++ flat_map packed_row rows →
+      CutOff h height (text ++ p) out f
+  code_off p bytes f rows flags b begun out_is =
+      subst (λ z. CutOff h height z out f) (head_more p) (head_breaks head q use_ out (code ++ p) b.unread f b.counted stripe_cut)
+    where
+      part : List ℕ
+      part = flat_map segment_bytes head_segments ++ (stuffed bytes ++ b.rest)
+
+      taken : head.back ++ (code ++ p) ≡ part ++ b.unread
+      taken = ap (λ z. head.back ++ z) b.text_is ∙ ap (λ z. z ++ ((stuffed bytes ++ b.rest) ++ b.unread)) head_back ∙ sym (append_assoc (flat_map segment_bytes head_segments) (stuffed bytes ++ b.rest) b.unread)
+
+      stripe_cut : StripeCut h (spot_at (place head)) head.stripes.next (Some (head.back ++ (code ++ p))) (Some b.unread) (rows_in h height entities) (Some began) (Some out) f
+      stripe_cut = record {
+        rows = rows;
+        flags = flags;
+        ends = record {
+          given = part;
+          taken = taken;
+          has_fault = (
+            record {
+              segments = head_segments;
+              code = bytes;
+              rest = b.rest;
+              bytes_are = refl;
+              begun = record { legal = head.passed.begun.legal; one_move = head.passed.begun.one_move; bytes = b.small };
+              gives = head.passed.gives;
+              rest_has =
+                  ap (λ z. rest_fault h (spot_behind (spot_at (place head)) head_segments) (count_by is_move head_segments) z b.rest) (not_nil bytes b.some)
+                  ∙ b.broken h (spot_behind (spot_at (place head)) head_segments) (count_by is_move head_segments) ∙ ap Some (sym b.counted);
+            },
+            begun,
+          );
+          at_end = b.at_end;
+        };
+        appended = out_is;
+      }
+
+-- ---- in a row that has begun
+
+module _ {h : Fields} {height entities : ℕ} {given : Bool} {at : Option move.Move} {row : ℕ} {first : Option code_type.Code} {marker : Option Bool} {carried : CodingState} {d : Decoder} {in_row : RowPlace} {text out : List ℕ}
+    (s : InRowStands h height entities given at row first marker carried d in_row text out) where
+  -- its decoder goes on
+  pub in_row_going : has_stopped d ≡ false
+  in_row_going = by in_row.is_begun refl
+    where
+      going : (t : Heard) → (t ≡ Stopped → ⊥) → is_stopped t ≡ false
+      going More n = refl
+      going Ended n = refl
+      going Stopped n = absurd (n refl)
+
+      at_answers : {x : Place} → DecoderIsAt d x (s.begun.read.answers ++ s.begun.since) → has_stopped d ≡ false
+      at_answers e = ap is_stopped e.heard ∙ going _ s.begun.unstopped
+
+      by : (b : Bool) → in_row.is_begun ≡ b → has_stopped d ≡ false
+      by true e = at_answers (s.begun.stands.in_it e).stands
+      by false e = at_answers (s.begun.stands.before_it e).stands
+
+  pub in_row_shape : (shape : Shape) → IsShapeOf h shape → shape ≡ s.shape
+  in_row_shape shape is = shape_is h shape is ∙ sym (shape_is h s.shape s.begun.read.shape_is)
+
+  in_row_more : (p : List ℕ) → s.before ++ (s.code ++ p) ≡ text ++ p
+  in_row_more p = sym (append_assoc s.before s.code p) ∙ ap (λ z. z ++ p) (sym s.text_is)
+
+  pub row_off : CoderLaws → IsInUse h height → (p : List ℕ) (f : Fault) → RowBroken h s.head.stripes.next s.head.passed.segments (rows_in h height entities) s.began out s.code p f → CutOff h height (text ++ p) out f
+  row_off q use_ p f m = code_off s.head s.code text out s.text_is q use_ p m.bytes f m.rows m.flags m.breaks m.begun m.out_is
+
+  -- it ended
+  pub row_on : {first' : Option code_type.Code} {marker' : Option Bool} {carried' : CodingState} {d' : Decoder} {p p' : List ℕ} → (m : PieceRowTaken h s.shape s.head.stripes.next s.head.passed.segments row first' marker' carried' d' s.began out s.code p p') →
+      CodeStands h height entities given at (row + 1) first' marker' carried' d' (text ++ m.given) (out ++ (held carried'.window.now).current)
+  row_on m = record {
+    before = s.before;
+    began = s.began;
+    start = s.start;
+    head = s.head;
+    shape = s.shape;
+    read = m.read;
+    few = omega (arith, s.few);
+    extra = [];
+    rows_first = λ _. refl;
+    code = s.code ++ m.given;
+    code_is = m.code_is;
+    text_is = sym (in_row_more m.given);
+  }
+
+  -- it waits
+  pub row_kept : {first' : Option code_type.Code} {marker' : Option Bool} {carried' : CodingState} {d' : Decoder} {in_row' : RowPlace} {p p' : List ℕ} →
+      (m : RowWaits h s.shape s.head.stripes.next s.head.passed.segments row first' marker' carried' d' in_row' s.began out s.code p p') → InRowStands h height entities given at row first' marker' carried' d' in_row' (text ++ m.given) out
+  row_kept m = record {
+    before = s.before;
+    began = s.began;
+    start = s.start;
+    head = s.head;
+    shape = s.shape;
+    begun = m.begun;
+    few = s.few;
+    code = s.code ++ m.given;
+    code_is = m.code_is;
+    text_is = sym (in_row_more m.given);
+  }
 
 module _ {h : Fields} {height entities : ℕ} {given : Bool} {at : Option move.Move} {row : ℕ} {first : Option code_type.Code} {marker : Option Bool} {carried : CodingState} {d : Decoder} {text out : List ℕ}
     (s : CodeStands h height entities given at row first marker carried d text out) where
@@ -62,51 +181,10 @@ module _ {h : Fields} {height entities : ℕ} {given : Bool} {at : Option move.M
   -- ---- it breaks
 
   module _ (q : CoderLaws) (use_ : IsInUse h height) where
-    code_off : (p bytes : List ℕ) (f : Fault) (rows : List (List Bool)) (flags : List Bool) → CodeBreaks s.code p bytes f → BegunRun h count c segments bytes rows flags → out ≡ s.began ++ flat_map packed_row rows →
-        CutOff h height (text ++ p) out f
-    code_off p bytes f rows flags b begun out_is =
-        subst (λ z. CutOff h height z out f) (with_more p) (head_breaks s.head q use_ out (s.code ++ p) b.unread f b.counted stripe_cut)
-      where
-        part : List ℕ
-        part = flat_map segment_bytes segments ++ (stuffed bytes ++ b.rest)
-
-        taken : s.head.back ++ (s.code ++ p) ≡ part ++ b.unread
-        taken = ap (λ z. s.head.back ++ z) b.text_is ∙ ap (λ z. z ++ ((stuffed bytes ++ b.rest) ++ b.unread)) back_is ∙ sym (append_assoc (flat_map segment_bytes segments) (stuffed bytes ++ b.rest) b.unread)
-
-        stripe_cut : StripeCut h (spot_at (place s.head)) c (Some (s.head.back ++ (s.code ++ p))) (Some b.unread) count (Some s.began) (Some out) f
-        stripe_cut = record {
-          rows = rows;
-          flags = flags;
-          ends = record {
-            given = part;
-            taken = taken;
-            has_fault = (
-              record {
-                segments = segments;
-                code = bytes;
-                rest = b.rest;
-                bytes_are = refl;
-                begun = record { legal = s.head.passed.begun.legal; one_move = s.head.passed.begun.one_move; bytes = b.small };
-                gives = s.head.passed.gives;
-                rest_has =
-                    ap (λ z. rest_fault h (spot_behind (spot_at (place s.head)) segments) (count_by is_move segments) z b.rest) (not_nil bytes b.some)
-                    ∙ b.broken h (spot_behind (spot_at (place s.head)) segments) (count_by is_move segments) ∙ ap Some (sym b.counted);
-              },
-              begun,
-            );
-            at_end = b.at_end;
-          };
-          appended = out_is;
-        }
-
-    -- in a row
-    pub row_off : {first' : Option code_type.Code} {marker' : Option Bool} {carried' : CodingState} {d' : Decoder} (p : List ℕ) (f : Fault) → RowMissing h s.shape c segments count row first' marker' carried' d' s.began out s.code p f → CutOff h height (text ++ p) out f
-    row_off p f m = code_off p m.bytes f m.rows m.flags m.breaks m.begun m.out_is
-
     -- after its rows
     pub marker_off : row ≡ count → (p : List ℕ) (f : Fault) → MarkerMissing s.read.answers s.code p f → CutOff h height (text ++ p) out f
     marker_off all p f m =
-        code_off p (bytes_of s.read.answers ++ m.more) f s.read.rows s.read.flags m.breaks
+        code_off s.head s.code text out s.text_is q use_ p (bytes_of s.read.answers ++ m.more) f s.read.rows s.read.flags m.breaks
         (rows_full h c segments s.read.answers s.read.rows s.read.flags s.read.last s.read.so_far q count m.more d (s.read.many ∙ all) s.read.stands m.going m.small) s.read.appended
 
     -- ---- it ends
@@ -154,57 +232,51 @@ module _ {h : Fields} {height entities : ℕ} {given : Bool} {at : Option move.M
         fewer = fewer;
       }
 
-  -- ---- it goes on
+  -- ---- a row of it begins
 
   code_here : row < count → CodeText first marker s.read.answers [] s.code
   code_here lt = subst (λ z. CodeText first marker s.read.answers z s.code) (s.rows_first lt) s.code_is
 
-  module _ (lt : row < count) (shape : Shape) (shape_ok : IsShapeOf h shape) (carried' : CodingState) (d' : Decoder) (first' : Option code_type.Code) (marker' : Option Bool) (p p' : List ℕ) where
-    abbrev from : RowState
-    from = record { carried = carried; decoder = d; first = first; marker = marker; piece = p }
+  module _ (lt : row < count) (carried' : CodingState) (in_row : RowPlace) (start : IsRowStart in_row) (learned_is : carried'.learned ≡ carried.learned) (turned_is : held carried'.window.now ≡ turned (held carried.window.now))
+      (offset_is : carried'.kept.offset ≡ offset_at (option_map pair_of at) row carried.kept.offset) (previous_is : carried'.kept.previous_typical ≡ carried.kept.previous_typical) where
+    abbrev answers : List Pulled
+    answers = s.read.answers ++ []
 
-    abbrev to : RowState
-    to = record { carried = carried'; decoder = d'; first = first'; marker = marker'; piece = p' }
+    stands_here : StandsInRow s.shape carried'.kept in_row s.read.last.state answers (record { row = s.read.is_carried.third; above = s.read.last.above; second = s.read.last.second }) (held carried'.window.now) carried'.learned d
+    stands_here =
+        let l = s.read.is_carried.lines_are in
+        record {
+          above = subst (λ w. HasAbove w (record { row = s.read.is_carried.third; above = s.read.last.above; second = s.read.last.second })) (sym turned_is)
+              (record { above_is = l.row_is; second_is = l.above_is; above_wide = l.row_wide; second_wide = l.above_wide });
+          before_it = λ _. record {
+            start = start;
+            stands = subst (DecoderIsAt d s.read.last.state.place) (sym (append-nil s.read.answers)) s.read.stands;
+            taught = learned_is ∙ s.read.is_carried.learned_is;
+          };
+          in_it = λ e. absurd (let z : true ≡ false = sym e ∙ start.is_begun in let bot : ⊥ = cc in bot);
+        }
 
-    pub row_takes : TakesPieceRow shape (option_map pair_of at) row from to → PieceRowTaken h s.shape c segments row first' marker' carried' d' s.began out s.code p p'
-    row_takes t = subst (λ z. TakesPieceRow z (option_map pair_of at) row from to) (shape_here shape shape_ok) t h c segments s.began out s.code s.head.passed.move_is s.read (code_here lt)
-
-    pub row_misses : (f : Fault) → MissesRow shape (option_map pair_of at) row from to f → RowMissing h s.shape c segments count row first' marker' carried' d' s.began out s.code p f
-    row_misses f t = subst (λ z. MissesRow z (option_map pair_of at) row from to f) (shape_here shape shape_ok) t h c segments s.began out s.code count s.head.passed.move_is (omega (arith, lt)) s.read (code_here lt)
-
-    -- a row more
-    pub row_on : (m : PieceRowTaken h s.shape c segments row first' marker' carried' d' s.began out s.code p p') →
-        CodeStands h height entities given at (row + 1) first' marker' carried' d' (text ++ m.given) (out ++ (held carried'.window.now).current)
-    row_on m = record {
+    pub row_entered : InRowStands h height entities given at row first marker carried' d in_row text out
+    row_entered = record {
       before = s.before;
       began = s.began;
       start = s.start;
       head = s.head;
       shape = s.shape;
-      read = m.read;
-      few = omega (arith, lt);
-      extra = [];
-      rows_first = λ _. refl;
-      code = s.code ++ m.given;
-      code_is = m.code_is;
-      text_is = sym (with_more m.given);
-    }
-
-    -- no row more
-    pub row_kept : (f : Fault) → RowMissing h s.shape c segments count row first' marker' carried' d' s.began out s.code p f → CodeStands h height entities given at row first' marker' carried' d' (text ++ []) out
-    row_kept f m = record {
-      before = s.before;
-      began = s.began;
-      start = s.start;
-      head = s.head;
-      shape = s.shape;
-      read = m.read;
-      few = s.few;
-      extra = [];
-      rows_first = λ _. refl;
+      begun = record {
+        start = carried;
+        decoder = d;
+        read = s.read;
+        since = [];
+        unstopped = λ e. s.read.unstopped (ap heard_of (sym (append-nil s.read.answers)) ∙ e);
+        offset_is = offset_is ∙ ap (λ m. offset_at m row carried.kept.offset) s.head.passed.move_is;
+        previous_is = previous_is;
+        stands = stands_here;
+      };
+      few = lt;
       code = s.code;
-      code_is = m.code_is;
-      text_is = append-nil text ∙ s.text_is;
+      code_is = subst (λ z. CodeText first marker z [] s.code) (sym (append-nil s.read.answers)) (code_here lt);
+      text_is = s.text_is;
     }
 
   -- what is left of it was skipped, as far as it came

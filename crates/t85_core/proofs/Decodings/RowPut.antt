@@ -48,23 +48,12 @@ appends_known (Some a) bytes = refl
 
 module _ {S F : Type 0} (pull : S → Pulled → S → Type 0) (joined : F → Pulled → F → Type 0) (old new : S) (from at to : F) (h : Fields) (shape : Shape) (c : StripeStart) (segments : List Segment) (row : ℕ)
     (carried carried' : CodingState) (d d' : Decoder) (began text : Option (List ℕ)) (r : RowsRead joined from at h shape c segments row carried d began text)
-    (kept : Kept) (window : Window) (offset_is : kept.offset ≡ offset_at (move_of segments) row carried.kept.offset) (previous_is : kept.previous_typical ≡ carried.kept.previous_typical)
-    (turned_is : held window ≡ turned (held carried.window.now)) where
+    (kept : Kept) (offset_is : kept.offset ≡ offset_at (move_of segments) row carried.kept.offset) (previous_is : kept.previous_typical ≡ carried.kept.previous_typical) where
   -- the rows above the next one
   abbrev below : Lines
   below = record { row = r.is_carried.third; above = r.last.above; second = r.last.second }
 
-  below_are : HasLines (held window) below
-  below_are = subst (λ w. HasLines w below) (sym turned_is) (let l = r.is_carried.lines_are in record {
-    row_is = l.second_is;
-    above_is = l.row_is;
-    second_is = l.above_is;
-    row_wide = l.second_wide;
-    above_wide = l.row_wide;
-    second_wide = l.above_wide;
-  })
-
-  ready : IsReady h shape kept below (move_of segments) (length r.rows) r.last
+  pub ready : IsReady h shape kept below (move_of segments) (length r.rows) r.last
   ready = record {
     width_is = r.shape_is.width_is;
     mode_is = r.shape_is.mode_is;
@@ -74,21 +63,14 @@ module _ {S F : Type 0} (pull : S → Pulled → S → Type 0) (joined : F → P
     second_is = refl;
   }
 
-  module _ (result : Result (Unit {0}) Stop) (gave : Gave pull old new shape kept carried'.kept carried.learned carried'.learned (held window) (held carried'.window.now) d d' result) where
-    done : RowDecoded pull old new shape kept carried'.kept r.last.state r.answers below (held carried'.window.now) carried'.learned d' result
-    done =
-        subst (λ l. RowDecoded pull old new shape kept carried'.kept (record { place = r.last.state.place; learned = l }) r.answers below (held carried'.window.now) carried'.learned d' result) r.is_carried.learned_is
-        (gave r.last.state.place r.answers below r.stands below_are)
-
   -- the answers of the call come after those before
   abbrev pub Join : Type 0
   Join = (more : List Pulled) → Gives pull old more new → Gives joined from (r.answers ++ more) to
 
   -- it was decoded
-  pub row_more : Join → (text' : Option (List ℕ)) → Gave pull old new shape kept carried'.kept carried.learned carried'.learned (held window) (held carried'.window.now) d d' (Ok tt) →
+  pub row_done : Join → (text' : Option (List ℕ)) → RowDecoded pull old new shape kept carried'.kept r.last.state r.answers below (held carried'.window.now) carried'.learned d' (Ok tt) →
       Appends text text' (held carried'.window.now).current → RowsRead joined from to h shape c segments (row + 1) carried' d' began text'
-  row_more join text' gave put =
-      let done' = done (Ok tt) gave in
+  row_done join text' done' put =
       let k : RowIs shape kept carried'.kept r.last.state (r.answers ++ done'.more) below (held carried'.window.now) carried'.learned d' = done'.ok in
       let after : RowStart = after_row (mode_of h.options) (move_of segments) (length r.rows) r.last k.row k.flag in
       let kept_is = kept_step h c segments r.answers r.rows r.flags r.last r.so_far shape kept carried'.kept below (held carried'.window.now) carried'.learned d' done'.more ready k in
@@ -113,59 +95,74 @@ module _ {S F : Type 0} (pull : S → Pulled → S → Type 0) (joined : F → P
         appended = subst (Appends began text') (sym (flat_map_push packed_row r.rows k.row)) (Appends-more began text text' (flat_map packed_row r.rows) (packed_row k.row) r.appended (subst (Appends text text') k.lines_are.row_is put));
       }
 
-  -- what the source answered in the call
-  pub row_answers : (join : Join) (text' : Option (List ℕ)) (gave : Gave pull old new shape kept carried'.kept carried.learned carried'.learned (held window) (held carried'.window.now) d d' (Ok tt)) (put : Appends text text' (held carried'.window.now).current) →
-      (more : List Pulled) × Gives pull old more new × ((row_more join text' gave put).answers ≡ r.answers ++ more)
-  unfolding row_more
-  row_answers join text' gave put = let done' = done (Ok tt) gave in (done'.more, done'.gives, refl)
+  -- the answers up to its end
+  pub row_done_answers : (join : Join) (text' : Option (List ℕ)) (done' : RowDecoded pull old new shape kept carried'.kept r.last.state r.answers below (held carried'.window.now) carried'.learned d' (Ok tt)) (put : Appends text text' (held carried'.window.now).current) →
+      (row_done join text' done' put).answers ≡ r.answers ++ done'.more
+  unfolding row_done
+  row_done_answers join text' done' put = refl
 
-  -- it was decoded, but the target didn't take it
-  pub row_unset : Join → (text' : Option (List ℕ)) → (count : ℕ) → row + 1 ≤ count → Gave pull old new shape kept carried'.kept carried.learned carried'.learned (held window) (held carried'.window.now) d d' (Ok tt) →
-      AppendsBeginning text text' (held carried'.window.now).current → RowsUnwritten joined from to h c segments count began text'
-  unfolding row_more
-  row_unset join text' count few gave put =
-      let done' = done (Ok tt) gave in
-      let all = row_more join (append_known text (held carried'.window.now).current) gave (appends_known text (held carried'.window.now).current) in
-      record {
-        answers = all.answers;
-        gives = all.gives;
-        closed = all.stands.closed;
-        unstopped = all.unstopped;
-        rows = all.rows;
-        flags = all.flags;
-        last = all.last;
-        so_far = all.so_far;
-        few = (let many = all.many in omega (arith, many, few));
-        decoder = d';
-        stands = all.stands;
-        appended = subst (AppendsBeginning began text') (sym (flat_map_push packed_row r.rows done'.ok.row))
-            (beginning_after began text text' (flat_map packed_row r.rows) (packed_row done'.ok.row) r.appended (subst (AppendsBeginning text text') done'.ok.lines_are.row_is put));
-      }
+  module _ (window : Window) (turned_is : held window ≡ turned (held carried.window.now)) where
+    below_are : HasLines (held window) below
+    below_are = subst (λ w. HasLines w below) (sym turned_is) (let l = r.is_carried.lines_are in record {
+      row_is = l.second_is;
+      above_is = l.row_is;
+      second_is = l.above_is;
+      row_wide = l.second_wide;
+      above_wide = l.row_wide;
+      second_wide = l.above_wide;
+    })
 
-  -- the source stopped
-  pub row_cut : CoderLaws → Join → (count : ℕ) → row ≤ count → (e : Stop) → Gave pull old new shape kept carried'.kept carried.learned carried'.learned (held window) (held carried'.window.now) d d' (Err e) →
-      RowsCut joined from to h c segments count began text
-  row_cut q join count few e gave =
-      let done' = done (Err e) gave in
-      let stays = done'.stays in
-      let stopped : heard_of (r.answers ++ done'.more) ≡ Stopped = done'.stop.0 (is_err e) in
-      record {
-        answers = r.answers ++ done'.more;
-        gives = join done'.more done'.gives;
-        closed = stays.1.closed;
-        bytes = stays.1.bytes;
-        stopped = stopped;
-        rows = r.rows;
-        flags = r.flags;
-        begun = rows_stop h c segments r.answers r.rows r.flags r.last r.so_far shape kept carried'.kept below (held carried'.window.now) carried'.learned d' done'.more ready q count d (omega (arith, few, r.many)) r.stands stopped stays.1.bytes done'.undecided r.unstopped;
-        appended = r.appended;
-      }
+    module _ (result : Result (Unit {0}) Stop) (gave : Gave pull old new shape kept carried'.kept carried.learned carried'.learned (held window) (held carried'.window.now) d d' result) where
+      done : RowDecoded pull old new shape kept carried'.kept r.last.state r.answers below (held carried'.window.now) carried'.learned d' result
+      done =
+          subst (λ l. RowDecoded pull old new shape kept carried'.kept (record { place = r.last.state.place; learned = l }) r.answers below (held carried'.window.now) carried'.learned d' result) r.is_carried.learned_is
+          (gave r.last.state.place r.answers below r.stands below_are)
 
-  -- what it answered until then
-  pub cut_answers : (q : CoderLaws) (join : Join) (count : ℕ) (few : row ≤ count) (e : Stop) (gave : Gave pull old new shape kept carried'.kept carried.learned carried'.learned (held window) (held carried'.window.now) d d' (Err e)) →
-      (more : List Pulled) × Gives pull old more new × ((row_cut q join count few e gave).answers ≡ r.answers ++ more)
-  unfolding row_cut
-  cut_answers q join count few e gave = let done' = done (Err e) gave in (done'.more, done'.gives, refl)
+    pub row_more : Join → (text' : Option (List ℕ)) → Gave pull old new shape kept carried'.kept carried.learned carried'.learned (held window) (held carried'.window.now) d d' (Ok tt) →
+        Appends text text' (held carried'.window.now).current → RowsRead joined from to h shape c segments (row + 1) carried' d' began text'
+    row_more join text' gave put = row_done join text' (done (Ok tt) gave) put
+
+    -- it was decoded, but the target didn't take it
+    pub row_unset : Join → (text' : Option (List ℕ)) → (count : ℕ) → row + 1 ≤ count → Gave pull old new shape kept carried'.kept carried.learned carried'.learned (held window) (held carried'.window.now) d d' (Ok tt) →
+        AppendsBeginning text text' (held carried'.window.now).current → RowsUnwritten joined from to h c segments count began text'
+    unfolding row_more row_done
+    row_unset join text' count few gave put =
+        let done' = done (Ok tt) gave in
+        let all = row_more join (append_known text (held carried'.window.now).current) gave (appends_known text (held carried'.window.now).current) in
+        record {
+          answers = all.answers;
+          gives = all.gives;
+          closed = all.stands.closed;
+          unstopped = all.unstopped;
+          rows = all.rows;
+          flags = all.flags;
+          last = all.last;
+          so_far = all.so_far;
+          few = (let many = all.many in omega (arith, many, few));
+          decoder = d';
+          stands = all.stands;
+          appended = subst (AppendsBeginning began text') (sym (flat_map_push packed_row r.rows done'.ok.row))
+              (beginning_after began text text' (flat_map packed_row r.rows) (packed_row done'.ok.row) r.appended (subst (AppendsBeginning text text') done'.ok.lines_are.row_is put));
+        }
+
+    -- the source stopped
+    pub row_cut : CoderLaws → Join → (count : ℕ) → row ≤ count → (e : Stop) → Gave pull old new shape kept carried'.kept carried.learned carried'.learned (held window) (held carried'.window.now) d d' (Err e) →
+        RowsCut joined from to h c segments count began text
+    row_cut q join count few e gave =
+        let done' = done (Err e) gave in
+        let stays = done'.stays in
+        let stopped : heard_of (r.answers ++ done'.more) ≡ Stopped = done'.stop.0 (is_err e) in
+        record {
+          answers = r.answers ++ done'.more;
+          gives = join done'.more done'.gives;
+          closed = stays.1.closed;
+          bytes = stays.1.bytes;
+          stopped = stopped;
+          rows = r.rows;
+          flags = r.flags;
+          begun = rows_stop h c segments r.answers r.rows r.flags r.last r.so_far shape kept carried'.kept below (held carried'.window.now) carried'.learned d' done'.more ready q count d (omega (arith, few, r.many)) r.stands stopped stays.1.bytes done'.undecided r.unstopped;
+          appended = r.appended;
+        }
 
 pub appends_nothing : (a : Option (List ℕ)) → Appends a a []
 appends_nothing None = tt

@@ -4,9 +4,11 @@ use Rattle.std.specs.List.{AllByRecursion}
 use Rattle.qm_core.specs.Code.{stuffed}
 use Rattle.qm_core.specs.Source.{bytes_of, heard_of, Agrees}
 use Rattle.qm_core.specs.declared.source.Pulled.{Pulled}
-use Rattle.qm_core.specs.declared.source.Heard.TheVariants.{More, Ended}
+use Rattle.qm_core.specs.declared.source.Heard.TheVariants.{More, Ended, Stopped}
 use Rattle.qm_core.specs.declared.decoder.Decoder.{Decoder}
 use Rattle.raster_core.specs.Packed.{packed_row}
+use Rattle.raster_core.specs.Row.{StandsInRow}
+use Rattle.raster_core.specs.declared.place.RowPlace.{RowPlace}
 use Rattle.raster_core.specs.Window.{held}
 use Rattle.raster_core.specs.declared.shape.Shape.{Shape}
 use Rattle.t85_core.specs.declared.fault.Fault.{Fault}
@@ -18,7 +20,7 @@ use Rattle.t85_core.specs.Grammar.{Segment, marker_bytes}
 use Rattle.t85_core.specs.Coding.{move_of}
 use Rattle.t85_core.specs.Failures.{counted_as}
 use Rattle.t85_core.specs.Steps.Segments.{IsByteOrMarker, RestFault, code_bytes}
-use Rattle.t85_core.specs.Steps.State.{StripeStart}
+use Rattle.t85_core.specs.Steps.State.{StripeStart, offset_at}
 use Rattle.t85_core.specs.Steps.Cut.{BegunRun}
 use Rattle.t85_core.specs.Steps.DecodeRows.{RowsRead}
 
@@ -76,10 +78,20 @@ pub record PieceRowTaken (h : Fields) (shape : Shape) (c : StripeStart) (segment
   pub read : RowsKnown h shape c segments (row + 1) carried d began (out ++ (held carried.window.now).current)
   pub code_is : CodeText first marker read.answers [] (text ++ given)
 
--- No row more is decided. All is as it was.
-pub record RowMissing (h : Fields) (shape : Shape) (c : StripeStart) (segments : List Segment) (count row : ℕ) (first : Option Code) (marker : Option Bool) (carried : CodingState) (d : Decoder) (began out text piece : List ℕ) (fault : Fault) : Type 0 where
-  pub read : RowsKnown h shape c segments row carried d began out
-  pub code_is : CodeText first marker read.answers [] text
+-- A row of a stripe that has begun: the rows before it, what was answered since, and how far it has come.
+pub record RowBegun (h : Fields) (shape : Shape) (c : StripeStart) (segments : List Segment) (row : ℕ) (carried : CodingState) (d : Decoder) (place : RowPlace) (began out : List ℕ) : Type 0 where
+  pub start : CodingState
+  pub decoder : Decoder
+  pub read : RowsKnown h shape c segments row start decoder began out
+  pub since : List Pulled
+  pub unstopped : heard_of (read.answers ++ since) ≡ Stopped → ⊥
+  pub offset_is : carried.kept.offset ≡ offset_at (move_of segments) row start.kept.offset
+  pub previous_is : carried.kept.previous_typical ≡ start.kept.previous_typical
+  pub stands : StandsInRow shape carried.kept place read.last.state (read.answers ++ since) (record { row = read.is_carried.third; above = read.last.above; second = read.last.second })
+      (held carried.window.now) carried.learned d
+
+-- A row breaks, or its piece ends: the rows before it are all that the bytes fix.
+pub record RowBroken (h : Fields) (c : StripeStart) (segments : List Segment) (count : ℕ) (began out text piece : List ℕ) (fault : Fault) : Type 0 where
   pub bytes : List ℕ
   pub breaks : CodeBreaks text piece bytes fault
   pub rows : List (List Bool)
@@ -87,29 +99,39 @@ pub record RowMissing (h : Fields) (shape : Shape) (c : StripeStart) (segments :
   pub begun : BegunRun h count c segments bytes rows flags
   pub out_is : out ≡ began ++ flat_map packed_row rows
 
+-- A row waits for what follows the piece, of which these bytes were taken.
+pub record RowWaits (h : Fields) (shape : Shape) (c : StripeStart) (segments : List Segment) (row : ℕ) (first : Option Code) (marker : Option Bool) (carried : CodingState) (d : Decoder) (place : RowPlace) (began out text piece piece' : List ℕ) : Type 0 where
+  pub given : List ℕ
+  pub taken : piece ≡ given ++ piece'
+  pub begun : RowBegun h shape c segments row carried d place began out
+  pub code_is : CodeText first marker (begun.read.answers ++ begun.since) [] (text ++ given)
+
 -- what of a decoder of rows a piece may change
 pub record RowState : Type 0 where
   pub carried : CodingState
   pub decoder : Decoder
+  pub place : RowPlace
   pub first : Option Code
   pub marker : Option Bool
   pub piece : List ℕ
 
-abbrev pub row_state : CodingState → Decoder → Option Code → Option Bool → List ℕ → RowState
-row_state carried decoder first marker piece = record { carried = carried; decoder = decoder; first = first; marker = marker; piece = piece }
+abbrev pub row_state : CodingState → Decoder → RowPlace → Option Code → Option Bool → List ℕ → RowState
+row_state carried decoder place first marker piece = record { carried = carried; decoder = decoder; place = place; first = first; marker = marker; piece = piece }
 
--- in whatever stripe
-abbrev pub TakesPieceRow : Shape → Option (ℕ × ℕ) → ℕ → RowState → RowState → Type 0
-TakesPieceRow shape move row s t =
-    (h : Fields) (c : StripeStart) (segments : List Segment) (began out text : List ℕ) → move ≡ move_of segments →
-    (r : RowsKnown h shape c segments row s.carried s.decoder began out) → CodeText s.first s.marker r.answers [] text →
-    PieceRowTaken h shape c segments row t.first t.marker t.carried t.decoder began out text s.piece t.piece
+-- what is left of a row that has begun in whatever stripe
+abbrev pub FromRow : Shape → RowState → (Fields → StripeStart → List Segment → ℕ → List ℕ → List ℕ → List ℕ → Type 0) → Type 0
+FromRow shape s Leaves =
+    (h : Fields) (c : StripeStart) (segments : List Segment) (row : ℕ) (began out text : List ℕ) →
+    (b : RowBegun h shape c segments row s.carried s.decoder s.place began out) → CodeText s.first s.marker (b.read.answers ++ b.since) [] text → Leaves h c segments row began out text
 
-abbrev pub MissesRow : Shape → Option (ℕ × ℕ) → ℕ → RowState → RowState → Fault → Type 0
-MissesRow shape move row s t fault =
-    (h : Fields) (c : StripeStart) (segments : List Segment) (began out text : List ℕ) (count : ℕ) → move ≡ move_of segments → row ≤ count →
-    (r : RowsKnown h shape c segments row s.carried s.decoder began out) → CodeText s.first s.marker r.answers [] text →
-    RowMissing h shape c segments count row t.first t.marker t.carried t.decoder began out text s.piece fault
+abbrev pub EndsRow : Shape → RowState → RowState → Type 0
+EndsRow shape s t = FromRow shape s (λ h c segments row began out text. PieceRowTaken h shape c segments row t.first t.marker t.carried t.decoder began out text s.piece t.piece)
+
+abbrev pub BreaksRow : Shape → RowState → Fault → Type 0
+BreaksRow shape s fault = FromRow shape s (λ h c segments row began out text. (count : ℕ) → row ≤ count → RowBroken h c segments count began out text s.piece fault)
+
+abbrev pub WaitsInRow : Shape → RowState → RowState → Type 0
+WaitsInRow shape s t = FromRow shape s (λ h c segments row began out text. RowWaits h shape c segments row t.first t.marker t.carried t.decoder t.place began out text s.piece t.piece)
 
 -- ---- after the last row of a stripe
 

@@ -5,6 +5,7 @@ use Rattle.qm_core.specs.declared.decoder.Decoder.{Decoder}
 use Rattle.raster_core.specs.Packed.{packed_row}
 use Rattle.raster_core.specs.Window.{held, width_of}
 use Rattle.raster_core.specs.declared.shape.Shape.{Shape}
+use Rattle.raster_core.specs.declared.place.RowPlace.{RowPlace}
 use Rattle.t85_core.specs.declared.fault.Fault.{Fault}
 use Rattle.t85_core.specs.declared.fault.Fault.TheVariants.{Truncated}
 use Rattle.t85_core.specs.declared.segments.Code.{Code}
@@ -20,7 +21,7 @@ use Rattle.t85_core.specs.Denotes.{DenotesAt}
 use Rattle.t85_core.specs.Failures.{counted_as}
 use Rattle.t85_core.specs.Steps.Segments.{HasPassed, IsByteOrMarker}
 use Rattle.t85_core.specs.Steps.DecodeStripes.{StripesRead, ImageRead, ImageCut}
-use Rattle.t85_core.specs.Steps.PieceCode.{RowsKnown, CodeText}
+use Rattle.t85_core.specs.Steps.PieceCode.{RowsKnown, RowBegun, CodeText}
 
 -- These bytes are broken, or end too early, and fix the rows that were handed out.
 pub record CutOff (h : Fields) (height : ℕ) (text out : List ℕ) (fault : Fault) : Type 0 where
@@ -66,6 +67,19 @@ pub record CodeStands (h : Fields) (height entities : ℕ) (given : Bool) (at : 
   pub code_is : CodeText first marker read.answers extra code
   pub text_is : text ≡ before ++ code
 
+-- A place in a row of a stripe, of which not all code came yet.
+pub record InRowStands (h : Fields) (height entities : ℕ) (given : Bool) (at : Option move.Move) (row : ℕ) (first : Option Code) (marker : Option Bool) (carried : CodingState) (d : Decoder) (place : RowPlace) (text out : List ℕ) : Type 0 where
+  pub before : List ℕ
+  pub began : List ℕ
+  pub start : CodingState
+  pub head : HeadStands h height entities given at start before began
+  pub shape : Shape
+  pub begun : RowBegun h shape head.stripes.next head.passed.segments row carried d place began out
+  pub few : row < rows_in h height entities
+  pub code : List ℕ
+  pub code_is : CodeText first marker (begun.read.answers ++ begun.since) [] code
+  pub text_is : text ≡ before ++ code
+
 -- The height of a body is this one, and it denotes the first of these rows there.
 pub record LateHeight (h : Fields) (n : ℕ) (body : List ℕ) (rows : List (List Bool)) : Type 0 where
   pub gives : GivesHeight h body n
@@ -82,6 +96,7 @@ abbrev pub IsOver : Stage → Type 0
 IsOver stage.Head = ⊥
 IsOver stage.Comment = ⊥
 IsOver stage.Code = ⊥
+IsOver stage.Row = ⊥
 IsOver stage.Done = ⊤
 IsOver (stage.Late n) = ⊤
 
@@ -89,6 +104,7 @@ abbrev pub StageStands : Stage → Fields → ℕ → Walk → List ℕ → List
 StageStands stage.Head h height w text out = HeadStands h height w.entities w.given w.at w.carried text out
 StageStands stage.Comment h height w text out = CommentStands h height w.entities w.given w.at w.carried w.comment text out
 StageStands stage.Code h height w text out = CodeStands h height w.entities w.given w.at w.row w.first w.marker w.carried w.decoder text out
+StageStands stage.Row h height w text out = InRowStands h height w.entities w.given w.at w.row w.first w.marker w.carried w.decoder w.place text out
 -- whatever comes after it
 StageStands stage.Done h height w text out = ImageRead h height (Some text) (Some []) (Some []) (Some out)
 StageStands (stage.Late n) h height w text out = LateStands h n text out
@@ -101,6 +117,7 @@ pub record WalkStands (h : Fields) (height : ℕ) (w : Walk) (text out : List �
   pub at_is : IfSome w.at (λ to. to.offset ≤ 127)
   pub code_is : IfSome w.first IsByteOrMarker
   pub behind : IfSome w.marker (λ _. w.first ≡ None)
+  pub within : w.place.done < h.xd
   pub stands : StageStands w.stage h height w text out
 
 -- it has, of some

@@ -1,52 +1,54 @@
 //! Decoding a row of which not all bytes may have come.
 
-ghost use Rattle.std.specs.Prelude.{◌≡◌, ◌≤◌, None, OnOk, OnErr, IfErr, IfSome, option_map};
+ghost use Rattle.std.specs.Prelude.{◌≡◌, ◌≤◌, ◌<◌, ◌∷◌, ◌++◌, [], ℕ, List, None, Some, false, OnOk, IfErr, IfSome, IsErrOf};
+ghost use Rattle.qm_core.specs.Decoder.{has_stopped};
 ghost use Rattle.raster_core.specs.Window.{width_of};
+ghost use Rattle.raster_core.specs.Row.{IsRowStart};
+ghost use Rattle.t85_core.specs.declared.fault.Fault.TheVariants.{Truncated};
 ghost use Rattle.t85_core.specs.Steps.Segments.{IsByteOrMarker};
-ghost use Rattle.t85_core.specs.Steps.DecodeRows.{pair_of};
-ghost use Rattle.t85_core.specs.Steps.PieceCode.{row_state, TakesPieceRow, MissesRow};
+ghost use Rattle.t85_core.specs.Steps.PieceCode.{row_state, EndsRow, BreaksRow, WaitsInRow};
 
-use crate::decoding::rows::offset_in;
 use crate::fault::Fault;
+use crate::input_buffer::ESCAPE;
 use crate::laws::coder_laws;
 use crate::pieces::piece::{Piece, PieceCode};
-use crate::segments::{Code, Move};
+use crate::segments::Code;
 use crate::state::CodingState;
 use qm_core::{Decoder, Stop};
-use raster_core::{Shape, decode_row};
+use raster_core::{RowPlace, Shape, go_on_row};
 
-/// Decodes the next row of a stripe. If its code ends or breaks before the row is decided, all is put back as it was.
-pub fn try_row(
+/// Goes on with a row of a stripe that has begun, as far as its code came. Of a piece that ends in an escape all is taken
+/// but the FF of that.
+pub fn go_on_in_row(
     shape: Shape,
-    at: Option<Move>,
-    row: u32,
     carried: &mut CodingState<'_, '_>,
     decoder: &mut Decoder,
+    place: &mut RowPlace,
     first: &mut Option<Code>,
     marker: &mut Option<bool>,
     piece: &mut Piece<'_>,
 ) -> Result<(), Fault>
     requires width { width_of carried.old.window.now ≡ shape.width }
-    requires some { 1 ≤ shape.width }
+    requires within { place.old.done < shape.width }
+    requires going { has_stopped decoder.old ≡ false }
     requires offset { carried.old.kept.offset ≤ 127 }
-    requires to { IfSome at (λ to. to.offset ≤ 127) }
     requires code { IfSome first.old IsByteOrMarker }
     requires behind { IfSome marker.old (λ _. first.old ≡ None) }
-    ensures ok { OnOk result (TakesPieceRow shape (option_map pair_of at) row
-        (row_state carried.old decoder.old first.old marker.old piece.old.rest.now)
-        (row_state carried.new decoder.new first.new marker.new piece.new.rest.now)) }
-    ensures err { IfErr result (MissesRow shape (option_map pair_of at) row
-        (row_state carried.old decoder.old first.old marker.old piece.old.rest.now)
-        (row_state carried.new decoder.new first.new marker.new piece.new.rest.now)) }
-    ensures unread { OnErr result (piece.new.rest.now ≡ piece.old.rest.now) }
+    ensures ok { OnOk result (EndsRow shape
+        (row_state carried.old decoder.old place.old first.old marker.old piece.old.rest.now)
+        (row_state carried.new decoder.new place.new first.new marker.new piece.new.rest.now)) }
+    ensures err { IfErr result (BreaksRow shape
+        (row_state carried.old decoder.old place.old first.old marker.old piece.old.rest.now)) }
+    ensures more { IsErrOf result Truncated → WaitsInRow shape
+        (row_state carried.old decoder.old place.old first.old marker.old piece.old.rest.now)
+        (row_state carried.new decoder.new place.new first.new marker.new piece.new.rest.now) }
     ensures width { width_of carried.new.window.now ≡ width_of carried.old.window.now }
     ensures offset { carried.new.kept.offset ≤ 127 }
+    ensures within { place.new.done < shape.width }
+    ensures start { OnOk result (IsRowStart place.new) }
 {
     // What the proof cites of the coder.
     coder_laws();
-    let kept = carried.kept;
-    let learned = carried.learned.copy();
-    let before = decoder.copy();
     let mut code = PieceCode {
         piece: Piece { rest: piece.rest },
         first: *first,
@@ -54,10 +56,9 @@ pub fn try_row(
         fault: None,
         failures: 0,
     };
-    carried.kept.offset = offset_in(at, row, carried.kept.offset);
-    carried.window.turn();
-    match decode_row(
+    match go_on_row(
         shape,
+        place,
         &mut carried.kept,
         carried.window,
         &mut carried.learned,
@@ -71,11 +72,22 @@ pub fn try_row(
             Ok(())
         }
         Err(Stop) => {
-            carried.window.turn_back();
-            carried.kept = kept;
-            carried.learned = learned;
-            *decoder = before;
+            *first = None;
+            let escape = begun_escape(piece.rest);
+            piece.rest = escape;
             Err(code.fault())
         }
     }
+}
+
+/// The FF of an escape that bytes end in, if they do.
+fn begun_escape(bytes: &[u8]) -> &[u8]
+    ensures escape { (given : List ℕ) → bytes.now ≡ given ++ 255 ∷ [] → result.now ≡ 255 ∷ [] }
+    ensures none { ((given : List ℕ) → bytes.now ≡ given ++ 255 ∷ [] → ⊥) → result.now ≡ [] }
+{
+    if bytes.is_empty() {
+        return bytes;
+    }
+    let (_, last) = bytes.split_at(bytes.len() - 1);
+    if last[0] == ESCAPE { last } else { &[] }
 }

@@ -7,17 +7,18 @@ ghost use Rattle.t85_core.specs.declared.pieces.walk.Stage.TheVariants as stage;
 ghost use Rattle.t85_core.specs.Options.{fields_of};
 ghost use Rattle.t85_core.specs.Steps.Pieces.{WalkStands, SomeStands, IsOver, Step, RowStep, Turn, rows_in};
 
+use crate::decoding::rows::offset_in;
 use crate::fault::Fault;
 use crate::header::Header;
 use crate::input_buffer::ESCAPE;
 use crate::laws::coder_laws;
 use crate::pieces::code::find_marker;
 use crate::pieces::piece::Piece;
-use crate::pieces::rows::try_row;
+use crate::pieces::rows::go_on_in_row;
 use crate::segments::{self, COMMENT, Code, Move, Place, next_piece, number};
 use crate::state::CodingState;
 use qm_core::Decoder;
-use raster_core::Window;
+use raster_core::{RowPlace, Window};
 
 /// What comes next in a stream.
 #[derive(Clone, Copy)]
@@ -28,6 +29,8 @@ pub enum Stage {
     Comment,
     /// A row of a stripe, or what is left of its code.
     Code,
+    /// The rest of a row that has begun.
+    Row,
     /// Nothing: the image is whole.
     Done,
     /// Nothing: this height came late, and needs no row more.
@@ -52,6 +55,8 @@ pub struct Walk<'a, 'b> {
     pub comment: u32,
     /// How many rows of the stripe are decoded.
     pub row: u32,
+    /// How far the next one has come.
+    pub place: RowPlace,
     /// What was read ahead to see where the code begins.
     pub first: Option<Code>,
     /// Whether the end marker resets, once it was read.
@@ -77,6 +82,7 @@ impl<'a, 'b> Walk<'a, 'b> {
             at: None,
             comment: 0,
             row: 0,
+            place: RowPlace::start(),
             first: None,
             marker: None,
         }
@@ -292,6 +298,53 @@ impl Walk<'_, '_> {
         }
     }
 
+    /// Goes down to the next row of a stripe, and makes its move.
+    fn enter_row(&mut self, header: &Header, height: u32)
+        requires stage { self.old.stage ≡ stage.Code }
+        requires row { self.old.row < rows_in (fields_of header.now) height self.old.entities }
+        requires stands { SomeStands (fields_of header.now) height self.old }
+        ensures enters { (text out : List ℕ) → WalkStands (fields_of header.now) height self.old text
+            out → WalkStands (fields_of header.now) height self.new text out }
+        ensures stage { self.new.stage ≡ stage.Row }
+    {
+        // The proof reads from this value that a row has pixels.
+        let _width = header.xd;
+        self.carried.kept.offset = offset_in(self.at, self.row, self.carried.kept.offset);
+        self.carried.window.turn();
+        self.place = RowPlace::start();
+        self.stage = Stage::Row;
+    }
+
+    /// Goes on with a row of a stripe that has begun.
+    fn finish_row(
+        &mut self,
+        header: &Header,
+        height: u32,
+        piece: &mut Piece<'_>,
+    ) -> Result<(), Fault>
+        requires from { 1 ≤ height }
+        requires to { height ≤ header.now.yd }
+        requires stage { self.old.stage ≡ stage.Row }
+        requires stands { SomeStands (fields_of header.now) height self.old }
+        ensures step { RowStep (fields_of header.now) height self.old self.new piece.old.rest.now
+            piece.new.rest.now result }
+    {
+        // What the proof cites of the coder.
+        coder_laws();
+        go_on_in_row(
+            header.shape(),
+            &mut self.carried,
+            &mut self.decoder,
+            &mut self.place,
+            &mut self.first,
+            &mut self.marker,
+            piece,
+        )?;
+        self.row += 1;
+        self.stage = Stage::Code;
+        Ok(())
+    }
+
     /// Decodes the next row of a stripe.
     fn read_row(&mut self, header: &Header, height: u32, piece: &mut Piece<'_>) -> Result<(), Fault>
         requires from { 1 ≤ height }
@@ -302,20 +355,8 @@ impl Walk<'_, '_> {
         ensures step { RowStep (fields_of header.now) height self.old self.new piece.old.rest.now
             piece.new.rest.now result }
     {
-        // What the proof cites of the coder.
-        coder_laws();
-        try_row(
-            header.shape(),
-            self.at,
-            self.row,
-            &mut self.carried,
-            &mut self.decoder,
-            &mut self.first,
-            &mut self.marker,
-            piece,
-        )?;
-        self.row += 1;
-        Ok(())
+        self.enter_row(header, height);
+        self.finish_row(header, height, piece)
     }
 
     /// Skips what is left of the code of a stripe, after its last row.
@@ -410,6 +451,10 @@ impl Walk<'_, '_> {
     {
         match self.stage {
             Stage::Head | Stage::Comment => self.begin_stripe(header, height, piece),
+            Stage::Row => {
+                self.finish_row(header, height, piece)?;
+                Ok(true)
+            }
             Stage::Code => {
                 if self.row < self.left.min(header.l0) {
                     self.read_row(header, height, piece)?;

@@ -18,6 +18,7 @@ returns-in-Ok-clause-step c =
         at_is = s.at_is;
         code_is = s.code_is;
         behind = s.behind;
+        within = s.within;
         stands = head_enters (at_stage c.requires.stage s) c.in-Ok.len (omega arith);
       });
       err = tt;

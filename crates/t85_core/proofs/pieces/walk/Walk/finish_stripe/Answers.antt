@@ -23,6 +23,7 @@ returns-in_err-reset-clause-step c =
       at_is = s.at_is;
       code_is = ahead_is c.find_marker.new.first c.args.self.now.marker k.read.answers m.extra _ m.code_is;
       behind = behind_is c.find_marker.new.first c.args.self.now.marker k.read.answers m.extra _ m.code_is;
+      within = s.within;
       stands = put_stage (fields_of c.args.header.now) c.args.height (record c.args.self.now { first = c.find_marker.new.first }) (text ++ m.given) out _ c.requires.stage (code_kept k c.requires.row c.args.piece.now.rest.now c.find_marker.new.piece.rest.now m);
     }))
 
@@ -44,6 +45,7 @@ returns-then-self-eq0-clause-step c = record {
         at_is = tt;
         code_is = tt;
         behind = tt;
+        within = s.within;
         stands = stripe_last k c.coder_laws.ensures (in_use c.args.header.now c.args.height c.requires.from c.requires.to) c.requires.row c.args.piece.now.rest.now c.find_marker.new.piece.rest.now c.in_ok-reset.reset m c.end_stripe.new.self next last;
       });
   err = tt;
@@ -68,6 +70,7 @@ returns-clause-step c = record {
         at_is = tt;
         code_is = tt;
         behind = tt;
+        within = s.within;
         stands = stripe_on k c.coder_laws.ensures (in_use c.args.header.now c.args.height c.requires.from c.requires.to) c.requires.row c.args.piece.now.rest.now c.find_marker.new.piece.rest.now c.in_ok-reset.reset m c.end_stripe.new.self next on;
       });
   err = tt;

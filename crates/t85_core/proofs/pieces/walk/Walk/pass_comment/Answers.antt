@@ -23,6 +23,7 @@ returns-then-self-gt0-clause-step c =
         at_is = s.at_is;
         code_is = s.code_is;
         behind = s.behind;
+        within = s.within;
         stands = put_stage (fields_of c.args.header.now) c.args.height (record c.args.self.now { comment = c.args.self.now.comment - c.min-len.result }) (text ++ c.args.piece.now.rest.now) out _ c.requires.stage (comment_more (at_stage c.requires.stage s) c.args.piece.now.rest.now (c.args.self.now.comment - c.min-len.result) (omega (arith, all, few)));
       });
     }
@@ -42,6 +43,7 @@ returns-clause-step c =
         at_is = s.at_is;
         code_is = s.code_is;
         behind = s.behind;
+        within = s.within;
         stands = comment_ends (at_stage c.requires.stage s) (take c.min-len.result c.args.piece.now.rest.now) (length-take-le c.min-len.result c.args.piece.now.rest.now within ∙ all);
       });
       err = tt;

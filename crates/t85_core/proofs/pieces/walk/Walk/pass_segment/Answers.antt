@@ -31,6 +31,7 @@ returns-then-other-height-clause-step c =
         at_is = s.at_is;
         code_is = s.code_is;
         behind = s.behind;
+        within = s.within;
         stands = put_stage (fields_of c.args.header.now) c.args.height (record c.args.self.now { given = true }) (text ++ segment_bytes (NewLength c.in-NewLength.other)) out _ c.requires.stage (head_length (at_stage c.requires.stage s) c.in-NewLength.other h.0 c.if-other-height.true h.2.legal);
       });
       err = tt;
@@ -48,6 +49,7 @@ returns-in-Move-clause-step c =
         at_is = (let low = h.1.legal.1 in let most = c.args.header.now.in_range in omega (arith, low, most));
         code_is = s.code_is;
         behind = s.behind;
+        within = s.within;
         stands = put_stage (fields_of c.args.header.now) c.args.height (record c.args.self.now { at = Some c.in-Move.to }) (text ++ segment_bytes (Move c.in-Move.to.row c.in-Move.to.offset)) out _ c.requires.stage (head_move (at_stage c.requires.stage s) c.in-Move.to (sym c.is_some.ensures ∙ h.0) h.1.legal);
       });
       err = tt;
@@ -65,6 +67,7 @@ returns-in-Comment-clause-step c =
         at_is = s.at_is;
         code_is = s.code_is;
         behind = s.behind;
+        within = s.within;
         stands = put_stage (fields_of c.args.header.now) c.args.height c.args.self.now (text ++ segment_bytes (Comment h.0)) out _ c.requires.stage (head_comment (at_stage c.requires.stage s) h.0 h.1.legal);
       });
       err = tt;
@@ -82,6 +85,7 @@ returns-in-Code-clause-step c =
         at_is = s.at_is;
         code_is = h.0;
         behind = tt;
+        within = s.within;
         stands = head_code (at_stage c.requires.stage s) c.in-Code.code h.0 c.start-self.result c.start-self.ensures.stands;
       });
       err = tt;
@@ -116,6 +120,7 @@ returns-then-needs_no_more-clause-step c =
             at_is = s.at_is;
             code_is = s.code_is;
             behind = s.behind;
+            within = s.within;
             stands = late_stands c.coder_laws.ensures ungiven c.in-NewLength.other (in_use c.args.header.now c.args.height c.requires.from c.requires.to).accepted h.2.legal.0 h.1 some all;
           });
       err = tt;

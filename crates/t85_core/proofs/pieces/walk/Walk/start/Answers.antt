@@ -11,5 +11,6 @@ returns c = record {
   at_is = tt;
   code_is = tt;
   behind = tt;
+  within = omega (arith, c.start-2.ensures.done, c.args.header.now.some_width);
   stands = head_first (fields_of c.args.header.now) c.args.height _ c.first.result c.requires.from c.args.header.now.some_rows (c.first.ensures.width ∙ c.requires.width) c.first.ensures.first;
 }

@@ -1,0 +1,18 @@
+use Rattle.std.proofs.Common.{refl, ◌∙◌, ap, arith}
+use Rattle.t85_core.proofs.Decodings.PieceSteps.{at_stage}
+use Rattle.t85_core.proofs.Decodings.PieceWalk.{row_entered}
+use Rattle.t85_core.proofs.pieces.walk.Walk.enter_row.Goals as goal
+
+pub returns-clause-enters : goal.returns-clause-enters
+returns-clause-enters c = λ text out s.
+    let k = at_stage c.requires.stage s in
+    record {
+      left_is = s.left_is;
+      width_is = ap (λ w. w.width) c.turn.ensures ∙ s.width_is;
+      offset_is = c.offset_in-self.ensures.bound;
+      at_is = s.at_is;
+      code_is = s.code_is;
+      behind = s.behind;
+      within = omega (arith, c.start-self.ensures.done, c.args.header.now.some_width);
+      stands = row_entered k c.requires.row _ _ (record { is_begun = c.start-self.ensures.none; done = c.start-self.ensures.done; past = c.start-self.ensures.past }) refl c.turn.ensures c.offset_in-self.ensures.is refl;
+    }

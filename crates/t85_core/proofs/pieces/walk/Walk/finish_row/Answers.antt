@@ -1,0 +1,61 @@
+use Rattle.std.proofs.Common.{◌++◌, ◌+◌, [], sym, ap, Err, subst, refl, ◌∙◌, arith}
+use Rattle.t85_core.specs.declared.pieces.walk.Stage.TheVariants as stage
+use Rattle.t85_core.specs.Options.{fields_of}
+use Rattle.t85_core.specs.Steps.DecodeRows.{IsShapeOf}
+use Rattle.t85_core.specs.Steps.PieceCode.{row_state, EndsRow, BreaksRow, WaitsInRow}
+use Rattle.t85_core.proofs.Decodings.ImagePut.{in_use}
+use Rattle.t85_core.proofs.Decodings.PieceSteps.{on_same, at_stage, put_stage, row_exit}
+use Rattle.t85_core.proofs.Decodings.PieceWalk.{ahead_is, behind_is, in_row_going, in_row_shape, row_on, row_off, row_kept}
+use Rattle.t85_core.proofs.pieces.walk.Walk.finish_row.Goals as goal
+
+pub go_on_in_row-requires-clause-going : goal.go_on_in_row-requires-clause-going
+go_on_in_row-requires-clause-going c = in_row_going (at_stage c.requires.stage c.requires.stands.2)
+
+pub returns-in_err-go_on_in_row : goal.returns-in_err-go_on_in_row
+returns-in_err-go_on_in_row c =
+    let shape : IsShapeOf (fields_of c.args.header.now) c.shape.result = record { width_is = c.shape.ensures.width; mode_is = c.shape.ensures.mode } in
+    record {
+      step = row_exit (fields_of c.args.header.now) c.args.height c.args.self.now (record c.args.self.now { carried = c.go_on_in_row.new.carried; decoder = c.go_on_in_row.new.decoder; place = c.go_on_in_row.new.place; first = c.go_on_in_row.new.first; marker = c.go_on_in_row.new.marker }) c.args.piece.now.rest.now c.go_on_in_row.new.piece.rest.now c.from_residual.result c.in_err-go_on_in_row.field-0.0 c.from_residual.ensures.1
+          (λ text out s.
+          let k = at_stage c.requires.stage s in
+          row_off k c.coder_laws.ensures (in_use c.args.header.now c.args.height c.requires.from c.requires.to) c.args.piece.now.rest.now c.in_err-go_on_in_row.field-0.0
+          (subst (λ z. BreaksRow z (row_state c.args.self.now.carried c.args.self.now.decoder c.args.self.now.place c.args.self.now.first c.args.self.now.marker c.args.piece.now.rest.now) c.in_err-go_on_in_row.field-0.0) (in_row_shape k c.shape.result shape) c.in_err-go_on_in_row.ensures.err (fields_of c.args.header.now) k.head.stripes.next k.head.passed.segments c.args.self.now.row k.began out k.code k.begun k.code_is _ (let few = k.few in omega arith)))
+          (λ e text out s.
+          let k = at_stage c.requires.stage s in
+          let m = subst (λ z. WaitsInRow z (row_state c.args.self.now.carried c.args.self.now.decoder c.args.self.now.place c.args.self.now.first c.args.self.now.marker c.args.piece.now.rest.now) (row_state c.go_on_in_row.new.carried c.go_on_in_row.new.decoder c.go_on_in_row.new.place c.go_on_in_row.new.first c.go_on_in_row.new.marker c.go_on_in_row.new.piece.rest.now)) (in_row_shape k c.shape.result shape) (c.in_err-go_on_in_row.ensures.more (ap Err e)) (fields_of c.args.header.now) k.head.stripes.next k.head.passed.segments c.args.self.now.row k.began out k.code k.begun k.code_is in
+          on_same (fields_of c.args.header.now) c.args.height _ text out c.args.piece.now.rest.now c.go_on_in_row.new.piece.rest.now m.given m.taken (record {
+            left_is = s.left_is;
+            width_is = c.go_on_in_row.ensures.width ∙ s.width_is;
+            offset_is = c.go_on_in_row.ensures.offset;
+            at_is = s.at_is;
+            code_is = ahead_is c.go_on_in_row.new.first c.go_on_in_row.new.marker _ [] _ m.code_is;
+            behind = behind_is c.go_on_in_row.new.first c.go_on_in_row.new.marker _ [] _ m.code_is;
+            within = (let within = c.go_on_in_row.ensures.within in let width = c.shape.ensures.width in omega arith);
+            stands = put_stage (fields_of c.args.header.now) c.args.height (record c.args.self.now { carried = c.go_on_in_row.new.carried; decoder = c.go_on_in_row.new.decoder; place = c.go_on_in_row.new.place; first = c.go_on_in_row.new.first; marker = c.go_on_in_row.new.marker }) (text ++ m.given) out _ c.requires.stage (row_kept k m);
+          }));
+    }
+
+pub returns : goal.returns
+returns c = record {
+  step = record {
+    ok = λ text out s.
+        let shape : IsShapeOf (fields_of c.args.header.now) c.shape.result = record { width_is = c.shape.ensures.width; mode_is = c.shape.ensures.mode } in
+        let k = at_stage c.requires.stage s in
+        let m = subst (λ z. EndsRow z (row_state c.args.self.now.carried c.args.self.now.decoder c.args.self.now.place c.args.self.now.first c.args.self.now.marker c.args.piece.now.rest.now) (row_state c.go_on_in_row.new.carried c.go_on_in_row.new.decoder c.go_on_in_row.new.place c.go_on_in_row.new.first c.go_on_in_row.new.marker c.go_on_in_row.new.piece.rest.now)) (in_row_shape k c.shape.result shape) c.in_ok-go_on_in_row.ensures.ok (fields_of c.args.header.now) k.head.stripes.next k.head.passed.segments c.args.self.now.row k.began out k.code k.begun k.code_is in (
+          m.given,
+          m.taken,
+          record {
+            left_is = s.left_is;
+            width_is = c.go_on_in_row.ensures.width ∙ s.width_is;
+            offset_is = c.go_on_in_row.ensures.offset;
+            at_is = s.at_is;
+            code_is = ahead_is c.go_on_in_row.new.first c.go_on_in_row.new.marker m.read.answers [] _ m.code_is;
+            behind = behind_is c.go_on_in_row.new.first c.go_on_in_row.new.marker m.read.answers [] _ m.code_is;
+            within = (let within = c.go_on_in_row.ensures.within in let width = c.shape.ensures.width in omega arith);
+            stands = put_stage (fields_of c.args.header.now) c.args.height (record c.args.self.now { carried = c.go_on_in_row.new.carried; decoder = c.go_on_in_row.new.decoder; stage = stage.Code; row = c.args.self.now.row + 1; place = c.go_on_in_row.new.place; first = c.go_on_in_row.new.first; marker = c.go_on_in_row.new.marker }) (text ++ m.given) _ _ refl (row_on k m);
+          },
+        );
+    err = tt;
+    more = λ e. absurd (let bot : ⊥ = cc in bot);
+  };
+}
