@@ -91,18 +91,6 @@ impl Decoder {
         }
     }
 
-    /// The same again.
-    pub fn copy(&self) -> Decoder
-        ensures { result ≡ self.now }
-    {
-        Decoder {
-            code: self.code,
-            span: self.span,
-            bits: self.bits,
-            heard: self.heard,
-        }
-    }
-
     /// Goes on after `Stop`: the source is asked again for the byte that it did not give.
     pub fn resume(&mut self)
         ensures going { has_stopped self.new ≡ false }

@@ -27,7 +27,7 @@ pub struct Window<'a> {
 
 impl<'a> Window<'a> {
     ghost use Rattle.raster_core.specs.Packed.{HasLines, row_of, white_lines};
-    ghost use Rattle.raster_core.specs.Window.{held, width_of, turned, TurnedBack};
+    ghost use Rattle.raster_core.specs.Window.{held, width_of, turned};
     ghost use Rattle.raster_core.specs.Machine.Rows.{held_in};
 
     /// A window with all three rows white, over `window_bytes` of the width.
@@ -88,15 +88,6 @@ impl<'a> Window<'a> {
     {
         std::mem::swap(&mut self.above, &mut self.second);
         std::mem::swap(&mut self.current, &mut self.above);
-    }
-
-    /// Goes a row up: rows 0 and 1 are the old rows 1 and 2, and row 2 is white.
-    pub fn turn_back(&mut self)
-        ensures { TurnedBack (held self.old) (held self.new) }
-    {
-        self.current.fill(0);
-        std::mem::swap(&mut self.above, &mut self.current);
-        std::mem::swap(&mut self.second, &mut self.above);
     }
 
     /// Makes all three rows white.

@@ -40,6 +40,9 @@ impl Cuts<'_> {
     }
 }
 
+/// How many bytes of a piece may be left where more are wanted: all but the last of a move.
+const MOST_LEFT: usize = 7;
+
 /// The bytes that are left of a stream, and how many of them have come.
 #[derive(Drop)]
 struct Feed<'a> {
@@ -126,8 +129,8 @@ fn expected(alloc: Global, header: &Header, found: u32, body: &[u8]) -> Result<G
     Ok(given)
 }
 
-/// What a stream gives at this height that comes in pieces. It is none where no end comes, or a call after the end answers
-/// something else.
+/// What a stream gives at this height that comes in pieces. It is none where no end comes, a call after the end answers
+/// something else, or more of a piece is left than may be.
 fn take_pieces(
     alloc: Global,
     header: Header,
@@ -151,6 +154,7 @@ fn take_pieces(
         feed.take(progress.taken);
         match progress.outcome {
             Outcome::Row => rows.extend_from_slice(decoder.row())?,
+            Outcome::More if feed.come > MOST_LEFT => return Ok(None),
             Outcome::More if !feed.is_all() => feed.come(cuts.next()),
             end => {
                 let stays = answers_again(&mut decoder, end, feed.rest);
