@@ -34,14 +34,14 @@ events_double (e ∷ events) s =
     let rest = events_double events (step s e.context e.pixel) in
     omega (arith, first, rest)
 
-fraction_short : (k v unit : ℕ) → length (fraction_bytes k v unit) ≤ k
+pub fraction_short : (k v unit : ℕ) → length (fraction_bytes k v unit) ≤ k
 fraction_short zero v unit = omega arith
 fraction_short (suc k) v unit = went (nat_eq v 0) refl (fraction_short k (v * 256 % unit) unit) where
   went : (test : Bool) → nat_eq v 0 ≡ test → length (fraction_bytes k (v * 256 % unit) unit) ≤ k → length (fraction_bytes (suc k) v unit) ≤ suc k
   went true is less = rw is (omega arith)
   went false is less = rw is (omega (arith, less))
 
-stuffed_short : (b : List ℕ) → length (stuffed b) ≤ 2 * length b
+pub stuffed_short : (b : List ℕ) → length (stuffed b) ≤ 2 * length b
 stuffed_short [] = omega arith
 stuffed_short (b ∷ bs) = went (nat_eq b 255) refl (stuffed_short bs) where
   went : (test : Bool) → nat_eq b 255 ≡ test → length (stuffed bs) ≤ 2 * length bs → length (stuffed (b ∷ bs)) ≤ 2 * length (b ∷ bs)

@@ -1,5 +1,5 @@
 -- What an encoder stands for.
-use Rattle.std.specs.Prelude.{ℕ, ◌≡◌, Bool, List, ◌++◌, Result, Option}
+use Rattle.std.specs.Prelude.{ℕ, ◌+◌, ◌/◌, ◌≡◌, Bool, List, ◌++◌, length, Result, Option}
 use Rattle.qm_core.specs.Place.{Place, State, Estimate, step}
 use Rattle.qm_core.specs.Code.{IsBytes, IsTrimmed, IsFront, IsCode, stuffed}
 use Rattle.qm_core.specs.Sink.{Writes}
@@ -14,6 +14,11 @@ event_count e = e.events
 -- whether the sink of an encoder has refused a byte
 abbrev pub has_failed : Encoder → Bool
 has_failed e = e.failed
+
+-- how many bytes of its code an encoder holds back at most: those that a carry may still change, and those that the bits
+-- of its low end fill
+abbrev pub waiting_bytes : Encoder → ℕ
+waiting_bytes e = length (run_bytes e.tail.zeros e.tail.held e.tail.ones) + (e.bits + 7) / 8
 
 -- the registers and the tail are those of the place, and these bytes were handed to the sink
 pub record RegistersAreAt (low span bits zeros : ℕ) (held : Option ℕ) (ones : ℕ) (p : Place) (pushed : List ℕ) : Type 0 where

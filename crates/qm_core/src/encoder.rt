@@ -232,7 +232,7 @@ impl Encoder {
     ghost use Rattle.std.specs.Prelude.{replicate};
     ghost use Rattle.qm_core.specs.Counts.{one_more};
     ghost use Rattle.qm_core.specs.Place.{after};
-    ghost use Rattle.qm_core.specs.Encoder.{event_count, has_failed, RegistersAreAt, EncoderIsAt, Goes, Put, Finish};
+    ghost use Rattle.qm_core.specs.Encoder.{event_count, has_failed, waiting_bytes, RegistersAreAt, EncoderIsAt, Goes, Put, Finish};
     ghost use Rattle.qm_core.specs.Skipping.{IsRun, has_room};
 
     /// An encoder at the beginning of a code, of which nothing was pushed.
@@ -261,6 +261,15 @@ impl Encoder {
         ensures { result ≡ event_count self.now }
     {
         self.events
+    }
+
+    /// How many bytes of the code wait at most, before they are stuffed: those that a carry may still change, and those
+    /// of the low end.
+    pub fn waiting(&self) -> u64
+        ensures { result ≡ waiting_bytes self.now }
+    {
+        let held = u64::from(self.tail.held.is_some());
+        self.tail.zeros + held + self.tail.ones + u64::from((self.bits + 7) / 8)
     }
 
     /// Codes a pixel in the context `cx`, and pushes the bytes of the code that no later pixel can change.

@@ -14,6 +14,7 @@ pub mod RowStream
 pub mod RowSteps
 pub mod RowGiven
 pub mod RowCalls
+pub mod FewAppended
 pub mod ImageByRow
 pub mod BufferEncoded
 pub mod RowsHeld

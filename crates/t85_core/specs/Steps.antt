@@ -14,6 +14,7 @@ pub mod Pieces
 pub mod Written
 pub mod Looked
 pub mod ByRow
+pub mod MostBytes
 pub mod RowSteps
 pub mod EncodeRows
 pub mod EncodeStripes

@@ -28,6 +28,11 @@ enum End {
     Wrong(&'static str),
 }
 
+/// How many bytes were written, and so many more.
+fn with_written(output: &Drip<'_>, more: u64) -> u64 {
+    more.saturating_add(output.written().len() as u64)
+}
+
 /// Rows that are given one by one, and the stream that they have to give.
 #[derive(Drop)]
 struct Rows<'a> {
@@ -57,9 +62,13 @@ impl Rows<'_> {
             if encoder.left() != left || left == 0 || row.len() != row_bytes(self.size.width) {
                 return End::Wrong("how many rows may come");
             }
+            let most = with_written(output, encoder.most_row_bytes());
             match encoder.put_row(row, window, output) {
                 Ok(()) => left -= 1,
                 Err(_) => return self.closed(&mut encoder, window, output, End::RowFails),
+            }
+            if with_written(output, 0) > most {
+                return End::Wrong("the bytes that a row may write");
             }
             if encoder.may_finish() != (left == 0 || self.options.announced.is_some()) {
                 return End::Wrong("whether the image may end");
@@ -71,10 +80,14 @@ impl Rows<'_> {
         if encoder.is_closed() || !encoder.may_finish() {
             return End::Wrong("whether the image may end");
         }
+        let most = with_written(output, encoder.most_end_bytes());
         let end = match encoder.finish(window, output) {
             Ok(()) => End::Whole,
             Err(_) => End::EndFails,
         };
+        if with_written(output, 0) > most {
+            return End::Wrong("the bytes that an end may write");
+        }
         self.closed(&mut encoder, window, output, end)
     }
 

@@ -4,3 +4,4 @@ pub mod Headers
 pub mod PieceRows
 pub mod Pixels
 pub mod Whole
+pub mod Rooms

@@ -8,6 +8,7 @@ mod held;
 pub mod image;
 pub mod line;
 pub mod pieces;
+pub mod room;
 pub mod rows;
 #[cfg(test)]
 mod tests;

@@ -5,11 +5,13 @@ use crate::cut::rows_of_cut;
 use crate::image::round_trip;
 use crate::line::line_of_encoded;
 use crate::pieces::rows_of_body;
+use crate::room::{Room, put_where_room};
+use pbm_core::Size;
 use pbm_core::trial::{Drip, Pieces};
 use qm_core::{Context, Learned};
 use raster_core::Window;
 use std::alloc::{AllocError, Global};
-use t85_core::{Fault, Header, Options, Outcome};
+use t85_core::{Fault, Header, Options, Outcome, RowEncoder};
 
 /// Three by two pixels in the plain form.
 const IMAGE: &[u8] = b"P1 3 2 101 010";
@@ -96,6 +98,40 @@ fn rows_of_two_pieces(rt: HostRuntime) {
     assert!(rt;
         two.is_ok_and(|two| two.0 == Outcome::Done && two.1.as_slice() == b"\x80\x80".as_slice())
     );
+}
+
+/// Whether a row of eight pixels is put into room for 8,192 bytes.
+fn put_narrow() -> Result<bool, Fault> {
+    let size = Size {
+        width: 8,
+        height: 1,
+    };
+    let options = Options::new(8, 1, 0, None, false, None)?;
+    let mut lent = [0; 3];
+    let mut window = Window::over(&mut lent, 8);
+    let mut room = Room::new();
+    let mut encoder = RowEncoder::start(size, &options, &mut window, &mut room)?;
+    Ok(put_where_room(&mut encoder, b"\x5a", &mut window, &mut room))
+}
+
+/// Whether one is that may have four times 2,041 bytes and a few, behind a header.
+fn put_wide() -> Result<bool, Fault> {
+    let size = Size {
+        width: 2040,
+        height: 1,
+    };
+    let options = Options::new(8, 1, 0, None, false, None)?;
+    let mut lent = [0; 765];
+    let mut window = Window::over(&mut lent, 2040);
+    let mut room = Room::new();
+    let mut encoder = RowEncoder::start(size, &options, &mut window, &mut room)?;
+    Ok(put_where_room(&mut encoder, &[0; 255], &mut window, &mut room))
+}
+
+#[test]
+fn rows_are_put_where_they_have_room(rt: HostRuntime) {
+    assert!(rt; put_narrow() == Ok(true));
+    assert!(rt; put_wide() == Ok(false));
 }
 
 #[test]

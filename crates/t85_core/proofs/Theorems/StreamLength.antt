@@ -14,7 +14,7 @@ use Rattle.t85_core.specs.Coding.{Coding, top_of, lines_of, offset_of, previous_
 use Rattle.t85_core.specs.Jbg.{Settings, move_segments, coded_stripe, coding_of, head_of, stripes_of, ending, jbg}
 use Rattle.t85_core.specs.Laws.{most_bytes}
 
-many : (t k : ℕ) → length (numbers_from t k) ≡ k
+pub many : (t k : ℕ) → length (numbers_from t k) ≡ k
 many t zero = refl
 many t (suc k) = ap suc (many (t + 1) k)
 
@@ -27,7 +27,7 @@ flat_short f m each (x ∷ xs) =
 
 -- ---- the events of a row, and of a stripe
 
-row_short : (typical flag : Bool) (e : Event) (es : List Event) (n : ℕ) → length es ≡ n → length ((if typical then e ∷ [] else []) ++ (if flag then [] else es)) ≤ 1 + n
+pub row_short : (typical flag : Bool) (e : Event) (es : List Event) (n : ℕ) → length es ≡ n → length ((if typical then e ∷ [] else []) ++ (if flag then [] else es)) ≤ 1 + n
 row_short true true e es n is = omega arith
 row_short true false e es n is = omega (arith, is)
 row_short false true e es n is = omega arith

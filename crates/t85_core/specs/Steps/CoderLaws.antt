@@ -1,5 +1,5 @@
 -- The laws of the coder on which those of streams rest.
-use Rattle.qm_core.specs.Laws.{OnePixelAlways, OnlyPixel, FirstBytesDecide, PixelKeepsPlace, EventsKeepPlace, EventsStayInside, AnswersLie, OneCode, CodeLies, CodeLiesInAll, PushedIsFront, StuffedAppend}
+use Rattle.qm_core.specs.Laws.{OnePixelAlways, OnlyPixel, FirstBytesDecide, PixelKeepsPlace, EventsKeepPlace, EventsStayInside, AnswersLie, OneCode, CodeLies, CodeLiesInAll, PushedIsFront, StuffedAppend, FewPushed, FewInFront, FewToEnd}
 use Rattle.qm_core.specs.Place.{start, IsPlace}
 
 pub record CoderLaws : Type 0 where
@@ -19,3 +19,6 @@ pub record WritingLaws : Type 0 where
   pub code_lies_in_all : CodeLiesInAll
   pub pushed_is_front : PushedIsFront
   pub stuffed_append : StuffedAppend
+  pub few_pushed : FewPushed
+  pub few_in_front : FewInFront
+  pub few_to_end : FewToEnd

@@ -41,7 +41,7 @@ pub struct RowEncoder {
 }
 
 impl RowEncoder {
-    ghost use Rattle.std.specs.Prelude.{◌≡◌, ◌≤◌, ◌<◌, ◌+◌, ◌-◌, ◌∷◌, [], ◌++◌, ◌⊎◌, List, Option, Bool, ℕ, OnOk, OnErr, IfOk, IfErr, IfSome, Err, true, false};
+    ghost use Rattle.std.specs.Prelude.{◌≡◌, ◌≤◌, ◌<◌, ◌+◌, ◌-◌, ◌*◌, ◌∷◌, [], ◌++◌, ◌⊎◌, List, Option, Bool, ℕ, OnOk, OnErr, IfOk, IfErr, IfSome, Err, is_err, true, false};
     ghost use Rattle.std.specs.Io.KnownBytes.{Appends};
     ghost use Rattle.pbm_core.specs.Device.{AppendsBeginning};
     ghost use Rattle.raster_core.specs.Window.{held, width_of};
@@ -50,6 +50,7 @@ impl RowEncoder {
     ghost use Rattle.t85_core.specs.Jbg.{Settings, head_of, is_low};
     ghost use Rattle.t85_core.specs.Options.{settings_of};
     ghost use Rattle.t85_core.specs.Steps.Buffers.{WritesOn};
+    ghost use Rattle.t85_core.specs.Steps.MostBytes.{AppendsAtMost, AppendsRow, AppendsEnd, CodesFew, most_code_bytes, most_end_bytes, most_row_bytes};
     ghost use Rattle.t85_core.specs.declared.fault.Fault.TheVariants.{Write};
     ghost use Rattle.t85_core.specs.Steps.ByRow.{
       view_of,
@@ -141,6 +142,20 @@ impl RowEncoder {
         self.rows > 0 && (self.may_end || self.rows == self.size.height)
     }
 
+    /// How many bytes the next row makes the encoder write at most.
+    pub fn most_row_bytes(&self) -> u64
+        ensures { result ≡ most_row_bytes (view_of self.now) }
+    {
+        2 * self.encoder.waiting() + 4 * (u64::from(self.size.width) + 1) + 10
+    }
+
+    /// How many bytes it writes at most where the stream ends here.
+    pub fn most_end_bytes(&self) -> u64
+        ensures { result ≡ most_end_bytes (view_of self.now) }
+    {
+        2 * self.encoder.waiting() + 10
+    }
+
     /// Takes the row that the window has. After a failed write, and after the end, nothing is done.
     pub(crate) fn put_taken<P: ByteTarget>(
         &mut self,
@@ -160,8 +175,9 @@ impl RowEncoder {
             (P.view target.new).text) }
         ensures closed { self.old.is_closed ≡ true → (result ≡ Err Write) × (self.new ≡ self.old)
             × (target.new ≡ target.old) }
-        ensures going { OnOk result (self.new.is_closed ≡ false) }
-        ensures stuck { OnErr result (self.new.is_closed ≡ true) }
+        ensures few { AppendsRow (view_of self.old) (P.view target.old).text
+            (P.view target.new).text }
+        ensures closes { self.new.is_closed ≡ is_err result }
         ensures ready { OnOk result (MayGoOn (view_of self.new)) }
         ensures rows { OnOk result (self.new.rows ≡ self.old.rows + 1) }
         ensures size { self.new.size ≡ self.old.size }
@@ -191,6 +207,8 @@ impl RowEncoder {
             (P.view target.old).text (P.view target.new).text) }
         ensures cut { OnErr result ((row : List Bool) (before : Held) → CutsRow row
             (view_of self.old) before (P.view target.old).text (P.view target.new).text) }
+        ensures few { AppendsAtMost 8 (P.view target.old).text (P.view target.new).text }
+        ensures same_encoder { self.new.encoder ≡ self.old.encoder }
         ensures able { OnOk result (IsAble (view_of self.new)) }
         ensures tallied { OnOk result (row_count self.new.tally ≤ self.new.in_stripe) }
         ensures rows { self.new.rows ≡ self.old.rows }
@@ -216,6 +234,8 @@ impl RowEncoder {
             (P.view target.old).text (P.view target.new).text) }
         ensures cut { OnErr result (CutsMove (view_of self.old) (P.view target.old).text
             (P.view target.new).text) }
+        ensures few { AppendsAtMost 8 (P.view target.old).text (P.view target.new).text }
+        ensures same_encoder { self.new.encoder ≡ self.old.encoder }
         ensures able { OnOk result (IsAble (view_of self.new)) }
         ensures tallied { OnOk result (row_count self.new.tally ≡ 0) }
         ensures rows { self.new.rows ≡ self.old.rows }
@@ -253,6 +273,8 @@ impl RowEncoder {
             (P.view target.old).text (P.view target.new).text) }
         ensures cut { OnErr result (CutsCode (view_of self.old) (held window.now)
             (P.view target.old).text (P.view target.new).text) }
+        ensures few { CodesFew (view_of self.old) (view_of self.new) (P.view target.old).text
+            (P.view target.new).text result }
         ensures able { OnOk result (IsAble (view_of self.new)) }
         ensures tallied { OnOk result (row_count self.new.tally ≤ self.new.in_stripe) }
         ensures rows { self.new.rows ≡ self.old.rows + 1 }
@@ -307,6 +329,8 @@ impl RowEncoder {
             (held window.old) (held window.new) (P.view target.old).text (P.view target.new).text) }
         ensures cut { OnErr result (CutsRunning (view_of self.old) (held window.old)
             (P.view target.old).text (P.view target.new).text) }
+        ensures few { AppendsAtMost (most_code_bytes (view_of self.old) + 2)
+            (P.view target.old).text (P.view target.new).text }
         ensures ready { OnOk result (MayGoOn (view_of self.new)) }
         ensures rows { self.new.rows ≡ self.old.rows }
         ensures size { self.new.size ≡ self.old.size }
@@ -337,6 +361,8 @@ impl RowEncoder {
             (held window.old) (held window.new) (P.view target.old).text (P.view target.new).text) }
         ensures cut { OnErr result (CutsStripe (view_of self.old) (held window.old)
             (P.view target.old).text (P.view target.new).text) }
+        ensures few { AppendsAtMost (most_code_bytes (view_of self.old) + 2)
+            (P.view target.old).text (P.view target.new).text }
         // No byte of a stripe that is whole waits for the next one.
         ensures sent { OnOk result ((P.view target.new).held ≡ []) }
         ensures able { OnOk result (IsAble (view_of self.new)) }
@@ -378,6 +404,8 @@ impl RowEncoder {
             (P.view target.old).text (P.view target.new).text) }
         ensures closed { self.old.is_closed ≡ true → (result ≡ Err Write) × (self.new ≡ self.old) ×
             (target.new ≡ target.old) }
+        ensures few { AppendsEnd (view_of self.old) (P.view target.old).text
+            (P.view target.new).text }
         ensures is_closed { self.new.is_closed ≡ true }
         ensures size { self.new.size ≡ self.old.size }
         ensures width { width_of window.new ≡ width_of window.old }
@@ -408,6 +436,8 @@ impl RowEncoder {
             (held window.old) (P.view target.old).text (P.view target.new).text) }
         ensures cut { OnErr result (CutsImage (view_of self.old) (held window.old)
             (P.view target.old).text (P.view target.new).text) }
+        ensures few { AppendsAtMost (most_code_bytes (view_of self.old) + 2)
+            (P.view target.old).text (P.view target.new).text }
         ensures rows { self.new.rows ≡ self.old.rows }
         ensures size { self.new.size ≡ self.old.size }
         ensures same_closed { self.new.is_closed ≡ self.old.is_closed }
@@ -424,7 +454,7 @@ impl RowEncoder {
 }
 
 impl RowEncoder {
-    ghost use Rattle.std.specs.Prelude.{◌≡◌, ◌≤◌, ◌<◌, ◌+◌, ◌-◌, ◌∷◌, [], ◌++◌, ◌⊎◌, List, Option, Bool, ℕ, OnOk, OnErr, IfOk, IfErr, IsErrOf, length, Err, true, false};
+    ghost use Rattle.std.specs.Prelude.{◌≡◌, ◌≤◌, ◌<◌, ◌+◌, ◌-◌, ◌∷◌, [], ◌++◌, ◌⊎◌, List, Option, Bool, ℕ, OnOk, OnErr, IfOk, IfErr, IsErrOf, length, Err, is_err, true, false};
     ghost use Rattle.std.specs.Io.KnownBytes.{Appends, Keeps};
     ghost use Rattle.pbm_core.specs.Device.{AppendsBeginning};
     ghost use Rattle.pbm_core.specs.Pbm.{bytes_of_row};
@@ -435,6 +465,7 @@ impl RowEncoder {
     ghost use Rattle.t85_core.specs.Options.{settings_of};
     ghost use Rattle.t85_core.specs.Failures.{CountsWrite, OnlyWrites};
     ghost use Rattle.t85_core.specs.Steps.Buffers.{known_length};
+    ghost use Rattle.t85_core.specs.Steps.MostBytes.{AppendsRow, AppendsEnd};
     ghost use Rattle.t85_core.specs.Steps.Views.{text_taken, writer_of};
     ghost use Rattle.t85_core.specs.declared.fault.Fault.TheVariants.{Write, AnnouncedLow};
     ghost use Rattle.t85_core.specs.Steps.ByRow.{
@@ -505,8 +536,9 @@ impl RowEncoder {
             (held window.old) (W.view output.old).contents (W.view output.new).contents) }
         ensures closed { self.old.is_closed ≡ true → (result ≡ Err Write) × (self.new ≡ self.old) ×
             (output.new ≡ output.old) }
-        ensures going { OnOk result (self.new.is_closed ≡ false) }
-        ensures stuck { OnErr result (self.new.is_closed ≡ true) }
+        ensures few { AppendsRow (view_of self.old) (W.view output.old).contents
+            (W.view output.new).contents }
+        ensures closes { self.new.is_closed ≡ is_err result }
         ensures ready { OnOk result (MayGoOn (view_of self.new)) }
         ensures rows { OnOk result (self.new.rows ≡ self.old.rows + 1) }
         ensures size { self.new.size ≡ self.old.size }
@@ -541,8 +573,9 @@ impl RowEncoder {
         ensures cut { OnErr result ((row : List Bool) (before : Held) → IsBelow row before
             (held window.old) → CutsRow row (view_of self.old) before (text_taken buffer.old)
             (text_taken buffer.new)) }
-        ensures going { OnOk result (self.new.is_closed ≡ false) }
-        ensures stuck { OnErr result (self.new.is_closed ≡ true) }
+        ensures few { AppendsRow (view_of self.old) (text_taken buffer.old)
+            (text_taken buffer.new) }
+        ensures closes { self.new.is_closed ≡ is_err result }
         ensures ready { OnOk result (MayGoOn (view_of self.new)) }
         ensures rows { OnOk result (self.new.rows ≡ self.old.rows + 1) }
         ensures size { self.new.size ≡ self.old.size }
@@ -586,6 +619,8 @@ impl RowEncoder {
             (W.view output.old).contents (W.view output.new).contents) }
         ensures closed { self.old.is_closed ≡ true → (result ≡ Err Write) × (self.new ≡ self.old) ×
             (output.new ≡ output.old) }
+        ensures few { AppendsEnd (view_of self.old) (W.view output.old).contents
+            (W.view output.new).contents }
         ensures is_closed { self.new.is_closed ≡ true }
         ensures size { self.new.size ≡ self.old.size }
         ensures width { width_of window.new ≡ width_of window.old }
@@ -618,6 +653,8 @@ impl RowEncoder {
         ensures cut { OnErr result (CutsImage (view_of self.old) (held window.old) (text_taken
             buffer.old)
             (text_taken buffer.new)) }
+        ensures few { AppendsEnd (view_of self.old) (text_taken buffer.old)
+            (text_taken buffer.new) }
         ensures is_closed { self.new.is_closed ≡ true }
         ensures size { self.new.size ≡ self.old.size }
         ensures width { width_of window.new ≡ width_of window.old }

@@ -18,6 +18,7 @@ ghost use Rattle.t85_core.specs.Steps.EncodeRows.{IsCountedTo};
 ghost use Rattle.t85_core.specs.Steps.EncodeStripes.{IsTallied};
 ghost use Rattle.t85_core.specs.Steps.ByRow.{IsSomewhere, IsLined, IsHeldBy};
 ghost use Rattle.t85_core.specs.Steps.Buffers.{WritesOn};
+ghost use Rattle.t85_core.specs.Steps.MostBytes.{AppendsAtMost};
 ghost use Rattle.t85_core.specs.Steps.RowSteps.{MoveMade, MoveCut, RowOutcome, RowSent, EndSent, CodeFinished, CodeEnded};
 ghost use Rattle.t85_core.specs.Failures.{CountsWrite};
 ghost use Rattle.t85_core.specs.declared.fault.Fault.TheVariants.{Write};
@@ -67,6 +68,7 @@ pub fn move_pixel<P: ByteTarget>(
     ensures cut { OnErr result ((s : Settings) (width : ℕ) (at : EncoderStart) →
         kept.old.offset ≡ at.carry.offset → IsTallied s width at tally.now →
         MoveCut s width at (P.view target.old).text (P.view target.new).text) }
+    ensures few { AppendsAtMost 8 (P.view target.old).text (P.view target.new).text }
     ensures err { IfErr result (λ f. f ≡ Write) }
     ensures writes { WritesOn (P.view target.old) (P.view target.new) result }
 {

@@ -71,7 +71,7 @@ rows-preserved g c =
         reads_join c.args.form c.args.size.width _ _ _ so.0 (taken.row ∷ []) so.2 taken.read,
         c.in_ok-put_taken.ensures.ok taken.row (held c.rows.window) taken.below s c.args.size.width c.args.size.height so.0 _ so.3,
       );
-      going = c.in_ok-put_taken.ensures.going;
+      going = c.in_ok-put_taken.ensures.closes;
       ready = c.in_ok-put_taken.ensures.ready;
       many = (let more = c.in_ok-put_taken.ensures.rows in omega (arith, more, c.rows.invariant.many));
       size_is = c.in_ok-put_taken.ensures.size ∙ c.rows.invariant.size_is;

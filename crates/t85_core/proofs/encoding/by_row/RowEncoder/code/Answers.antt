@@ -9,6 +9,9 @@ use Rattle.t85_core.specs.Steps.State.{lines_with}
 use Rattle.t85_core.specs.Steps.ByRow.{Runs, StreamCut, IsBelow, view_of}
 use Rattle.t85_core.proofs.Walks.InfoEnds.{exit_all}
 use Rattle.t85_core.proofs.Encodings.RowSteps.{events_more, row_coded, row_cut, lines_are}
+use Rattle.t85_core.specs.Steps.MostBytes.{CodesFew}
+use Rattle.t85_core.proofs.Encodings.FewAppended.{row_put_few, row_cut_few}
+use Rattle.std.proofs.Common.{◌∙◌}
 use Rattle.t85_core.proofs.encoding.by_row.RowEncoder.code.Goals as goal
 
 pub returns-in_err-code_row-clause-cut : goal.returns-in_err-code_row-clause-cut
@@ -45,4 +48,23 @@ returns-clause-able g c =
       events = events_more c.args.self.now.in_stripe c.args.self.now.size.width _ _ able.events (omega (arith, more, able.wide));
       going = c.in_ok-code_row.ensures.going;
       somewhere = (_, somewhere.1 ++ put.more, put.codes);
+    }
+
+pub returns-in_err-code_row-clause-few : goal.returns-in_err-code_row-clause-few
+returns-in_err-code_row-clause-few g c =
+    let somewhere = c.requires.able.somewhere in
+    exit_all (CodesFew (view_of c.args.self.now) _ (g.P.ByteTarget.view c.args.target.now).text (g.P.ByteTarget.view c.code_row.new.target).text) c.from_residual.result c.from_residual.ensures.1
+    (record {
+      ok = tt;
+      err = row_cut_few c.writing_laws.ensures c.args.self.now.encoder somewhere.0 c.args.self.now.learned somewhere.1 somewhere.2 _ _ c.args.self.now.shape c.args.self.now.kept c.requires.lined.0 c.args.self.now.size.width (c.requires.lined.1.row_wide ∙ c.requires.width)
+          (c.in_err-code_row.ensures.row somewhere.0 somewhere.1 c.requires.lined.0 somewhere.2 c.requires.lined.1).cut;
+    })
+
+pub returns-clause-few : goal.returns-clause-few
+returns-clause-few g c =
+    let somewhere = c.requires.able.somewhere in
+    record {
+      ok = row_put_few c.writing_laws.ensures c.args.self.now.encoder somewhere.0 c.args.self.now.learned somewhere.1 somewhere.2 _ _ c.args.self.now.shape c.args.self.now.kept c.code_row.new.kept c.requires.lined.0 c.code_row.new.encoder c.code_row.new.learned c.args.self.now.size.width (c.requires.lined.1.row_wide ∙ c.requires.width)
+          (c.in_ok-code_row.ensures.row somewhere.0 somewhere.1 c.requires.lined.0 somewhere.2 c.requires.lined.1).ok;
+      err = tt;
     }

@@ -1,6 +1,8 @@
 use Rattle.t85_core.specs.Steps.ByRow.{view_of}
 use Rattle.t85_core.proofs.Bytes.Ends.{map_ok, on_err}
 use Rattle.t85_core.proofs.Encodings.RowSteps.{stream_ended, ending_cut}
+use Rattle.qm_core.specs.Encoder.{waiting_bytes}
+use Rattle.t85_core.proofs.Encodings.FewAppended.{end_few, ending_few}
 use Rattle.t85_core.proofs.encoding.by_row.RowEncoder.end.Goals as goal
 
 pub returns-clause-ok : goal.returns-clause-ok
@@ -10,3 +12,8 @@ returns-clause-ok g c =
 pub returns-clause-cut : goal.returns-clause-cut
 returns-clause-cut g c open_ =
     on_err c.write_ending.result (λ cut s width limit rows text so. ending_cut s width limit rows (view_of c.end_last.new.self) text (g.P.ByteTarget.view c.end_last.new.target).text (g.P.ByteTarget.view c.write_ending.new.target).text (c.in_ok-end_last.ensures.ok s width limit rows text so) cut) c.write_ending.ensures.cut
+
+pub returns-clause-few : goal.returns-clause-few
+returns-clause-few g c =
+    end_few (waiting_bytes c.args.self.now.encoder) _ _ _ c.in_ok-end_last.ensures.few
+    (ending_few c.end_last.new.self.announced c.end_last.new.self.reset c.end_last.new.self.rows _ _ c.write_ending.result c.write_ending.ensures.ok c.write_ending.ensures.cut)

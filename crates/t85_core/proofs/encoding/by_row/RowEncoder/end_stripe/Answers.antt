@@ -12,6 +12,9 @@ use Rattle.t85_core.proofs.Walks.InfoEnds.{exit_all}
 use Rattle.t85_core.proofs.Bytes.Ends.{always, always_err}
 use Rattle.t85_core.proofs.Bytes.Streams.{Appends-keeps, beginning_all}
 use Rattle.t85_core.proofs.Encodings.RowSteps.{stripe_ended, stripe_cut}
+use Rattle.qm_core.specs.Encoder.{waiting_bytes}
+use Rattle.t85_core.proofs.Encodings.FewAppended.{code_ended_few, kept_few}
+use Rattle.std.specs.Prelude.{◌+◌, ◌*◌}
 use Rattle.t85_core.proofs.encoding.by_row.RowEncoder.end_stripe.Goals as goal
 
 pub returns-in_err-end_entity-clause-cut : goal.returns-in_err-end_entity-clause-cut
@@ -35,3 +38,16 @@ returns-clause-cut g c = always_err c.write_held.result (λ s width limit rows t
     let e = c.in_ok-end_entity.ensures.ended (row_start_in s width r.at r.part).state.place r.pushed (subst (λ e. EncoderIsAt e (row_start_in s width r.at r.part).state.place r.pushed) (sym c.replace-encoder.ensures.value) r.running.codes) in
     stripe_cut s width limit rows (view_of c.args.self.now) (held c.args.window.now) text _ _ c.requires.some r c.writing_laws.ensures e.code e.more e.is e.all
     (beginning_all _ _ e.more (Appends-keeps _ _ _ e.more e.ok c.write_held.ensures.text)))
+
+pub returns-in_err-end_entity-clause-few : goal.returns-in_err-end_entity-clause-few
+returns-in_err-end_entity-clause-few g c =
+    let somewhere = c.requires.able.somewhere in
+    code_ended_few c.writing_laws.ensures c.args.self.now.encoder somewhere.0 [] somewhere.1 somewhere.2 _ _ c.args.self.now.reset _
+    (c.in_err-end_entity.ensures.ended somewhere.0 somewhere.1 (subst (λ e. EncoderIsAt e somewhere.0 somewhere.1) (sym c.replace-encoder.ensures.value) somewhere.2))
+
+pub returns-clause-few : goal.returns-clause-few
+returns-clause-few g c =
+    let somewhere = c.requires.able.somewhere in
+    kept_few 0 (2 * waiting_bytes c.args.self.now.encoder + 2) _ _ _
+    (code_ended_few c.writing_laws.ensures c.args.self.now.encoder somewhere.0 [] somewhere.1 somewhere.2 _ _ c.args.self.now.reset _
+    (c.in_ok-end_entity.ensures.ended somewhere.0 somewhere.1 (subst (λ e. EncoderIsAt e somewhere.0 somewhere.1) (sym c.replace-encoder.ensures.value) somewhere.2))) c.write_held.ensures.text

@@ -11,6 +11,10 @@ use Rattle.t85_core.proofs.Bytes.HeldBack.{beginning_handed}
 use Rattle.t85_core.proofs.Bytes.Ends.{map_ok, on_err}
 use Rattle.t85_core.proofs.Decodings.BufferDecoded.{text_unheld}
 use Rattle.t85_core.proofs.Encodings.RowCalls.{moved, stands_grown}
+use Rattle.qm_core.specs.Encoder.{waiting_bytes}
+use Rattle.std.specs.Prelude.{◌+◌, ◌*◌}
+use Rattle.t85_core.specs.Steps.MostBytes.{AppendsAtMost}
+use Rattle.t85_core.proofs.Encodings.FewAppended.{handed_few}
 use Rattle.t85_core.proofs.encoding.by_row.RowEncoder.finish.Goals as goal
 
 pub returns-clause-ok : goal.returns-clause-ok
@@ -33,3 +37,14 @@ returns-clause-cut g c _ =
     moved (λ w. (g.W.Output.view w).contents) (λ z. AppendsBeginning text z (jbg s (raster_of width rows))) after.output.now _ (search rules)
     (beginning_handed text (g.W.Output.view after.output.now).contents (held_of after.bytes after.at after.end) (jbg s (raster_of width rows)) (omega (arith, grown, more))
     (cut s width limit rows text (subst (λ z. Stands s width limit rows (view_of c.args.self.now) (held c.args.window.now) text z) (sym text_is) so)))) c.end_held.ensures.cut
+
+pub returns-clause-few : goal.returns-clause-few
+returns-clause-few g c =
+    let buffer = c.new-buffer.result in
+    let after = c.end_held.new.buffer in
+    let text_is : text_taken buffer ≡ (g.W.Output.view c.args.output.now).contents = text_unheld buffer.bytes buffer.at buffer.end (g.W.Output.view buffer.output.now).contents c.new-buffer.ensures.empty ∙ ap (λ m. (g.W.Output.view m.now).contents) c.new-buffer.ensures.lent in
+    let lent : (g.W.Output.view buffer.output.now).contents ≡ (g.W.Output.view c.args.output.now).contents = ap (λ m. (g.W.Output.view m.now).contents) c.new-buffer.ensures.lent in
+    let more : known_length (g.W.Output.view c.args.output.now).contents ≤ known_length (g.W.Output.view after.output.now).contents = subst (λ z. known_length z ≤ known_length (g.W.Output.view after.output.now).contents) lent c.end_held.ensures.grows in
+    moved (λ w. (g.W.Output.view w).contents) (AppendsAtMost (2 * waiting_bytes c.args.self.now.encoder + 10) (g.W.Output.view c.args.output.now).contents) after.output.now _ (search rules)
+    (handed_few (2 * waiting_bytes c.args.self.now.encoder + 10) (g.W.Output.view c.args.output.now).contents (g.W.Output.view after.output.now).contents (held_of after.bytes after.at after.end) more
+    (subst (λ z. AppendsAtMost (2 * waiting_bytes c.args.self.now.encoder + 10) z (text_taken after)) text_is c.end_held.ensures.few))

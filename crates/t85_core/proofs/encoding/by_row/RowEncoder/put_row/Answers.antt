@@ -7,6 +7,10 @@ use Rattle.t85_core.specs.Steps.ByRow.{Stands, StreamCut, view_of}
 use Rattle.t85_core.proofs.Bytes.Ends.{map_ok, on_err}
 use Rattle.t85_core.proofs.Decodings.BufferDecoded.{text_unheld}
 use Rattle.t85_core.proofs.Encodings.RowCalls.{moved, stands_grown, cut_written}
+use Rattle.qm_core.specs.Encoder.{waiting_bytes}
+use Rattle.std.specs.Prelude.{◌+◌, ◌*◌}
+use Rattle.t85_core.specs.Steps.MostBytes.{AppendsAtMost}
+use Rattle.t85_core.proofs.Encodings.FewAppended.{handed_few}
 use Rattle.t85_core.proofs.encoding.by_row.RowEncoder.put_row.Goals as goal
 
 pub returns-clause-ok : goal.returns-clause-ok
@@ -31,3 +35,14 @@ returns-clause-cut g c _ =
     (cut_written s width limit (rows ++ pixels_of c.args.self.now.size.width c.args.row.now ∷ []) text (g.W.Output.view after.output.now).contents (held_of after.bytes after.at after.end) (omega (arith, grown, more))
     (cut (pixels_of c.args.self.now.size.width c.args.row.now) (held c.args.window.now) c.take_row.ensures.below s width limit rows text
     (subst (λ z. Stands s width limit rows (view_of c.args.self.now) (held c.args.window.now) text z) (sym text_is) so)))) c.put_held.ensures.cut
+
+pub returns-clause-few : goal.returns-clause-few
+returns-clause-few g c =
+    let buffer = c.new-buffer.result in
+    let after = c.put_held.new.buffer in
+    let text_is : text_taken buffer ≡ (g.W.Output.view c.args.output.now).contents = text_unheld buffer.bytes buffer.at buffer.end (g.W.Output.view buffer.output.now).contents c.new-buffer.ensures.empty ∙ ap (λ m. (g.W.Output.view m.now).contents) c.new-buffer.ensures.lent in
+    let lent : (g.W.Output.view buffer.output.now).contents ≡ (g.W.Output.view c.args.output.now).contents = ap (λ m. (g.W.Output.view m.now).contents) c.new-buffer.ensures.lent in
+    let more : known_length (g.W.Output.view c.args.output.now).contents ≤ known_length (g.W.Output.view after.output.now).contents = subst (λ z. known_length z ≤ known_length (g.W.Output.view after.output.now).contents) lent c.put_held.ensures.grows in
+    moved (λ w. (g.W.Output.view w).contents) (AppendsAtMost (2 * waiting_bytes c.args.self.now.encoder + 4 * (c.args.self.now.size.width + 1) + 10) (g.W.Output.view c.args.output.now).contents) after.output.now _ (search rules)
+    (handed_few (2 * waiting_bytes c.args.self.now.encoder + 4 * (c.args.self.now.size.width + 1) + 10) (g.W.Output.view c.args.output.now).contents (g.W.Output.view after.output.now).contents (held_of after.bytes after.at after.end) more
+    (subst (λ z. AppendsAtMost (2 * waiting_bytes c.args.self.now.encoder + 4 * (c.args.self.now.size.width + 1) + 10) z (text_taken after)) text_is c.put_held.ensures.few))

@@ -4,6 +4,9 @@ use Rattle.raster_core.specs.Window.{held}
 use Rattle.t85_core.specs.declared.fault.Fault.{Fault}
 use Rattle.t85_core.specs.Steps.ByRow.{CutsRow, IsBelow, RowView, view_of}
 use Rattle.t85_core.proofs.Walks.InfoEnds.{exit_all}
+use Rattle.qm_core.specs.Encoder.{waiting_bytes}
+use Rattle.std.proofs.Common.{ap}
+use Rattle.t85_core.proofs.Encodings.FewAppended.{row_few, row_begun_few, eased_few}
 use Rattle.t85_core.proofs.encoding.by_row.RowEncoder.put_taken.Goals as goal
 
 -- a beginning of each stream that begins with the rows and this one
@@ -28,3 +31,18 @@ returns-in_err-end_where_due-clause-cut g c _ =
 pub returns-clause-ok : goal.returns-clause-ok
 returns-clause-ok g c row before below s width limit rows text so =
     c.in_ok-end_where_due.ensures.ok s width limit (rows ++ row ∷ []) text (c.in_ok-code.ensures.ok s width limit rows row before text below (c.in_ok-begin_where_due.ensures.ok s width limit rows before text so))
+
+pub returns-in_err-code-clause-few : goal.returns-in_err-code-clause-few
+returns-in_err-code-clause-few g c =
+    row_begun_few (waiting_bytes c.args.self.now.encoder) (waiting_bytes c.begin_where_due.new.self.encoder) c.args.self.now.size.width c.begin_where_due.new.self.size.width _ _ _ (ap waiting_bytes c.begin_where_due.ensures.same_encoder) (ap (λ z. z.width) c.begin_where_due.ensures.size)
+    c.in_ok-begin_where_due.ensures.few c.in_err-code.ensures.few.err
+
+pub returns-in_err-end_where_due-clause-few : goal.returns-in_err-end_where_due-clause-few
+returns-in_err-end_where_due-clause-few g c =
+    row_few (waiting_bytes c.args.self.now.encoder) (waiting_bytes c.begin_where_due.new.self.encoder) (waiting_bytes c.code.new.self.encoder) c.args.self.now.size.width c.begin_where_due.new.self.size.width _ _ _ _ (ap waiting_bytes c.begin_where_due.ensures.same_encoder) (ap (λ z. z.width) c.begin_where_due.ensures.size)
+    c.in_ok-begin_where_due.ensures.few c.in_ok-code.ensures.few.ok c.in_err-end_where_due.ensures.few
+
+pub returns-clause-few : goal.returns-clause-few
+returns-clause-few g c =
+    row_few (waiting_bytes c.args.self.now.encoder) (waiting_bytes c.begin_where_due.new.self.encoder) (waiting_bytes c.code.new.self.encoder) c.args.self.now.size.width c.begin_where_due.new.self.size.width _ _ _ _ (ap waiting_bytes c.begin_where_due.ensures.same_encoder) (ap (λ z. z.width) c.begin_where_due.ensures.size)
+    c.in_ok-begin_where_due.ensures.few c.in_ok-code.ensures.few.ok c.in_ok-end_where_due.ensures.few

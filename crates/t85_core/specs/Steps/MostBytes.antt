@@ -1,0 +1,39 @@
+-- How many bytes the calls of a row encoder append at most.
+use Rattle.std.specs.Prelude.{ℕ, ◌+◌, ◌*◌, ◌≤◌, List, length, Option, Result, OnOk, OnErr}
+use Rattle.std.specs.Io.KnownBytes.{Appends}
+use Rattle.qm_core.specs.Encoder.{waiting_bytes}
+use Rattle.t85_core.specs.Steps.ByRow.{RowView}
+
+-- Bytes were appended, and with so many others they are at most so many.
+pub record AppendsBeside (others most : ℕ) (old new : Option (List ℕ)) : Type 0 where
+  pub bytes : List ℕ
+  pub appended : Appends old new bytes
+  pub few : length bytes + others ≤ most
+
+-- no more than so many bytes were appended
+abbrev pub AppendsAtMost : ℕ → Option (List ℕ) → Option (List ℕ) → Type 0
+AppendsAtMost most old new = AppendsBeside 0 most old new
+
+-- to end the code: stuffing at most doubles the bytes that wait
+abbrev pub most_code_bytes : RowView → ℕ
+most_code_bytes v = 2 * waiting_bytes v.encoder
+
+-- to end the stream: the code, its end marker, and a height with an empty data entity
+abbrev pub most_end_bytes : RowView → ℕ
+most_end_bytes v = most_code_bytes v + 10
+
+-- for a row: a move, four bytes for each pixel and for the pixel before them, the end of the code, and its end marker
+abbrev pub most_row_bytes : RowView → ℕ
+most_row_bytes v = most_code_bytes v + 4 * (v.plan.width + 1) + 10
+
+-- no more bytes were appended than for a row, or for the end
+abbrev pub AppendsRow : RowView → Option (List ℕ) → Option (List ℕ) → Type 0
+AppendsRow v old new = AppendsAtMost (most_row_bytes v) old new
+
+abbrev pub AppendsEnd : RowView → Option (List ℕ) → Option (List ℕ) → Type 0
+AppendsEnd v old new = AppendsAtMost (most_end_bytes v) old new
+
+-- A row was coded, so that this many bytes are left for what comes after it; or no more were appended than that.
+pub record CodesFew {E : Type 0} (v v' : RowView) (old new : Option (List ℕ)) (answer : Result (Unit {0}) E) : Type 0 where
+  pub ok : OnOk answer (AppendsBeside (most_code_bytes v') (most_code_bytes v + 4 * (v.plan.width + 1)) old new)
+  pub err : OnErr answer (AppendsAtMost (most_code_bytes v + 4 * (v.plan.width + 1)) old new)
