@@ -24,7 +24,7 @@ use crate::fault::Fault;
 use crate::header::Header;
 use crate::input_buffer::{ByteSource, InputBuffer};
 use crate::laws::coder_laws;
-use crate::output_buffer::{ByteTarget, OutputBuffer};
+use crate::output_buffer::{ByteTarget, IMAGE_HELD, OutputBuffer};
 use crate::segments::{Move, Place, read_head};
 use crate::state::CodingState;
 use pbm_core::{Input, Output, Size, WriteFault, write_header};
@@ -71,7 +71,7 @@ fn decode_buffered<S: ByteSource, W: Output>(
     height: u32,
     carried: &mut CodingState<'_, '_>,
     stream: &mut S,
-    buffer: &mut OutputBuffer<'_, W>,
+    buffer: &mut OutputBuffer<'_, W, IMAGE_HELD>,
 ) -> Result<(), Fault>
     requires width { width_of carried.old.window.now ≡ header.now.xd }
     requires offset { carried.old.kept.offset ≡ 0 }

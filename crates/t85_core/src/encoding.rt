@@ -25,7 +25,7 @@ use self::steps::write_head;
 use crate::fault::Fault;
 use crate::laws::{code_denotes, fronts};
 use crate::options::Options;
-use crate::output_buffer::{ByteTarget, OutputBuffer};
+use crate::output_buffer::{ByteTarget, IMAGE_HELD, OutputBuffer};
 use pbm_core::{Form, Input, Output, Size, read_row};
 use raster_core::Window;
 
@@ -64,7 +64,7 @@ fn encode_buffered<R: Input, W: Output>(
     options: &Options<'_>,
     window: &mut Window<'_>,
     source: &mut R,
-    buffer: &mut OutputBuffer<'_, W>,
+    buffer: &mut OutputBuffer<'_, W, IMAGE_HELD>,
 ) -> Result<(), Fault>
     requires width { width_of window.old ≡ size.width }
     requires low { is_low (settings_of options.now) size.height ≡ false }

@@ -10,7 +10,11 @@ ghost use Rattle.t85_core.specs.Failures.{CountsWrite};
 use crate::fault::Fault;
 use pbm_core::{DeviceFailed, Output};
 
-const SIZE: usize = 4096;
+/// How many bytes are held back of an image or of its stream.
+pub const IMAGE_HELD: usize = 4096;
+
+/// How many are where a call writes a row's alone: it is made anew at each of them.
+pub const ROW_HELD: usize = 64;
 
 /// Where the bytes of an image or of a stream go.
 pub trait ByteTarget {
@@ -36,17 +40,19 @@ pub trait ByteTarget {
 
 /// Bytes are written where the array is full, and by `write_held`.
 #[derive(Drop)]
-pub struct OutputBuffer<'a, W: Output> {
+pub struct OutputBuffer<'a, W: Output, const SIZE: usize> {
     output: &'a mut W,
     bytes: [u8; SIZE],
     at: usize,
     end: usize,
     ghost ordered: { at ≤ end },
-    ghost within: { end ≤ 4096 },
+    ghost within: { end ≤ SIZE },
+    ghost some: { 0 < SIZE },
 }
 
-impl<'a, W: Output> OutputBuffer<'a, W> {
-    pub fn new(output: &'a mut W) -> OutputBuffer<'a, W>
+impl<'a, W: Output, const SIZE: usize> OutputBuffer<'a, W, SIZE> {
+    pub fn new(output: &'a mut W) -> OutputBuffer<'a, W, SIZE>
+        requires { 0 < SIZE }
         ensures empty { result.at ≡ result.end }
         ensures lent { result.output ≡ output.entry }
     {
@@ -59,7 +65,7 @@ impl<'a, W: Output> OutputBuffer<'a, W> {
     }
 }
 
-impl<W: Output> OutputBuffer<'_, W> {
+impl<W: Output, const SIZE: usize> OutputBuffer<'_, W, SIZE> {
     ghost use Rattle.t85_core.specs.Steps.Views.{text_taken, writer_of};
 
     /// Writes what is held.
@@ -114,25 +120,26 @@ fn write_part<W: Output>(output: &mut W, bytes: &[u8], at: usize, end: usize) ->
     Ok(())
 }
 
-impl<W: Output> OutputBuffer<'_, W> {
+impl<W: Output, const SIZE: usize> OutputBuffer<'_, W, SIZE> {
     ghost use Rattle.t85_core.specs.Steps.Views.{text_taken};
 
     /// Takes the first bytes, as many as there is room for.
     fn fill(&mut self, bytes: &[u8]) -> usize
         ensures bound { result ≤ length bytes.now }
-        ensures takes { 0 < length bytes.now → self.old.end < 4096 → 0 < result }
+        ensures takes { 0 < length bytes.now → self.old.end < SIZE → 0 < result }
         ensures text { Appends (text_taken self.old) (text_taken self.new) (take result bytes.now) }
         ensures lent { self.new.output ≡ self.old.output }
     {
         let count = (SIZE - self.end).min(bytes.len());
         let end = self.end + count;
-        self.bytes[self.end..end].copy_from_slice(&bytes[..count]);
+        let held = &mut self.bytes[..];
+        held[self.end..end].copy_from_slice(&bytes[..count]);
         self.end = end;
         count
     }
 }
 
-impl<W: Output> ByteTarget for OutputBuffer<'_, W> {
+impl<W: Output, const SIZE: usize> ByteTarget for OutputBuffer<'_, W, SIZE> {
     ghost use Rattle.t85_core.specs.Steps.Views.{text_taken, writer_of};
 
     ghost view = { λ s. record {

@@ -46,9 +46,9 @@ sink_view view s = record {
 }
 
 -- the bytes that a buffer has taken, after those that stood there
-abbrev pub text_taken : {W : Type 0} {G : device.Ghosts W} → OutputBuffer W G → Option (List ℕ)
-text_taken {W} {G} b = append_known (G.view b.output.now).contents (held_of b.bytes b.at b.end)
+abbrev pub text_taken : {W : Type 0} {N : ℕ} {G : device.Ghosts W} → OutputBuffer W N G → Option (List ℕ)
+text_taken {W} {N} {G} b = append_known (G.view b.output.now).contents (held_of b.bytes b.at b.end)
 
 -- and its writer
-abbrev pub writer_of : {W : Type 0} {G : device.Ghosts W} → OutputBuffer W G → Writer
-writer_of {W} {G} b = record { reference = b.output.ghost_name; target = (G.view b.output.now).target; flushes = (G.view b.output.now).flushes }
+abbrev pub writer_of : {W : Type 0} {N : ℕ} {G : device.Ghosts W} → OutputBuffer W N G → Writer
+writer_of {W} {N} {G} b = record { reference = b.output.ghost_name; target = (G.view b.output.now).target; flushes = (G.view b.output.now).flushes }

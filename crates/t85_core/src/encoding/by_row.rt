@@ -6,7 +6,7 @@ use crate::encoding::steps::{code_row, count_row, end_entity, go_on, has_candida
 use crate::fault::Fault;
 use crate::laws::{fronts, writing_laws};
 use crate::options::Options;
-use crate::output_buffer::{ByteTarget, OutputBuffer};
+use crate::output_buffer::{ByteTarget, OutputBuffer, ROW_HELD};
 use pbm_core::{Output, Size};
 use qm_core::{Encoder, Learned};
 use raster_core::{Kept, Shape, Tally, Window};
@@ -560,7 +560,7 @@ impl RowEncoder {
     fn put_held<W: Output>(
         &mut self,
         window: &mut Window<'_>,
-        buffer: &mut OutputBuffer<'_, W>,
+        buffer: &mut OutputBuffer<'_, W, ROW_HELD>,
     ) -> Result<(), Fault>
         requires width { width_of window.old ≡ self.old.size.width }
         requires lined { IsLined (held window.old) }
@@ -639,7 +639,7 @@ impl RowEncoder {
     fn end_held<W: Output>(
         &mut self,
         window: &mut Window<'_>,
-        buffer: &mut OutputBuffer<'_, W>,
+        buffer: &mut OutputBuffer<'_, W, ROW_HELD>,
     ) -> Result<(), Fault>
         requires width { width_of window.old ≡ self.old.size.width }
         requires lined { IsLined (held window.old) }

@@ -17,7 +17,7 @@ use crate::encoding::by_row::RowEncoder;
 use crate::encoding::steps::write_head;
 use crate::fault::Fault;
 use crate::options::Options;
-use crate::output_buffer::OutputBuffer;
+use crate::output_buffer::{OutputBuffer, ROW_HELD};
 use pbm_core::laws::masks;
 use pbm_core::{Output, Size};
 use raster_core::Window;
@@ -53,7 +53,7 @@ pub fn start_held<W: Output>(
     size: Size,
     options: &Options<'_>,
     window: &mut Window<'_>,
-    buffer: &mut OutputBuffer<'_, W>,
+    buffer: &mut OutputBuffer<'_, W, ROW_HELD>,
 ) -> Result<RowEncoder, Fault>
     requires width { width_of window.old ≡ size.width }
     requires low { is_low (settings_of options.now) size.height ≡ false }

@@ -9,7 +9,7 @@ use Rattle.t85_core.proofs.Bytes.Streams.{Appends-more, Appends-keeps}
 use Rattle.t85_core.proofs.Bytes.Held.{Keeps-same}
 use Rattle.t85_core.proofs.Walks.InfoEnds.{exit_all}
 use Rattle.t85_core.proofs.output_buffer.OutputBufferByteTarget.put.Goals as goal
-use Rattle.t85_core.proofs.output_buffer.OutputBufferByteTarget.put.Goals.{then-self-eq-SIZE+in_ok-write_held, else-self-eq-SIZE}
+use Rattle.t85_core.proofs.output_buffer.OutputBufferByteTarget.put.Goals.{then-self+in_ok-write_held, else-self}
 
 pub returns-in_err-write_held : goal.returns-in_err-write_held
 returns-in_err-write_held g c =
@@ -31,26 +31,26 @@ returns-in_err-write_held g c =
 pub loop-taken-preserved : goal.loop-taken-preserved
 loop-taken-preserved g c =
     let old = c.loop-taken.self in
-    let new = c.if-self-eq-SIZE.self in
+    let new = c.if-self.self in
     let kept : Keeps (append_known (g.W.Output.view old.output.now).contents (held_of old.bytes old.at old.end)) (append_known (g.W.Output.view new.output.now).contents (held_of new.bytes new.at new.end)) =
-    elim c.if-self-eq-SIZE.branch [
-      | then-self-eq-SIZE+in_ok-write_held w ↦ rw w.self-is w.write_held.ensures.text
-      | else-self-eq-SIZE w ↦ rw w.self-is (Keeps-same _)
+    elim c.if-self.branch [
+      | then-self+in_ok-write_held w ↦ rw w.self-is w.write_held.ensures.text
+      | else-self w ↦ rw w.self-is (Keeps-same _)
     ] in
     let grows : known_length (g.W.Output.view old.output.now).contents ≤ known_length (g.W.Output.view new.output.now).contents =
-    elim c.if-self-eq-SIZE.branch [
-      | then-self-eq-SIZE+in_ok-write_held w ↦ rw w.self-is w.write_held.ensures.grows
-      | else-self-eq-SIZE w ↦ rw w.self-is (omega arith)
+    elim c.if-self.branch [
+      | then-self+in_ok-write_held w ↦ rw w.self-is w.write_held.ensures.grows
+      | else-self w ↦ rw w.self-is (omega arith)
     ] in
     let unfailed : (g.W.Output.view new.output.now).failures ≡ (g.W.Output.view old.output.now).failures =
-    elim c.if-self-eq-SIZE.branch [
-      | then-self-eq-SIZE+in_ok-write_held w ↦ rw w.self-is w.in_ok-write_held.ensures.counts
-      | else-self-eq-SIZE w ↦ rw w.self-is refl
+    elim c.if-self.branch [
+      | then-self+in_ok-write_held w ↦ rw w.self-is w.in_ok-write_held.ensures.counts
+      | else-self w ↦ rw w.self-is refl
     ] in
     let same_writer : writer_of new ≡ writer_of old =
-    elim c.if-self-eq-SIZE.branch [
-      | then-self-eq-SIZE+in_ok-write_held w ↦ rw w.self-is w.write_held.ensures.same_writer
-      | else-self-eq-SIZE w ↦ rw w.self-is refl
+    elim c.if-self.branch [
+      | then-self+in_ok-write_held w ↦ rw w.self-is w.write_held.ensures.same_writer
+      | else-self w ↦ rw w.self-is refl
     ] in
     let more = rw take_rest at c.fill-taken.ensures.text in
     record {
