@@ -303,8 +303,9 @@ impl Walk<'_, '_> {
         requires stage { self.old.stage ≡ stage.Code }
         requires row { self.old.row < rows_in (fields_of header.now) height self.old.entities }
         requires stands { SomeStands (fields_of header.now) height self.old }
-        ensures enters { (text out : List ℕ) → WalkStands (fields_of header.now) height self.old text
-            out → WalkStands (fields_of header.now) height self.new text out }
+        ensures enters { (text out : List ℕ) →
+            WalkStands (fields_of header.now) height self.old text out →
+            WalkStands (fields_of header.now) height self.new text out }
         ensures stage { self.new.stage ≡ stage.Row }
     {
         // The proof reads from this value that a row has pixels.
