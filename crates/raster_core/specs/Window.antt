@@ -1,6 +1,6 @@
 -- What a window holds, and how a shape codes.
-use Rattle.std.specs.Prelude.{ℕ, ◌≡◌, Bool, List, length}
-use Rattle.raster_core.specs.Packed.{Held, packed_row}
+use Rattle.std.specs.Prelude.{ℕ}
+use Rattle.raster_core.specs.Packed.{Held}
 use Rattle.raster_core.specs.declared.window.Window.{Window}
 use Rattle.raster_core.specs.Lines.{Mode}
 use Rattle.raster_core.specs.declared.shape.Shape.{Shape}

@@ -1,0 +1,354 @@
+//! Decoding the pixels of a byte.
+
+ghost use Rattle.std.specs.Prelude.{◌≡◌, ◌+◌, ◌-◌, ◌*◌, ◌%◌, ◌^◌, ◌<◌, ◌≤◌, ◌↔◌, List, IsTrue, IsErr, OnOk, OnErr, IfOk, IfErr, false, true, nat_eq};
+ghost use Rattle.qm_core.specs.Counts.{one_more};
+ghost use Rattle.qm_core.specs.Source.{Pulls};
+ghost use Rattle.qm_core.specs.Place.{Place};
+ghost use Rattle.qm_core.specs.Skipping.{CanSkip};
+ghost use Rattle.qm_core.specs.Decoder.{DecoderIsAt, has_stopped};
+ghost use Rattle.qm_core.specs.declared.source.Pulled.{Pulled};
+ghost use Rattle.raster_core.specs.Machine.Decoded.{Along, StopsAlong, AlongMore, StopsMore, SkipsAlong};
+ghost use Rattle.raster_core.specs.Window.{shape_mode};
+ghost use Rattle.raster_core.specs.Machine.Registers.{bit, is_moved};
+ghost use Rattle.raster_core.specs.Machine.Uniform.{uniform_event, AreAllOf};
+
+use crate::context::{context_of, past_and};
+use crate::lanes::{first_around, has_lanes, last_around};
+use crate::place::Pause;
+use crate::shape::Shape;
+use crate::uniform::{is_run, past_eight, uniform_context};
+use qm_core::{CodeBytes, Context, Decoder, Learned, Stop};
+
+/// Decodes n pixels of a byte. The registers `second_bytes` and `above_bytes` have the byte before,
+/// the byte and the one after it of the two rows above, `before` and the result the last pixels of
+/// the row.
+#[inline(always)]
+pub(crate) fn decode_byte<S: CodeBytes, const TWO_LINE: bool, const MOVED: bool>(
+    shape: Shape,
+    offset: u8,
+    second_bytes: u32,
+    above_bytes: u32,
+    before: u128,
+    n: u32,
+    learned: &mut Learned,
+    decoder: &mut Decoder,
+    source: &mut S,
+) -> Result<u128, Pause>
+    requires offset { offset ≤ 127 }
+    requires template { TWO_LINE ≡ shape.two_line }
+    requires moved { MOVED ≡ is_moved offset }
+    requires second { second_bytes < 2 ^ 24 }
+    requires above { above_bytes < 2 ^ 24 }
+    requires some { 1 ≤ n }
+    requires few { n ≤ 8 }
+    ensures stopped { IsTrue (has_stopped decoder.old) → IsErr result ×
+        (decoder.new ≡ decoder.old) × (source.new ≡ source.old) }
+    ensures stops { IsTrue (has_stopped decoder.new) ↔ IsErr result }
+    ensures same { OnOk result (S.failed source.new ≡ S.failed source.old) }
+    ensures counted { has_stopped decoder.old ≡ false →
+        OnErr result (S.failed source.new ≡ one_more (S.failed source.old)) }
+    ensures ok { IfOk result (λ past. Along (Pulls S.gives S.failed) source.old source.new
+        (shape_mode shape) offset second_bytes above_bytes before
+        decoder.old learned.old n past decoder.new learned.new) }
+    ensures few { IfErr result (λ pause. pause.count < n) }
+    ensures err { IfErr result (λ pause. StopsAlong (Pulls S.gives S.failed) source.old source.new
+        (shape_mode shape) offset second_bytes above_bytes before
+        decoder.old learned.old n pause decoder.new learned.new) }
+{
+    let mut second = second_bytes >> 7;
+    let mut above = above_bytes >> 6;
+    let mut past = before;
+    for j in 0..n {
+        let cx = context_of::<TWO_LINE, MOVED>(offset, second, above, past);
+        let pixel = match decoder.next(learned, cx, source) {
+            Ok(pixel) => pixel,
+            Err(Stop) => return Err(Pause { count: j, past }),
+        };
+        past = past_and::<MOVED>(past, pixel);
+        second *= 2;
+        above *= 2;
+    }
+    Ok(past)
+}
+
+/// Decodes a pixel, to whose context the rows above give the first of these lanes.
+#[inline(always)]
+fn decode_one<S: CodeBytes>(
+    lanes: u64,
+    before: u128,
+    learned: &mut Learned,
+    decoder: &mut Decoder,
+    source: &mut S,
+) -> Result<u128, Pause>
+    ensures stopped { IsTrue (has_stopped decoder.old) → IsErr result ×
+        (decoder.new ≡ decoder.old) × (source.new ≡ source.old) }
+    ensures stops { IsTrue (has_stopped decoder.new) ↔ IsErr result }
+    ensures same { OnOk result (S.failed source.new ≡ S.failed source.old) }
+    ensures counted { has_stopped decoder.old ≡ false →
+        OnErr result (S.failed source.new ≡ one_more (S.failed source.old)) }
+    ensures ok { IfOk result (λ past. AlongMore (Pulls S.gives S.failed) source.old source.new
+        lanes before decoder.old learned.old 1 past decoder.new learned.new) }
+    ensures few { IfErr result (λ pause. pause.count < 1) }
+    ensures err { IfErr result (λ pause. StopsMore (Pulls S.gives S.failed) source.old source.new
+        lanes before decoder.old learned.old 1 pause decoder.new learned.new) }
+{
+    let around = (lanes % 0x400) as u16 / 4 * 4;
+    let cx = Context::of(around + (before % 4) as u16);
+    match decoder.next(learned, cx, source) {
+        Ok(pixel) => Ok(past_and::<false>(before, pixel)),
+        Err(Stop) => Err(Pause {
+            count: 0,
+            past: before,
+        }),
+    }
+}
+
+/// Decodes two pixels.
+#[inline(always)]
+fn decode_two<S: CodeBytes>(
+    lanes: u64,
+    before: u128,
+    learned: &mut Learned,
+    decoder: &mut Decoder,
+    source: &mut S,
+) -> Result<u128, Pause>
+    ensures stopped { IsTrue (has_stopped decoder.old) → IsErr result ×
+        (decoder.new ≡ decoder.old) × (source.new ≡ source.old) }
+    ensures stops { IsTrue (has_stopped decoder.new) ↔ IsErr result }
+    ensures same { OnOk result (S.failed source.new ≡ S.failed source.old) }
+    ensures counted { has_stopped decoder.old ≡ false →
+        OnErr result (S.failed source.new ≡ one_more (S.failed source.old)) }
+    ensures ok { IfOk result (λ past. AlongMore (Pulls S.gives S.failed) source.old source.new
+        lanes before decoder.old learned.old 2 past decoder.new learned.new) }
+    ensures few { IfErr result (λ pause. pause.count < 2) }
+    ensures err { IfErr result (λ pause. StopsMore (Pulls S.gives S.failed) source.old source.new
+        lanes before decoder.old learned.old 2 pause decoder.new learned.new) }
+{
+    let past = decode_one(lanes, before, learned, decoder, source)?;
+    match decode_one(lanes >> 16, past, learned, decoder, source) {
+        Ok(last) => Ok(last),
+        Err(pause) => Err(pause.after(1)),
+    }
+}
+
+/// Decodes four pixels.
+#[inline(always)]
+fn decode_four<S: CodeBytes>(
+    lanes: u64,
+    before: u128,
+    learned: &mut Learned,
+    decoder: &mut Decoder,
+    source: &mut S,
+) -> Result<u128, Pause>
+    ensures stopped { IsTrue (has_stopped decoder.old) → IsErr result ×
+        (decoder.new ≡ decoder.old) × (source.new ≡ source.old) }
+    ensures stops { IsTrue (has_stopped decoder.new) ↔ IsErr result }
+    ensures same { OnOk result (S.failed source.new ≡ S.failed source.old) }
+    ensures counted { has_stopped decoder.old ≡ false →
+        OnErr result (S.failed source.new ≡ one_more (S.failed source.old)) }
+    ensures ok { IfOk result (λ past. AlongMore (Pulls S.gives S.failed) source.old source.new
+        lanes before decoder.old learned.old 4 past decoder.new learned.new) }
+    ensures few { IfErr result (λ pause. pause.count < 4) }
+    ensures err { IfErr result (λ pause. StopsMore (Pulls S.gives S.failed) source.old source.new
+        lanes before decoder.old learned.old 4 pause decoder.new learned.new) }
+{
+    let past = decode_two(lanes, before, learned, decoder, source)?;
+    match decode_two(lanes >> 32, past, learned, decoder, source) {
+        Ok(last) => Ok(last),
+        Err(pause) => Err(pause.after(2)),
+    }
+}
+
+/// Decodes the pixels of a byte, the contexts of four at once.
+#[inline(always)]
+fn decode_eight<S: CodeBytes>(
+    shape: Shape,
+    second_bytes: u32,
+    above_bytes: u32,
+    before: u128,
+    learned: &mut Learned,
+    decoder: &mut Decoder,
+    source: &mut S,
+) -> Result<u128, Pause>
+    requires template { shape.two_line ≡ false }
+    ensures stopped { IsTrue (has_stopped decoder.old) → IsErr result ×
+        (decoder.new ≡ decoder.old) × (source.new ≡ source.old) }
+    ensures stops { IsTrue (has_stopped decoder.new) ↔ IsErr result }
+    ensures same { OnOk result (S.failed source.new ≡ S.failed source.old) }
+    ensures counted { has_stopped decoder.old ≡ false →
+        OnErr result (S.failed source.new ≡ one_more (S.failed source.old)) }
+    ensures ok { IfOk result (λ past. Along (Pulls S.gives S.failed) source.old source.new
+        (shape_mode shape) 0 second_bytes above_bytes before
+        decoder.old learned.old 8 past decoder.new learned.new) }
+    ensures few { IfErr result (λ pause. pause.count < 8) }
+    ensures err { IfErr result (λ pause. StopsAlong (Pulls S.gives S.failed) source.old source.new
+        (shape_mode shape) 0 second_bytes above_bytes before
+        decoder.old learned.old 8 pause decoder.new learned.new) }
+{
+    let first = first_around(second_bytes, above_bytes);
+    let half = decode_four(first, before, learned, decoder, source)?;
+    let last = last_around(second_bytes, above_bytes);
+    match decode_four(last, half, learned, decoder, source) {
+        Ok(past) => Ok(past),
+        Err(pause) => Err(pause.after(4)),
+    }
+}
+
+/// Decodes n pixels of a byte, the contexts of four at once where tables have them.
+#[inline(always)]
+fn decode_plain<S: CodeBytes, const TWO_LINE: bool, const MOVED: bool>(
+    shape: Shape,
+    offset: u8,
+    second_bytes: u32,
+    above_bytes: u32,
+    before: u128,
+    n: u32,
+    learned: &mut Learned,
+    decoder: &mut Decoder,
+    source: &mut S,
+) -> Result<u128, Pause>
+    requires offset { offset ≤ 127 }
+    requires template { TWO_LINE ≡ shape.two_line }
+    requires moved { MOVED ≡ is_moved offset }
+    requires second { second_bytes < 2 ^ 24 }
+    requires above { above_bytes < 2 ^ 24 }
+    requires some { 1 ≤ n }
+    requires few { n ≤ 8 }
+    ensures stopped { IsTrue (has_stopped decoder.old) → IsErr result ×
+        (decoder.new ≡ decoder.old) × (source.new ≡ source.old) }
+    ensures stops { IsTrue (has_stopped decoder.new) ↔ IsErr result }
+    ensures same { OnOk result (S.failed source.new ≡ S.failed source.old) }
+    ensures counted { has_stopped decoder.old ≡ false →
+        OnErr result (S.failed source.new ≡ one_more (S.failed source.old)) }
+    ensures ok { IfOk result (λ past. Along (Pulls S.gives S.failed) source.old source.new
+        (shape_mode shape) offset second_bytes above_bytes before
+        decoder.old learned.old n past decoder.new learned.new) }
+    ensures few { IfErr result (λ pause. pause.count < n) }
+    ensures err { IfErr result (λ pause. StopsAlong (Pulls S.gives S.failed) source.old source.new
+        (shape_mode shape) offset second_bytes above_bytes before
+        decoder.old learned.old n pause decoder.new learned.new) }
+{
+    if has_lanes::<TWO_LINE, MOVED>(shape, offset, n) {
+        decode_eight(
+            shape,
+            second_bytes,
+            above_bytes,
+            before,
+            learned,
+            decoder,
+            source,
+        )
+    } else {
+        decode_byte::<_, TWO_LINE, MOVED>(
+            shape,
+            offset,
+            second_bytes,
+            above_bytes,
+            before,
+            n,
+            learned,
+            decoder,
+            source,
+        )
+    }
+}
+
+/// Decodes a byte in one step, if it is `byte`, all that its contexts read is of its colour, and no
+/// byte of the code is wanted. Else it does nothing.
+#[inline(always)]
+fn skip_byte<const MOVED: bool>(
+    shape: Shape,
+    offset: u8,
+    second_bytes: u32,
+    above_bytes: u32,
+    byte: u8,
+    before: u128,
+    n: u32,
+    learned: &Learned,
+    decoder: &mut Decoder,
+) -> bool
+    requires offset { offset ≤ 127 }
+    requires moved { MOVED ≡ is_moved offset }
+    ensures stopped { has_stopped decoder.new ≡ has_stopped decoder.old }
+    ensures going { result ≡ true → has_stopped decoder.old ≡ false }
+    ensures unchanged { result ≡ false → decoder.new ≡ decoder.old }
+    ensures eight { result ≡ true → n ≡ 8 }
+    ensures skipped { result ≡ true → SkipsAlong (shape_mode shape) offset second_bytes above_bytes
+        byte before decoder.old learned.now decoder.new }
+    ensures taken { (p : Place) (answers : List Pulled) → DecoderIsAt decoder.old p answers →
+        n ≡ 8 →
+        byte ≡ bit (nat_eq byte 255) * 255 →
+        AreAllOf second_bytes above_bytes before offset (nat_eq byte 255) →
+        CanSkip decoder.old (record { place = p; learned = learned.now }) answers
+        (uniform_event (nat_eq byte 255)) 8 → result ≡ true }
+{
+    let colour = byte == 255;
+    if is_run::<MOVED>(offset, second_bytes, above_bytes, byte, before, n) {
+        decoder.skip(learned, uniform_context(colour), colour, 8)
+    } else {
+        false
+    }
+}
+
+/// Decodes n pixels of a byte, all eight in one step where that can be: where the byte is as the
+/// one above it, of one colour.
+#[inline(always)]
+pub(crate) fn decode_step<S: CodeBytes, const TWO_LINE: bool, const MOVED: bool>(
+    shape: Shape,
+    offset: u8,
+    second_bytes: u32,
+    above_bytes: u32,
+    before: u128,
+    n: u32,
+    learned: &mut Learned,
+    decoder: &mut Decoder,
+    source: &mut S,
+) -> Result<u128, Pause>
+    requires offset { offset ≤ 127 }
+    requires template { TWO_LINE ≡ shape.two_line }
+    requires moved { MOVED ≡ is_moved offset }
+    requires second { second_bytes < 2 ^ 24 }
+    requires above { above_bytes < 2 ^ 24 }
+    requires some { 1 ≤ n }
+    requires few { n ≤ 8 }
+    ensures stopped { IsTrue (has_stopped decoder.old) → IsErr result ×
+        (decoder.new ≡ decoder.old) × (source.new ≡ source.old) }
+    ensures stops { IsTrue (has_stopped decoder.new) ↔ IsErr result }
+    ensures same { OnOk result (S.failed source.new ≡ S.failed source.old) }
+    ensures counted { has_stopped decoder.old ≡ false →
+        OnErr result (S.failed source.new ≡ one_more (S.failed source.old)) }
+    ensures ok { IfOk result (λ past. Along (Pulls S.gives S.failed) source.old source.new
+        (shape_mode shape) offset second_bytes above_bytes before
+        decoder.old learned.old n past decoder.new learned.new) }
+    ensures few { IfErr result (λ pause. pause.count < n) }
+    ensures err { IfErr result (λ pause. StopsAlong (Pulls S.gives S.failed) source.old source.new
+        (shape_mode shape) offset second_bytes above_bytes before
+        decoder.old learned.old n pause decoder.new learned.new) }
+{
+    let byte = ((above_bytes >> 8) % 256) as u8;
+    if skip_byte::<MOVED>(
+        shape,
+        offset,
+        second_bytes,
+        above_bytes,
+        byte,
+        before,
+        n,
+        learned,
+        decoder,
+    ) {
+        Ok(past_eight::<MOVED>(before, byte))
+    } else {
+        decode_plain::<_, TWO_LINE, MOVED>(
+            shape,
+            offset,
+            second_bytes,
+            above_bytes,
+            before,
+            n,
+            learned,
+            decoder,
+            source,
+        )
+    }
+}

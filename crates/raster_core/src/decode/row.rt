@@ -1,0 +1,263 @@
+//! Decoding the pixels of a plain row.
+
+ghost use Rattle.std.specs.Prelude.{◌≡◌, ◌+◌, ◌-◌, ◌*◌, ◌%◌, ◌<◌, ◌≤◌, ◌↔◌, length, IsTrue, IsErr, OnOk, OnErr, IfOk, IfErr, false};
+ghost use Rattle.std.specs.Int.{div_ceil};
+ghost use Rattle.qm_core.specs.Counts.{one_more};
+ghost use Rattle.qm_core.specs.Source.{Pulls};
+ghost use Rattle.qm_core.specs.Decoder.{has_stopped};
+ghost use Rattle.raster_core.specs.Machine.Decoded.{ByteEnds, RowAlong, RowStops};
+ghost use Rattle.raster_core.specs.Window.{shape_mode};
+ghost use Rattle.raster_core.specs.Machine.Registers.{is_moved};
+
+use crate::bytes::byte_at;
+use crate::context::by_template;
+use crate::decode::byte::{decode_byte, decode_step};
+use crate::decode::runs::skip_filled;
+use crate::place::{RowPlace, around_at, register_at};
+use crate::shape::Shape;
+use qm_core::{CodeBytes, Decoder, Learned};
+
+/// Decodes what is left of a byte of which some pixels are decoded, and writes it.
+#[inline(never)]
+fn end_byte<S: CodeBytes, const TWO_LINE: bool, const MOVED: bool>(
+    shape: Shape,
+    offset: u8,
+    place: RowPlace,
+    current: &mut [u8],
+    above: &[u8],
+    second: &[u8],
+    learned: &mut Learned,
+    decoder: &mut Decoder,
+    source: &mut S,
+) -> Result<RowPlace, RowPlace>
+    requires offset { offset ≤ 127 }
+    requires template { TWO_LINE ≡ shape.two_line }
+    requires moved { MOVED ≡ is_moved offset }
+    requires part { 1 ≤ place.done % 8 }
+    requires within { place.done < shape.width }
+    requires long { length current.old ≡ div_ceil shape.width 8 }
+    ensures stopped { IsTrue (has_stopped decoder.old) → IsErr result ×
+        (decoder.new ≡ decoder.old) × (source.new ≡ source.old) }
+    ensures stops { IsTrue (has_stopped decoder.new) ↔ IsErr result }
+    ensures same { OnOk result (S.failed source.new ≡ S.failed source.old) }
+    ensures counted { has_stopped decoder.old ≡ false →
+        OnErr result (S.failed source.new ≡ one_more (S.failed source.old)) }
+    ensures whole { IfOk result (λ to. to.done < shape.width → to.done % 8 ≡ 0) }
+    ensures within { IfOk result (λ to. to.done ≤ shape.width) }
+    ensures inside { IfErr result (λ at. at.done < shape.width) }
+    ensures ok { IfOk result (λ to. ByteEnds (Pulls S.gives S.failed) source.old source.new
+        (shape_mode shape) offset above.now second.now place current.old
+        decoder.old learned.old to current.new decoder.new learned.new) }
+    ensures err { IfErr result (λ at. RowStops (Pulls S.gives S.failed) source.old source.new
+        (shape_mode shape) offset above.now second.now place current.old
+        decoder.old learned.old shape.width at current.new decoder.new learned.new) }
+{
+    let begun = place.done % 8;
+    let i = (place.done / 8) as usize;
+    let n = (8 - begun).min(shape.width - place.done);
+    let second_bytes = around_at(second, place.done);
+    let above_bytes = around_at(above, place.done);
+    match decode_byte::<_, TWO_LINE, MOVED>(
+        shape,
+        offset,
+        second_bytes,
+        above_bytes,
+        place.past,
+        n,
+        learned,
+        decoder,
+        source,
+    ) {
+        Ok(past) => {
+            current[i] = ((((past % 256) as u32) << (8 - begun - n)) % 256) as u8;
+            Ok(RowPlace::behind(place.done + n, past))
+        }
+        Err(pause) => Err(RowPlace::behind(place.done + pause.count, pause.past)),
+    }
+}
+
+/// Decodes the pixels of a plain row from a byte on.
+fn decode_bytes<S: CodeBytes, const TWO_LINE: bool, const MOVED: bool>(
+    shape: Shape,
+    offset: u8,
+    place: RowPlace,
+    current: &mut [u8],
+    above: &[u8],
+    second: &[u8],
+    learned: &mut Learned,
+    decoder: &mut Decoder,
+    source: &mut S,
+) -> Result<(), RowPlace>
+    requires offset { offset ≤ 127 }
+    requires template { TWO_LINE ≡ shape.two_line }
+    requires moved { MOVED ≡ is_moved offset }
+    requires whole { place.done % 8 ≡ 0 }
+    requires within { place.done < shape.width }
+    requires long { length current.old ≡ div_ceil shape.width 8 }
+    ensures stopped { IsTrue (has_stopped decoder.old) → IsErr result ×
+        (decoder.new ≡ decoder.old) × (source.new ≡ source.old) }
+    ensures stops { IsTrue (has_stopped decoder.new) ↔ IsErr result }
+    ensures same { OnOk result (S.failed source.new ≡ S.failed source.old) }
+    ensures counted { has_stopped decoder.old ≡ false →
+        OnErr result (S.failed source.new ≡ one_more (S.failed source.old)) }
+    ensures inside { IfErr result (λ at. at.done < shape.width) }
+    ensures ok { OnOk result (RowAlong (Pulls S.gives S.failed) source.old source.new
+        (shape_mode shape) offset above.now second.now place current.old
+        decoder.old learned.old shape.width current.new decoder.new learned.new) }
+    ensures err { IfErr result (λ at. RowStops (Pulls S.gives S.failed) source.old source.new
+        (shape_mode shape) offset above.now second.now place current.old
+        decoder.old learned.old shape.width at current.new decoder.new learned.new) }
+{
+    let mut i = (place.done / 8) as usize;
+    let mut above_bytes = register_at(above, i);
+    let mut second_bytes = register_at(second, i);
+    let mut past = place.past;
+    let mut left = shape.width - place.done;
+    'bytes: while left >= 8 {
+        let words = skip_filled::<MOVED>(
+            current,
+            above,
+            second,
+            i,
+            left,
+            second_bytes,
+            above_bytes,
+            past,
+            learned,
+            decoder,
+        );
+        if words > 0 {
+            i += 8 * words as usize;
+            left -= 64 * words;
+            continue;
+        }
+        above_bytes = above_bytes % 0x1_0000 * 256 + byte_at(above, i + 1);
+        second_bytes = second_bytes % 0x1_0000 * 256 + byte_at(second, i + 1);
+        past = match decode_step::<_, TWO_LINE, MOVED>(
+            shape,
+            offset,
+            second_bytes,
+            above_bytes,
+            past,
+            8,
+            learned,
+            decoder,
+            source,
+        ) {
+            Ok(past) => past,
+            Err(pause) => return Err(RowPlace::within(i, pause)),
+        };
+        current[i] = (past % 256) as u8;
+        left -= 8;
+        i += 1;
+    }
+    if left == 0 {
+        return Ok(());
+    }
+    let n = left;
+    let last_above = above_bytes % 0x1_0000 * 256 + byte_at(above, i + 1);
+    let last_second = second_bytes % 0x1_0000 * 256 + byte_at(second, i + 1);
+    let last = match decode_byte::<_, TWO_LINE, MOVED>(
+        shape,
+        offset,
+        last_second,
+        last_above,
+        past,
+        n,
+        learned,
+        decoder,
+        source,
+    ) {
+        Ok(last) => last,
+        Err(pause) => return Err(RowPlace::within(i, pause)),
+    };
+    current[i] = ((((last % 256) as u32) << (8 - n)) % 256) as u8;
+    Ok(())
+}
+
+/// Decodes the rest of the pixels of a plain row.
+fn decode_rest<S: CodeBytes, const TWO_LINE: bool, const MOVED: bool>(
+    shape: Shape,
+    offset: u8,
+    place: RowPlace,
+    current: &mut [u8],
+    above: &[u8],
+    second: &[u8],
+    learned: &mut Learned,
+    decoder: &mut Decoder,
+    source: &mut S,
+) -> Result<(), RowPlace>
+    requires offset { offset ≤ 127 }
+    requires template { TWO_LINE ≡ shape.two_line }
+    requires moved { MOVED ≡ is_moved offset }
+    requires within { place.done < shape.width }
+    requires long { length current.old ≡ div_ceil shape.width 8 }
+    ensures stopped { IsTrue (has_stopped decoder.old) → IsErr result ×
+        (decoder.new ≡ decoder.old) × (source.new ≡ source.old) }
+    ensures stops { IsTrue (has_stopped decoder.new) ↔ IsErr result }
+    ensures same { OnOk result (S.failed source.new ≡ S.failed source.old) }
+    ensures counted { has_stopped decoder.old ≡ false →
+        OnErr result (S.failed source.new ≡ one_more (S.failed source.old)) }
+    ensures inside { IfErr result (λ at. at.done < shape.width) }
+    ensures ok { OnOk result (RowAlong (Pulls S.gives S.failed) source.old source.new
+        (shape_mode shape) offset above.now second.now place current.old
+        decoder.old learned.old shape.width current.new decoder.new learned.new) }
+    ensures err { IfErr result (λ at. RowStops (Pulls S.gives S.failed) source.old source.new
+        (shape_mode shape) offset above.now second.now place current.old
+        decoder.old learned.old shape.width at current.new decoder.new learned.new) }
+{
+    if place.done % 8 == 0 {
+        return decode_bytes::<_, TWO_LINE, MOVED>(
+            shape, offset, place, current, above, second, learned, decoder, source,
+        );
+    }
+    let from = end_byte::<_, TWO_LINE, MOVED>(
+        shape, offset, place, current, above, second, learned, decoder, source,
+    )?;
+    if from.done == shape.width {
+        return Ok(());
+    }
+    let rest = decode_bytes::<_, TWO_LINE, MOVED>(
+        shape, offset, from, current, above, second, learned, decoder, source,
+    );
+    rest
+}
+
+/// Decodes the rest of the pixels of a plain row, in whichever template.
+pub(crate) fn decode_pixels<S: CodeBytes>(
+    shape: Shape,
+    offset: u8,
+    place: RowPlace,
+    current: &mut [u8],
+    above: &[u8],
+    second: &[u8],
+    learned: &mut Learned,
+    decoder: &mut Decoder,
+    source: &mut S,
+) -> Result<(), RowPlace>
+    requires offset { offset ≤ 127 }
+    requires within { place.done < shape.width }
+    requires long { length current.old ≡ div_ceil shape.width 8 }
+    ensures stopped { IsTrue (has_stopped decoder.old) → IsErr result ×
+        (decoder.new ≡ decoder.old) × (source.new ≡ source.old) }
+    ensures stops { IsTrue (has_stopped decoder.new) ↔ IsErr result }
+    ensures same { OnOk result (S.failed source.new ≡ S.failed source.old) }
+    ensures counted { has_stopped decoder.old ≡ false →
+        OnErr result (S.failed source.new ≡ one_more (S.failed source.old)) }
+    ensures inside { IfErr result (λ at. at.done < shape.width) }
+    ensures ok { OnOk result (RowAlong (Pulls S.gives S.failed) source.old source.new
+        (shape_mode shape) offset above.now second.now place current.old
+        decoder.old learned.old shape.width current.new decoder.new learned.new) }
+    ensures err { IfErr result (λ at. RowStops (Pulls S.gives S.failed) source.old source.new
+        (shape_mode shape) offset above.now second.now place current.old
+        decoder.old learned.old shape.width at current.new decoder.new learned.new) }
+{
+    by_template!(
+        decode_rest,
+        shape,
+        offset,
+        (
+            shape, offset, place, current, above, second, learned, decoder, source
+        )
+    )
+}

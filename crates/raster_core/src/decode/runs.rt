@@ -1,0 +1,122 @@
+//! Decoding bytes of one colour, many in one step.
+
+ghost use Rattle.std.specs.Prelude.{◌≡◌, ℕ, ◌+◌, ◌-◌, ◌*◌, ◌^◌, ◌<◌, ◌≤◌, length, List, slice_index, false, true};
+ghost use Rattle.std.specs.Int.{div_ceil};
+ghost use Rattle.qm_core.specs.Place.{Place};
+ghost use Rattle.qm_core.specs.Skipping.{CanSkip};
+ghost use Rattle.qm_core.specs.Decoder.{DecoderIsAt, has_stopped};
+ghost use Rattle.qm_core.specs.declared.source.Pulled.{Pulled};
+ghost use Rattle.raster_core.specs.Machine.Decoded.{SkipsFilledAlong};
+ghost use Rattle.raster_core.specs.Machine.Registers.{bit, is_moved, past_bits};
+ghost use Rattle.raster_core.specs.Machine.Uniform.{uniform_event, colour_of, filled, AreFilled};
+
+use crate::uniform::{is_all_above, is_filled, paint, uniform_context};
+use qm_core::{Decoder, Learned};
+
+/// Decodes eight bytes in one step, where they are of a colour and below bytes of it, and no byte of
+/// the code is wanted. Else it does nothing. What comes before them has to be of the colour.
+#[inline(always)]
+fn skip_word(
+    colour: bool,
+    above: &[u8],
+    second: &[u8],
+    i: usize,
+    left: u32,
+    learned: &Learned,
+    decoder: &mut Decoder,
+) -> bool
+    requires place { i < 2 ^ 32 }
+    ensures stopped { has_stopped decoder.new ≡ has_stopped decoder.old }
+    ensures going { result ≡ true → has_stopped decoder.old ≡ false }
+    ensures unchanged { result ≡ false → decoder.new ≡ decoder.old }
+    ensures inside { result ≡ true → 64 < left }
+    ensures skipped { result ≡ true → SkipsFilledAlong colour above.now second.now i 8
+        decoder.old learned.now decoder.new }
+    ensures taken { (p : Place) (answers : List Pulled) → DecoderIsAt decoder.old p answers →
+        64 < left → i + 9 ≤ length above.now → i + 9 ≤ length second.now →
+        AreFilled colour above.now (i + 1) 8 → AreFilled colour second.now (i + 1) 8 →
+        CanSkip decoder.old (record { place = p; learned = learned.now }) answers
+        (uniform_event colour) 64 → result ≡ true }
+{
+    if is_all_above(colour, above, second, i, left) {
+        decoder.skip(learned, uniform_context(colour), colour, 64)
+    } else {
+        false
+    }
+}
+
+/// Decodes bytes of a colour by eights, and says how many eights, as long as that can be.
+#[inline(never)]
+fn skip_words(
+    colour: bool,
+    above: &[u8],
+    second: &[u8],
+    i: usize,
+    left: u32,
+    learned: &Learned,
+    decoder: &mut Decoder,
+) -> u32
+    requires some { 1 ≤ left }
+    requires place { 8 * i + left < 2 ^ 32 }
+    ensures stopped { has_stopped decoder.new ≡ has_stopped decoder.old }
+    ensures going { 1 ≤ result → has_stopped decoder.old ≡ false }
+    ensures unchanged { result ≡ 0 → decoder.new ≡ decoder.old }
+    ensures inside { 64 * result < left }
+    ensures skipped { SkipsFilledAlong colour above.now second.now i (8 * result) decoder.old
+        learned.now decoder.new }
+{
+    let mut words = 0u32;
+    let mut at = i;
+    let mut rest = left;
+    'words: while skip_word(colour, above, second, at, rest, learned, decoder) {
+        words += 1;
+        at += 8;
+        rest -= 64;
+    }
+    words
+}
+
+/// The same after pixels of one colour alone, and writes the bytes; else it decodes nothing.
+#[inline(always)]
+pub(crate) fn skip_filled<const MOVED: bool>(
+    current: &mut [u8],
+    above: &[u8],
+    second: &[u8],
+    i: usize,
+    left: u32,
+    second_bytes: u32,
+    above_bytes: u32,
+    before: u128,
+    learned: &Learned,
+    decoder: &mut Decoder,
+) -> u32
+    requires some { 1 ≤ left }
+    requires place { 8 * i + left < 2 ^ 32 }
+    requires long { length current.old ≡ div_ceil (8 * i + left) 8 }
+    ensures stopped { has_stopped decoder.new ≡ has_stopped decoder.old }
+    ensures going { 1 ≤ result → has_stopped decoder.old ≡ false }
+    ensures unchanged { result ≡ 0 → decoder.new ≡ decoder.old }
+    ensures inside { 64 * result < left }
+    ensures second { 1 ≤ result → second_bytes ≡ filled (colour_of above_bytes) 24 }
+    ensures above { 1 ≤ result → above_bytes ≡ filled (colour_of above_bytes) 24 }
+    ensures before { 1 ≤ result → (offset : ℕ) → MOVED ≡ is_moved offset →
+        before ≡ filled (colour_of above_bytes) (past_bits offset) }
+    ensures filled { (k : ℕ) → i ≤ k → k < i + 8 * result →
+        slice_index current.new k ≡ bit (colour_of above_bytes) * 255 }
+    ensures kept { (k : ℕ) → k < i → slice_index current.new k ≡ slice_index current.old k }
+    ensures skipped { SkipsFilledAlong (colour_of above_bytes) above.now second.now i (8 * result)
+        decoder.old learned.now decoder.new }
+{
+    // Most bytes that are in no run end here.
+    if second_bytes != above_bytes {
+        return 0;
+    }
+    let colour = above_bytes == 0xFF_FFFF;
+    if is_filled::<MOVED>(colour, second_bytes, above_bytes, before) {
+        let words = skip_words(colour, above, second, i, left, learned, decoder);
+        paint(current, colour, i, i + 8 * words as usize);
+        words
+    } else {
+        0
+    }
+}
