@@ -1,27 +1,20 @@
 //! Turns a JBIG1 image into a raw PBM image.
 #![tactic(auto)]
 
-use pbm_core::{FromRead, ToWrite};
-use program_core::jbgtopbm85::{Job, NAME, job, open, run};
+use pbm_core::ToWrite;
+use program_core::jbgtopbm85::{Job, NAME, job, open, run_on};
 use program_core::{Places, end, refuse, words_of};
 use std::process::ExitCode;
 
 /// Opens the files, and does the job.
 fn perform(rt: &HostRuntime, job: &Job) -> ExitCode {
     let _places = Places::take(rt);
-    let files = match open(rt, job) {
+    let mut files = match open(rt, job) {
         Ok(files) => files,
         Err(code) => return code,
     };
-    let status = run(
-        rt.alloc(),
-        job,
-        &mut FromRead::new(files.input),
-        &mut files.again.map(FromRead::new),
-        &mut ToWrite::new(files.output),
-        &mut ToWrite::new(rt.stderr()),
-    );
-    end(status)
+    let mut messages = ToWrite::new(rt.stderr());
+    end(run_on(rt.alloc(), job, &mut files, &mut messages))
 }
 
 fn main(rt: HostRuntime) -> ExitCode {

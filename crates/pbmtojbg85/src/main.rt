@@ -2,7 +2,7 @@
 #![tactic(auto)]
 
 use pbm_core::{FromRead, ToWrite};
-use program_core::pbmtojbg85::{Job, NAME, job, open, run};
+use program_core::pbmtojbg85::{Files, Job, NAME, job, open, run_on};
 use program_core::{LineFault, Places, end, refuse, words_of};
 use std::io::BufReader;
 use std::process::ExitCode;
@@ -14,21 +14,19 @@ const HELD: usize = 4096;
 /// Opens the files, and does the job.
 fn perform(rt: &HostRuntime, job: &Job) -> ExitCode {
     let _places = Places::take(rt);
-    let (input, output) = match open(rt, job) {
+    let files = match open(rt, job) {
         Ok(files) => files,
         Err(code) => return code,
     };
-    let Ok(input) = BufReader::with_capacity(rt.alloc(), HELD, input) else {
+    let Ok(input) = BufReader::with_capacity(rt.alloc(), HELD, files.input) else {
         return refuse(rt, NAME, LineFault::Fault(Fault::OutOfMemory));
     };
-    let status = run(
-        rt.alloc(),
-        job,
-        &mut FromRead::new(input),
-        &mut ToWrite::new(output),
-        &mut ToWrite::new(rt.stderr()),
-    );
-    end(status)
+    let mut files = Files {
+        input: FromRead::new(input),
+        output: files.output,
+    };
+    let mut messages = ToWrite::new(rt.stderr());
+    end(run_on(rt.alloc(), job, &mut files, &mut messages))
 }
 
 fn main(rt: HostRuntime) -> ExitCode {

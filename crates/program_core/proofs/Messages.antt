@@ -1,18 +1,29 @@
--- What a message holds once a text was put after it.
-use Rattle.std.proofs.Common.{◌≡◌, ◌≤◌, ◌+◌, ◌-◌, ◌++◌, ◌∙◌, ℕ, List, length, min, take, ap, sym, arith}
-use Rattle.std.proofs.lemmas.List.{length-take, length-take-le, take_min}
-use Rattle.std.proofs.lemmas.Slice.{take-put_mid}
-use Rattle.std.proofs.Math.Seq.{take-append-add}
-use borrow.Rule.Slice.PartMut.{put_mid}
+-- A line that is put together from parts that find room.
+use Rattle.std.proofs.Common.{◌≡◌, ◌≤◌, ◌<◌, ◌+◌, ◌++◌, ◌∙◌, ℕ, List, [], length, refl, ap, arith, le-leb, length-append}
+use Rattle.std.specs.Prelude.{codes}
+use Rattle.std.specs.Fmt.Cut.{cut_to}
+use Rattle.program_core.specs.Message.{fault_line}
 
--- a part that finds no room is left out
-pub told_more : (bytes text part : List ℕ) (len k count room : ℕ) → length bytes ≡ room → len ≤ room → count ≡ min (length text) (room - len) → part ≡ take count text
-    → take (len + count) (put_mid len k bytes part) ≡ take room (take len bytes ++ text)
-told_more bytes text part len k count room long within counted is =
-    let held : length (take len bytes) ≡ len = length-take-le len bytes (omega arith) in
-    let part_long : length part ≡ count = ap length is ∙ length-take count text ∙ omega arith in
-    let fits : take count text ≡ take (room - len) text = ap (λ (n : ℕ). take n text) (counted ∙ omega arith) ∙ take_min (room - len) text in
-    let whole : room ≡ length (take len bytes) + (room - len) = omega arith in
-    take-put_mid len k bytes part (len + count) (omega arith) (omega arith)
-    ∙ ap (λ (t : List ℕ). take len bytes ++ t) (is ∙ fits)
-    ∙ sym (ap (λ (n : ℕ). take n (take len bytes ++ text)) whole ∙ take-append-add (take len bytes) text (room - len))
+-- a part that has room is not cut
+pub cut_to_fits : (room : ℕ) (text : List ℕ) → length text ≤ room → cut_to room text ≡ text
+unfolding cut_to
+cut_to_fits room text fits = rw (le-leb (length text) room fits) refl
+
+-- what is put after a text where there is room for it
+pub put_whole : (old part new : List ℕ) (most room : ℕ) → (length old + most < room → new ≡ old ++ cut_to most part) → length part ≤ most → length old + most < room → new ≡ old ++ part
+put_whole old part new most room puts fits has_room = puts has_room ∙ ap (λ (t : List ℕ). old ++ t) (cut_to_fits most part fits)
+
+-- the four parts of a fault's line, one after another
+pub line_whole : (program text : List ℕ) (none named colon told line : List ℕ) → none ≡ []
+    → (length none + 24 < 128 → named ≡ none ++ cut_to 24 program)
+    → (length named + 2 < 128 → colon ≡ named ++ cut_to 2 (codes ": "))
+    → (length colon + 96 < 128 → told ≡ colon ++ cut_to 96 text)
+    → (length told + 1 < 128 → line ≡ told ++ cut_to 1 (codes "\n"))
+    → length program ≤ 24 → length text ≤ 96 → line ≡ fault_line program text
+line_whole program text none named colon told line empty first second third fourth short fits =
+    let has_name : named ≡ program = put_whole none program named 24 128 first short (rw empty (omega arith)) ∙ rw empty refl in
+    let has_colon : colon ≡ program ++ codes ": " = put_whole named (codes ": ") colon 2 128 second (omega arith) (rw has_name (omega arith)) ∙ rw has_name refl in
+    let colon_long : length colon ≡ length program + 2 = rw has_colon (length-append program (codes ": ")) in
+    let has_text : told ≡ (program ++ codes ": ") ++ text = put_whole colon text told 96 128 third fits (omega arith) ∙ rw has_colon refl in
+    let text_long : length told ≡ length program + 2 + length text = rw has_text (length-append (program ++ codes ": ") text ∙ ap (λ (n : ℕ). n + length text) (length-append program (codes ": "))) in
+    put_whole told (codes "\n") line 1 128 fourth (omega arith) (omega arith) ∙ rw has_text refl

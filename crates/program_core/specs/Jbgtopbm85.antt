@@ -1,12 +1,16 @@
 -- The command of `jbgtopbm85`, as clap's contracts see one, what the arguments say by it, and what `run` does for a job.
 use Rattle.std.specs.Prelude.{◌≡◌, ◌-◌, ◌^◌, ℕ, Bool, true, false, List, Result, Some, codes, option_map, string_bytes, unwrap_or}
-use Rattle.t85_core.specs.Change.{Change}
+use Rattle.pbm_core.specs.Device.{OutputView}
+use Rattle.t85_core.specs.Change.{Change, between}
+use Rattle.t85_core.specs.Failures.{FlushesOnce}
 use Rattle.clap.specs.Words.{App, Kinds, Row, fault_of, Rule, Text, first_of, matches_of, new_app, new_rule, with_rule}
 use Rattle.clap.specs.declared.builder.ArgAction.TheVariants.{SetTrue}
 use Rattle.t85_core.specs.declared.fault.Fault.{Fault}
 use Rattle.t85_core.specs.Info.{Info}
 use Rattle.t85_core.specs.ToPbm.{ToPbm}
 use Rattle.program_core.specs.Line.{flag_in}
+use Rattle.program_core.specs.Message.{Reports}
+use Rattle.program_core.specs.Run.{exit_status}
 use Rattle.program_core.specs.Options.{with_version, long_number_rule, number_in}
 use Rattle.program_core.specs.declared.jbgtopbm85.work.Job.{Job}
 
@@ -48,3 +52,13 @@ Does true limit input twice untouched again output flushed outcome =
     Info input output flushed outcome × untouched
 Does false limit input twice untouched again output flushed outcome =
     ToPbm limit input twice untouched again output flushed outcome
+
+-- What a run leaves for a job, with this exit status: what the engine leaves with some outcome, of the output besides, and a
+-- report of that outcome. The second reading is given as to `Does`.
+pub record RunsDecoding (job : Job) (input : Change) (twice : Bool) (untouched : Type 0) (again : Change) (old new : OutputView) (messages_old messages_new : OutputView) (status : ℕ) : Type 0 where
+  pub outcome : Result (Unit {0}) Fault
+  pub status_is : status ≡ exit_status outcome
+  pub does : Does job.info (limit_of job) input twice untouched again (between old.contents new.contents old.failures new.failures) new.flushed outcome
+  pub flushes : FlushesOnce old.flushes new.flushes outcome
+  pub same_target : new.target ≡ old.target
+  pub reports : Reports (codes "jbgtopbm85") outcome messages_old messages_new

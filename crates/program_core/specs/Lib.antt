@@ -4,5 +4,4 @@ pub mod Options
 pub mod Jbgtopbm85
 pub mod Pbmtojbg85
 pub mod Run
--- How it is proved.
 pub mod Message

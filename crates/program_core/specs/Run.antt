@@ -1,8 +1,7 @@
--- What a run begins with and how it ends: what the name of a file stands for, the exit status, and the count of messages that
--- failed.
-use Rattle.std.specs.Prelude.{◌≡◌, ◌⊎◌, ℕ, Bool, true, false, not, List, Option, Some, None, codes, Result, Ok, Err}
+-- What a run begins with and how it ends: what the name of a file stands for, what kind of file it is, and the exit status.
+use Rattle.std.specs.Prelude.{ℕ, Bool, true, false, not, List, Option, Some, None, codes, Result, Ok, Err}
+use Rattle.std.specs.Fs.{IsFile}
 use Rattle.std.specs.Str.{bytes_eq}
-use Rattle.pbm_core.specs.Device.{one_more}
 use Rattle.program_core.specs.declared.files.Readable.{Readable}
 use Rattle.program_core.specs.declared.files.Readable.TheVariants as readable
 use Rattle.program_core.specs.declared.files.Writable.{Writable}
@@ -16,7 +15,13 @@ names_file (Some name) = not (bytes_eq name (codes "-"))
 
 abbrev pub reads_file : Readable → Bool
 reads_file (readable.Stream stream) = false
-reads_file (readable.File file) = true
+reads_file (readable.File file type) = true
+
+-- a named file that is a regular one, so that its bytes can be read again
+abbrev pub IsRegular : Readable → Type 0
+IsRegular (readable.Stream stream) = ⊥
+IsRegular (readable.File file None) = ⊥
+IsRegular (readable.File file (Some type)) = IsFile type
 
 abbrev pub writes_file : Writable → Bool
 writes_file (writable.Stream stream) = false
@@ -26,7 +31,3 @@ writes_file (writable.File file) = true
 abbrev pub exit_status : Result (Unit {0}) Fault → ℕ
 exit_status (Ok u) = 0
 exit_status (Err f) = 1
-
--- a count of failures that has risen by one at most, modulo 2^64
-abbrev pub OnceAtMost : ℕ → ℕ → Type 0
-OnceAtMost old new = (new ≡ old) ⊎ (new ≡ one_more old)

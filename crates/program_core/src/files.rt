@@ -1,9 +1,9 @@
 //! What is read and written: a named file, or a standard stream.
 
-ghost use Rattle.std.specs.Prelude.{◌≡◌, ◌≤◌, length, IfOk, OnErr, option_map, string_bytes, true};
-ghost use Rattle.program_core.specs.Run.{names_file, reads_file, writes_file};
+ghost use Rattle.std.specs.Prelude.{◌≡◌, ◌≤◌, ◌↔◌, length, IfOk, IsTrue, OnErr, option_map, string_bytes, true};
+ghost use Rattle.program_core.specs.Run.{IsRegular, names_file, reads_file, writes_file};
 
-use std::fs::{self, File};
+use std::fs::{self, File, FileType};
 use std::io::{self, Read, Stdin, Stdout, Write};
 use std::os::fd::{AsRawFd, RawFd};
 
@@ -13,7 +13,8 @@ const STREAM: &str = "-";
 #[derive(Drop)]
 pub enum Readable {
     Stream(Stdin),
-    File(File),
+    /// A named file, and its type, where the system tells it.
+    File(File, Option<FileType>),
 }
 
 impl Readable {
@@ -24,21 +25,34 @@ impl Readable {
         ensures fails { OnErr result (names_file (option_map string_bytes name.now) ≡ true) }
     {
         match name {
-            Some(name) if name.as_str() != STREAM => Ok(Readable::File(fs::open(
-                rt,
-                name.as_str(),
-            )?)),
+            Some(name) if name.as_str() != STREAM => {
+                let file = fs::open(rt, name.as_str())?;
+                let kind = type_of(&file);
+                Ok(Readable::File(file, kind))
+            }
             _ => Ok(Readable::Stream(rt.stdin())),
         }
     }
 }
 
 impl Readable {
-    /// Whether it is a named file.
-    pub(crate) fn is_file(&self) -> bool
-        ensures { result ≡ reads_file self.now }
+    /// Whether its bytes can be read again, from the first one on: it is a regular file that has a name. A pipe, also one
+    /// that has a name, gives its bytes once.
+    pub(crate) fn is_regular(&self) -> bool
+        ensures { IsTrue result ↔ IsRegular self.now }
     {
-        matches!(self, Readable::File(_))
+        match self {
+            Readable::File(_, Some(kind)) => kind.is_file(),
+            _ => false,
+        }
+    }
+}
+
+/// The type of an open file.
+fn type_of(file: &File) -> Option<FileType> {
+    match file.metadata() {
+        Ok(metadata) => Some(metadata.file_type()),
+        Err(_) => None,
     }
 }
 
@@ -46,7 +60,7 @@ impl Read for Readable {
     fn read(&mut self, buf: &mut [u8]) -> io::Result<usize> {
         match self {
             Readable::Stream(stream) => stream.read(buf),
-            Readable::File(file) => file.read(buf),
+            Readable::File(file, _) => file.read(buf),
         }
     }
 }

@@ -1,15 +1,12 @@
 //! The work of `jbgtopbm85`: its command line, and its run over lent devices.
 
-ghost use Rattle.std.specs.Prelude.{◌≡◌, ◌&&◌, not, false, is_some, IfErr, IfOk, Result, option_map, string_bytes};
-ghost use Rattle.std.specs.Option.{option_map_or};
-ghost use Rattle.t85_core.specs.ToPbm.{again_change};
-ghost use Rattle.std.specs.Io.KnownBytes.{Keeps};
-ghost use Rattle.t85_core.specs.declared.fault.Fault.{Fault};
-ghost use Rattle.std.specs.Process.{exit_status as exit_code_status};
+ghost use Rattle.std.specs.Prelude.{◌≡◌, ◌↔◌, false, true, is_some, IfErr, IfOk, IfSome, IsSome, option_map, string_bytes};
+ghost use Rattle.std.specs.Process.{exit_status};
 ghost use Rattle.t85_core.specs.Change.{input_change, output_change};
-ghost use Rattle.program_core.specs.Run.{names_file, reads_file, writes_file, exit_status, OnceAtMost};
-ghost use Rattle.program_core.specs.Jbgtopbm85.{Does, limit_of};
 ghost use Rattle.t85_core.specs.Failures.{FlushesOnce};
+ghost use Rattle.t85_core.specs.ToPbm.{again_change};
+ghost use Rattle.program_core.specs.Jbgtopbm85.{Does, limit_of, RunsDecoding};
+ghost use Rattle.program_core.specs.Run.{IsRegular, names_file, reads_file, writes_file};
 
 mod words;
 mod work;
@@ -17,7 +14,7 @@ mod work;
 use crate::files::{Readable, Writable};
 use crate::message::report;
 use crate::program::{create_output, open_input};
-use pbm_core::{Input, Output};
+use pbm_core::{FromRead, Input, Output, ToWrite};
 use std::alloc::Global;
 use std::process::ExitCode;
 use t85_core::{Fault, info, to_pbm};
@@ -29,36 +26,59 @@ pub const NAME: &str = "jbgtopbm85";
 
 /// What a job is done on.
 #[derive(Drop)]
-pub struct Files {
-    pub input: Readable,
-    /// The input once more, where it is a file whose image is asked for.
-    pub again: Option<Readable>,
-    pub output: Writable,
+pub struct Files<R, Second, W> {
+    pub input: R,
+    /// The input once more, where its image is asked for and it can be read again.
+    pub again: Option<Second>,
+    pub output: W,
 }
 
+/// The files of a job, as they are opened.
+pub type Opened = Files<FromRead<Readable>, FromRead<Readable>, ToWrite<Writable>>;
+
 /// Opens the job's input, and then creates or empties its output; where one can't be, that was reported, and the program
-/// ends.
-pub fn open(rt: &HostRuntime, job: &Job) -> Result<Files, ExitCode>
-    ensures input { IfOk result (λ files. reads_file files.input ≡ names_file
+/// ends. A pipe is opened once, also where it has a name.
+pub fn open(rt: &HostRuntime, job: &Job) -> Result<Opened, ExitCode>
+    ensures input { IfOk result (λ files. reads_file files.input.reader ≡ names_file
         (option_map string_bytes job.now.input)) }
-    ensures again { IfOk result (λ files. option_map_or reads_file files.again false
-        ≡ (not job.now.info && names_file (option_map string_bytes job.now.input))) }
-    ensures output { IfOk result (λ files. writes_file files.output ≡ names_file
+    ensures again { IfOk result (λ files. IsSome files.again
+        ↔ ((job.now.info ≡ false) × IsRegular files.input.reader)) }
+    ensures second { IfOk result (λ files. IfSome files.again
+        (λ again. reads_file again.reader ≡ true)) }
+    ensures output { IfOk result (λ files. writes_file files.output.writer ≡ names_file
         (option_map string_bytes job.now.output)) }
-    ensures status { IfErr result (λ e. exit_code_status e ≡ 1) }
+    ensures status { IfErr result (λ e. exit_status e ≡ 1) }
 {
     let input = open_input(rt, NAME, &job.input)?;
-    let again = if input.is_file() && !job.info {
-        Some(open_input(rt, NAME, &job.input)?)
+    let again = if !job.info && input.is_regular() {
+        Some(FromRead::new(open_input(rt, NAME, &job.input)?))
     } else {
         None
     };
     let output = create_output(rt, NAME, &job.output)?;
     Ok(Files {
-        input,
+        input: FromRead::new(input),
         again,
-        output,
+        output: ToWrite::new(output),
     })
+}
+
+/// Does the job on its files.
+pub fn run_on<R: Input, Second: Input, W: Output, M: Output>(
+    alloc: Global,
+    job: &Job,
+    files: &mut Files<R, Second, W>,
+    messages: &mut M,
+) -> u8
+    ensures { RunsDecoding job.now (input_change R.view files.old.input files.new.input)
+        (is_some files.old.again) (files.new.again ≡ files.old.again)
+        (again_change Second.view files.old.again files.new.again)
+        (W.view files.old.output) (W.view files.new.output)
+        (M.view messages.old) (M.view messages.new) result }
+{
+    let input = &mut files.input;
+    let output = &mut files.output;
+    run(alloc, job, input, &mut files.again, output, messages)
 }
 
 /// Does the job, reports a fault to `messages`, and gives the exit status: 0, or 1 after a fault. `again` has the same
@@ -71,21 +91,11 @@ pub fn run<R: Input, Second: Input, W: Output, M: Output>(
     output: &mut W,
     messages: &mut M,
 ) -> u8
-    // The engine's outcome is passed on.
-    ensures outcome { (outcome : Result (Unit {0}) Fault) × (result ≡ exit_status outcome) ×
-        Does job.now.info (limit_of job.now)
-        (input_change R.view input.old input.new)
+    ensures { RunsDecoding job.now (input_change R.view input.old input.new)
         (is_some again.old) (again.new ≡ again.old)
         (again_change Second.view again.old again.new)
-        (output_change W.view output.old output.new) (W.view output.new).flushed outcome
-        × FlushesOnce (W.view output.old).flushes (W.view output.new).flushes outcome }
-    ensures same_target { (W.view output.new).target ≡ (W.view output.old).target }
-
-    // A message is tried once, and only after a fault.
-    ensures quiet { result ≡ 0 →
-        Keeps (M.view messages.old).contents (M.view messages.new).contents ×
-        ((M.view messages.new).failures ≡ (M.view messages.old).failures) }
-    ensures once { OnceAtMost (M.view messages.old).failures (M.view messages.new).failures }
+        (W.view output.old) (W.view output.new)
+        (M.view messages.old) (M.view messages.new) result }
 {
     let outcome = work_on(alloc, job, input, again, output);
     report(NAME, outcome, messages)

@@ -1,14 +1,10 @@
 //! The work of `pbmtojbg85`: its command line, and its run over lent devices.
 
-ghost use Rattle.std.specs.Prelude.{◌≡◌, IfErr, IfOk, Result, option_map, string_bytes};
-ghost use Rattle.std.specs.Io.KnownBytes.{Keeps};
-ghost use Rattle.t85_core.specs.ToJbg.{ToJbg};
-ghost use Rattle.t85_core.specs.Failures.{FlushesOnce};
-ghost use Rattle.t85_core.specs.declared.fault.Fault.{Fault};
-ghost use Rattle.std.specs.Process.{exit_status as exit_code_status};
-ghost use Rattle.t85_core.specs.Change.{input_change, output_change};
-ghost use Rattle.program_core.specs.Run.{names_file, reads_file, writes_file, exit_status, OnceAtMost};
-ghost use Rattle.program_core.specs.Pbmtojbg85.{settings_asked};
+ghost use Rattle.std.specs.Prelude.{◌≡◌, IfErr, IfOk, option_map, string_bytes};
+ghost use Rattle.std.specs.Process.{exit_status};
+ghost use Rattle.t85_core.specs.Change.{input_change};
+ghost use Rattle.program_core.specs.Pbmtojbg85.{RunsEncoding};
+ghost use Rattle.program_core.specs.Run.{names_file, reads_file, writes_file};
 
 mod words;
 mod work;
@@ -16,7 +12,7 @@ mod work;
 use crate::files::{Readable, Writable};
 use crate::message::report;
 use crate::program::{create_output, open_input};
-use pbm_core::{Input, Output};
+use pbm_core::{Input, Output, ToWrite};
 use std::alloc::Global;
 use std::process::ExitCode;
 use t85_core::to_jbg;
@@ -26,17 +22,42 @@ pub use work::Job;
 /// The program's name.
 pub const NAME: &str = "pbmtojbg85";
 
+/// What a job is done on.
+#[derive(Drop)]
+pub struct Files<R, W> {
+    pub input: R,
+    pub output: W,
+}
+
 /// Opens the job's input, and then creates or empties its output; where one can't be, that was reported, and the program
 /// ends.
-pub fn open(rt: &HostRuntime, job: &Job) -> Result<(Readable, Writable), ExitCode>
-    ensures chosen { IfOk result (λ files.
-        (reads_file files.0 ≡ names_file (option_map string_bytes job.now.input))
-        × (writes_file files.1 ≡ names_file (option_map string_bytes job.now.output))) }
-    ensures status { IfErr result (λ e. exit_code_status e ≡ 1) }
+pub fn open(rt: &HostRuntime, job: &Job) -> Result<Files<Readable, ToWrite<Writable>>, ExitCode>
+    ensures input { IfOk result (λ files. reads_file files.input ≡ names_file
+        (option_map string_bytes job.now.input)) }
+    ensures output { IfOk result (λ files. writes_file files.output.writer ≡ names_file
+        (option_map string_bytes job.now.output)) }
+    ensures status { IfErr result (λ e. exit_status e ≡ 1) }
 {
     let input = open_input(rt, NAME, &job.input)?;
     let output = create_output(rt, NAME, &job.output)?;
-    Ok((input, output))
+    Ok(Files {
+        input,
+        output: ToWrite::new(output),
+    })
+}
+
+/// Does the job on its files.
+pub fn run_on<R: Input, W: Output, M: Output>(
+    alloc: Global,
+    job: &Job,
+    files: &mut Files<R, W>,
+    messages: &mut M,
+) -> u8
+    ensures { RunsEncoding job.now (input_change R.view files.old.input files.new.input)
+        (W.view files.old.output) (W.view files.new.output)
+        (M.view messages.old) (M.view messages.new) result }
+{
+    run(alloc, job, &mut files.input, &mut files.output, messages)
 }
 
 /// Does the job, reports a fault to `messages`, and gives the exit status: 0, or 1 after a fault.
@@ -47,19 +68,9 @@ pub fn run<R: Input, W: Output, M: Output>(
     output: &mut W,
     messages: &mut M,
 ) -> u8
-    // The engine's outcome is passed on.
-    ensures outcome { (outcome : Result (Unit {0}) Fault) × (result ≡ exit_status outcome) ×
-        ToJbg (settings_asked job.now)
-        (input_change R.view input.old input.new)
-        (output_change W.view output.old output.new) (W.view output.new).flushed outcome
-        × FlushesOnce (W.view output.old).flushes (W.view output.new).flushes outcome }
-    ensures same_target { (W.view output.new).target ≡ (W.view output.old).target }
-
-    // A message is tried once, and only after a fault.
-    ensures quiet { result ≡ 0 →
-        Keeps (M.view messages.old).contents (M.view messages.new).contents ×
-        ((M.view messages.new).failures ≡ (M.view messages.old).failures) }
-    ensures once { OnceAtMost (M.view messages.old).failures (M.view messages.new).failures }
+    ensures { RunsEncoding job.now (input_change R.view input.old input.new)
+        (W.view output.old) (W.view output.new)
+        (M.view messages.old) (M.view messages.new) result }
 {
     let outcome = to_jbg(alloc, input, output, &job.options());
     report(NAME, outcome, messages)
