@@ -4,13 +4,16 @@
 # make test          the gate: the documents, this file, every proof, every edit that must fail, every test, runs of the
 #                    built programs; ends in `rt ci`
 # make turns         makes each allocation of the programs fail in turn
-# make library-test  the library beside the programs, as C and Python call it, and installed
+# make library-test  the library beside the programs, as C and Python call it, and installed; the wheel
+# make wheel         the Python module with the library inside, for `pip install`, into dist/
 # make manuals       checks the manual pages
+# make debian        builds the packages of packaging/debian, and has lintian look at them
 # make interop       exchanges streams with JBIG-KIT's programs, and compares the images
 # make charts        has programs and library code the test charts of the CCITT, beside JBIG-KIT's programs; `apt-get`
 #                    fetches them
 # make fuzz          calls the library with random streams for FUZZ_SECONDS, beside JBIG-KIT's library
 # make bench         measures beside JBIG-KIT and netpbm; no test is timed
+# make pictures      draws the pictures of README.md and docs/ that come from streams
 # make against       compares with another build of both programs, in the folder OTHER
 # make install       installs the programs and the library, with what belongs to them; docs/PACKAGING.md has the rest
 # make uninstall     removes what `make install` with the same variables installed
@@ -38,7 +41,7 @@ FUZZ_SECONDS ?= 600
 CPUINFO ?= /proc/cpuinfo
 
 PROGRAMS = pbmtojbg85 jbgtopbm85
-VERSION = 1.0.0
+VERSION := $(shell cat VERSION)
 SHARED = libt85.so.$(VERSION)
 SONAME = libt85.so.1
 CALLS = $(shell sed -n 's/^ *\(t85_.*\);/\1/p' t85.map)
@@ -47,8 +50,8 @@ MODULE = $(patsubst bindings/python/%,%,$(wildcard bindings/python/t85/*.py bind
 BUILT = $(PROGRAMS:%=bin/%)
 LIBRARY = bin/libt85.a bin/$(SHARED) bin/$(SONAME) bin/libt85.so
 # The targets that build the programs first, and those that build the library first.
-OF_PROGRAMS = show static test turns library-test interop charts against bench
-OF_LIBRARY = test library-test charts fuzz bench
+OF_PROGRAMS = show static test turns library-test interop charts against bench pictures
+OF_LIBRARY = test library-test charts fuzz bench wheel pictures
 
 # quoted TEXT: one word of a shell, with its blanks
 quoted = '$(subst ','\'',$(1))'
@@ -129,10 +132,12 @@ documents:
 	tools/prose
 	tools/interface
 	tools/recipes
+	tools/links
 
 test: documents
 	tests/makefile
 	tests/interface
+	tests/links
 	tools/must-not-compile
 	tests/turns bin
 	tests/stored bin
@@ -141,6 +146,7 @@ test: documents
 	tests/memory bin
 	tests/instructions bin
 	tests/options bin
+	tests/readme bin
 	tests/library bin
 	tests/python bin
 	@$(locked) && echo "rt ci" && rt ci 9>&-
@@ -150,12 +156,24 @@ turns:
 
 library-test:
 	tests/options bin
+	tests/readme bin
 	tests/library bin
 	tests/python bin
 	tests/installed bin
+	tests/wheel bin
+
+# The Python module with the library inside.
+wheel:
+	tools/wheel bin/$(SHARED) dist
+
+pictures:
+	tools/pictures bin
 
 manuals:
 	tests/manuals
+
+debian:
+	tests/debian
 
 interop:
 	tests/interop bin
@@ -185,6 +203,9 @@ bench:
 	bench/plain bin/pbmtojbg85
 	bench/classes bin bench/classes.svg $$(find bin/charts -name '*.pbm' 2> /dev/null | sort)
 	bench/library bin $$(find bin/charts -name '*.pbm' 2> /dev/null | sort)
+	bench/formats bin $$(find bin/charts -name '*.pbm' 2> /dev/null | sort)
+	bench/broken bin
+	bench/many bin
 
 # What is in bin/ is installed; what is not there is built first.
 install: install-programs install-library
@@ -245,7 +266,7 @@ ifneq ($(PYTHONDIR),)
 endif
 
 clean:
-	rm -rf bin crates/*/out
+	rm -rf bin dist crates/*/out
 
-.PHONY: show build library static processor documents test turns library-test manuals interop charts fuzz against \
-	bench install install-programs install-library uninstall clean
+.PHONY: show build library static processor documents test turns library-test wheel pictures manuals debian interop \
+	charts fuzz against bench install install-programs install-library uninstall clean

@@ -4,6 +4,7 @@
 
 Where the interpreter has no NumPy or no Pillow, the tests that want it are skipped.
 """
+import ctypes
 import os
 import subprocess
 import sys
@@ -66,6 +67,9 @@ class Alone(unittest.TestCase):
                 t85.pack(PIXELS, black=True)
             with self.assertRaises(ImportError):
                 t85.to_image(BLACK)
+            for call in (t85.to_array, lambda rows: t85.unpack(rows, black=True)):
+                with self.assertRaises(ImportError):
+                    call(BLACK)
 
     def test_rows_are_taken(self):
         # Rows in memory that has two dimensions, and all that is as long as an array of pixels but is none.
@@ -133,6 +137,42 @@ class Arrays(unittest.TestCase):
             self.assertEqual(t85.encode(array, 24, 16), t85.encode(array.tobytes(), 24, 16))
         column = numpy.array([[0x80], [0]], "uint8")
         self.assertEqual(t85.encode(column, 1, 2), t85.encode(b"\x80\0", 1, 2))
+
+    def test_lent_in_place(self):
+        # An array is lent where it is, whether it can be written to or not.
+        rows = page()
+        writable, fixed = bytearray(rows.data), numpy.frombuffer(rows.data, "uint8").reshape(160, 52)
+        for packed in (numpy.frombuffer(writable, "uint8").reshape(160, 52), fixed):
+            lent = t85._bytes(packed)
+            address = lent if isinstance(lent, int) else ctypes.addressof(lent)
+            self.assertEqual(address, packed.__array_interface__["data"][0])
+        self.assertEqual(t85._bytes(fixed[::2]), fixed[::2].tobytes())
+        self.assertEqual(t85.encode(fixed[1:], 416, 159), t85.encode(rows.data[52:], 416, 159))
+
+    def test_to_array(self):
+        rows = page()
+        packed = t85.to_array(rows)
+        self.assertEqual((packed.shape, packed.dtype.name, packed.tobytes()), ((160, 52), "uint8", rows.data))
+        self.assertTrue(numpy.shares_memory(packed, numpy.frombuffer(rows.data, "uint8")))
+        self.assertFalse(packed.flags.writeable)
+        self.assertEqual(t85.to_array(t85.Rows(5, 2, 3, b"\x98ab\x08")).tolist(), [[0x98], [0x08]])
+        self.assertEqual(t85.to_array(t85.Rows(5, 0, 1, b"")).shape, (0, 1))
+
+    def test_unpack(self):
+        self.assertEqual(t85.unpack(BLACK, black=True).tolist(), numpy.array(PIXELS, bool).tolist())
+        self.assertEqual(t85.unpack(WHITE, black=False).tolist(), numpy.array(PIXELS, bool).tolist())
+        rows = page()
+        self.assertEqual(t85.pack(t85.unpack(rows, black=True), black=True), rows)
+
+    def test_decode_into(self):
+        rows = page()
+        stream = t85.encode(rows.data, 416, 160)
+        packed = numpy.full((160, 55), 7, "uint8")
+        self.assertEqual(t85.decode_into(stream, packed, stride=55), 160)
+        self.assertEqual(packed[:, :52].tobytes(), rows.data)
+        self.assertEqual(set(packed[:, 52:].ravel().tolist()), {7})
+        with self.assertRaisesRegex(TypeError, HINT):
+            t85.decode_into(stream, numpy.zeros((160, 416), bool))
 
     def test_both_ways(self):
         rows = page()

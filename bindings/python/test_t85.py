@@ -81,6 +81,26 @@ class Whole(unittest.TestCase):
         found = t85.decode_rows(STREAM, stride=55)
         self.assertEqual(found.data, wide.replace(b"gap", b"\0\0\0")[:-3])
 
+    def test_into(self):
+        rows = bytearray(b"\xa5" * (len(ROWS) + 3))
+        self.assertEqual(t85.decode_into(STREAM, rows), 160)
+        self.assertEqual(rows, ROWS + b"\xa5" * 3)
+        for stream, room, number in ((STREAM, len(ROWS) - 1, 18), (STREAM[:500], len(ROWS), 9)):
+            rows = bytearray(b"\xa5" * room)
+            with self.assertRaises(t85.Error) as caught:
+                t85.decode_into(stream, rows)
+            found = caught.exception.partial
+            self.assertEqual((caught.exception.number, found.data), (number, b""))
+            self.assertTrue(0 < found.count < 160)
+            self.assertEqual(rows[: 52 * found.count], ROWS[: 52 * found.count])
+            self.assertEqual(rows[52 * found.count :], b"\xa5" * (room - 52 * found.count))
+        for wrong in (ROWS, "text"):
+            with self.assertRaises(TypeError):
+                t85.decode_into(STREAM, wrong)
+        rows = bytearray(len(ROWS))
+        t85.decode_into(STREAM, rows)
+        rows.append(0)
+
     def test_large(self):
         noise = (bytes(range(256)) * 1000)[: 200 * 1000]
         self.assertEqual(t85.decode(t85.encode(noise, 1600, 1000)), b"P4\n1600 1000\n" + noise)

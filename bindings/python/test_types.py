@@ -17,6 +17,7 @@ STRICT = ["--strict", "--config-file=", "--cache-dir=" + os.devnull]
 USER = """
 import mmap
 import t85
+from t85 import many
 
 stream: bytes = t85.encode(b"", 8, 0, comment=bytearray(b"said"), stride=1)
 image: bytes = t85.decode(memoryview(stream), max_rows=9, max_bytes=None)
@@ -24,6 +25,10 @@ rows: t85.Rows = t85.decode_rows(mmap.mmap(-1, 100), max_bytes=2 * t85.MAX_BYTES
 width: int = t85.header(stream).width + t85.info(stream).image_height + rows.count
 page: t85.Rows = t85.pack([[0, 1], [1, 1]], black=False)
 again: t85.Rows = t85.from_image(t85.to_image(page))
+count: int = t85.decode_into(stream, bytearray(100), stride=9)
+bits = t85.unpack(page, black=True), t85.to_array(page)
+job = many.Job("encode", folder="streams", options={"most_offset": 127})
+states: list[str] = [outcome.state for outcome in many.run(job, ["a.pbm"], workers=2)]
 try:
     t85.decode(image)
 except t85.Error as error:
@@ -37,6 +42,7 @@ WRONG = {
     "t85.Rows(8, 1, 1, b'').count = 2": "misc",
     "t85.pack([[0, 1]])": "call-arg",
     "t85.from_image(b'')": "arg-type",
+    "t85.decode_into(b'', b'')": "arg-type",
 }
 
 

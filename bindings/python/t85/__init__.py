@@ -15,12 +15,20 @@ Other packages have pixels in other ways, and nothing is turned unless it is ask
     >>> page = from_image(image)                  # an image of Pillow in mode 1, in which 1 is white
     >>> stream = encode(page.data, page.width, page.count)
     >>> image = to_image(decode_rows(stream))
+    >>> array = unpack(decode_rows(stream), black=True)
+    >>> packed = to_array(decode_rows(stream))    # the packed rows, which are not copied again
+
+Packed arrays are encoded in place, and decode_into has the rows written into one.
+
+Beside these calls are t85.pillow, with which Pillow opens and saves streams, and t85.many for many files; python3 -m t85 is
+the command for these.
 
 A stream of a few bytes may have an image of terabytes. So decode and decode_rows refuse images whose rows take more than
 MAX_BYTES, 1 GiB, where max_bytes says nothing else. For a moment a call has twice what the rows take, and where a stream
 is broken up to three times as much and 8 MiB.
 
-The library is looked for as T85_LIBRARY names it, else as libt85.so.1 by the system. Calls may run in several threads at
+The library is looked for as T85_LIBRARY names it, else beside this file, where a wheel has it, else as libt85.so.1 by the
+system. Calls may run in several threads at
 once, and let other threads run meanwhile.
 """
 from __future__ import annotations
@@ -34,7 +42,7 @@ from ctypes import POINTER, byref, c_bool, c_char, c_size_t, c_uint8, c_uint32, 
 from dataclasses import dataclass
 from typing import TYPE_CHECKING, Any, Callable, Optional, Union
 
-from ._rows import Rows, from_image, pack, to_image
+from ._rows import Rows, from_image, pack, to_array, to_image, unpack
 from ._rows import refuse_pixels as _refuse_pixels
 from ._rows import row_bytes as _row_bytes
 
@@ -45,24 +53,29 @@ __all__ = [
     "Rows",
     "Summary",
     "decode",
+    "decode_into",
     "decode_rows",
     "encode",
     "from_image",
     "header",
     "info",
     "pack",
+    "to_array",
     "to_image",
+    "unpack",
     "version",
 ]
 
 MAX_BYTES = 1 << 30
 
 Buffer = Union[bytes, bytearray, memoryview, mmap.mmap, "array.array[Any]"]
+Writable = Union[bytearray, memoryview, mmap.mmap, "array.array[Any]"]
 if TYPE_CHECKING:
     _Memory = ctypes.Array[c_char]
     # Gets memory and the room in it, and gives a status.
     _Writer = Callable[[_Memory, int], int]
 
+_SONAME = "libt85.so.1"
 _NO_ROOM = 18
 _NO_LIMIT = 0xFFFFFFFF
 _FIRST_ROOM = 1 << 23
@@ -102,8 +115,14 @@ class _Summary(ctypes.Structure):
     ]
 
 
+def _named() -> str:
+    """The library's name, as the loader takes it."""
+    beside = os.path.join(os.path.dirname(os.path.abspath(__file__)), _SONAME)
+    return os.environ.get("T85_LIBRARY") or (beside if os.path.exists(beside) else _SONAME)
+
+
 def _load() -> ctypes.CDLL:
-    library = ctypes.CDLL(os.environ.get("T85_LIBRARY") or "libt85.so.1")
+    library = ctypes.CDLL(_named())
     read, write, size, word = [c_void_p, c_size_t], [POINTER(c_char), c_size_t], c_size_t, c_uint32
     encoded = [word, word, *read, size, POINTER(_Options), *read, *write, *write, POINTER(size)]
     types = {
@@ -166,14 +185,17 @@ def _message(number: int) -> str:
     return ctypes.string_at(text, min(length, len(text))).decode("ascii")
 
 
-def _bytes(data: Buffer) -> Union[bytes, _Memory]:
-    """What ctypes can lend: the bytes themselves, or a writable buffer in place; of other buffers a copy."""
+def _bytes(data: Buffer) -> Union[bytes, int, _Memory]:
+    """What ctypes can lend: the bytes themselves, a writable buffer or an array in place; of other buffers a copy."""
     if isinstance(data, bytes):
         return data
     view = memoryview(data)
-    if view.readonly or not view.c_contiguous or not view.nbytes:
+    if not view.c_contiguous or not view.nbytes:
         return view.tobytes()
-    return (c_char * view.nbytes).from_buffer(data)
+    if not view.readonly:
+        return (c_char * view.nbytes).from_buffer(data)
+    interface = getattr(data, "__array_interface__", None)
+    return int(interface["data"][0]) if interface else view.tobytes()
 
 
 def _size(data: Buffer) -> int:
@@ -405,3 +427,31 @@ def decode_rows(
     if status:
         raise Error(status, found)
     return found
+
+
+def decode_into(
+    stream: Buffer,
+    rows: Writable,
+    *,
+    stride: Optional[int] = None,
+    max_rows: Optional[int] = None,
+) -> int:
+    """Writes the rows of a stream's image into memory of the caller, and gives their number.
+
+    rows      a writable buffer without gaps, such as a bytearray or a packed array of NumPy; not the stream's own memory
+    stride    bytes from a row to the next; without one the rows are close together. Bytes between two rows stay
+    max_rows  an image of more rows is refused; without one, or with None, none is
+
+    Where the stream is broken, or the buffer too short, the rows that can be had are written; the Error has their number.
+    """
+    fields = header(stream)
+    _refuse_pixels(rows, fields.width, fields.height, stride)
+    window, written = _window(fields.width), c_uint32()
+    limit = _NO_LIMIT if max_rows is None else _word("max_rows", max_rows)
+    step = _row_bytes(fields.width) if stride is None else _length("stride", stride)
+    room = (c_char * _size(rows)).from_buffer(rows)
+    lent = _bytes(stream), _size(stream), limit, step, window, len(window), room, len(room)
+    status = _LIBRARY.t85_decode_rows(*lent, byref(written))
+    if status:
+        raise Error(status, Rows(fields.width, written.value, step, b""))
+    return written.value

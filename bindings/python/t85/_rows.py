@@ -52,6 +52,20 @@ def pack(array: Any, *, black: bool) -> Rows:
     return Rows(width, height, row_bytes(width), bits.tobytes())
 
 
+def to_array(rows: Rows) -> Any:
+    """The packed rows as a 2-D array of NumPy, with eight pixels an item: nothing is copied, and it can't be written to."""
+    numpy = importlib.import_module("numpy")
+    shape, strides = (rows.count, row_bytes(rows.width)), (rows.stride, 1)
+    return numpy.ndarray(shape, "uint8", rows.data, strides=strides)
+
+
+def unpack(rows: Rows, *, black: bool) -> Any:
+    """A 2-D array of NumPy with an item a pixel, of bool: black says what a black pixel is, as for pack."""
+    numpy = importlib.import_module("numpy")
+    bits = numpy.unpackbits(to_array(rows), axis=1, count=rows.width)
+    return bits == bool(black)
+
+
 def from_image(image: PillowImage) -> Rows:
     """The rows of an image of Pillow in mode 1. There 1 is white: each bit is turned.
 

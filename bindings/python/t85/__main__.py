@@ -1,0 +1,220 @@
+"""Many files by one command: python3 -m t85 encode|decode|info|check FILE.., and python3 -m t85 show FILE for a picture.
+
+Exit status: 0 where every file was done or skipped, 1 where one failed, 2 where the command line was refused, and 130 where
+it was stopped from the keyboard.
+"""
+from __future__ import annotations
+
+import argparse
+import dataclasses
+import importlib
+import io
+import json
+import os
+import sys
+import time
+from typing import Any, Dict, Iterator, List, Optional, Sequence, Tuple
+
+from . import MAX_BYTES, Error
+from ._files import is_remote
+from .many import FAILED, Job, Outcome, Total, run
+
+
+class Progress:
+    """How many files are through, on standard error where that is a terminal: by tqdm, or as one line without it."""
+
+    def __init__(self, total: int, quiet: bool) -> None:
+        self._shown = not quiet and sys.stderr.isatty()
+        self._total, self._count, self._next = total, 0, 0.0
+        self._bar: Any = None
+        if self._shown:
+            try:
+                self._bar = importlib.import_module("tqdm").tqdm(total=total, unit="file", file=sys.stderr)
+            except ImportError:
+                pass
+
+    def step(self) -> None:
+        self._count += 1
+        if self._bar is not None:
+            self._bar.update()
+        elif self._shown and (self._count == self._total or time.monotonic() >= self._next):
+            self._next = time.monotonic() + 0.2
+            print(f"\r{self._count} of {self._total}", end="", file=sys.stderr, flush=True)
+
+    def say(self, line: str) -> None:
+        """A line that stands above the bar."""
+        if self._bar is not None:
+            self._bar.clear()
+        elif self._shown:
+            print("\r\033[K", end="", file=sys.stderr)
+        print(line, file=sys.stderr)
+
+    def close(self) -> None:
+        if self._bar is not None:
+            self._bar.close()
+        elif self._shown and self._count:
+            print(file=sys.stderr)
+
+
+def _parser() -> argparse.ArgumentParser:
+    parser = argparse.ArgumentParser(prog="python3 -m t85", description=__doc__.partition("\n")[0])
+    commands = parser.add_subparsers(dest="command", required=True, metavar="COMMAND")
+    about = {
+        "encode": "PBM images into streams, as .jbg",
+        "decode": "streams into PBM images, as .pbm",
+        "info": "the nine numbers of each stream, as jbgtopbm85 --info has them, and its name",
+        "check": "decode each stream, and write nothing",
+    }
+    for name, text in about.items():
+        command = commands.add_parser(name, help=text, description=text)
+        command.add_argument("files", nargs="*", metavar="FILE")
+        command.add_argument("--names", metavar="LIST", help="a file with more names, one a line; - is standard input")
+        command.add_argument("-j", "--jobs", type=_count, default=1, metavar="N", help="threads (1)")
+        command.add_argument("--json", metavar="FILE", help="the summary as JSON into this file; - is standard output")
+        command.add_argument("-q", "--quiet", action="store_true", help="no progress and no table")
+        if name in ("encode", "decode"):
+            command.add_argument("-o", "--folder", metavar="FOLDER", help="where the outputs go (beside their inputs)")
+            command.add_argument("--again", action="store_true", help="skip no file")
+        if name in ("decode", "check"):
+            command.add_argument("--max-bytes", type=int, default=MAX_BYTES, metavar="N", help="refuse larger images (1 GiB)")
+    _add_options(commands.choices["encode"])
+    show = commands.add_parser("show", help="a picture of a stream: its page, stripes, moves, bytes and damage")
+    show.add_argument("file", metavar="FILE")
+    show.add_argument("output", nargs="?", metavar="PICTURE", help="a PNG (the file's name with .png)")
+    return parser
+
+
+def _add_options(command: argparse.ArgumentParser) -> None:
+    command.add_argument("-s", "--stripe-rows", type=int, default=128, metavar="N", help="rows of a stripe (128)")
+    command.add_argument("-m", "--most-offset", type=int, default=0, metavar="N", help="greatest offset (0)")
+    command.add_argument("--two-lines", action="store_true", help="the template of two lines")
+    command.add_argument("--no-typical", dest="typical", action="store_false", help="no typical prediction")
+    command.add_argument("-r", "--reset", action="store_true", help="each stripe begins afresh")
+    command.add_argument("-C", "--comment", type=os.fsencode, metavar="TEXT", help="a comment in each stream")
+
+
+def _count(text: str) -> int:
+    number = int(text)
+    if number < 1:
+        raise argparse.ArgumentTypeError("is less than 1")
+    return number
+
+
+def _job(words: argparse.Namespace) -> Job:
+    names = ("stripe_rows", "most_offset", "two_lines", "typical", "reset", "comment")
+    options = {name: getattr(words, name) for name in names if hasattr(words, name)}
+    given = {name: getattr(words, name) for name in ("folder", "again", "max_bytes") if hasattr(words, name)}
+    return Job(words.command, options=options, **given)
+
+
+def _listed(path: str) -> Iterator[str]:
+    with open(0 if path == "-" else path, encoding="utf-8", errors="surrogateescape", closefd=path != "-") as file:
+        for line in file:
+            if line.strip("\r\n"):
+                yield line.rstrip("\r\n")
+
+
+def _names(parser: argparse.ArgumentParser, words: argparse.Namespace) -> List[str]:
+    """Each name once, in the order of the command line and of the list."""
+    try:
+        more = list(_listed(words.names)) if words.names else []
+    except OSError as error:
+        parser.error(f"{words.names}: {error.strerror}")
+    names = list(dict.fromkeys([*words.files, *more]))
+    if not names and not words.names:
+        parser.error("no file is named")
+    return names
+
+
+def _clash(job: Job, names: Sequence[str]) -> Optional[Tuple[str, str, str]]:
+    """Two names whose outputs would be one file, and that file's name."""
+    seen: Dict[str, str] = {}
+    for name in names:
+        output = job.output(name)
+        if output is not None and seen.setdefault(os.path.normpath(output), name) != name:
+            return seen[os.path.normpath(output)], name, output
+    return None
+
+
+def _report(outcome: Outcome) -> Dict[str, Any]:
+    return {field: value for field, value in dataclasses.asdict(outcome).items() if value or field == "number"}
+
+
+def _write_json(path: str, total: Total, kept: List[Outcome]) -> bool:
+    """Writes the summary, and says whether it could."""
+    summary = {**dataclasses.asdict(total), "files": [_report(outcome) for outcome in kept]}
+    text = json.dumps(summary, indent=2) + "\n"
+    if path == "-":
+        sys.stdout.write(text)
+        return True
+    try:
+        with open(path, "w", encoding="utf-8") as file:
+            file.write(text)
+    except OSError as error:
+        print(f"{path}: {error.strerror}", file=sys.stderr)
+        return False
+    return True
+
+
+def _work(job: Job, names: Sequence[str], words: argparse.Namespace) -> int:
+    total, kept, begin = Total(job.command), [], time.monotonic()
+    progress = Progress(len(names), words.quiet)
+    try:
+        for outcome in run(job, names, words.jobs):
+            total.add(outcome)
+            if words.json and (outcome.state == FAILED or outcome.summary):
+                kept.append(outcome)
+            if outcome.state == FAILED:
+                progress.say(f"{outcome.name}: {outcome.text}")
+            elif job.command == "info" and outcome.summary and words.json != "-":
+                print(*dataclasses.astuple(outcome.summary), outcome.name)
+            progress.step()
+    finally:
+        progress.close()
+        total.seconds = time.monotonic() - begin
+        if not words.quiet:
+            print(*total.lines(), sep="\n", file=sys.stderr)
+        is_told = not words.json or _write_json(words.json, total, kept)
+    return 0 if is_told and not total.failed else 1
+
+
+def _show(words: argparse.Namespace) -> int:
+    from .show import show
+
+    output = words.output or os.path.splitext(words.file)[0] + ".png"
+    try:
+        show(words.file, output)
+    except (Error, OSError, ImportError) as error:
+        print(f"{words.file}: {getattr(error, 'strerror', None) or error}", file=sys.stderr)
+        return 1
+    return 0
+
+
+def main(arguments: Optional[Sequence[str]] = None) -> int:
+    parser = _parser()
+    words = parser.parse_args(arguments)
+    if words.command == "show":
+        return _show(words)
+    job, names = _job(words), _names(parser, words)
+    clash = _clash(job, names)
+    if clash:
+        parser.error("{} and {} would both be written as {}".format(*clash))
+    if job.folder is not None and not is_remote(job.folder):
+        try:
+            os.makedirs(job.folder, exist_ok=True)
+        except OSError as error:
+            parser.error(f"{job.folder}: {error.strerror}")
+    if isinstance(sys.stdout, io.TextIOWrapper):
+        # A name need not be text.
+        sys.stdout.reconfigure(errors="surrogateescape")
+    try:
+        return _work(job, names, words)
+    except KeyboardInterrupt:
+        return 130
+    except BrokenPipeError:
+        os.dup2(os.open(os.devnull, os.O_WRONLY), 1)
+        return 1
+
+
+if __name__ == "__main__":
+    sys.exit(main())

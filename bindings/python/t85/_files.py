@@ -1,0 +1,77 @@
+"""Files that are read whole, and written under another name until they are whole. A name with `://` is fsspec's."""
+from __future__ import annotations
+
+import importlib
+import os
+from typing import Any
+
+
+def is_remote(name: str) -> bool:
+    return "://" in name
+
+
+def _located(name: str) -> tuple[Any, str]:
+    """The file system of fsspec that a name belongs to, and the name in it."""
+    system, path = importlib.import_module("fsspec.core").url_to_fs(name)
+    return system, path
+
+
+def read(name: str) -> bytes:
+    if is_remote(name):
+        system, path = _located(name)
+        return bytes(system.cat_file(path))
+    with open(name, "rb", buffering=0) as file:
+        data = file.read()
+    return data or b""
+
+
+def front(name: str, count: int) -> tuple[bytes, int]:
+    """The first bytes of a file, `count` at most, and its size."""
+    if is_remote(name):
+        system, path = _located(name)
+        return bytes(system.cat_file(path, start=0, end=count)), int(system.size(path))
+    with open(name, "rb", buffering=0) as file:
+        return file.read(count) or b"", os.fstat(file.fileno()).st_size
+
+
+def is_current(output: str, name: str) -> bool:
+    """Whether the output is there, and is no older than the file that it is made of."""
+    if is_remote(output) or is_remote(name):
+        return _is_current_remote(output, name)
+    try:
+        return os.stat(output).st_mtime_ns >= os.stat(name).st_mtime_ns
+    except FileNotFoundError:
+        return False
+
+
+def _is_current_remote(output: str, name: str) -> bool:
+    (system, path), (other, there) = _located(output), _located(name)
+    if not system.exists(path):
+        return False
+    try:
+        return bool(system.modified(path) >= other.modified(there))
+    except NotImplementedError:
+        return True
+
+
+def write(name: str, data: bytes) -> None:
+    """Writes a file that others see when it is whole: under another name in its folder, which is then renamed.
+
+    A file system of fsspec is given all bytes at once: a store of objects shows none that is not whole.
+    """
+    if is_remote(name):
+        system, path = _located(name)
+        system.pipe_file(path, data)
+        return
+    folder, base = os.path.split(name)
+    other = os.path.join(folder, f".{base}.{os.urandom(6).hex()}.part")
+    number = os.open(other, os.O_WRONLY | os.O_CREAT | os.O_EXCL | os.O_CLOEXEC, 0o666)
+    try:
+        with open(number, "wb", buffering=0) as file:
+            rest = memoryview(data)
+            while rest:
+                rest = rest[file.write(rest) :]
+        os.replace(other, name)
+    except BaseException:
+        os.unlink(other)
+        raise

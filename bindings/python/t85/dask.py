@@ -1,0 +1,33 @@
+"""Many files over the workers of Dask's `distributed`, which has to be installed on each of them, and this module beside it.
+
+    >>> from distributed import Client
+    >>> from t85.dask import run
+    >>> from t85.many import Job
+    >>> with Client("scheduler:8786") as client:
+    ...     for outcome in run(client, Job("encode", folder="s3://store/streams"), names):
+    ...         print(outcome.name, outcome.state, outcome.text)
+
+Each name is one task. Where a worker is lost, its tasks go to others: an output that is whole is skipped there, any other is
+made again. A file with which workers are lost again and again fails, and the others go on. All workers have to see the same files: those of a shared folder, or of a store that fsspec reads.
+"""
+from __future__ import annotations
+
+import importlib
+from typing import Any, Iterable, Iterator
+
+from .many import FAILED, Job, Outcome
+
+
+def run(client: Any, job: Job, names: Iterable[str]) -> Iterator[Outcome]:
+    """What became of each file, in the order in which they are ready. The client is one of `distributed`."""
+    distributed = importlib.import_module("distributed")
+    listed = list(names)
+    tasks = client.map(job, listed, key=f"t85-{job.command}", pure=False, retries=3)
+    name_of = {task.key: name for task, name in zip(tasks, listed)}
+    for task, found in distributed.as_completed(tasks, with_results=True, raise_errors=False):
+        if isinstance(found, Outcome):
+            yield found
+        else:
+            # No outcome but an exception: the workers of this file were lost again and again.
+            kind, error = found[:2]
+            yield Outcome(name_of[task.key], FAILED, text=f"{kind.__name__}: {error}")

@@ -1,0 +1,189 @@
+"""Many files in one process: each is encoded, decoded, told about or checked, and an error of one stops none of the others.
+
+    >>> job = Job("encode", folder="streams", options={"most_offset": 127})
+    >>> for outcome in run(job, ["a.pbm", "b.pbm"], workers=4):
+    ...     print(outcome.name, outcome.state)
+    a.pbm done
+    b.pbm done
+
+The calls of the library run in threads, which do not wait for each other there. An output is written under another name in
+its own folder, `.NAME.HEX.part`, and renamed when it is whole. One that is there, is whole and is no older than its input
+is skipped: who begins again after a stop does only what is left. A name with `://` is read and written by fsspec, where that
+is installed.
+
+A job is a function of one name that can be pickled, so anything that maps functions over lists may run it: t85.dask has the
+workers of Dask do so.
+"""
+from __future__ import annotations
+
+import errno
+import os
+from collections import deque
+from concurrent.futures import ThreadPoolExecutor
+from dataclasses import dataclass, field
+from typing import Any, Callable, Dict, Iterator, List, Mapping, Optional, Sequence
+
+from . import MAX_BYTES, Error, Rows, Summary, decode, decode_rows, encode, info
+from ._files import front, is_current, read, write
+from ._pbm import head_of, read_page
+from ._rows import row_bytes
+
+DONE, SKIPPED, FAILED = "done", "skipped", "failed"
+# What a name of an input may end in, and what the outputs of a command end in.
+_ENDINGS = (".pbm", ".jbg", ".jbig")
+_ENDING = {"encode": ".jbg", "decode": ".pbm"}
+_BATCH = 8
+
+
+@dataclass(frozen=True)
+class Outcome:
+    """What became of one file: its bytes, what it is, or the number and the text of its fault. An error of the system has 0."""
+
+    name: str
+    state: str
+    read: int = 0
+    written: int = 0
+    number: int = 0
+    text: str = ""
+    summary: Optional[Summary] = None
+
+
+@dataclass(frozen=True)
+class Job:
+    """What is done with each file: the command, the folder of the outputs, and options of the encoder by encode's names."""
+
+    command: str
+    folder: Optional[str] = None
+    again: bool = False
+    max_bytes: Optional[int] = MAX_BYTES
+    options: Mapping[str, Any] = field(default_factory=dict)
+
+    def __call__(self, name: str) -> Outcome:
+        try:
+            return _COMMANDS[self.command](self, name)
+        except Error as error:
+            return Outcome(name, FAILED, number=error.number, text=error.text)
+        except OSError as error:
+            return Outcome(name, FAILED, text=error.strerror or str(error))
+        except Exception as error:
+            return Outcome(name, FAILED, text=f"{type(error).__name__}: {error}")
+
+    def output(self, name: str) -> Optional[str]:
+        """The name of what is made of a file: its own with another ending, in the folder of the outputs where there is one."""
+        ending = _ENDING.get(self.command)
+        if ending is None:
+            return None
+        stem, old = os.path.splitext(name)
+        made = (stem if old.lower() in _ENDINGS else name) + ending
+        return made if self.folder is None else os.path.join(self.folder, os.path.basename(made))
+
+
+def _encode(job: Job, name: str) -> Outcome:
+    data, output = read(name), _target(job, name)
+    page = read_page(data)
+    if not job.again and is_current(output, name) and _is_stream(read(output), page.width, page.height):
+        return Outcome(name, SKIPPED)
+    stream = encode(page.rows, page.width, page.height, **job.options)
+    write(output, stream)
+    return Outcome(name, DONE, len(data), len(stream))
+
+
+def _decode(job: Job, name: str) -> Outcome:
+    stream, output = read(name), _target(job, name)
+    if not job.again and is_current(output, name) and _is_image(output, info(stream)):
+        return Outcome(name, SKIPPED)
+    image = decode(stream, max_bytes=job.max_bytes)
+    write(output, image)
+    return Outcome(name, DONE, len(stream), len(image))
+
+
+def _info(job: Job, name: str) -> Outcome:
+    stream = read(name)
+    return Outcome(name, DONE, len(stream), summary=info(stream))
+
+
+def _check(job: Job, name: str) -> Outcome:
+    stream = read(name)
+    try:
+        decode_rows(stream, max_bytes=job.max_bytes)
+    except Error as error:
+        rows = f"; {error.partial.count} rows can be had" if isinstance(error.partial, Rows) else ""
+        return Outcome(name, FAILED, len(stream), number=error.number, text=error.text + rows)
+    return Outcome(name, DONE, len(stream), summary=info(stream))
+
+
+_COMMANDS: Dict[str, Callable[[Job, str], Outcome]] = {
+    "encode": _encode,
+    "decode": _decode,
+    "info": _info,
+    "check": _check,
+}
+
+
+def _target(job: Job, name: str) -> str:
+    output = job.output(name)
+    assert output is not None
+    if output == name:
+        raise OSError(errno.EINVAL, "the output would have the input's name")
+    return output
+
+
+def _is_stream(stream: bytes, width: int, height: int) -> bool:
+    """Whether this is a stream that has all its parts, of an image of this size."""
+    try:
+        summary = info(stream)
+    except Error:
+        return False
+    return (summary.width, summary.image_height) == (width, height)
+
+
+def _is_image(output: str, summary: Summary) -> bool:
+    """Whether a file is a raw PBM of this size, by its header and its length."""
+    head = head_of(summary.width, summary.image_height)
+    found, size = front(output, len(head))
+    return found == head and size == len(head) + summary.image_height * row_bytes(summary.width)
+
+
+def run(job: Job, names: Sequence[str], workers: int = 1) -> Iterator[Outcome]:
+    """What became of each file, in the order of their names, by so many threads."""
+
+    def several(first: int) -> List[Outcome]:
+        return [job(name) for name in names[first : first + _BATCH]]
+
+    with ThreadPoolExecutor(workers) as pool:
+        tasks = deque(pool.submit(several, first) for first in range(0, len(names), _BATCH))
+        try:
+            while tasks:
+                yield from tasks.popleft().result()
+        finally:
+            for task in tasks:
+                task.cancel()
+
+
+@dataclass
+class Total:
+    """What became of all files of a job."""
+
+    command: str
+    seconds: float = 0.0
+    done: int = 0
+    skipped: int = 0
+    failed: int = 0
+    bytes_read: int = 0
+    bytes_written: int = 0
+
+    def add(self, outcome: Outcome) -> None:
+        setattr(self, outcome.state, getattr(self, outcome.state) + 1)
+        self.bytes_read += outcome.read
+        self.bytes_written += outcome.written
+
+    def lines(self) -> Iterator[str]:
+        """A table for a terminal."""
+        files = self.done + self.skipped + self.failed
+        a_second = files / self.seconds if self.seconds else 0.0
+        for label, number in [("files", files), ("done", self.done), ("skipped", self.skipped), ("failed", self.failed)]:
+            yield f"{label:14}{number:>16,}"
+        yield f"{'bytes read':14}{self.bytes_read:>16,}"
+        yield f"{'bytes written':14}{self.bytes_written:>16,}"
+        yield f"{'seconds':14}{self.seconds:>16.2f}"
+        yield f"{'files a second':14}{a_second:>16,.0f}"
