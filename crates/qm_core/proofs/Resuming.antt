@@ -1,14 +1,13 @@
 -- A decoder that goes on after its source has failed.
-use Rattle.std.proofs.Common.{◌≡◌, ℕ, ◌≤◌, List, [], ◌∷◌, length, arith, refl, sym, ◌∙◌, ap, subst, replicate, ◌++◌}
+use Rattle.std.proofs.Common.{◌≡◌, ◌≤◌, List, [], ◌∷◌, length, arith, refl, sym, ◌∙◌, ap, subst, replicate, ◌++◌}
 use Rattle.qm_core.specs.Place.{Place}
-use Rattle.qm_core.specs.Code.{IsBytes, wanted_bytes}
+use Rattle.qm_core.specs.Code.{IsBytes}
 use Rattle.qm_core.specs.Machine.{Registers}
 use Rattle.qm_core.specs.Source.{bytes_of, heard_of, IsClosed, before_fault}
 use Rattle.qm_core.specs.Decoder.{DecoderIsAt}
 use Rattle.qm_core.specs.declared.source.Pulled.{Pulled}
 use Rattle.qm_core.specs.declared.source.Pulled.TheVariants.{Byte, End, Fault}
-use Rattle.qm_core.specs.declared.source.Heard.{Heard}
-use Rattle.qm_core.specs.declared.source.Heard.TheVariants.{More, Ended, Stopped}
+use Rattle.qm_core.specs.declared.source.Heard.TheVariants.{More, Stopped}
 use Rattle.qm_core.specs.declared.decoder.Decoder.{Decoder}
 
 -- nothing is behind a fault

@@ -1,9 +1,9 @@
 -- A row of which not all bytes may have come.
 use Rattle.std.proofs.Common.{◌≡◌, ◌+◌, ◌≤◌, ◌⊎◌, inl, inr, ℕ, Bool, List, [], ◌∷◌, ◌++◌, length, Option, Some, None, Ok, Err, refl, sym, ap, ◌∙◌, subst, append_assoc, append-nil, arith}
 use Rattle.std.specs.Prelude.{IfSome, Result, IsErr}
-use Rattle.qm_core.specs.Place.{Place, State, IsPlace}
+use Rattle.qm_core.specs.Place.{State, IsPlace}
 use Rattle.qm_core.specs.Code.{IsBytes}
-use Rattle.qm_core.specs.Source.{bytes_of, heard_of, IsClosed, Gives, before_fault}
+use Rattle.qm_core.specs.Source.{bytes_of, heard_of, Gives, before_fault}
 use Rattle.qm_core.specs.declared.source.Pulled.{Pulled}
 use Rattle.qm_core.specs.declared.source.Heard.{Heard}
 use Rattle.qm_core.specs.declared.source.Heard.TheVariants.{More, Stopped}
@@ -29,7 +29,7 @@ use Rattle.t85_core.specs.Steps.PieceCode.{Anything, RowsKnown, RowBegun, CodeTe
 use Rattle.t85_core.proofs.Decodings.Entities.{Pull}
 use Rattle.t85_core.proofs.Decodings.RowPut.{row_done, row_done_answers, ready}
 use Rattle.t85_core.proofs.Decodings.RowsSoFar.{was_going, rows_stop}
-use Rattle.t85_core.proofs.Decodings.PieceCode.{Waits, again_right, code_went, code_broke, code_waits}
+use Rattle.t85_core.proofs.Decodings.PieceCode.{again_right, code_went, code_broke, code_waits}
 
 anything : (answers : List Pulled) → Gives Anything tt answers tt
 anything [] = refl

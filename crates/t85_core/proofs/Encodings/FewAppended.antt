@@ -1,10 +1,10 @@
 -- How many bytes the steps of a row encoder append at most.
-use Rattle.std.proofs.Common.{◌≡◌, ◌≤◌, ◌+◌, ◌*◌, ℕ, zero, suc, Bool, List, [], ◌∷◌, ◌++◌, length, refl, sym, ap, ◌∙◌, subst, arith, length-append, Option, None, Some, Result, Ok, Err}
+use Rattle.std.proofs.Common.{◌≡◌, ◌≤◌, ◌+◌, ◌*◌, ℕ, Bool, List, [], ◌++◌, length, sym, ap, ◌∙◌, subst, arith, length-append, Option, Result, Ok, Err}
 use Rattle.std.specs.Prelude.{nat_lt, if◌then◌else◌, true, false, OnOk, OnErr}
 use Rattle.std.specs.Io.KnownBytes.{Appends, Keeps, append_known}
 use Rattle.std.proofs.lemmas.List.{length-map}
 use Rattle.pbm_core.specs.Device.{AppendsBeginning}
-use Rattle.qm_core.specs.Place.{Place, Estimate, State, Event}
+use Rattle.qm_core.specs.Place.{Place, Estimate}
 use Rattle.qm_core.specs.Code.{stuffed}
 use Rattle.qm_core.specs.Encoder.{EncoderIsAt, waiting_bytes}
 use Rattle.qm_core.specs.declared.encoder.Encoder.{Encoder}

@@ -1,4 +1,4 @@
-use Rattle.std.proofs.Common.{refl, sym, ◌∙◌}
+use Rattle.std.proofs.Common.{refl}
 use Rattle.qm_core.proofs.Resuming.{stands_again, stands_still}
 use Rattle.qm_core.proofs.decoder.Decoder.resume.Goals as goal
 

@@ -6,7 +6,7 @@ use Rattle.t85_core.specs.Steps.ByRow.{CutsRow, IsBelow, RowView, view_of}
 use Rattle.t85_core.proofs.Walks.InfoEnds.{exit_all}
 use Rattle.qm_core.specs.Encoder.{waiting_bytes}
 use Rattle.std.proofs.Common.{ap}
-use Rattle.t85_core.proofs.Encodings.FewAppended.{row_few, row_begun_few, eased_few}
+use Rattle.t85_core.proofs.Encodings.FewAppended.{row_few, row_begun_few}
 use Rattle.t85_core.proofs.encoding.by_row.RowEncoder.put_taken.Goals as goal
 
 -- a beginning of each stream that begins with the rows and this one

@@ -1,4 +1,4 @@
-use Rattle.std.proofs.Common.{◌++◌, ◌+◌, [], sym, ap, Err, subst, refl, ◌∙◌, arith}
+use Rattle.std.proofs.Common.{◌++◌, ◌+◌, [], ap, Err, subst, refl, ◌∙◌, arith}
 use Rattle.t85_core.specs.declared.pieces.walk.Stage.TheVariants as stage
 use Rattle.t85_core.specs.Options.{fields_of}
 use Rattle.t85_core.specs.Steps.DecodeRows.{IsShapeOf}
