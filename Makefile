@@ -203,6 +203,7 @@ bench:
 	bench/plain bin/pbmtojbg85
 	bench/classes bin bench/classes.svg $$(find bin/charts -name '*.pbm' 2> /dev/null | sort)
 	bench/library bin $$(find bin/charts -name '*.pbm' 2> /dev/null | sort)
+	bench/pieces
 	bench/formats bin $$(find bin/charts -name '*.pbm' 2> /dev/null | sort)
 	bench/broken bin
 	bench/many bin
