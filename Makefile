@@ -197,12 +197,12 @@ against:
 # Without the charts where they can't be fetched.
 bench:
 	@[ -d bin/charts ] || bench/charts bin/charts || echo "the test charts of the CCITT are left out"
+	bench/times --picture bench/times.svg bin $$(find bin/charts -name '*.pbm' 2> /dev/null | sort)
 	bench/info bin/jbgtopbm85
 	bench/decode bin/jbgtopbm85
 	bench/encode bin/pbmtojbg85
 	bench/plain bin/pbmtojbg85
-	bench/classes bin bench/classes.svg $$(find bin/charts -name '*.pbm' 2> /dev/null | sort)
-	bench/library bin $$(find bin/charts -name '*.pbm' 2> /dev/null | sort)
+	bench/classes bin $$(find bin/charts -name '*.pbm' 2> /dev/null | sort)
 	bench/pieces
 	bench/formats bin $$(find bin/charts -name '*.pbm' 2> /dev/null | sort)
 	bench/broken bin

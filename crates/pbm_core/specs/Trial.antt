@@ -1,12 +1,12 @@
 -- Devices in memory.
-use Rattle.std.specs.Prelude.{◌≡◌, Some, length, take}
+use Rattle.std.specs.Prelude.{◌≡◌, Some, [], length, take}
 use Rattle.pbm_core.specs.declared.trial.Drip.{Drip}
 use Rattle.pbm_core.specs.declared.trial.Pieces.{Pieces}
 use Rattle.pbm_core.specs.Device.{InputView, OutputView}
 
 -- an input over lent memory
 abbrev pub pieces_view : Pieces → InputView
-pieces_view s = record { remaining = Some s.rest.now; left = length s.rest.now; failures = s.failures }
+pieces_view s = record { remaining = Some s.rest.now; held = []; left = length s.rest.now; failures = s.failures; source = 0 }
 
 -- an output into lent memory
 abbrev pub drip_view : Drip → OutputView

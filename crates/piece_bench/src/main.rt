@@ -18,7 +18,7 @@ use t85_core::{Header, Outcome, PieceDecoder, decode};
 fn in_pieces(header: Header, body: &[u8], window: &mut Window<'_>, size: usize, rows: &mut Vec<u8>)
     requires { width_of window.old ≡ header.xd }
 {
-    let mut decoder = PieceDecoder::start(header, header.yd, window);
+    let mut decoder = PieceDecoder::start(header, window);
     let mut from = 0usize;
     let mut to = 0usize;
     'calls: for _ in 0..u64::MAX {
@@ -36,8 +36,7 @@ fn in_pieces(header: Header, body: &[u8], window: &mut Window<'_>, size: usize, 
                 }
                 to += size.min(body.len() - to);
             }
-            Outcome::Done | Outcome::Late(_) => return,
-            Outcome::Broken(_) => return,
+            Outcome::Done(_) | Outcome::Broken(_) => return,
         }
     }
 }

@@ -6,7 +6,7 @@ use Rattle.t85_core.specs.Change.{Change, between}
 use Rattle.t85_core.specs.Failures.{FlushesOnce}
 use Rattle.t85_core.specs.Jbg.{Settings}
 use Rattle.t85_core.specs.Options.{refusal_of}
-use Rattle.t85_core.specs.ToJbg.{ToJbg}
+use Rattle.t85_core.specs.ToJbg.{ToJbgAhead}
 use Rattle.t85_core.specs.declared.fault.Fault.{Fault}
 use Rattle.t85_core.specs.declared.fault.Fault.TheVariants as fault
 use Rattle.program_core.specs.Line.{flag_in, IsRefusal}
@@ -91,7 +91,7 @@ settings_asked job = record {
 pub record RunsEncoding (job : Job) (input : Change) (old new : OutputView) (messages_old messages_new : OutputView) (status : ℕ) : Type 0 where
   pub outcome : Result (Unit {0}) Fault
   pub status_is : status ≡ exit_status outcome
-  pub writes : ToJbg (settings_asked job) input (between old.contents new.contents old.failures new.failures) new.flushed outcome
+  pub writes : ToJbgAhead (settings_asked job) input (between old.contents new.contents old.failures new.failures) new.flushed outcome
   pub flushes : FlushesOnce old.flushes new.flushes outcome
   pub same_target : new.target ≡ old.target
   pub reports : Reports (codes "pbmtojbg85") outcome messages_old messages_new

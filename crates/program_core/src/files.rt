@@ -13,7 +13,7 @@ const STREAM: &str = "-";
 #[derive(Drop)]
 pub enum Readable {
     Stream(Stdin),
-    /// A named file, and its type, where the system tells it.
+    /// A named file, and its type, where it was asked for and the system tells it.
     File(File, Option<FileType>),
 }
 
@@ -27,8 +27,7 @@ impl Readable {
         match name {
             Some(name) if name.as_str() != STREAM => {
                 let file = fs::open(rt, name.as_str())?;
-                let kind = type_of(&file);
-                Ok(Readable::File(file, kind))
+                Ok(Readable::File(file, None))
             }
             _ => Ok(Readable::Stream(rt.stdin())),
         }
@@ -36,6 +35,22 @@ impl Readable {
 }
 
 impl Readable {
+    /// The same, with the type of a file, where that is wanted: to ask for it takes as long as to open the file.
+    pub(crate) fn with_type(self, is_wanted: bool) -> Readable
+        ensures { reads_file result ≡ reads_file self }
+    {
+        if !is_wanted {
+            return self;
+        }
+        match self {
+            Readable::File(file, _) => {
+                let kind = type_of(&file);
+                Readable::File(file, kind)
+            }
+            Readable::Stream(stream) => Readable::Stream(stream),
+        }
+    }
+
     /// Whether its bytes can be read again, from the first one on: it is a regular file that has a name. A pipe, also one
     /// that has a name, gives its bytes once.
     pub(crate) fn is_regular(&self) -> bool

@@ -49,7 +49,7 @@ pub fn open(rt: &HostRuntime, job: &Job) -> Result<Opened, ExitCode>
         (option_map string_bytes job.now.output)) }
     ensures status { IfErr result (λ e. exit_status e ≡ 1) }
 {
-    let input = open_input(rt, NAME, &job.input)?;
+    let input = open_input(rt, NAME, &job.input)?.with_type(!job.info);
     let again = if !job.info && input.is_regular() {
         Some(FromRead::new(open_input(rt, NAME, &job.input)?))
     } else {

@@ -12,7 +12,7 @@ mod work;
 use crate::files::{Readable, Writable};
 use crate::message::report;
 use crate::program::{create_output, open_input};
-use pbm_core::{Input, Output, ToWrite};
+use pbm_core::{FromRead, Input, Output, ToWrite};
 use std::alloc::Global;
 use std::process::ExitCode;
 use t85_core::to_jbg;
@@ -29,10 +29,13 @@ pub struct Files<R, W> {
     pub output: W,
 }
 
+/// The files of a job, as they are opened.
+pub type Opened = Files<FromRead<Readable>, ToWrite<Writable>>;
+
 /// Opens the job's input, and then creates or empties its output; where one can't be, that was reported, and the program
 /// ends.
-pub fn open(rt: &HostRuntime, job: &Job) -> Result<Files<Readable, ToWrite<Writable>>, ExitCode>
-    ensures input { IfOk result (λ files. reads_file files.input ≡ names_file
+pub fn open(rt: &HostRuntime, job: &Job) -> Result<Opened, ExitCode>
+    ensures input { IfOk result (λ files. reads_file files.input.reader ≡ names_file
         (option_map string_bytes job.now.input)) }
     ensures output { IfOk result (λ files. writes_file files.output.writer ≡ names_file
         (option_map string_bytes job.now.output)) }
@@ -41,7 +44,7 @@ pub fn open(rt: &HostRuntime, job: &Job) -> Result<Files<Readable, ToWrite<Writa
     let input = open_input(rt, NAME, &job.input)?;
     let output = create_output(rt, NAME, &job.output)?;
     Ok(Files {
-        input,
+        input: FromRead::new(input),
         output: ToWrite::new(output),
     })
 }

@@ -1,5 +1,5 @@
 -- What a row leaves that was encoded or decoded.
-use Rattle.std.specs.Prelude.{ℕ, ◌≡◌, List, ◌++◌, Result, OnOk, OnErr, ◌↔◌, Bool, true, false, [], ◌∷◌, length, IsErr, IsTrue, if◌then◌else◌}
+use Rattle.std.specs.Prelude.{ℕ, ◌≡◌, List, ◌++◌, Result, OnOk, OnErr, ◌↔◌, Bool, true, false, [], ◌∷◌, length, replicate, ◌≤◌, IsErr, IsTrue, if◌then◌else◌}
 use Rattle.qm_core.specs.Place.{State, Event, Estimate, Place, IsPlace, after}
 use Rattle.qm_core.specs.declared.encoder.Encoder.{Encoder}
 use Rattle.qm_core.specs.declared.encoder.CoderFault.{CoderFault}
@@ -9,7 +9,8 @@ use Rattle.qm_core.specs.Puts.{Encodes, FailsIn}
 use Rattle.raster_core.specs.Events.{Decodes, Stops}
 use Rattle.raster_core.specs.declared.shape.Shape.{Shape}
 use Rattle.raster_core.specs.declared.shape.Kept.{Kept}
-use Rattle.qm_core.specs.Code.{Lies, IsBytes}
+use Rattle.qm_core.specs.Code.{Lies, IsBytes, wanted_bytes}
+use Rattle.qm_core.specs.Skipping.{IsRun, CanSkip}
 use Rattle.qm_core.specs.Source.{bytes_of, heard_of, IsClosed, Agrees, Gives, before_fault}
 use Rattle.qm_core.specs.Decoder.{DecoderIsAt}
 use Rattle.qm_core.specs.declared.source.Pulled.{Pulled}
@@ -96,6 +97,26 @@ pub record RowDecoded {S : Type 0} (pull : S → Pulled → S → Type 0) (from 
   pub stop : IsErr result ↔ (heard_of (answers ++ more) ≡ Stopped)
   pub undecided : OnErr result (IsPlace s.place → IsRowUndecided shape kept s (answers ++ more) lines)
   pub stays : OnErr result (StaysStopped d (answers ++ more))
+
+-- ---- typical rows, several at once
+
+-- what is coded for a typical row after another
+abbrev pub again_event : Shape → Event
+again_event shape = pseudo_event (shape_mode shape) true true
+
+-- As many typical rows as `count` were decoded at once, after another: nothing was learned or pulled.
+pub record RowsSkipped (shape : Shape) (kept : Kept) (s : State) (answers : List Pulled) (count : ℕ) (d : Decoder) : Type 0 where
+  pub typical : shape.typical ≡ true
+  pub previous : kept.previous_typical ≡ true
+  pub run : IsRun s (again_event shape) count
+  pub stands : DecoderIsAt d (after s (replicate count (again_event shape))).place answers
+  pub enough : heard_of answers ≡ More → wanted_bytes s.place.doublings ≤ length (bytes_of answers)
+
+-- as many typical rows as `count` can be decoded at once, after another
+pub record CanSkipRows (shape : Shape) (kept : Kept) (d : Decoder) (s : State) (answers : List Pulled) (count : ℕ) : Type 0 where
+  pub typical : shape.typical ≡ true
+  pub previous : kept.previous_typical ≡ true
+  pub skips : CanSkip d s answers (again_event shape) count
 
 -- ---- a row whose code comes in parts
 

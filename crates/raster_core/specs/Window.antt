@@ -17,5 +17,9 @@ held w = record { width = w.width; current = w.current.now; above = w.above.now;
 abbrev pub turned : Held → Held
 turned w = record { width = w.width; current = w.second; above = w.current; second = w.above }
 
+-- a row down, to one that equals the current one
+abbrev pub repeated : Held → Held
+repeated w = record { width = w.width; current = w.current; above = w.current; second = w.above }
+
 abbrev pub shape_mode : Shape → Mode
 shape_mode s = record { two_line = s.two_line; typical = s.typical }

@@ -10,7 +10,7 @@ ghost use Rattle.qm_core.specs.declared.source.Pulled.{Pulled};
 ghost use Rattle.raster_core.specs.Lines.{Lines};
 ghost use Rattle.raster_core.specs.Window.{shape_mode, held, width_of};
 ghost use Rattle.raster_core.specs.Packed.{Held, HasLines, SameAbove};
-ghost use Rattle.raster_core.specs.Row.{FirstDecoded, FirstStopped, RowDecoded, IsRowStart, StandsInRow, RowBegins, RowGoesOn, RowPasses};
+ghost use Rattle.raster_core.specs.Row.{FirstDecoded, FirstStopped, RowDecoded, IsRowStart, StandsInRow, RowBegins, RowGoesOn, RowPasses, RowsSkipped, CanSkipRows};
 
 mod byte;
 mod row;
@@ -201,6 +201,34 @@ pub fn decode_row<S: CodeBytes>(
         decoder,
         source,
     )
+}
+
+/// Takes so many rows, each of which equals the one above, after another that does, where the bits that are there decide
+/// all of them; else it does nothing. The window and `kept` are those of the rows before.
+#[inline(always)]
+pub fn skip_rows(
+    shape: Shape,
+    kept: Kept,
+    learned: &Learned,
+    decoder: &mut Decoder,
+    count: u32,
+) -> bool
+    requires few { count ≤ 64 }
+    ensures unchanged { result ≡ false → decoder.new ≡ decoder.old }
+    ensures skipped { (p : Place) (answers : List Pulled) → DecoderIsAt decoder.old p answers →
+        IsTrue result → RowsSkipped shape kept (record { place = p; learned = learned.now })
+        answers count decoder.new }
+    ensures exact { (p : Place) (answers : List Pulled) → DecoderIsAt decoder.old p answers →
+        (IsTrue result ↔ CanSkipRows shape kept decoder.old
+        (record { place = p; learned = learned.now }) answers count) }
+{
+    if !shape.typical {
+        return false;
+    }
+    if !kept.previous_typical {
+        return false;
+    }
+    decoder.skip(learned, flag_context(shape.two_line), true, count)
 }
 
 /// Goes on with the current row of a window, below the two above it, from where `place` says it has

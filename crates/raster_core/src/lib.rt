@@ -19,7 +19,7 @@ mod uniform;
 mod window;
 mod words;
 
-pub use decode::{decode_row, go_on_row};
+pub use decode::{decode_row, go_on_row, skip_rows};
 pub use encode::encode_row;
 pub use place::RowPlace;
 pub use shape::{Kept, Shape};

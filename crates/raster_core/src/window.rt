@@ -25,9 +25,18 @@ pub struct Window<'a> {
     ghost second_length: { length second.now ≡ div_ceil width 8 },
 }
 
+/// Copies a row, which stays as it is, over another.
+fn copy_over(row: &mut [u8], other: &mut [u8])
+    requires { length other.old ≡ length row.old }
+    ensures row { row.new ≡ row.old }
+    ensures other { other.new ≡ row.old }
+{
+    other.copy_from_slice(row);
+}
+
 impl<'a> Window<'a> {
     ghost use Rattle.raster_core.specs.Packed.{HasLines, row_of, white_lines};
-    ghost use Rattle.raster_core.specs.Window.{held, width_of, turned};
+    ghost use Rattle.raster_core.specs.Window.{held, width_of, turned, repeated};
     ghost use Rattle.raster_core.specs.Machine.Rows.{held_in};
 
     /// A window with all three rows white, over `window_bytes` of the width.
@@ -88,6 +97,14 @@ impl<'a> Window<'a> {
     {
         std::mem::swap(&mut self.above, &mut self.second);
         std::mem::swap(&mut self.current, &mut self.above);
+    }
+
+    /// Goes a row down to one that equals the current one.
+    pub fn repeat(&mut self)
+        ensures { held self.new ≡ repeated (held self.old) }
+    {
+        std::mem::swap(&mut self.above, &mut self.second);
+        copy_over(self.current, self.above);
     }
 
     /// Makes all three rows white.

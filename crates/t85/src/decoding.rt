@@ -9,7 +9,7 @@ use crate::devices::{Room, Whole};
 use crate::opened::open;
 use raster_core::{Window, window_bytes};
 use t85_core::laws::outcomes;
-use t85_core::{Fault, Header, decode};
+use t85_core::{Fault, Header, decode_in_memory};
 
 /// The status of a call whose output found too little room.
 pub const FULL: u8 = 18;
@@ -107,7 +107,7 @@ fn write_image(
     outcomes();
     let mut lines = Window::over(window, header.xd);
     let mut input = Whole { rest: body };
-    let answer = decode(header, height, &mut lines, &mut input, room);
+    let answer = decode_in_memory(header, height, &mut lines, &mut input, room);
     if room.spilled.is_some() {
         return FULL;
     }

@@ -16,7 +16,7 @@ use crate::opened::open;
 use pbm_core::row_bytes;
 use raster_core::{Window, window_bytes};
 use t85_core::laws::outcomes;
-use t85_core::{Fault, Header, decode};
+use t85_core::{Fault, Header, decode_in_memory};
 
 /// Writes the rows of a stream's image, at most `max_rows` of them. Row y begins `y * stride` bytes after the first; a row has
 /// a bit a pixel, the first highest, in whole bytes, padded by 0.
@@ -153,7 +153,7 @@ fn write_rows(
     outcomes();
     let mut lines = Window::over(window, header.xd);
     let mut input = Whole { rest: body };
-    let answer = decode(header, height, &mut lines, &mut input, output);
+    let answer = decode_in_memory(header, height, &mut lines, &mut input, output);
     if output.spilled.is_some() {
         return FULL;
     }

@@ -1,6 +1,6 @@
 //! Lent memory as devices.
 
-ghost use Rattle.std.specs.Prelude.{◌≡◌, ◌≤◌, ◌<◌, ◌-◌, ◌^◌, ◌++◌, Some, None, length, take, is_some, true, option_to_list};
+ghost use Rattle.std.specs.Prelude.{◌≡◌, ◌≤◌, ◌<◌, ◌-◌, ◌^◌, ◌++◌, [], Some, None, length, take, is_some, true, option_to_list};
 
 use pbm_core::{DeviceFailed, Input, Output};
 
@@ -13,8 +13,10 @@ pub struct Whole<'a> {
 impl Input for Whole<'_> {
     ghost view = { λ s. record {
       remaining = Some s.rest.now;
+      held = [];
       left = length s.rest.now;
       failures = 0;
+      source = 0;
     } };
 
     fn failures(&self) -> u64 {

@@ -64,8 +64,10 @@ impl<'a> LinedInput<'a> {
 impl Input for LinedInput<'_> {
     ghost view = { λ s. record {
       remaining = Some (s.current.now ++ lined s.rows s.row s.stride s.rest.now);
+      held = [];
       left = s.left;
       failures = 0;
+      source = 0;
     } };
 
     fn failures(&self) -> u64 {

@@ -18,6 +18,7 @@ pub struct Opened<'a> {
 }
 
 /// The header of a stream.
+#[inline(always)]
 pub fn read_header(stream: &[u8]) -> Result<Header, Fault>
     ensures accepted { IfOk result (λ h. HeaderOf stream.now (fields_of h)) }
     ensures refused { IfErr result (λ f. header_fault stream.now ≡ Some f) }
@@ -29,6 +30,7 @@ pub fn read_header(stream: &[u8]) -> Result<Header, Fault>
 }
 
 /// Reads the header, and finds the height where it may change.
+#[inline(always)]
 pub fn open(stream: &[u8]) -> Result<Opened<'_>, Fault>
     ensures accepted { IfOk result (λ o. HeaderOf stream.now (fields_of o.header)) }
     ensures refused { IfErr result (λ f. header_fault stream.now ≡ Some f) }

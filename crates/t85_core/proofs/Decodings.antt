@@ -6,6 +6,8 @@ pub mod Firsts
 pub mod Runs
 pub mod RowsSoFar
 pub mod RowPut
+pub mod TypicalRows
+pub mod RowsRepeated
 pub mod Entities
 pub mod StripePut
 pub mod CodePut
@@ -15,10 +17,15 @@ pub mod Decoded
 pub mod Converted
 pub mod LowerHeight
 pub mod PieceCode
+pub mod PieceEnds
 pub mod PieceRows
 pub mod PieceMarker
 pub mod PieceHead
 pub mod PieceSteps
 pub mod PieceWalk
 pub mod PieceGiven
-pub mod LateHeight
+pub mod PieceHeights
+pub mod PieceBehind
+pub mod PieceLate
+pub mod PieceStood
+pub mod PieceLook

@@ -13,6 +13,7 @@ pub mod EntityEnds
 pub mod RowStream
 pub mod RowSteps
 pub mod RowGiven
+pub mod ReadAhead
 pub mod RowCalls
 pub mod FewAppended
 pub mod ImageByRow

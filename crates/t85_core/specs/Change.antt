@@ -1,5 +1,6 @@
 -- A device before a call and after it.
 use Rattle.std.specs.Prelude.{ℕ, List, Option}
+use Rattle.std.specs.Io.KnownBytes.{prepend_known}
 use Rattle.pbm_core.specs.Device.{InputView, OutputView}
 
 -- A device as contracts see it: its bytes, where it reports them (those that an input has still to give, or that an
@@ -22,6 +23,10 @@ input_change view old new = between (view old).remaining (view new).remaining (v
 
 abbrev pub output_change : {W : Type 0} → (W → OutputView) → W → W → Change
 output_change view old new = between (view old).contents (view new).contents (view old).failures (view new).failures
+
+-- the same call, where these bytes are still to come, too, before those that the input has still to give
+abbrev pub with_ahead : List ℕ → Change → Change
+with_ahead ahead c = record { old = c.old; new = record { bytes = prepend_known ahead c.new.bytes; failures = c.new.failures } }
 
 -- the same call, from where these bytes are known
 abbrev pub known_from : Option (List ℕ) → Change → Change

@@ -4,7 +4,7 @@ use Rattle.t85_core.specs.Jbg.{Settings, is_low, jbg, jbg_up_to}
 use Rattle.std.specs.Io.KnownBytes.{Appends, Consumes, Keeps}
 use Rattle.t85_core.specs.Change.{Change}
 use Rattle.pbm_core.specs.declared.form.Form.{Form}
-use Rattle.pbm_core.specs.Image.{HoldsRows, RowFault, HasRowFault}
+use Rattle.pbm_core.specs.Image.{AreRows, HoldsRows, RowFault, HasRowFault}
 use Rattle.pbm_core.specs.declared.fault.PbmFault.{PbmFault}
 use Rattle.pbm_core.specs.declared.fault.PbmFault.TheVariants as pbm
 use Rattle.raster_core.specs.Raster.{Raster, IsRaster, height}
@@ -76,6 +76,12 @@ pub record WritesCodeFront (s : Settings) (form : Form) (width height' : ℕ) (b
   pub begins : (raster : Raster) → BeginsWith width height' rows raster → IsBeginning text (jbg s raster)
   pub appends : Appends old new text
 
+-- The bytes are all rows of an image, and nothing after them.
+pub record AreAllRows (form : Form) (width height' : ℕ) (bytes : List ℕ) : Type 0 where
+  pub rows : List (List Bool)
+  pub are_rows : AreRows form width bytes rows
+  pub many : length rows ≡ height'
+
 -- What `encode` leaves for these settings and an image of this size. Of each device are given the known bytes and the
 -- count of failures, before the call and after it.
 pub record Encode (s : Settings) (form : Form) (width height' : ℕ) (input output : Change) (answer : Result (Unit {0}) Fault) : Type 0 where
@@ -84,6 +90,7 @@ pub record Encode (s : Settings) (form : Form) (width height' : ℕ) (input outp
   pub not_low : OnOk answer (is_low s height' ≡ false)
   pub told_if_low : IfErr answer (λ f. f ≢ AnnouncedLow → is_low s height' ≡ false)
   pub whole : OnOk answer (IfSome input.old.bytes (λ body. WritesCode s form width height' body output.old.bytes output.new.bytes))
+  pub taken : OnOk answer ((given : List ℕ) × Consumes input.old.bytes input.new.bytes given × AreAllRows form width height' given)
   pub short : (fault : PbmFault) → fault ≢ pbm.Read → IsErrOf answer (Pbm fault) → IfSome input.old.bytes (λ body. WritesCodeBegun s form width height' body fault output.old.bytes output.new.bytes)
   -- a read failed, and what came up to there ends within the rows
   pub unread : IsErrOf answer (Pbm pbm.Read) → (given : List ℕ) × Consumes input.old.bytes input.new.bytes given × WritesCodeBegun s form width height' given pbm.Truncated output.old.bytes output.new.bytes

@@ -15,6 +15,7 @@ pub mod Failures
 pub mod Options
 pub mod Info
 pub mod Decode
+pub mod Outcomes
 pub mod Pieces
 pub mod ToPbm
 pub mod Encode

@@ -1,46 +1,63 @@
 -- What a decoder leaves that is given a stream in pieces.
-use Rattle.std.specs.Prelude.{ℕ, ◌≡◌, ⊤, Bool, List, [], ◌∷◌, ◌++◌, take, Option, Some, None, flat_map}
+use Rattle.std.specs.Prelude.{ℕ, ◌≡◌, ◌≤◌, ⊤, Bool, true, false, List, [], ◌∷◌, ◌++◌, take, Option, Some, None, flat_map}
 use Rattle.raster_core.specs.Packed.{packed_row}
 use Rattle.raster_core.specs.Window.{held}
 use Rattle.t85_core.specs.declared.fault.Fault.{Fault}
 use Rattle.t85_core.specs.declared.fault.Fault.TheVariants.{Truncated}
 use Rattle.t85_core.specs.declared.pieces.PieceDecoder.{PieceDecoder}
+use Rattle.t85_core.specs.declared.pieces.End.{End}
 use Rattle.t85_core.specs.declared.pieces.Outcome.{Outcome}
 use Rattle.t85_core.specs.declared.pieces.Outcome.TheVariants as outcome
 use Rattle.t85_core.specs.Header.{Fields}
 use Rattle.t85_core.specs.Options.{fields_of}
+use Rattle.t85_core.specs.Height.{IsHeight}
 use Rattle.t85_core.specs.Denotes.{DenotesAt}
 use Rattle.t85_core.specs.Fixed.{Fixes}
-use Rattle.t85_core.specs.Steps.Pieces.{WalkStands, CutOff, LateStands}
+use Rattle.t85_core.specs.Outcomes.{end_told}
+use Rattle.t85_core.specs.Steps.PieceStands.{DecoderStands}
 
--- the image that a decoder decodes: the header's fields and the height
-abbrev pub image_of : PieceDecoder → Fields × ℕ
-image_of d = (fields_of d.header, d.height)
+-- the header of the stream that a decoder decodes
+abbrev pub stream_of : PieceDecoder → Fields
+stream_of d = fields_of d.header
+
+-- the height that it uses
+abbrev pub height_in_use : PieceDecoder → ℕ
+height_in_use d = d.height
 
 -- the row that it gave last, packed
 abbrev pub row_held : PieceDecoder → List ℕ
 row_held d = (held d.walk.carried.window.now).current
 
--- whether it goes on, or the stream is broken, whatever comes
-abbrev pub StandsOr : Option Fault → PieceDecoder → List ℕ → List ℕ → Type 0
-StandsOr None d text out = WalkStands (fields_of d.header) d.height d.walk text out
-StandsOr (Some fault) d text out = (later : List ℕ) → CutOff (fields_of d.header) d.height (text ++ later) out fault
+-- A decoder goes on. It has taken these bytes, and has given these rows, packed.
+pub record HasDecoded (d : PieceDecoder) (text out : List ℕ) : Type 0 where
+  pub going : d.end ≡ None
+  pub stands : DecoderStands d text out
 
--- A decoder has taken these bytes, and has given these rows, packed.
-abbrev pub HasDecoded : PieceDecoder → List ℕ → List ℕ → Type 0
-HasDecoded d text out = StandsOr d.broken d text out
-
--- it has, of some
+-- it has, of some, unless the stream has ended
 abbrev pub IsDecoding : PieceDecoder → Type 0
-IsDecoding d = (text : List ℕ) × (out : List ℕ) × HasDecoded d text out
+IsDecoding d = d.end ≡ None → (text : List ℕ) × (out : List ℕ) × HasDecoded d text out
 
--- A body that is broken, or ends too early: its fault, and the rows that it fixes, packed.
-abbrev pub HandsOut : Fields × ℕ → List ℕ → Fault → List ℕ → Type 0
-HandsOut image body fault out = (rows : List (List Bool)) × Fixes image.0 image.1 body fault rows × (out ≡ flat_map packed_row rows)
+-- Each height of a body is this one; a body of bytes has one.
+abbrev pub HasHeight : Fields → List ℕ → ℕ → Type 0
+HasHeight h body height = (n : ℕ) → IsHeight h body n → n ≡ height
 
--- A body that denotes an image, and its rows, packed.
-abbrev pub HoldsImage : Fields × ℕ → List ℕ → List ℕ → Type 0
-HoldsImage image body out = (rows : List (List Bool)) × DenotesAt image.0 image.1 body (record { width = image.0.xd; rows = rows }) × (out ≡ flat_map packed_row rows)
+-- A body that is broken, or ends too early: its height, its fault, and the rows that it fixes, packed.
+pub record HandsOut (h : Fields) (body : List ℕ) (height : ℕ) (fault : Fault) (out : List ℕ) : Type 0 where
+  pub height_is : HasHeight h body height
+  pub rows : List (List Bool)
+  pub fixes : Fixes h height body fault rows
+  pub out_is : out ≡ flat_map packed_row rows
+
+-- A body that denotes an image: its height, and rows, packed, of which as many first ones are the image's.
+pub record HoldsImage (h : Fields) (body : List ℕ) (height : ℕ) (out : List ℕ) : Type 0 where
+  pub height_is : HasHeight h body height
+  pub rows : List (List Bool)
+  pub denotes : DenotesAt h height body (record { width = h.xd; rows = take height rows })
+  pub out_is : out ≡ flat_map packed_row rows
+
+-- what may come after a piece: nothing after the last
+abbrev pub MayFollow : Bool → List ℕ → Type 0
+MayFollow is_all rest = is_all ≡ true → rest ≡ []
 
 -- ---- a call with a piece, of which so many bytes were taken
 
@@ -49,47 +66,44 @@ abbrev pub GivesRow : PieceDecoder → PieceDecoder → List ℕ → ℕ → Out
 GivesRow old new piece taken answer =
     answer ≡ outcome.Row → (text out : List ℕ) → HasDecoded old text out → HasDecoded new (text ++ take taken piece) (out ++ row_held new)
 
--- where nothing comes after the piece the stream ends too early, and what was given is what it fixes
+-- No row is given. If nothing waits, and nothing comes after the piece, the stream ends too early, and what was given is
+-- what it fixes.
 abbrev pub WantsMore : PieceDecoder → PieceDecoder → List ℕ → ℕ → Outcome → Type 0
 WantsMore old new piece taken answer =
     answer ≡ outcome.More → (text out : List ℕ) → HasDecoded old text out →
-    HasDecoded new (text ++ take taken piece) out × HandsOut (image_of old) (text ++ piece) Truncated out
+    HasDecoded new (text ++ take taken piece) out × (new.waits ≡ false → HandsOut (stream_of old) (text ++ piece) new.height Truncated out)
 
--- what was given is the image, whatever comes after what was taken
-abbrev pub IsWhole : PieceDecoder → PieceDecoder → List ℕ → ℕ → Outcome → Type 0
-IsWhole old new piece taken answer =
-    answer ≡ outcome.Done → (text out : List ℕ) → HasDecoded old text out →
-    HasDecoded new (text ++ take taken piece) out × ((rest : List ℕ) → HoldsImage (image_of old) ((text ++ take taken piece) ++ rest) out)
-
--- a height came late: it is the body's, and the image there is the first rows of those that were given, whatever comes
-abbrev pub IsLate : PieceDecoder → PieceDecoder → List ℕ → ℕ → Outcome → Type 0
-IsLate old new piece taken answer =
-    (height : ℕ) → answer ≡ outcome.Late height → (text out : List ℕ) → HasDecoded old text out →
-    HasDecoded new (text ++ take taken piece) out × LateStands (image_of old).0 height (text ++ take taken piece) out
+-- the image is whole at this height, whatever comes after the piece
+abbrev pub IsWhole : Bool → PieceDecoder → PieceDecoder → List ℕ → Outcome → Type 0
+IsWhole is_all old new piece answer =
+    (height : ℕ) → answer ≡ outcome.Done height → (new.height ≡ height) × ((text out rest : List ℕ) → HasDecoded old text out → MayFollow is_all rest → HoldsImage (stream_of old) ((text ++ piece) ++ rest) height out)
 
 -- what was given is what the stream fixes, whatever comes after the piece
-abbrev pub IsBroken : PieceDecoder → PieceDecoder → List ℕ → ℕ → Outcome → Type 0
-IsBroken old new piece taken answer =
-    (fault : Fault) → answer ≡ outcome.Broken fault → (text out : List ℕ) → HasDecoded old text out →
-    HasDecoded new (text ++ take taken piece) out × ((rest : List ℕ) → HandsOut (image_of old) ((text ++ piece) ++ rest) fault out)
+abbrev pub IsBroken : Bool → PieceDecoder → PieceDecoder → List ℕ → Outcome → Type 0
+IsBroken is_all old new piece answer =
+    (fault : Fault) → answer ≡ outcome.Broken fault → (text out rest : List ℕ) → HasDecoded old text out → MayFollow is_all rest → HandsOut (stream_of old) ((text ++ piece) ++ rest) new.height fault out
+
+-- after an end all stays as it is
+abbrev pub EndsAgain : PieceDecoder → PieceDecoder → ℕ → Outcome → Type 0
+EndsAgain old new taken answer = (end : End) → old.end ≡ Some end → (answer ≡ end_told end old.height) × (taken ≡ 0) × (new ≡ old)
 
 -- ---- calls one after another
 
--- a call: the piece, how many of its bytes were taken, the answer, and the decoder after it
+-- a call: the piece, whether it is the last, how many of its bytes were taken, the answer, and the decoder after it
 pub record Call : Type 0 where
   pub piece : List ℕ
+  pub is_all : Bool
   pub taken : ℕ
   pub answer : Outcome
   pub new : PieceDecoder
 
--- it is as `next_row` promises
+-- it is as `next_row` and `next_of_last` promise
 pub record IsCall (old : PieceDecoder) (call : Call) : Type 0 where
-  pub same : image_of call.new ≡ image_of old
+  pub same : stream_of call.new ≡ stream_of old
   pub row : GivesRow old call.new call.piece call.taken call.answer
   pub more : WantsMore old call.new call.piece call.taken call.answer
-  pub done : IsWhole old call.new call.piece call.taken call.answer
-  pub late : IsLate old call.new call.piece call.taken call.answer
-  pub broken : IsBroken old call.new call.piece call.taken call.answer
+  pub done : IsWhole call.is_all old call.new call.piece call.answer
+  pub broken : IsBroken call.is_all old call.new call.piece call.answer
 
 -- the bytes that were taken in a call, and the row that it gave, if it gave one
 abbrev pub bytes_taken : Call → List ℕ
@@ -98,17 +112,23 @@ bytes_taken call = take call.taken call.piece
 abbrev pub given_with : Outcome → List ℕ → List ℕ
 given_with outcome.Row row = row
 given_with outcome.More row = []
-given_with outcome.Done row = []
-given_with (outcome.Late height) row = []
+given_with (outcome.Done height) row = []
 given_with (outcome.Broken fault) row = []
 
 abbrev pub row_given : Call → List ℕ
 row_given call = given_with call.answer (row_held call.new)
 
--- calls one after another, whatever their pieces are
+-- whether the stream goes on after it
+abbrev pub StreamGoesOn : Outcome → Type 0
+StreamGoesOn outcome.Row = ⊤
+StreamGoesOn outcome.More = ⊤
+StreamGoesOn (outcome.Done height) = ⊥
+StreamGoesOn (outcome.Broken fault) = ⊥
+
+-- calls one after another, whatever their pieces are, up to the end
 abbrev pub AreCalls : PieceDecoder → List Call → Type 0
 AreCalls d [] = ⊤
-AreCalls d (call ∷ calls) = IsCall d call × AreCalls call.new calls
+AreCalls d (call ∷ calls) = IsCall d call × StreamGoesOn call.answer × AreCalls call.new calls
 
 -- the decoder after them
 abbrev pub decoder_after : PieceDecoder → List Call → PieceDecoder
@@ -121,23 +141,18 @@ PiecesTaken =
     (d : PieceDecoder) (calls : List Call) → HasDecoded d [] [] → AreCalls d calls →
     HasDecoded (decoder_after d calls) (flat_map bytes_taken calls) (flat_map row_given calls)
 
--- What the last of some calls says: of all that was taken, and of all that came.
-abbrev pub PiecesMore : Type 0
-PiecesMore =
-    (d : PieceDecoder) (calls : List Call) (last : Call) → HasDecoded d [] [] → AreCalls d calls → IsCall (decoder_after d calls) last → last.answer ≡ outcome.More →
-    HandsOut (image_of d) (flat_map bytes_taken calls ++ last.piece) Truncated (flat_map row_given calls)
-
+-- What a call says after some calls: of all that was taken, and of all that came.
 abbrev pub PiecesWhole : Type 0
 PiecesWhole =
-    (d : PieceDecoder) (calls : List Call) (last : Call) (rest : List ℕ) → HasDecoded d [] [] → AreCalls d calls → IsCall (decoder_after d calls) last → last.answer ≡ outcome.Done →
-    HoldsImage (image_of d) ((flat_map bytes_taken calls ++ bytes_taken last) ++ rest) (flat_map row_given calls)
+    (d : PieceDecoder) (calls : List Call) (last : Call) (height : ℕ) (rest : List ℕ) → HasDecoded d [] [] → AreCalls d calls → IsCall (decoder_after d calls) last →
+    last.answer ≡ outcome.Done height → MayFollow last.is_all rest → HoldsImage (stream_of d) ((flat_map bytes_taken calls ++ last.piece) ++ rest) height (flat_map row_given calls)
 
 abbrev pub PiecesBroken : Type 0
 PiecesBroken =
-    (d : PieceDecoder) (calls : List Call) (last : Call) (fault : Fault) (rest : List ℕ) → HasDecoded d [] [] → AreCalls d calls → IsCall (decoder_after d calls) last → last.answer ≡ outcome.Broken fault →
-    HandsOut (image_of d) ((flat_map bytes_taken calls ++ last.piece) ++ rest) fault (flat_map row_given calls)
+    (d : PieceDecoder) (calls : List Call) (last : Call) (fault : Fault) (rest : List ℕ) → HasDecoded d [] [] → AreCalls d calls → IsCall (decoder_after d calls) last →
+    last.answer ≡ outcome.Broken fault → MayFollow last.is_all rest → HandsOut (stream_of d) ((flat_map bytes_taken calls ++ last.piece) ++ rest) last.new.height fault (flat_map row_given calls)
 
-abbrev pub PiecesLate : Type 0
-PiecesLate =
-    (d : PieceDecoder) (calls : List Call) (last : Call) (height : ℕ) → HasDecoded d [] [] → AreCalls d calls → IsCall (decoder_after d calls) last → last.answer ≡ outcome.Late height →
-    LateStands (image_of d).0 height (flat_map bytes_taken calls ++ bytes_taken last) (flat_map row_given calls)
+abbrev pub PiecesMore : Type 0
+PiecesMore =
+    (d : PieceDecoder) (calls : List Call) (last : Call) → HasDecoded d [] [] → AreCalls d calls → IsCall (decoder_after d calls) last → last.answer ≡ outcome.More → last.new.waits ≡ false →
+    HandsOut (stream_of d) (flat_map bytes_taken calls ++ last.piece) last.new.height Truncated (flat_map row_given calls)

@@ -11,6 +11,9 @@ pub mod DecodeRows
 pub mod DecodeStripes
 pub mod PieceCode
 pub mod Pieces
+pub mod Behind
+pub mod PieceStands
+pub mod PieceSteps
 pub mod Written
 pub mod Looked
 pub mod ByRow

@@ -1,7 +1,7 @@
 -- What `to_jbg` leaves of its input and output.
 use Rattle.std.specs.Prelude.{ℕ, ◌≡◌, ◌≢◌, ◌⊎◌, Bool, true, List, [], Option, IfSome, Result, OnOk, IfErr, IsErrOf, false}
 use Rattle.std.specs.Io.KnownBytes.{Appends, Consumes, Keeps}
-use Rattle.t85_core.specs.Change.{Change}
+use Rattle.t85_core.specs.Change.{Change, with_ahead}
 use Rattle.pbm_core.specs.declared.form.Form.{Form}
 use Rattle.pbm_core.specs.Image.{IsPbm}
 use Rattle.pbm_core.specs.Outcome.{HasHeader, HasFault}
@@ -45,6 +45,12 @@ pub record WritesStreamFront (s : Settings) (bytes : List ℕ) (old new : Option
   pub fits : is_low s height' ≡ false
   pub writes : WritesCodeFront s form width height' body old new
 
+-- the bytes are an image, and nothing after it
+pub record IsImage (bytes : List ℕ) : Type 0 where
+  pub width : ℕ
+  pub rows : List (List Bool)
+  pub is : IsPbm bytes width rows []
+
 -- a header that is accepted, and nothing after it; whether the announced height is too low
 pub record HasSize (s : Settings) (low : Bool) (bytes : List ℕ) : Type 0 where
   pub form : Form
@@ -57,9 +63,10 @@ pub record HasSize (s : Settings) (low : Bool) (bytes : List ℕ) : Type 0 where
 abbrev pub RefusesPbm : Settings → List ℕ → PbmFault → Option (List ℕ) → Option (List ℕ) → Type 0
 RefusesPbm s bytes fault old new = (HasFault bytes fault × Keeps old new) ⊎ WritesStreamBegun s bytes fault old new
 
--- What `to_jbg` leaves.
+-- What a call leaves that takes of its input no byte after the rows.
 pub record ToJbg (s : Settings) (input output : Change) (flushed : Bool) (answer : Result (Unit {0}) Fault) : Type 0 where
   pub whole : OnOk answer (IfSome input.old.bytes (λ bytes. WritesStream s bytes output.old.bytes output.new.bytes))
+  pub taken : OnOk answer ((given : List ℕ) × Consumes input.old.bytes input.new.bytes given × IsImage given)
   pub flushed_last : OnOk answer (flushed ≡ true)
   pub refused : (fault : PbmFault) → fault ≢ pbm.Read → IsErrOf answer (Pbm fault) → IfSome input.old.bytes (λ bytes. RefusesPbm s bytes fault output.old.bytes output.new.bytes)
   -- these come after a header that is accepted, with nothing more read and nothing written
@@ -73,3 +80,10 @@ pub record ToJbg (s : Settings) (input output : Change) (flushed : Bool) (answer
   pub among : IfErr answer (λ f. f ≢ AnnouncedLow → f ≢ OutOfMemory → f ≢ Write → (fault : PbmFault) × (f ≡ Pbm fault))
   pub reads : CountsBoth input.old.failures input.new.failures answer
   pub writes : CountsWrite output.old.failures output.new.failures answer
+
+-- What `to_jbg` leaves: the same of an input where the bytes that it read ahead were still to come. There are none after a
+-- read that failed. So what came before that read is what was wanted, and no read is made where all of that is held.
+pub record ToJbgAhead (s : Settings) (input output : Change) (flushed : Bool) (answer : Result (Unit {0}) Fault) : Type 0 where
+  pub ahead : List ℕ
+  pub leaves : ToJbg s (with_ahead ahead input) output flushed answer
+  pub none_unread : (input.new.failures ≡ input.old.failures) ⊎ (ahead ≡ [])

@@ -6,7 +6,8 @@ ghost use Rattle.t85_core.specs.Options.{fields_of, settings_of};
 ghost use Rattle.t85_core.specs.Header.{is_variable};
 ghost use Rattle.t85_core.specs.Failures.{FlushesOnce};
 ghost use Rattle.t85_core.specs.ToPbm.{ToPbmAt, ToPbmBehind, ToPbm, again_change, is_same_header};
-ghost use Rattle.t85_core.specs.ToJbg.{ToJbg};
+ghost use Rattle.t85_core.specs.ToJbg.{ToJbg, ToJbgAhead};
+ghost use Rattle.pbm_core.specs.Device.{SameInput};
 ghost use Rattle.t85_core.specs.Jbg.{is_low};
 ghost use Rattle.t85_core.specs.declared.fault.Fault.TheVariants.{Write, Pbm};
 
@@ -18,7 +19,7 @@ use crate::height::find_height;
 use crate::laws::coder_laws;
 use crate::options::Options;
 use pbm_core::laws::headers;
-use pbm_core::{DeviceFailed, Input, Output, read_header};
+use pbm_core::{Buffered, DeviceFailed, Input, Output, read_header};
 use raster_core::{Window, window_bytes};
 use std::alloc::Global;
 
@@ -128,7 +129,27 @@ fn convert<R: Input, W: Output>(
 }
 
 /// Writes the stream of an image in the PBM format. The one memory that it takes is for three rows.
+///
+/// The input is asked only while what came ends within the header or the rows. What it gave then with the last of these
+/// is read ahead, and lost.
 pub fn to_jbg<R: Input, W: Output>(
+    alloc: Global,
+    input: &mut R,
+    output: &mut W,
+    options: &Options<'_>,
+) -> Result<(), Fault>
+    ensures outcome { ToJbgAhead (settings_of options.now)
+        (input_change R.view input.old input.new)
+        (output_change W.view output.old output.new) (W.view output.new).flushed result }
+    ensures flushes { FlushesOnce (W.view output.old).flushes (W.view output.new).flushes result }
+    ensures same_target { (W.view output.new).target ≡ (W.view output.old).target }
+{
+    let mut source = Buffered::new(input);
+    to_jbg_from(alloc, &mut source, output, options)
+}
+
+/// Writes the stream of an image in the PBM format, and takes nothing after its rows.
+fn to_jbg_from<R: Input, W: Output>(
     alloc: Global,
     input: &mut R,
     output: &mut W,
@@ -137,6 +158,7 @@ pub fn to_jbg<R: Input, W: Output>(
     ensures outcome { ToJbg (settings_of options.now)
         (input_change R.view input.old input.new)
         (output_change W.view output.old output.new) (W.view output.new).flushed result }
+    ensures same_input { SameInput (R.view input.old) (R.view input.new) }
     ensures flushes { FlushesOnce (W.view output.old).flushes (W.view output.new).flushes result }
     ensures same_target { (W.view output.new).target ≡ (W.view output.old).target }
 {

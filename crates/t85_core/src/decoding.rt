@@ -1,6 +1,6 @@
 //! Decoding an image.
 
-ghost use Rattle.std.specs.Prelude.{◌≡◌, ◌≢◌, ◌≤◌, OnOk, IfErr, IsErrOf, IfSome, None, option_map, if◌then◌else◌};
+ghost use Rattle.std.specs.Prelude.{◌≡◌, ◌≢◌, ◌≤◌, ◌<◌, OnOk, IfErr, IsErrOf, IfSome, None, option_map, if◌then◌else◌};
 ghost use Rattle.raster_core.specs.Window.{width_of};
 ghost use Rattle.t85_core.specs.Steps.State.{StripeStart, first_row_start};
 ghost use Rattle.t85_core.specs.Options.{fields_of};
@@ -22,7 +22,7 @@ use crate::decoding::entity::EntityReader;
 use crate::decoding::rows::{RowFault, decode_rows};
 use crate::fault::Fault;
 use crate::header::Header;
-use crate::input_buffer::{ByteSource, InputBuffer};
+use crate::input_buffer::{ByteSource, InputBuffer, READ_AHEAD};
 use crate::laws::coder_laws;
 use crate::output_buffer::{ByteTarget, IMAGE_HELD, OutputBuffer};
 use crate::segments::{Move, Place, read_head};
@@ -49,29 +49,79 @@ pub fn decode<R: Input, W: Output>(
     ensures no_flush { (W.view output.new).flushes ≡ (W.view output.old).flushes }
     ensures same_target { (W.view output.new).target ≡ (W.view output.old).target }
 {
+    decode_by::<R, W, READ_AHEAD, IMAGE_HELD>(header, height, window, input, output)
+}
+
+/// How many bytes are read ahead, and held back, in memory. Each row goes straight there.
+const MEMORY_AHEAD: usize = 64;
+
+const MEMORY_HELD: usize = 1;
+
+/// As `decode`, between devices in memory, for which it holds little back: a read and a write cost no call of the system.
+pub fn decode_in_memory<R: Input, W: Output>(
+    header: &Header,
+    height: u32,
+    window: &mut Window<'_>,
+    input: &mut R,
+    output: &mut W,
+) -> Result<(), Fault>
+    requires width { width_of window.old ≡ header.now.xd }
+    requires from { 1 ≤ height }
+    requires to { height ≤ header.now.yd }
+    ensures outcome { Decode (fields_of header.now) height
+        (input_change R.view input.old input.new)
+        (output_change W.view output.old output.new) result }
+    ensures no_flush { (W.view output.new).flushes ≡ (W.view output.old).flushes }
+    ensures same_target { (W.view output.new).target ≡ (W.view output.old).target }
+{
+    decode_by::<R, W, MEMORY_AHEAD, MEMORY_HELD>(header, height, window, input, output)
+}
+
+/// As `decode`, by arrays of so many bytes.
+fn decode_by<R: Input, W: Output, const AHEAD: usize, const HELD: usize>(
+    header: &Header,
+    height: u32,
+    window: &mut Window<'_>,
+    input: &mut R,
+    output: &mut W,
+) -> Result<(), Fault>
+    requires width { width_of window.old ≡ header.now.xd }
+    requires ahead { 0 < AHEAD }
+    requires few_ahead { AHEAD ≤ 4096 }
+    requires held { 0 < HELD }
+    requires few_held { HELD ≤ 4096 }
+    requires from { 1 ≤ height }
+    requires to { height ≤ header.now.yd }
+    ensures outcome { Decode (fields_of header.now) height
+        (input_change R.view input.old input.new)
+        (output_change W.view output.old output.new) result }
+    ensures no_flush { (W.view output.new).flushes ≡ (W.view output.old).flushes }
+    ensures same_target { (W.view output.new).target ≡ (W.view output.old).target }
+{
     // What the proof cites of the coder.
     coder_laws();
     let size = Size {
         width: header.xd,
         height,
     };
+    // Made here, it is not filled with zeros before.
+    let mut carried = CodingState::first(window);
     match write_header(output, size) {
         Ok(()) => {}
         Err(WriteFault) => return Err(Fault::Write),
     }
-    let mut carried = CodingState::first(window);
-    let mut stream = InputBuffer::new(input);
-    let mut buffer = OutputBuffer::new(output);
+    let mut stream: InputBuffer<'_, R, AHEAD> = InputBuffer::new(input);
+    let mut buffer: OutputBuffer<'_, W, HELD> = OutputBuffer::new(output);
     decode_buffered(header, height, &mut carried, &mut stream, &mut buffer)
 }
 
 /// Writes the rows of an image, and writes what is held, except after a failed write.
-fn decode_buffered<S: ByteSource, W: Output>(
+fn decode_buffered<S: ByteSource, W: Output, const HELD: usize>(
     header: &Header,
     height: u32,
     carried: &mut CodingState<'_, '_>,
     stream: &mut S,
-    buffer: &mut OutputBuffer<'_, W, IMAGE_HELD>,
+    buffer: &mut OutputBuffer<'_, W, HELD>,
 ) -> Result<(), Fault>
     requires width { width_of carried.old.window.now ≡ header.now.xd }
     requires offset { carried.old.kept.offset ≡ 0 }

@@ -2,6 +2,7 @@
 
 ghost use Rattle.std.specs.Prelude.{◌≡◌, ◌≤◌, OnOk, IfErr, IsErrOf, false};
 ghost use Rattle.t85_core.specs.Change.{input_change, output_change};
+ghost use Rattle.pbm_core.specs.Device.{SameInput};
 ghost use Rattle.pbm_core.specs.declared.fault.PbmFault.{PbmFault};
 ghost use Rattle.raster_core.specs.Window.{held, width_of};
 ghost use Rattle.t85_core.specs.Encode.{Encode, IsEncodeFault};
@@ -45,6 +46,7 @@ pub fn encode<R: Input, W: Output>(
     ensures outcome { Encode (settings_of options.now) form size.width size.height
         (input_change R.view input.old input.new)
         (output_change W.view output.old output.new) result }
+    ensures same_input { SameInput (R.view input.old) (R.view input.new) }
     ensures no_flush { (W.view output.new).flushes ≡ (W.view output.old).flushes }
     ensures same_target { (W.view output.new).target ≡ (W.view output.old).target }
 {
@@ -81,6 +83,7 @@ fn encode_buffered<R: Input, W: Output>(
         (W.view buffer.new.output.now).contents }
     ensures among { IfErr result IsEncodeFault }
     ensures reads { CountsBoth (R.view source.old).failures (R.view source.new).failures result }
+    ensures same_input { SameInput (R.view source.old) (R.view source.new) }
     ensures writes { CountsWrite (W.view buffer.old.output.now).failures
         (W.view buffer.new.output.now).failures result }
     ensures same_writer { writer_of buffer.new ≡ writer_of buffer.old }
@@ -119,6 +122,7 @@ fn encode_image<R: Input, P: ByteTarget>(
         (P.view target.old).text (P.view target.new).text }
     ensures among { IfErr result IsEncodeFault }
     ensures reads { CountsRead (R.view source.old).failures (R.view source.new).failures result }
+    ensures same_input { SameInput (R.view source.old) (R.view source.new) }
     ensures writes { WritesOn (P.view target.old) (P.view target.new) result }
 {
     // What the proof cites of what stands after some rows.
@@ -148,6 +152,7 @@ fn read_next_row<R: Input>(
     ensures width { width_of window.new ≡ width_of window.old }
     ensures among { IfErr result IsEncodeFault }
     ensures reads { CountsRead (R.view source.old).failures (R.view source.new).failures result }
+    ensures same_input { SameInput (R.view source.old) (R.view source.new) }
 {
     window.turn();
     match read_row(source, size, form, window.current) {

@@ -43,6 +43,7 @@ impl Header {
     ghost use Rattle.t85_core.specs.Coding.{has_bit, mode_of};
 
     /// Reads a header, and no byte after it.
+    #[inline(always)]
     pub fn read<R: Input>(input: &mut R) -> Result<Header, Fault>
         ensures accepted { IfOk result (λ h. (given : List ℕ) × (length given ≡ 20)
             × Consumes (R.view input.old).remaining (R.view input.new).remaining given ×
@@ -58,6 +59,7 @@ impl Header {
     }
 
     /// Judges the twenty bytes.
+    #[inline(always)]
     fn accept(bytes: &[u8; 20]) -> Result<Header, Fault>
         ensures accepted { IfOk result (λ h. HeaderOf bytes.now (fields_of h)) }
         ensures refused { MatchResult result (λ _. header_fault bytes.now ≡ None)

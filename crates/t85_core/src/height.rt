@@ -16,7 +16,7 @@ ghost use Rattle.t85_core.specs.Steps.Segments.{IsByteOrMarker};
 
 use crate::fault::Fault;
 use crate::header::Header;
-use crate::input_buffer::{ByteSource, InputBuffer};
+use crate::input_buffer::{ByteSource, InputBuffer, READ_AHEAD};
 use crate::segments::{Code, Next, Piece, Place, next_piece, read_segments, skip_code};
 use pbm_core::Input;
 
@@ -55,7 +55,7 @@ pub fn find_height<R: Input>(header: &Header, input: &mut R) -> Result<u32, Faul
     if !header.is_variable() {
         return Ok(header.yd);
     }
-    let mut stream = InputBuffer::new(input);
+    let mut stream: InputBuffer<'_, R, READ_AHEAD> = InputBuffer::new(input);
     match find(header, &mut stream) {
         Ok(reached) => match reached.height {
             Some(height) => Ok(height),

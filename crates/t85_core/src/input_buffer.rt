@@ -1,16 +1,18 @@
 //! A reader's bytes, read ahead into a fixed array and handed out one at a time.
 
-ghost use Rattle.std.specs.Prelude.{◌≡◌, ◌≢◌, ◌≤◌, ◌<◌, ◌+◌, ◌-◌, ◌^◌, ◌∷◌, [], None, length, take, IfSome};
+ghost use Rattle.std.specs.Prelude.{◌≡◌, ◌≢◌, ◌≤◌, ◌<◌, ◌+◌, ◌-◌, ◌^◌, ◌∷◌, [], None, length, slice_index, take, IfSome};
 ghost use Rattle.std.specs.Io.KnownBytes.{Consumes, prepend_known};
 ghost use Rattle.t85_core.specs.Steps.Buffers.{SourceView, GivesNextByte, GivesPlain, SkipsPlain, held_of, ArePlain};
 
 use crate::fault::Fault;
+use memchr::memchr;
 use pbm_core::{DeviceFailed, Input};
 
 /// The byte with which segments and end markers begin.
 pub const ESCAPE: u8 = 0xff;
 
-const SIZE: usize = 4096;
+/// How many bytes are read ahead of a file.
+pub const READ_AHEAD: usize = 4096;
 
 /// The bytes of a stream, in their order.
 pub trait ByteSource {
@@ -32,18 +34,20 @@ pub trait ByteSource {
 
 /// The reader is asked only where a byte is wanted and none is held.
 #[derive(Drop)]
-pub struct InputBuffer<'a, R: Input> {
+pub struct InputBuffer<'a, R: Input, const SIZE: usize> {
     input: &'a mut R,
     bytes: [u8; SIZE],
     at: usize,
     end: usize,
     ghost ordered: { at ≤ end },
-    ghost within: { end ≤ 4096 },
+    ghost within: { end ≤ SIZE },
+    ghost some: { 0 < SIZE },
     ghost fits: { (end - at) + (R.view input.now).left < 2 ^ 64 },
 }
 
-impl<'a, R: Input> InputBuffer<'a, R> {
-    pub fn new(input: &'a mut R) -> InputBuffer<'a, R>
+impl<'a, R: Input, const SIZE: usize> InputBuffer<'a, R, SIZE> {
+    pub fn new(input: &'a mut R) -> InputBuffer<'a, R, SIZE>
+        requires { 0 < SIZE }
         ensures empty { result.at ≡ result.end }
         ensures lent { result.input ≡ input.entry }
     {
@@ -58,7 +62,7 @@ impl<'a, R: Input> InputBuffer<'a, R> {
     }
 }
 
-impl<R: Input> ByteSource for InputBuffer<'_, R> {
+impl<R: Input, const SIZE: usize> ByteSource for InputBuffer<'_, R, SIZE> {
     ghost view = { λ s. record {
       known = prepend_known (held_of s.bytes s.at s.end) (R.view s.input.now).remaining;
       beyond = (R.view s.input.now).remaining;
@@ -96,7 +100,8 @@ impl<R: Input> ByteSource for InputBuffer<'_, R> {
     }
 
     fn skip_plain(&mut self) {
-        self.at += plain_len(&self.bytes[self.at..self.end]);
+        let bytes = &self.bytes[..];
+        self.at += plain_len(&bytes[self.at..self.end]);
     }
 }
 
@@ -104,10 +109,7 @@ impl<R: Input> ByteSource for InputBuffer<'_, R> {
 pub fn plain_len(bytes: &[u8]) -> usize
     ensures bound { result ≤ length bytes.now }
     ensures plain { ArePlain (take result bytes.now) }
+    ensures all { result < length bytes.now → slice_index bytes.now result ≡ 255 }
 {
-    let mut len = 0;
-    while len < bytes.len() && bytes[len] != ESCAPE {
-        len += 1;
-    }
-    len
+    memchr(ESCAPE, bytes).unwrap_or(bytes.len())
 }

@@ -18,7 +18,7 @@ mod state;
 mod summary;
 
 pub use conversion::{to_jbg, to_pbm};
-pub use decoding::decode;
+pub use decoding::{decode, decode_in_memory};
 pub use encoding::{RowEncoder, encode};
 pub use fault::Fault;
 pub use header::Header;

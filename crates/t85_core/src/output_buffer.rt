@@ -8,7 +8,7 @@ ghost use Rattle.t85_core.specs.Steps.Buffers.{TargetView, PutsBytes, Pushes, Ha
 ghost use Rattle.t85_core.specs.Failures.{CountsWrite};
 
 use crate::fault::Fault;
-use pbm_core::{DeviceFailed, Output};
+use pbm_core::{DeviceFailed, Output, WriteFault, write_bytes};
 
 /// How many bytes are held back of an image or of its stream.
 pub const IMAGE_HELD: usize = 4096;
@@ -139,18 +139,13 @@ impl<W: Output, const SIZE: usize> OutputBuffer<'_, W, SIZE> {
     }
 }
 
-impl<W: Output, const SIZE: usize> ByteTarget for OutputBuffer<'_, W, SIZE> {
-    ghost use Rattle.t85_core.specs.Steps.Views.{text_taken, writer_of};
+impl<W: Output, const SIZE: usize> OutputBuffer<'_, W, SIZE> {
+    ghost use Rattle.t85_core.specs.Steps.Views.{target_view};
 
-    ghost view = { λ s. record {
-      text = text_taken s;
-      held = held_of s.bytes s.at s.end;
-      written = known_length (W.view s.output.now).contents;
-      failures = (W.view s.output.now).failures;
-      writer = writer_of s;
-    } };
-
-    fn put(&mut self, bytes: &[u8]) -> Result<(), Fault> {
+    /// Holds the bytes back, and writes what is held as often as the array is full.
+    fn hold(&mut self, bytes: &[u8]) -> Result<(), Fault>
+        ensures { PutsBytes bytes.now (target_view self.old) (target_view self.new) result }
+    {
         let mut taken = 0;
         while taken < bytes.len() {
             if self.end == SIZE {
@@ -159,6 +154,33 @@ impl<W: Output, const SIZE: usize> ByteTarget for OutputBuffer<'_, W, SIZE> {
             taken += self.fill(&bytes[taken..]);
         }
         Ok(())
+    }
+
+    /// Writes the bytes, which no other bytes that are held come before.
+    #[inline(always)]
+    fn write_straight(&mut self, bytes: &[u8]) -> Result<(), Fault>
+        requires empty { self.old.at ≡ self.old.end }
+        ensures { PutsBytes bytes.now (target_view self.old) (target_view self.new) result }
+    {
+        match write_bytes(self.output, bytes) {
+            Ok(()) => Ok(()),
+            Err(WriteFault) => Err(Fault::Write),
+        }
+    }
+}
+
+impl<W: Output, const SIZE: usize> ByteTarget for OutputBuffer<'_, W, SIZE> {
+    ghost use Rattle.t85_core.specs.Steps.Views.{target_view};
+
+    ghost view = { λ s. target_view s };
+
+    #[inline(always)]
+    fn put(&mut self, bytes: &[u8]) -> Result<(), Fault> {
+        let is_empty = self.at == self.end;
+        if is_empty && bytes.len() >= SIZE {
+            return self.write_straight(bytes);
+        }
+        self.hold(bytes)
     }
 
     fn push(&mut self, byte: u8) -> Result<(), Fault> {

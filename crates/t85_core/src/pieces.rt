@@ -1,17 +1,22 @@
 //! Decoding a stream whose bytes come in pieces, row by row.
 
-ghost use Rattle.std.specs.Prelude.{◌≡◌, ◌≢◌, ◌≤◌, ℕ, None, Some, [], length};
+ghost use Rattle.std.specs.Prelude.{◌≡◌, ◌≢◌, ◌≤◌, [], length, true, false};
 ghost use Rattle.raster_core.specs.Window.{width_of};
+ghost use Rattle.t85_core.specs.Outcomes.{end_in};
 
+pub mod behind;
 pub mod code;
 pub mod piece;
 pub mod rows;
+mod steps;
+mod waits;
 pub mod walk;
 
 use crate::fault::Fault;
 use crate::header::Header;
+use crate::pieces::behind::Behind;
 use crate::pieces::piece::Piece;
-use crate::pieces::walk::{Stage, Walk};
+use crate::pieces::walk::Walk;
 use raster_core::Window;
 
 /// What a piece gave.
@@ -19,14 +24,21 @@ use raster_core::Window;
 pub enum Outcome {
     /// A row: ask for it, and call again with the rest of the piece.
     Row,
-    /// No row more: call again with what was not taken and with more bytes after it. Where there are none, the stream ends too
-    /// early, and all rows were given that it fixes.
+    /// No row more: call again with what was not taken and with more bytes after it, or, where there are none, tell that the
+    /// stream ends there.
     More,
-    /// The image is whole.
-    Done,
-    /// The image is whole, at this height, which came late: it is as many first rows of those that were given.
-    Late(u32),
+    /// The image is whole, at this height: it is as many first rows of those that were given.
+    Done(u32),
     /// The stream is broken, and all rows were given that it fixes.
+    Broken(Fault),
+}
+
+/// How a stream has ended.
+#[derive(Clone, Copy)]
+pub enum End {
+    /// The image is whole at the height in use.
+    Done,
+    /// The stream is broken.
     Broken(Fault),
 }
 
@@ -38,109 +50,109 @@ pub struct Progress {
 }
 
 /// A decoder that is given the bytes after the header in pieces, whenever they come.
+///
+/// While a height may still come (T.82, 6.2.6.2), rows that only the end of a code decides wait for what stands behind its
+/// end marker, since a height there cuts them off. All others are given as soon as the bytes decide them.
 #[derive(Drop)]
 pub struct PieceDecoder<'a, 'b> {
     header: Header,
+    /// The height in use: the header's, until another has come.
     height: u32,
     walk: Walk<'a, 'b>,
-    /// Why the stream is broken.
-    broken: Option<Fault>,
+    /// Whether a height may still come.
+    is_open: bool,
+    /// Whether the walk waits for what comes behind it, which is here.
+    waits: bool,
+    behind: Behind,
+    /// How the stream has ended.
+    end: Option<End>,
     ghost from: { 1 ≤ height },
     ghost to: { height ≤ header.yd },
 }
 
 impl<'a, 'b> PieceDecoder<'a, 'b> {
     ghost use Rattle.t85_core.specs.Options.{fields_of};
-    ghost use Rattle.t85_core.specs.Pieces.{HasDecoded, image_of};
+    ghost use Rattle.t85_core.specs.Pieces.{HasDecoded, stream_of};
 
     /// Before the first byte after the header. The window is made white.
-    pub fn start(header: Header, height: u32, window: &'a mut Window<'b>) -> PieceDecoder<'a, 'b>
+    pub fn start(header: Header, window: &'a mut Window<'b>) -> PieceDecoder<'a, 'b>
         requires width { width_of window.old ≡ header.xd }
-        requires from { 1 ≤ height }
-        requires to { height ≤ header.yd }
-        ensures image { image_of result ≡ (fields_of header, height) }
+        ensures stream { stream_of result ≡ fields_of header }
         ensures none { HasDecoded result [] [] }
     {
+        let is_open = header.is_variable();
         PieceDecoder {
             header,
-            height,
-            walk: Walk::start(&header, height, window),
-            broken: None,
+            height: header.yd,
+            walk: Walk::start(&header, header.yd, window),
+            is_open,
+            waits: is_open,
+            behind: Behind::start(),
+            end: None,
         }
     }
 }
 
 impl PieceDecoder<'_, '_> {
-    ghost use Rattle.t85_core.specs.declared.fault.Fault.{Fault};
-    ghost use Rattle.t85_core.specs.declared.fault.Fault.TheVariants.{Truncated};
     ghost use Rattle.t85_core.specs.declared.pieces.Outcome.TheVariants as outcome;
-    ghost use Rattle.t85_core.specs.declared.pieces.walk.Stage.TheVariants as stage;
-    ghost use Rattle.t85_core.specs.Options.{fields_of};
-    ghost use Rattle.t85_core.specs.Pieces.{IsDecoding, GivesRow, WantsMore, IsWhole, IsLate, IsBroken, row_held, image_of};
-    ghost use Rattle.t85_core.specs.Steps.Pieces.{StepsOn, StepsOff};
+    ghost use Rattle.t85_core.specs.Pieces.{IsDecoding, GivesRow, WantsMore, IsWhole, IsBroken, EndsAgain, row_held, stream_of, height_in_use};
 
     /// Goes on with these bytes up to the end of the next row, or as far as they go.
     pub fn next_row(&mut self, piece: &[u8]) -> Progress
         requires { IsDecoding self.old }
-        ensures same { image_of self.new ≡ image_of self.old }
+        ensures same { stream_of self.new ≡ stream_of self.old }
         ensures bound { result.taken ≤ length piece.now }
         ensures row { GivesRow self.old self.new piece.now result.taken result.outcome }
         ensures more { WantsMore self.old self.new piece.now result.taken result.outcome }
-        ensures done { IsWhole self.old self.new piece.now result.taken result.outcome }
-        ensures late { IsLate self.old self.new piece.now result.taken result.outcome }
-        ensures broken { IsBroken self.old self.new piece.now result.taken result.outcome }
+        ensures done { IsWhole false self.old self.new piece.now result.outcome }
+        ensures broken { IsBroken false self.old self.new piece.now result.outcome }
+        ensures again { EndsAgain self.old self.new result.taken result.outcome }
         ensures decoding { IsDecoding self.new }
     {
-        if let Some(fault) = self.broken {
+        self.take(piece, false)
+    }
+
+    /// Goes on with these bytes, which are the last, up to the end of the next row, or to the end of the stream. Call it
+    /// again with what was not taken as long as it gives rows.
+    pub fn next_of_last(&mut self, piece: &[u8]) -> Progress
+        requires { IsDecoding self.old }
+        ensures same { stream_of self.new ≡ stream_of self.old }
+        ensures bound { result.taken ≤ length piece.now }
+        ensures row { GivesRow self.old self.new piece.now result.taken result.outcome }
+        ensures ends { result.outcome ≢ outcome.More }
+        ensures done { IsWhole true self.old self.new piece.now result.outcome }
+        ensures broken { IsBroken true self.old self.new piece.now result.outcome }
+        ensures again { EndsAgain self.old self.new result.taken result.outcome }
+        ensures decoding { IsDecoding self.new }
+    {
+        self.take(piece, true)
+    }
+
+    /// Goes on with these bytes; whether they are the last is `is_all`.
+    fn take(&mut self, piece: &[u8], is_all: bool) -> Progress
+        requires { IsDecoding self.old }
+        ensures same { stream_of self.new ≡ stream_of self.old }
+        ensures bound { result.taken ≤ length piece.now }
+        ensures row { GivesRow self.old self.new piece.now result.taken result.outcome }
+        ensures more { WantsMore self.old self.new piece.now result.taken result.outcome }
+        ensures ends { is_all ≡ true → result.outcome ≢ outcome.More }
+        ensures done { IsWhole is_all self.old self.new piece.now result.outcome }
+        ensures broken { IsBroken is_all self.old self.new piece.now result.outcome }
+        ensures again { EndsAgain self.old self.new result.taken result.outcome }
+        ensures decoding { IsDecoding self.new }
+    {
+        if let Some(end) = self.end {
             return Progress {
-                outcome: Outcome::Broken(fault),
-                taken: piece.len(),
+                outcome: end.outcome(self.height),
+                taken: 0,
             };
         }
         let mut rest = Piece { rest: piece };
-        let outcome = self.go_on(&mut rest);
+        let outcome = self.go_on(&mut rest, is_all);
+        self.end = end_of(outcome);
         Progress {
             outcome,
-            taken: piece.len() - rest.rest.len(),
-        }
-    }
-
-    /// Goes on with a stream that isn't broken.
-    fn go_on(&mut self, piece: &mut Piece<'_>) -> Outcome
-        requires sound { self.old.broken ≡ None }
-        requires stands { IsDecoding self.old }
-        ensures row { result ≡ outcome.Row → (self.new.broken ≡ None) ×
-            StepsOn (fields_of self.old.header) self.old.height self.old.walk self.new.walk
-            piece.old.rest.now piece.new.rest.now (row_held self.new) }
-        ensures more { result ≡ outcome.More → (self.new.broken ≡ None) ×
-            StepsOn (fields_of self.old.header) self.old.height self.old.walk self.new.walk
-            piece.old.rest.now piece.new.rest.now [] × StepsOff (fields_of self.old.header)
-            self.old.height self.old.walk piece.old.rest.now Truncated }
-        ensures done { result ≡ outcome.Done → (self.new.broken ≡ None) ×
-            StepsOn (fields_of self.old.header) self.old.height self.old.walk self.new.walk
-            piece.old.rest.now piece.new.rest.now [] × (self.new.walk.stage ≡ stage.Done) }
-        ensures late { (height : ℕ) → result ≡ outcome.Late height → (self.new.broken ≡ None) ×
-            StepsOn (fields_of self.old.header) self.old.height self.old.walk self.new.walk
-            piece.old.rest.now piece.new.rest.now [] × (self.new.walk.stage ≡ stage.Late height) }
-        ensures broken { (fault : Fault) → result ≡ outcome.Broken fault →
-            (self.new.broken ≡ Some fault) × (fault ≢ Truncated) × (piece.new.rest.now ≡ []) ×
-            StepsOff (fields_of self.old.header) self.old.height self.old.walk piece.old.rest.now
-            fault }
-        ensures same { image_of self.new ≡ image_of self.old }
-        ensures no_more { length piece.new.rest.now ≤ length piece.old.rest.now }
-    {
-        match self.walk.next(&self.header, self.height, piece) {
-            Ok(true) => Outcome::Row,
-            Ok(false) => match self.walk.stage {
-                Stage::Late(height) => Outcome::Late(height),
-                _ => Outcome::Done,
-            },
-            Err(Fault::Truncated) => Outcome::More,
-            Err(fault) => {
-                self.broken = Some(fault);
-                piece.rest = &[];
-                Outcome::Broken(fault)
-            }
+            taken: piece.len().saturating_sub(rest.rest.len()),
         }
     }
 
@@ -149,5 +161,37 @@ impl PieceDecoder<'_, '_> {
         ensures { result.now ≡ row_held self.now }
     {
         self.walk.carried.window.row(0)
+    }
+
+    /// The height in use: the header's, until another has come.
+    pub fn height(&self) -> u32
+        ensures { result ≡ height_in_use self.now }
+    {
+        self.height
+    }
+}
+
+impl End {
+    ghost use Rattle.t85_core.specs.Outcomes.{end_told};
+
+    /// What is told of it at this height.
+    fn outcome(self, height: u32) -> Outcome
+        ensures { result ≡ end_told self height }
+    {
+        match self {
+            End::Done => Outcome::Done(height),
+            End::Broken(fault) => Outcome::Broken(fault),
+        }
+    }
+}
+
+/// The end that an outcome is, if it is one.
+fn end_of(outcome: Outcome) -> Option<End>
+    ensures { result ≡ end_in outcome }
+{
+    match outcome {
+        Outcome::Row | Outcome::More => None,
+        Outcome::Done(_) => Some(End::Done),
+        Outcome::Broken(fault) => Some(End::Broken(fault)),
     }
 }

@@ -82,7 +82,7 @@ pub struct Segments {
     pub next: Next,
 }
 
-const STUFF: u8 = 0;
+pub const STUFF: u8 = 0;
 
 pub const SDNORM: u8 = 2;
 

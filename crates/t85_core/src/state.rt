@@ -28,12 +28,13 @@ impl<'a, 'b> CodingState<'a, 'b> {
         ensures width { width_of result.window.now ≡ width_of window.old }
         ensures offset { result.kept.offset ≡ 0 }
     {
-        window.clear();
-        CodingState {
+        let mut first = CodingState {
             window,
             kept: START,
             learned: Learned::new(),
-        }
+        };
+        first.window.clear();
+        first
     }
 }
 

@@ -13,7 +13,7 @@ ghost use Rattle.t85_core.specs.Failures.{FlushesOnce};
 use crate::fault::Fault;
 use crate::header::Header;
 use crate::height::{Passed, Reached, find, skip_stripes};
-use crate::input_buffer::{ByteSource, InputBuffer};
+use crate::input_buffer::{ByteSource, InputBuffer, READ_AHEAD};
 use crate::line::Line;
 use pbm_core::{Input, Output};
 
@@ -44,7 +44,7 @@ pub fn summarize<R: Input>(input: &mut R) -> Result<Summary, Fault>
     ensures { Summarize (input_change R.view input.old input.new) result }
 {
     let header = Header::read(input)?;
-    let mut stream = InputBuffer::new(input);
+    let mut stream: InputBuffer<'_, R, READ_AHEAD> = InputBuffer::new(input);
     summarize_body(&header, &mut stream)
 }
 

@@ -146,7 +146,7 @@ fn each_way(rt: HostRuntime) -> Result<(), Fail> {
         ways = ways.saturating_add((1u32 << length.min(14)) - 1);
     }
     assert_eq!(rt; ends.cuts, ways);
-    assert!(rt; ends.done >= 10_000 && ends.late >= 1_000, "{ends:?}");
+    assert!(rt; ends.done >= 10_000 && ends.lower >= 1_000, "{ends:?}");
     assert!(rt; ends.early >= 10_000 && ends.broken >= 10_000, "{ends:?}");
     Ok(())
 }

@@ -4,8 +4,9 @@ ghost use Rattle.std.specs.Prelude.{◌≤◌, length};
 ghost use Rattle.t85_core.specs.Pieces.{IsDecoding};
 
 use crate::random::{HEADER, Heights, Random, add};
-use pbm_core::ToWrite;
+use crate::trial::Bytes::Hex;
 use pbm_core::trial::Pieces;
+use pbm_core::{ToWrite, row_bytes};
 use raster_core::{Window, window_bytes};
 use std::alloc::Global;
 use std::process::Abort;
@@ -36,6 +37,14 @@ impl Cuts<'_> {
                 *places = places.checked_shr(size).unwrap_or(0);
                 size as usize
             }
+        }
+    }
+
+    /// Whether the end is told by itself, after all bytes were shown, and not with the last of them.
+    fn ends_by_itself(&mut self) -> bool {
+        match self {
+            Cuts::Random(random) => random.is_one_in(2),
+            Cuts::After(places) => places.count_ones() % 2 == 0,
         }
     }
 }
@@ -81,7 +90,7 @@ impl<'a> Feed<'a> {
     }
 }
 
-/// The rows that a stream gives, packed, and how it ends. Where it ends too early that is `More`.
+/// The rows of a stream, packed, and how it ends.
 #[derive(Drop, Debug, PartialEq, Eq)]
 pub struct Given {
     rows: Vec<u8>,
@@ -104,60 +113,66 @@ fn decoded(alloc: Global, header: &Header, height: u32, body: &[u8]) -> Result<G
     Ok(Given {
         rows: rows.to_vec(alloc)?,
         end: match answer {
-            Ok(()) => Outcome::Done,
-            Err(Fault::Truncated) => Outcome::More,
+            Ok(()) => Outcome::Done(height),
             Err(fault) => Outcome::Broken(fault),
         },
     })
 }
 
-/// What a stream has to give at the height of its header.
-///
-/// Where another height comes `decode` answers `Changed` there. One that needs no more rows than were given up to there is
-/// late: the image is whole at that height, as `decode` gives it.
-fn expected(alloc: Global, header: &Header, found: u32, body: &[u8]) -> Result<Given, Fail>
-    requires from { 1 ≤ found }
-    requires to { found ≤ header.now.yd }
+/// Shows a decoder what has come and was not taken, and whether the end was told.
+fn call(decoder: &mut PieceDecoder<'_, '_>, feed: &mut Feed<'_>, told: bool) -> Outcome
+    requires { IsDecoding decoder.old }
+    ensures { IsDecoding decoder.new }
 {
-    let mut given = decoded(alloc, header, header.yd, body)?;
-    if given.end == Outcome::Broken(Fault::Changed) {
-        let lower = decoded(alloc, header, found, body)?;
-        if lower.end == Outcome::Done && given.rows.as_slice().starts_with(&lower.rows) {
-            given.end = Outcome::Late(found);
-        }
-    }
-    Ok(given)
+    let progress = if told {
+        decoder.next_of_last(feed.shown())
+    } else {
+        decoder.next_row(feed.shown())
+    };
+    feed.take(progress.taken);
+    progress.outcome
 }
 
-/// What a stream gives at this height that comes in pieces. It is none where no end comes, a call after the end answers
-/// something else, or more of a piece is left than may be.
+/// Whether later calls answer the same as the end: on what was not taken, and on other bytes.
+fn answers_again(decoder: &mut PieceDecoder<'_, '_>, end: Outcome, rest: &[u8]) -> bool
+    requires { IsDecoding decoder.old }
+{
+    let other = [0xFF, 2, 0xFF, 5, 0];
+    decoder.next_row(rest).outcome == end && decoder.next_of_last(&other).outcome == end
+}
+
+/// What a stream gives that comes in pieces. It is none where no end comes, a call after the end answers something else,
+/// more is wanted after the last byte, or more of a piece is left than may be.
 fn take_pieces(
     alloc: Global,
     header: Header,
-    height: u32,
     body: &[u8],
     cuts: &mut Cuts<'_>,
-) -> Result<Option<Given>, Fail>
-    requires from { 1 ≤ height }
-    requires to { height ≤ header.yd }
-{
+) -> Result<Option<Given>, Fail> {
     let mut lent = Vec::from_elem(alloc, 0u8, window_bytes(header.xd))?;
     let mut window = Window::over(lent.as_mut_slice(), header.xd);
-    let mut decoder = PieceDecoder::start(header, height, &mut window);
+    let mut decoder = PieceDecoder::start(header, &mut window);
     let mut feed = Feed::new(body);
     let mut rows = Vec::new(alloc);
+    let by_itself = cuts.ends_by_itself();
+    let mut told = false;
     let calls = (body.len() as u64)
-        .saturating_add(u64::from(height))
-        .saturating_add(2);
+        .saturating_add(u64::from(header.yd))
+        .saturating_add(3);
     'calls: for _ in 0..calls {
-        let progress = decoder.next_row(feed.shown());
-        feed.take(progress.taken);
-        match progress.outcome {
+        match call(&mut decoder, &mut feed, told) {
             Outcome::Row => rows.extend_from_slice(decoder.row())?,
-            Outcome::More if feed.come > MOST_LEFT => return Ok(None),
-            Outcome::More if !feed.is_all() => feed.come(cuts.next()),
+            Outcome::More if told || feed.come > MOST_LEFT => return Ok(None),
+            Outcome::More if feed.is_all() => told = true,
+            Outcome::More => {
+                feed.come(cuts.next());
+                told = feed.is_all() && !by_itself;
+            }
             end => {
                 let stays = answers_again(&mut decoder, end, feed.rest);
+                if let Outcome::Done(height) = end {
+                    rows.truncate(row_bytes(header.xd).saturating_mul(height as usize));
+                }
                 return Ok(stays.then_some(Given { rows, end }));
             }
         }
@@ -165,60 +180,48 @@ fn take_pieces(
     Ok(None)
 }
 
-/// Whether later calls answer the same: on what was not taken, and after an end on other bytes.
-fn answers_again(decoder: &mut PieceDecoder<'_, '_>, end: Outcome, rest: &[u8]) -> bool
-    requires { IsDecoding decoder.old }
-    ensures { IsDecoding decoder.new }
-{
-    let other: &[u8] = if end == Outcome::More {
-        rest
-    } else {
-        &[0xFF, 2, 0xFF, 5, 0]
-    };
-    decoder.next_row(rest).outcome == end && decoder.next_row(other).outcome == end
-}
-
 /// How many cuts of streams end how.
 #[derive(Clone, Copy, Debug)]
 pub struct Ends {
     pub cuts: u32,
     pub done: u32,
-    pub late: u32,
+    /// Images of fewer rows than the header announces.
+    pub lower: u32,
     pub early: u32,
     pub broken: u32,
-    /// Cuts at another height than the header's, too.
-    pub lowered: u32,
 }
 
 impl Ends {
     pub const NONE: Ends = Ends {
         cuts: 0,
         done: 0,
-        late: 0,
+        lower: 0,
         early: 0,
         broken: 0,
-        lowered: 0,
     };
 
-    fn count(&mut self, end: Outcome) {
+    fn count(&mut self, header: &Header, end: Outcome) {
         add(&mut self.cuts, true);
-        add(&mut self.done, end == Outcome::Done);
-        add(&mut self.late, matches!(&end, Outcome::Late(_)));
-        add(&mut self.early, end == Outcome::More);
-        add(&mut self.broken, matches!(&end, Outcome::Broken(_)));
+        add(&mut self.done, matches!(&end, Outcome::Done(_)));
+        add(
+            &mut self.lower,
+            matches!(&end, Outcome::Done(height) if *height < header.yd),
+        );
+        let early = end == Outcome::Broken(Fault::Truncated);
+        add(&mut self.early, early);
+        add(
+            &mut self.broken,
+            !early && matches!(&end, Outcome::Broken(_)),
+        );
     }
 }
 
-/// A stream after its header: what it gives at the header's height, and at the one that is found in it.
+/// A stream after its header, and what it gives as a whole.
 #[derive(Drop)]
 pub struct Case<'a> {
     header: Header,
     body: &'a [u8],
-    found: u32,
     whole: Given,
-    lower: Given,
-    ghost from: { 1 ≤ found },
-    ghost to: { found ≤ header.yd },
 }
 
 impl<'a> Case<'a> {
@@ -230,27 +233,20 @@ impl<'a> Case<'a> {
         Ok(Case {
             header,
             body,
-            found,
-            whole: expected(alloc, &header, found, body)?,
-            lower: decoded(alloc, &header, found, body)?,
+            whole: decoded(alloc, &header, found, body)?,
         })
     }
 
-    /// Whether the stream gives the same in these pieces. Where another height is found, it is cut at random at that, too.
+    /// Whether the stream gives the same in these pieces.
     pub fn is_given(
         &self,
         alloc: Global,
         cuts: &mut Cuts<'_>,
         ends: &mut Ends,
     ) -> Result<bool, Fail> {
-        ends.count(self.whole.end);
-        let whole = take_pieces(alloc, self.header, self.header.yd, self.body, cuts)?;
-        if self.found == self.header.yd {
-            return Ok(whole.as_ref() == Some(&self.whole));
-        }
-        add(&mut ends.lowered, true);
-        let lower = take_pieces(alloc, self.header, self.found, self.body, cuts)?;
-        Ok(whole.as_ref() == Some(&self.whole) && lower.as_ref() == Some(&self.lower))
+        ends.count(&self.header, self.whole.end);
+        let given = take_pieces(alloc, self.header, self.body, cuts)?;
+        Ok(given.as_ref() == Some(&self.whole))
     }
 }
 
@@ -276,6 +272,42 @@ fn check(
     Ok(())
 }
 
+/// What calls answer, each of which is shown so many bytes more, of a stream with one pixel in a row: two stripes of one
+/// row, of nine that are announced, and the height. A row that only its end marker decides waits until what comes behind
+/// tells that no height cuts it off.
+static ANSWERS: [(usize, Outcome); 9] = [
+    // The first stripe, and the code of the second.
+    (3, Outcome::More),
+    (1, Outcome::Row),
+    (0, Outcome::More),
+    // Its end, and the height.
+    (2, Outcome::More),
+    (2, Outcome::More),
+    (3, Outcome::More),
+    (1, Outcome::Row),
+    (0, Outcome::Done(2)),
+    (0, Outcome::Done(2)),
+];
+
+#[test]
+fn rows_wait_for_a_height(rt: HostRuntime) -> Result<(), Fail> {
+    let stream = Hex(
+        "00000100 00000001 00000009 00000001 00 0000 20 C0 FF02 C0 FF02 FF05 00000002",
+    ).to_vec(rt.alloc())?;
+    let mut input = Pieces::new(&stream, 4096, None);
+    let header = Header::read(&mut input)?;
+    let mut lent = Vec::from_elem(rt.alloc(), 0u8, window_bytes(header.xd))?;
+    let mut window = Window::over(lent.as_mut_slice(), header.xd);
+    let mut decoder = PieceDecoder::start(header, &mut window);
+    let mut feed = Feed::new(input.rest);
+    'calls: for &(count, answer) in &ANSWERS {
+        feed.come(count);
+        assert_eq!(rt; call(&mut decoder, &mut feed, false), answer);
+    }
+    assert_eq!(rt; decoder.height(), 2);
+    Ok(())
+}
+
 /// Streams whose height is the header's.
 #[test]
 fn sound_streams(rt: HostRuntime) -> Result<(), Fail> {
@@ -298,12 +330,8 @@ fn announced_streams(rt: HostRuntime) -> Result<(), Fail> {
         let stream = random.stream(rt.alloc(), Heights::Announced)?;
         check(&rt, rt.alloc(), &stream, &mut random, &mut ends)?;
     }
-    assert!(rt;
-        ends.cuts == 25_000 && ends.early == 0 && ends.broken == 0,
-        "{ends:?}"
-    );
-    assert!(rt; ends.late >= 15_000 && ends.done >= 4_000, "{ends:?}");
-    assert!(rt; ends.lowered >= 20_000, "{ends:?}");
+    assert!(rt; ends.cuts == 25_000 && ends.done == 25_000, "{ends:?}");
+    assert!(rt; ends.lower >= 20_000, "{ends:?}");
     Ok(())
 }
 

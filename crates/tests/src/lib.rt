@@ -2,6 +2,8 @@
 #![tactic(auto)]
 
 #[cfg(test)]
+mod ahead;
+#[cfg(test)]
 mod by_row;
 #[cfg(test)]
 mod coding;

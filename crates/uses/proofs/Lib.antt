@@ -4,4 +4,5 @@ pub mod Headers
 pub mod PieceRows
 pub mod Pixels
 pub mod Whole
+pub mod Writes
 pub mod Rooms

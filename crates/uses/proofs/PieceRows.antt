@@ -1,5 +1,5 @@
 -- Rows of a stream that comes in pieces.
-use Rattle.std.proofs.Common.{◌≡◌, ◌≢◌, ℕ, ◌+◌, ◌≤◌, Result, Ok, Err, List, [], ◌∷◌, ◌++◌, length, take, drop, refl, sym, ap, ◌∙◌, subst, append_assoc, append-nil, length-drop, arith}
+use Rattle.std.proofs.Common.{◌≡◌, ◌≢◌, ℕ, ◌+◌, ◌≤◌, Bool, true, false, Result, Ok, Err, List, [], ◌∷◌, ◌++◌, length, take, drop, refl, sym, ap, ◌∙◌, subst, append_assoc, append-nil, length-drop, arith}
 use Rattle.std.specs.Prelude.{flat_map, OnErr}
 use Rattle.std.proofs.Math.Seq.{take-add}
 use Rattle.std.proofs.lemmas.Grind.{flat_map-append}
@@ -10,9 +10,8 @@ use Rattle.t85_core.specs.declared.pieces.PieceDecoder.{PieceDecoder}
 use Rattle.t85_core.specs.declared.pieces.Outcome.{Outcome}
 use Rattle.t85_core.specs.declared.pieces.Outcome.TheVariants as outcome
 use Rattle.t85_core.specs.Header.{Fields}
-use Rattle.t85_core.specs.Pieces.{image_of, row_held, HasDecoded, IsDecoding, HandsOut, HoldsImage, Call, IsCall, bytes_taken, given_with, row_given, AreCalls, decoder_after}
-use Rattle.t85_core.specs.Steps.Pieces.{LateHeight}
-use Rattle.uses.specs.Pieces.{rows_told, rows_counted, SaysOfRows, PieceRead, TextRead, SomeRead}
+use Rattle.t85_core.specs.Pieces.{stream_of, row_held, HasDecoded, IsDecoding, HandsOut, HoldsImage, MayFollow, StreamGoesOn, Call, IsCall, bytes_taken, given_with, row_given, decoder_after}
+use Rattle.uses.specs.Pieces.{rows_told, rows_counted, WereMade, SaysOfRows, PieceRead, TextRead, SomeRead}
 
 pub on_err : {T E : Type 0} (r : Result T E) {P : Type 0} → P → OnErr r P
 on_err (Ok x) p = tt
@@ -20,9 +19,9 @@ on_err (Err e) p = p
 
 -- ---- calls one after another
 
-are_append : (d : PieceDecoder) (xs ys : List Call) → AreCalls d xs → AreCalls (decoder_after d xs) ys → AreCalls d (xs ++ ys)
-are_append d [] ys first more = more
-are_append d (x ∷ xs) ys first more = (first.0, are_append x.new xs ys first.1 more)
+made_append : (d : PieceDecoder) (xs ys : List Call) → WereMade d xs → WereMade (decoder_after d xs) ys → WereMade d (xs ++ ys)
+made_append d [] ys first more = more
+made_append d (x ∷ xs) ys first more = (first.0, made_append x.new xs ys first.1 more)
 
 after_append : (d : PieceDecoder) (xs ys : List Call) → decoder_after d (xs ++ ys) ≡ decoder_after (decoder_after d xs) ys
 after_append d [] ys = refl
@@ -38,61 +37,58 @@ count_append xs ys = sum_by-append (λ call. rows_told call.answer) xs ys
 
 -- what a call leaves that gives no row
 call_tells : (d : PieceDecoder) (call : Call) → IsCall d call → (o : Outcome) → call.answer ≡ o → o ≢ outcome.Row → (text out : List ℕ) → HasDecoded d text out →
-    HasDecoded call.new (text ++ bytes_taken call) out × SaysOfRows (image_of d) o (text ++ bytes_taken call) (text ++ call.piece) out
+    (StreamGoesOn o → HasDecoded call.new (text ++ bytes_taken call) out) × SaysOfRows (stream_of d) call.is_all call.new o (text ++ call.piece) out
 call_tells d call is outcome.Row e other text out has = absurd (other refl)
-call_tells d call is outcome.More e other text out has = is.more e text out has
-call_tells d call is outcome.Done e other text out has = is.done e text out has
-call_tells d call is (outcome.Late height) e other text out has = is.late height e text out has
-call_tells d call is (outcome.Broken fault) e other text out has = is.broken fault e text out has
+call_tells d call is outcome.More e other text out has = let k = is.more e text out has in ((λ _. k.0), k.1)
+call_tells d call is (outcome.Done height) e other text out has = ((λ goes. absurd goes), (λ rest follows. (is.done height e).1 text out rest has follows))
+call_tells d call is (outcome.Broken fault) e other text out has = ((λ goes. absurd goes), (λ rest follows. is.broken fault e text out rest has follows))
 
 none_given : (o : Outcome) (row : List ℕ) → o ≢ outcome.Row → given_with o row ≡ []
 none_given outcome.Row row other = absurd (other refl)
 none_given outcome.More row other = refl
-none_given outcome.Done row other = refl
-none_given (outcome.Late height) row other = refl
+none_given (outcome.Done height) row other = refl
 none_given (outcome.Broken fault) row other = refl
 
 -- Rows of a piece so far: this many, and so many bytes were taken.
 pub record RowsSoFar (old now : PieceDecoder) (piece : List ℕ) (taken : ℕ) (held held' : List ℕ) (count : ℕ) : Type 0 where
   pub calls : List Call
-  pub are : AreCalls old calls
+  pub made : WereMade old calls
   pub after : now ≡ decoder_after old calls
   pub appended : held' ≡ held ++ flat_map row_given calls
   pub many : rows_counted calls ≡ count
   pub within : taken ≤ length piece
-  pub same : image_of now ≡ image_of old
+  pub same : stream_of now ≡ stream_of old
+  pub decoding : IsDecoding now
   pub goes_on : (text out : List ℕ) → HasDecoded old text out → HasDecoded now (text ++ take taken piece) (out ++ flat_map row_given calls)
 
-pub none_so_far : (d : PieceDecoder) (piece held : List ℕ) → RowsSoFar d d piece 0 held held 0
-none_so_far d piece held = record {
+pub none_so_far : (d : PieceDecoder) (piece held : List ℕ) → IsDecoding d → RowsSoFar d d piece 0 held held 0
+none_so_far d piece held decoding = record {
   calls = [];
-  are = tt;
+  made = tt;
   after = refl;
   appended = sym (append-nil held);
   many = refl;
   within = omega arith;
   same = refl;
+  decoding = decoding;
   goes_on = λ text out has. subst (λ z. HasDecoded d z (out ++ [])) (sym (append-nil text)) (subst (HasDecoded d text) (sym (append-nil out)) has);
 }
 
 module _ (old now : PieceDecoder) (piece : List ℕ) (taken : ℕ) (held held' : List ℕ) (count : ℕ) (so_far : RowsSoFar old now piece taken held held' count) where
-  -- it goes on
-  pub still : IsDecoding old → IsDecoding now
-  still is = (_, _, so_far.goes_on is.0 is.1 is.2)
-
   pub some_came : SomeRead old held held'
-  some_came = record { calls = so_far.calls; are = so_far.are; appended = so_far.appended }
+  some_came = record { calls = so_far.calls; made = so_far.made; appended = so_far.appended }
 
   -- as many came as were asked for
-  pub all_came : PieceRead old now piece count outcome.Row taken held held'
-  all_came = record {
+  pub all_came : (is_all : Bool) → PieceRead is_all old now piece count outcome.Row taken held held'
+  all_came is_all = record {
     calls = so_far.calls;
-    are = so_far.are;
+    made = so_far.made;
     after = so_far.after;
     appended = so_far.appended;
     full = λ _. so_far.many;
+    ends = λ _ e. cc;
     within = so_far.within;
-    goes_on = so_far.goes_on;
+    goes_on = λ _. so_far.goes_on;
     tells = λ text out has. tt;
   }
 
@@ -100,8 +96,8 @@ module _ (old now : PieceDecoder) (piece : List ℕ) (taken : ℕ) (held held' :
     abbrev longer : List Call
     longer = so_far.calls ++ call ∷ []
 
-    are : AreCalls old longer
-    are = are_append old so_far.calls (call ∷ []) so_far.are (subst (λ d. IsCall d call) so_far.after is, tt)
+    made : WereMade old longer
+    made = made_append old so_far.calls (call ∷ []) so_far.made (subst (λ d. IsCall d call) so_far.after is, tt)
 
     after : call.new ≡ decoder_after old longer
     after = sym (after_append old so_far.calls (call ∷ []))
@@ -127,10 +123,10 @@ module _ (old now : PieceDecoder) (piece : List ℕ) (taken : ℕ) (held held' :
         ap (λ z. (front ++ flat_map row_given so_far.calls) ++ z) (sym (append-nil (row_given call) ∙ e))
         ∙ rows_append front so_far.calls (call ∷ [])
 
-    pub row_more : call.answer ≡ outcome.Row → RowsSoFar old call.new piece (taken + call.taken) held (held' ++ row_held call.new) (count + 1)
-    row_more e = record {
+    pub row_more : call.answer ≡ outcome.Row → IsDecoding call.new → RowsSoFar old call.new piece (taken + call.taken) held (held' ++ row_held call.new) (count + 1)
+    row_more e decoding = record {
       calls = longer;
-      are = are;
+      made = made;
       after = after;
       appended = ap (λ z. z ++ row_held call.new) so_far.appended ∙ rows held;
       many = (
@@ -141,6 +137,7 @@ module _ (old now : PieceDecoder) (piece : List ℕ) (taken : ℕ) (held held' :
           );
       within = within;
       same = is.same ∙ so_far.same;
+      decoding = decoding;
       goes_on = λ text out has.
           subst (λ z. HasDecoded call.new z (out ++ flat_map row_given longer)) (taken_more text)
           (subst (HasDecoded call.new ((text ++ take taken piece) ++ bytes_taken call)) (rows out)
@@ -149,22 +146,22 @@ module _ (old now : PieceDecoder) (piece : List ℕ) (taken : ℕ) (held held' :
       rows : (front : List ℕ) → (front ++ flat_map row_given so_far.calls) ++ row_held call.new ≡ front ++ flat_map row_given longer
       rows = rows_with (row_held call.new) (ap (λ o. given_with o (row_held call.new)) e)
 
-    pub last_came : (limit : ℕ) → call.answer ≢ outcome.Row → PieceRead old call.new piece limit call.answer (taken + call.taken) held held'
-    last_came limit other = record {
+    pub last_came : (limit : ℕ) → call.answer ≢ outcome.Row → (call.is_all ≡ true → call.answer ≢ outcome.More) → PieceRead call.is_all old call.new piece limit call.answer (taken + call.taken) held held'
+    last_came limit other ends = record {
       calls = longer;
-      are = are;
+      made = made;
       after = after;
       appended = so_far.appended ∙ sym (append-nil (held ++ flat_map row_given so_far.calls)) ∙ none held;
       full = λ e. absurd (other e);
+      ends = ends;
       within = within;
-      goes_on = λ text out has.
+      goes_on = λ goes text out has.
           subst (λ z. HasDecoded call.new z (out ++ flat_map row_given longer)) (taken_more text)
-          (subst (HasDecoded call.new ((text ++ take taken piece) ++ bytes_taken call)) (rows out) (told text out has).0);
+          (subst (HasDecoded call.new ((text ++ take taken piece) ++ bytes_taken call)) (rows out) ((told text out has).0 goes));
       tells = λ text out has.
-          subst (λ (z : Fields × ℕ). SaysOfRows z call.answer (text ++ take (taken + call.taken) piece) (text ++ piece) (out ++ flat_map row_given longer)) so_far.same
-          (subst (λ z. SaysOfRows (image_of now) call.answer z (text ++ piece) (out ++ flat_map row_given longer)) (taken_more text)
-          (subst (λ z. SaysOfRows (image_of now) call.answer ((text ++ take taken piece) ++ bytes_taken call) z (out ++ flat_map row_given longer)) (all_come text)
-          (subst (SaysOfRows (image_of now) call.answer ((text ++ take taken piece) ++ bytes_taken call) ((text ++ take taken piece) ++ call.piece)) (rows out) (told text out has).1)));
+          subst (λ (z : Fields). SaysOfRows z call.is_all call.new call.answer (text ++ piece) (out ++ flat_map row_given longer)) so_far.same
+          (subst (λ z. SaysOfRows (stream_of now) call.is_all call.new call.answer z (out ++ flat_map row_given longer)) (all_come text)
+          (subst (SaysOfRows (stream_of now) call.is_all call.new call.answer ((text ++ take taken piece) ++ call.piece)) (rows out) (told text out has).1));
     } where
       none : (front : List ℕ) → (front ++ flat_map row_given so_far.calls) ++ [] ≡ front ++ flat_map row_given longer
       none = rows_with [] (none_given call.answer (row_held call.new) other)
@@ -173,76 +170,61 @@ module _ (old now : PieceDecoder) (piece : List ℕ) (taken : ℕ) (held held' :
       rows front = sym (append-nil (front ++ flat_map row_given so_far.calls)) ∙ none front
 
       told : (text out : List ℕ) → HasDecoded old text out →
-          HasDecoded call.new ((text ++ take taken piece) ++ bytes_taken call) (out ++ flat_map row_given so_far.calls)
-          × SaysOfRows (image_of now) call.answer ((text ++ take taken piece) ++ bytes_taken call) ((text ++ take taken piece) ++ call.piece) (out ++ flat_map row_given so_far.calls)
+          (StreamGoesOn call.answer → HasDecoded call.new ((text ++ take taken piece) ++ bytes_taken call) (out ++ flat_map row_given so_far.calls))
+          × SaysOfRows (stream_of now) call.is_all call.new call.answer ((text ++ take taken piece) ++ call.piece) (out ++ flat_map row_given so_far.calls)
       told text out has = call_tells now call is call.answer refl other (text ++ take taken piece) (out ++ flat_map row_given so_far.calls) (so_far.goes_on text out has)
-
-    pub last_still : IsDecoding old → call.answer ≢ outcome.Row → IsDecoding call.new
-    last_still at_first other = (_, _, (call_tells now call is call.answer refl other _ _ (so_far.goes_on at_first.0 at_first.1 at_first.2)).0)
 
 -- ---- a text
 
--- an answer tells of more bytes than were taken or had come, but where it wants more
-tells_on : (image : Fields × ℕ) (o : Outcome) (taken come all out behind later : List ℕ) → SaysOfRows image o taken come out → taken ++ behind ≡ all → come ++ later ≡ all → (o ≡ outcome.More → later ≡ []) →
-    SaysOfRows image o all all out
-tells_on image outcome.Row taken come all out behind later t taken_is come_is none = tt
-tells_on image outcome.More taken come all out behind later t taken_is come_is none =
-    subst (λ z. HandsOut image z Truncated out) (sym (append-nil come) ∙ ap (λ z. come ++ z) (sym (none refl)) ∙ come_is) t
-tells_on image outcome.Done taken come all out behind later t taken_is come_is none =
-    λ rest. subst (λ z. HoldsImage image z out) (sym (append_assoc taken behind rest) ∙ ap (λ z. z ++ rest) taken_is) (t (behind ++ rest))
-tells_on image (outcome.Late height) taken come all out behind later t taken_is come_is none = record {
-  rows = t.rows;
-  out_is = t.out_is;
-  late = λ rest. subst (λ z. LateHeight image.0 height z t.rows) (sym (append_assoc taken behind rest) ∙ ap (λ z. z ++ rest) taken_is) (t.late (behind ++ rest));
-}
-tells_on image (outcome.Broken fault) taken come all out behind later t taken_is come_is none =
-    λ rest. subst (λ z. HandsOut image z fault out) (sym (append_assoc come later rest) ∙ ap (λ z. z ++ rest) come_is) (t (later ++ rest))
+-- an end tells of more bytes than had come
+tells_on : (h : Fields) (new : PieceDecoder) (o : Outcome) (come more out : List ℕ) → SaysOfRows h false new o come out → o ≢ outcome.More → SaysOfRows h true new o (come ++ more) out
+tells_on h new outcome.Row come more out t other = tt
+tells_on h new outcome.More come more out t other = absurd (other refl)
+tells_on h new (outcome.Done height) come more out t other = λ rest _. subst (λ z. HoldsImage h z height out) (sym (append_assoc come more rest)) (t (more ++ rest) (λ e. cc))
+tells_on h new (outcome.Broken fault) come more out t other = λ rest _. subst (λ z. HandsOut h z new.height fault out) (sym (append_assoc come more rest)) (t (more ++ rest) (λ e. cc))
 
 module _ (old mid : PieceDecoder) (first second : List ℕ) (limit taken : ℕ) (held held' : List ℕ) where
   split : take taken first ++ (drop taken first ++ second) ≡ first ++ second
   split = sym (append_assoc (take taken first) (drop taken first) second) ∙ ap (λ z. z ++ second) (take-append-drop taken first)
 
   -- the first piece told all
-  pub first_told : (answer : Outcome) → PieceRead old mid first limit answer taken held held' → answer ≢ outcome.More → TextRead old (first ++ second) limit answer held held'
+  pub first_told : (answer : Outcome) → PieceRead false old mid first limit answer taken held held' → answer ≢ outcome.More → TextRead old mid (first ++ second) limit answer held held'
   first_told answer p other = record {
     calls = p.calls;
-    are = p.are;
+    made = p.made;
     appended = p.appended;
     full = λ e. (let all = p.full e in omega (arith, all));
+    ends = other;
     tells = λ text out has.
-        tells_on (image_of old) answer (text ++ take taken first) (text ++ first) (text ++ (first ++ second)) (out ++ flat_map row_given p.calls) (drop taken first ++ second) second (p.tells text out has)
-        (append_assoc text (take taken first) (drop taken first ++ second) ∙ ap (λ z. text ++ z) split)
-        (append_assoc text first second)
-        (λ e. absurd (other e));
+        subst (λ z. SaysOfRows (stream_of old) true mid answer z (out ++ flat_map row_given p.calls)) (append_assoc text first second)
+        (tells_on (stream_of old) mid answer (text ++ first) second (out ++ flat_map row_given p.calls) (p.tells text out has) other);
   }
 
   -- memory ran out after the first piece, or in the second
-  pub first_short : (answer : Outcome) → PieceRead old mid first limit answer taken held held' → SomeRead old held held'
-  first_short answer p = record { calls = p.calls; are = p.are; appended = p.appended }
+  pub first_short : (answer : Outcome) → PieceRead false old mid first limit answer taken held held' → SomeRead old held held'
+  first_short answer p = record { calls = p.calls; made = p.made; appended = p.appended }
 
-  pub second_short : (answer : Outcome) → PieceRead old mid first limit answer taken held held' → (held'' : List ℕ) → SomeRead mid held' held'' → SomeRead old held held''
+  pub second_short : (answer : Outcome) → PieceRead false old mid first limit answer taken held held' → (held'' : List ℕ) → SomeRead mid held' held'' → SomeRead old held held''
   second_short answer p held'' q = record {
     calls = p.calls ++ q.calls;
-    are = are_append old p.calls q.calls p.are (subst (λ d. AreCalls d q.calls) p.after q.are);
+    made = made_append old p.calls q.calls p.made (subst (λ d. WereMade d q.calls) p.after q.made);
     appended = q.appended ∙ ap (λ z. z ++ flat_map row_given q.calls) p.appended ∙ rows_append held p.calls q.calls;
   }
 
   -- the first wanted more, and the second told
-  pub second_told : (new : PieceDecoder) (rest : List ℕ) (answer : Outcome) (more : ℕ) (held'' : List ℕ) → PieceRead old mid first limit outcome.More taken held held' → image_of mid ≡ image_of old →
-      rest ≡ drop taken first ++ second → PieceRead mid new rest limit answer more held' held'' → TextRead old (first ++ second) limit answer held held''
+  pub second_told : (new : PieceDecoder) (rest : List ℕ) (answer : Outcome) (more : ℕ) (held'' : List ℕ) → PieceRead false old mid first limit outcome.More taken held held' → stream_of mid ≡ stream_of old →
+      rest ≡ drop taken first ++ second → PieceRead true mid new rest limit answer more held' held'' → TextRead old new (first ++ second) limit answer held held''
   second_told new rest answer more held'' p same rest_is q = record {
     calls = p.calls ++ q.calls;
-    are = are_append old p.calls q.calls p.are (subst (λ d. AreCalls d q.calls) p.after q.are);
+    made = made_append old p.calls q.calls p.made (subst (λ d. WereMade d q.calls) p.after q.made);
     appended = q.appended ∙ ap (λ z. z ++ flat_map row_given q.calls) p.appended ∙ rows_append held p.calls q.calls;
     full = λ e. (let all = q.full e in omega (arith, all, count_append p.calls q.calls));
+    ends = q.ends refl;
     tells = λ text out has.
-        subst (λ (z : Fields × ℕ). SaysOfRows z answer (text ++ (first ++ second)) (text ++ (first ++ second)) (out ++ flat_map row_given (p.calls ++ q.calls))) same
-        (tells_on (image_of mid) answer ((text ++ take taken first) ++ take more rest) ((text ++ take taken first) ++ rest) (text ++ (first ++ second)) (out ++ flat_map row_given (p.calls ++ q.calls)) (drop more rest) []
-        (subst (SaysOfRows (image_of mid) answer ((text ++ take taken first) ++ take more rest) ((text ++ take taken first) ++ rest)) (rows_append out p.calls q.calls)
-        (q.tells (text ++ take taken first) (out ++ flat_map row_given p.calls) (p.goes_on text out has)))
-        (append_assoc (text ++ take taken first) (take more rest) (drop more rest) ∙ ap (λ z. (text ++ take taken first) ++ z) (take-append-drop more rest) ∙ whole text)
-        (append-nil ((text ++ take taken first) ++ rest) ∙ whole text)
-        (λ _. refl));
+        subst (λ (z : Fields). SaysOfRows z true new answer (text ++ (first ++ second)) (out ++ flat_map row_given (p.calls ++ q.calls))) same
+        (subst (λ z. SaysOfRows (stream_of mid) true new answer z (out ++ flat_map row_given (p.calls ++ q.calls))) (whole text)
+        (subst (SaysOfRows (stream_of mid) true new answer ((text ++ take taken first) ++ rest)) (rows_append out p.calls q.calls)
+        (q.tells (text ++ take taken first) (out ++ flat_map row_given p.calls) (p.goes_on tt text out has))));
   } where
     whole : (text : List ℕ) → (text ++ take taken first) ++ rest ≡ text ++ (first ++ second)
     whole text = append_assoc text (take taken first) rest ∙ ap (λ z. text ++ (take taken first ++ z)) rest_is ∙ ap (λ z. text ++ z) split

@@ -1,6 +1,6 @@
 //! Bytes in memory.
 
-ghost use Rattle.std.specs.Prelude.{Some, length};
+ghost use Rattle.std.specs.Prelude.{[], Some, length};
 
 use pbm_core::{DeviceFailed, Input};
 
@@ -13,8 +13,10 @@ pub struct Held<'a> {
 impl Input for Held<'_> {
     ghost view = { λ held. record {
       remaining = Some held.rest.now;
+      held = [];
       left = length held.rest.now;
       failures = 0;
+      source = 0;
     } };
 
     fn failures(&self) -> u64 {

@@ -1,16 +1,17 @@
 //! A stream whose bytes come in pieces.
 
-ghost use Rattle.std.specs.Prelude.{◌≡◌, ◌++◌, IfOk, OnErr};
+ghost use Rattle.std.specs.Prelude.{◌≡◌, ◌≢◌, ◌≤◌, ◌++◌, length, true, IfOk, OnErr};
 ghost use Rattle.raster_core.specs.Window.{width_of};
 ghost use Rattle.t85_core.specs.Options.{fields_of};
-ghost use Rattle.t85_core.specs.Pieces.{image_of, IsDecoding};
+ghost use Rattle.t85_core.specs.Pieces.{IsDecoding, GivesRow, WantsMore, IsWhole, IsBroken, stream_of};
+ghost use Rattle.t85_core.specs.declared.pieces.Outcome.TheVariants as outcome;
 ghost use Rattle.uses.specs.Pieces.{BodyRead, PieceRead, TextRead, SomeRead};
 
 use raster_core::Window;
 use std::alloc::{AllocError, Global};
 use t85_core::{Header, Outcome, PieceDecoder, Progress};
 
-/// Appends the rows of a body, packed, which comes in two pieces: at the height of its header.
+/// Appends the rows of a body, packed, which comes in two pieces.
 pub fn rows_of_body(
     alloc: Global,
     header: Header,
@@ -20,15 +21,15 @@ pub fn rows_of_body(
     rows: &mut Vec<u8>,
 ) -> Result<Outcome, AllocError>
     requires { width_of window.old ≡ header.xd }
-    ensures { IfOk result (λ answer. BodyRead (fields_of header, header.yd)
+    ensures { IfOk result (λ answer. BodyRead (fields_of header)
         (first.now ++ second.now) answer rows.old.items rows.new.items) }
 {
-    let mut decoder = PieceDecoder::start(header, header.yd, window);
+    let mut decoder = PieceDecoder::start(header, window);
     rows_of_two(alloc, &mut decoder, first, second, usize::MAX, rows)
 }
 
-/// Appends the rows of a text, packed, which comes in two pieces. Of the first the decoder leaves bytes over: these are
-/// shown again, with the second behind them.
+/// Appends the rows of a text, packed, which comes in two pieces, and is all that comes. Of the first the decoder leaves
+/// bytes over: these are shown again, with the second behind them.
 ///
 /// The answer is `Row` where a piece gave as many rows as `limit` and more may come. Else it tells what the rows are.
 pub fn rows_of_two(
@@ -40,40 +41,41 @@ pub fn rows_of_two(
     rows: &mut Vec<u8>,
 ) -> Result<Outcome, AllocError>
     requires { IsDecoding decoder.old }
-    ensures read { IfOk result (λ answer. TextRead decoder.old (first.now ++ second.now) limit
-        answer rows.old.items rows.new.items) }
+    ensures read { IfOk result (λ answer. TextRead decoder.old decoder.new
+        (first.now ++ second.now) limit answer rows.old.items rows.new.items) }
     ensures short { OnErr result (SomeRead decoder.old rows.old.items rows.new.items) }
 {
-    let begun = rows_of_piece(decoder, first, limit, rows)?;
+    let begun = rows_of_piece(decoder, first, false, limit, rows)?;
     match begun.outcome {
         Outcome::More => {
             let mut rest = Vec::from_slice(alloc, &first[begun.taken..])?;
             rest.extend_from_slice(second)?;
-            let ended = rows_of_piece(decoder, rest.as_slice(), limit, rows)?;
+            let ended = rows_of_piece(decoder, rest.as_slice(), true, limit, rows)?;
             Ok(ended.outcome)
         }
         outcome => Ok(outcome),
     }
 }
 
-/// Appends the rows of a piece, packed: it asks for one after the other up to the first answer that is no row, or until
-/// `limit` came. What was not taken is to be shown again, with more bytes behind it.
+/// Appends the rows of a piece, packed, which may be the last: it asks for one after the other up to the first answer that
+/// is no row, or until `limit` came. What was not taken is to be shown again, with more bytes behind it.
 pub fn rows_of_piece(
     decoder: &mut PieceDecoder<'_, '_>,
     piece: &[u8],
+    is_all: bool,
     limit: usize,
     rows: &mut Vec<u8>,
 ) -> Result<Progress, AllocError>
     requires { IsDecoding decoder.old }
-    ensures same { image_of decoder.new ≡ image_of decoder.old }
+    ensures same { stream_of decoder.new ≡ stream_of decoder.old }
     ensures decoding { IsDecoding decoder.new }
-    ensures read { IfOk result (λ progress. PieceRead decoder.old decoder.new piece.now limit
-        progress.outcome progress.taken rows.old.items rows.new.items) }
+    ensures read { IfOk result (λ progress. PieceRead is_all decoder.old decoder.new piece.now
+        limit progress.outcome progress.taken rows.old.items rows.new.items) }
     ensures short { OnErr result (SomeRead decoder.old rows.old.items rows.new.items) }
 {
     let mut taken = 0;
     'calls: for _ in 0..limit {
-        let step = decoder.next_row(&piece[taken..]);
+        let step = next_row(decoder, &piece[taken..], is_all);
         taken += step.taken;
         match step.outcome {
             Outcome::Row => rows.extend_from_slice(decoder.row())?,
@@ -84,4 +86,23 @@ pub fn rows_of_piece(
         outcome: Outcome::Row,
         taken,
     })
+}
+
+/// Goes on with a piece, which may be the last.
+fn next_row(decoder: &mut PieceDecoder<'_, '_>, piece: &[u8], is_all: bool) -> Progress
+    requires { IsDecoding decoder.old }
+    ensures same { stream_of decoder.new ≡ stream_of decoder.old }
+    ensures bound { result.taken ≤ length piece.now }
+    ensures row { GivesRow decoder.old decoder.new piece.now result.taken result.outcome }
+    ensures more { WantsMore decoder.old decoder.new piece.now result.taken result.outcome }
+    ensures ends { is_all ≡ true → result.outcome ≢ outcome.More }
+    ensures done { IsWhole is_all decoder.old decoder.new piece.now result.outcome }
+    ensures broken { IsBroken is_all decoder.old decoder.new piece.now result.outcome }
+    ensures decoding { IsDecoding decoder.new }
+{
+    if is_all {
+        decoder.next_of_last(piece)
+    } else {
+        decoder.next_row(piece)
+    }
 }

@@ -1,22 +1,23 @@
 //! Rows that are handed one by one.
 
-ghost use Rattle.std.specs.Prelude.{◌≡◌, ◌≢◌, ◌<◌, ◌∷◌, [], length, false, true, Ok, OnOk, OnErr, IfErr};
+ghost use Rattle.std.specs.Prelude.{◌≡◌, ◌≢◌, ◌<◌, ◌∷◌, ◌⊎◌, [], length, false, true, Err, Ok, OnOk, OnErr, IfErr};
 ghost use Rattle.std.specs.Io.KnownBytes.{Appends};
 ghost use Rattle.pbm_core.specs.Pbm.{bytes_of_row};
 ghost use Rattle.pbm_core.specs.Image.{pixels_of};
 ghost use Rattle.raster_core.specs.Window.{held, width_of};
 ghost use Rattle.t85_core.specs.Encode.{raster_of};
-ghost use Rattle.t85_core.specs.Jbg.{jbg};
+ghost use Rattle.t85_core.specs.Jbg.{jbg, is_low};
 ghost use Rattle.t85_core.specs.Failures.{OnlyWrites};
 ghost use Rattle.t85_core.specs.Options.{settings_of};
 ghost use Rattle.t85_core.specs.Steps.ByRow.{view_of, MayGoOn, IsLined, EndsImage, CutsImage};
-ghost use Rattle.t85_core.specs.declared.fault.Fault.TheVariants.{Write};
+ghost use Rattle.t85_core.specs.declared.fault.Fault.TheVariants.{AnnouncedLow, Write};
 
 use pbm_core::{Output, Size};
 use raster_core::Window;
 use t85_core::{Fault, Options, RowEncoder};
 
 /// Writes the stream of an image of two rows. What is written is the stream of the whole image.
+#[tactic(auto, using(crate::proofs::Writes::after_ok))]
 pub fn two_rows<W: Output>(
     size: Size,
     first: &[u8],
@@ -32,6 +33,11 @@ pub fn two_rows<W: Output>(
     ensures whole { OnOk result (Appends (W.view output.old).contents (W.view output.new).contents
         (jbg (settings_of options.now) (raster_of size.width (pixels_of size.width first.now ∷
         pixels_of size.width second.now ∷ [])))) }
+    ensures low { is_low (settings_of options.now) size.height ≡ true → result ≡ Err AnnouncedLow }
+    ensures err { IfErr result (λ f. (f ≡ Write) ⊎ (f ≡ AnnouncedLow)) }
+    ensures only_low { result ≡ Err AnnouncedLow →
+        is_low (settings_of options.now) size.height ≡ true }
+    ensures writes { OnlyWrites (W.view output.old) (W.view output.new) result }
 {
     let mut encoder = RowEncoder::start(size, options, window, output)?;
     encoder.put_row(first, window, output)?;

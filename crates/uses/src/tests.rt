@@ -96,7 +96,7 @@ fn two_pieces(alloc: Global) -> Result<(Outcome, Vec<u8>), AllocError> {
 fn rows_of_two_pieces(rt: HostRuntime) {
     let two = two_pieces(rt.alloc());
     assert!(rt;
-        two.is_ok_and(|two| two.0 == Outcome::Done && two.1.as_slice() == b"\x80\x80".as_slice())
+        two.is_ok_and(|two| two.0 == Outcome::Done(2) && two.1.as_slice() == b"\x80\x80".as_slice())
     );
 }
 

@@ -1,124 +1,152 @@
--- What was given of a stream that comes in pieces.
-use Rattle.std.proofs.Common.{◌≡◌, ◌≢◌, ◌-◌, ◌⊎◌, inl, inr, ℕ, List, [], ◌++◌, length, take, None, Some, sym, ap, ◌∙◌, subst, append_assoc, append-nil, length-append, arith}
-use Rattle.std.proofs.Math.Seq.{take-append_seam}
+-- What was given of a stream that comes in pieces: its height, its image, or its fault and the rows that it fixes.
+use Rattle.std.proofs.Common.{cond, ◌≡◌, ◌≢◌, ◌<◌, ◌≤◌, ◌+◌, ◌-◌, ◌*◌, ◌^◌, ◌⊎◌, inl, inr, not, ℕ, Bool, true, false, List, [], ◌∷◌, ◌++◌, length, take, drop, count_by, nat_eq, nat_lt, nat_le, ◌==◌, ◌||◌, Option, None, Some, refl, sym, ap, ◌∙◌, subst, append_assoc, append-nil, length-append, arith, true≢false}
+use Rattle.std.specs.Prelude.{flat_map}
+use Rattle.std.proofs.lemmas.Bool.Decides.{nat_tests}
+use Rattle.std.proofs.lemmas.Bool.{cases_lt, cases_eq}
+use Rattle.std.proofs.Math.Seq.{take-length}
+use Rattle.byteorder.specs.Endian.{big_bytes, big_number}
 use Rattle.t85_core.specs.declared.fault.Fault.{Fault}
-use Rattle.t85_core.specs.declared.fault.Fault.TheVariants.{Truncated}
-use Rattle.t85_core.specs.declared.pieces.PieceDecoder.{PieceDecoder}
-use Rattle.t85_core.specs.declared.pieces.walk.Stage.TheVariants as stage
-use Rattle.t85_core.specs.Header.{Fields}
-use Rattle.t85_core.specs.Options.{fields_of}
+use Rattle.t85_core.specs.declared.fault.Fault.TheVariants.{Truncated, BadEscape, Aborted, LengthRefused, SecondLength, MoveRefused, SecondMove, Changed}
+use Rattle.t85_core.specs.Header.{Fields, IsAccepted, is_variable}
+use Rattle.t85_core.specs.Grammar.{NewLength, Stripe, segment_bytes, stripe_bytes, stripe_count, all_segments, lengths, is_move, is_valid_length}
+use Rattle.t85_core.specs.Refusal.{BodyFault, StripeFault, spot_after, rest_fault, length_fault, move_fault, comment_fault, is_legal_move}
+use Rattle.t85_core.specs.Height.{GivesHeight, IsHeight}
 use Rattle.t85_core.specs.Denotes.{DenotesAt}
 use Rattle.t85_core.specs.Fixed.{Fixes}
-use Rattle.t85_core.specs.Pieces.{image_of, StandsOr, HasDecoded, HandsOut, HoldsImage}
+use Rattle.t85_core.specs.Laws.{IsInUse}
+use Rattle.t85_core.specs.Pieces.{HasHeight, HandsOut, HoldsImage, MayFollow}
+use Rattle.t85_core.specs.declared.segments.Place.{Place}
+use Rattle.t85_core.specs.Steps.Segments.{PieceFault}
 use Rattle.t85_core.specs.Steps.DecodeStripes.{ImageRead}
-use Rattle.t85_core.specs.Steps.Pieces.{CutOff, LateStands, WalkStands, StepsOn, StepsOff}
+use Rattle.t85_core.specs.Steps.Pieces.{CutOff}
+use Rattle.t85_core.specs.Steps.PieceStands.{HeightKnown}
+use Rattle.t85_core.proofs.Bytes.Lengths.{gives_none, valid_parts}
+use Rattle.t85_core.proofs.Grammar.Cut.{one_broken}
+use Rattle.t85_core.proofs.Grammar.Heights.{one_height_of, suits_in_use, none_left, none_right}
+use Rattle.t85_core.proofs.Walks.Segments.{length_changed}
 use Rattle.t85_core.proofs.Decodings.Decoded.{fixes_more}
-use Rattle.t85_core.proofs.Decodings.PieceSteps.{at_stage}
 
--- what bytes fix that are broken or end too early
-pub cut_hands : (h : Fields) (height : ℕ) (text out : List ℕ) (f : Fault) → CutOff h height text out f → HandsOut (h, height) text f out
-cut_hands h height text out f c = (c.cut.rows, went (fixes_more h height c.cut.ends.given c.unread f c.cut.rows has), c.cut.appended) where
+-- ---- the height
+
+-- it came, or none may come
+pub height_known : (h : Fields) (height : ℕ) (text more : List ℕ) → IsAccepted h → HeightKnown h height false text → HasHeight h (text ++ more) height
+height_known h height text more ok k = went (is_variable h) refl where
+  went : (v : Bool) → is_variable h ≡ v → HasHeight h (text ++ more) height
+  went true v n is = one_height_of h (text ++ more) n height ok is (inl (k.came refl v more))
+  went false v n (inl g) = absurd (true≢false (sym g.variable ∙ v))
+  went false v n (inr e) = e.0 ∙ sym (k.fixed refl v)
+
+-- no height came before a fault that is no other height
+pub height_broken : (h : Fields) (body : List ℕ) (f : Fault) → IsInUse h h.yd → BodyFault h h.yd body f → f ≢ Changed → HasHeight h body h.yd
+height_broken h body f use_ b other n (inr e) = e.0
+height_broken h body f use_ b other n (inl g) = went (cases_eq n h.yd) where
+  none_before : lengths (all_segments g.stripes) ≡ []
+  none_before = none_left (all_segments g.stripes) g.segments g.first
+
+  none_here : lengths g.segments ≡ []
+  none_here = none_right (all_segments g.stripes) g.segments g.first
+
+  zero : length (lengths (all_segments g.stripes)) ≡ 0
+  zero = ap length none_before
+
+  no_heights : length (lengths (all_segments g.stripes)) + length (lengths g.segments) ≡ 0
+  no_heights = let a = ap length none_here in omega (arith, zero, a)
+
+  changed : n ≢ h.yd → StripeFault h (spot_after h.yd g.stripes) (flat_map segment_bytes g.segments ++ (segment_bytes (NewLength n) ++ g.rest)) Changed
+  changed different = record {
+    segments = g.segments;
+    code = [];
+    rest = segment_bytes (NewLength n) ++ g.rest;
+    bytes_are = refl;
+    begun = g.begun;
+    gives = gives_none h.yd (length (lengths (all_segments g.stripes))) g.segments (omega (arith, zero)) none_here;
+    rest_has = subst (λ u. length_fault h (record { height = h.yd; entities = length g.stripes; heights = u }) (big_bytes 4 n ++ g.rest) ≡ Some Changed) (sym no_heights)
+        (length_changed h h.yd (length g.stripes) g.variable n g.rest (let w = valid_parts h (length g.stripes) n g.valid in omega (arith, w.1, use_.accepted.height_to)) g.valid different);
+  }
+
+  went : (n ≡ h.yd) ⊎ (n ≢ h.yd) → n ≡ h.yd
+  went (inl e) = e
+  went (inr different) = absurd (other (one_broken h use_.accepted h.yd (stripe_count h.yd h.l0) (suits_in_use h h.yd use_) b.stripes g.stripes b.tail (flat_map segment_bytes g.segments ++ (segment_bytes (NewLength n) ++ g.rest)) f Changed
+      b.each g.each b.gives (gives_none h.yd 0 (all_segments g.stripes) (omega arith) none_before) (let less = b.fewer in omega (arith, less)) g.within b.tail_has (changed different) (sym b.bytes_are ∙ g.body_is)).broken.fault)
+
+-- what breaks before a code breaks so at each height, so a height is no such fault
+module _ (h : Fields) (place : Place) (moved : Bool) (fresh : place.given ≡ false) where
+  length_same : (v z s w t : Bool) → t ≡ true → cond (not v) (Some LengthRefused) (cond (not z) (Some SecondLength) (cond s (Some Truncated) (cond (not w) (Some LengthRefused) (cond t None (Some Changed))))) ≡ Some Changed → ⊥
+  length_same false z s w t e k = cc
+  length_same true false s w t e k = cc
+  length_same true true true w t e k = cc
+  length_same true true false false t e k = cc
+  length_same true true false true true e k = cc
+  length_same true true false true false e k = true≢false (sym e)
+
+  move_other : (a b c : Bool) → cond a (Some SecondMove) (cond b (Some Truncated) (cond c None (Some MoveRefused))) ≡ Some Changed → ⊥
+  move_other true b c k = cc
+  move_other false true c k = cc
+  move_other false false true k = cc
+  move_other false false false k = cc
+
+  comment_other : (a b : Bool) → cond a (Some Truncated) (cond b (Some Truncated) None) ≡ Some Changed → ⊥
+  comment_other true b k = cc
+  comment_other false true k = cc
+  comment_other false false k = cc
+
+  by_escape : (a b c d e f g : Bool) (x y z : Option Fault) → (x ≡ Some Changed → ⊥) → (y ≡ Some Changed → ⊥) → (z ≡ Some Changed → ⊥) →
+      cond a (cond b None (cond c (Some Aborted) (cond ((d || e) || false) (Some BadEscape) (cond f x (cond g y z))))) None ≡ Some Changed → ⊥
+  by_escape false b c d e f g x y z p q r k = cc
+  by_escape true true c d e f g x y z p q r k = cc
+  by_escape true false true d e f g x y z p q r k = cc
+  by_escape true false false true e f g x y z p q r k = cc
+  by_escape true false false false true f g x y z p q r k = cc
+  by_escape true false false false false true g x y z p q r k = p k
+  by_escape true false false false false false true x y z p q r k = q k
+  by_escape true false false false false false false x y z p q r k = r k
+
+  one_byte : (t : Bool) → cond t (Some Truncated) None ≡ Some Changed → ⊥
+  one_byte true e = cc
+  one_byte false e = cc
+
+  pub piece_other : (rest : List ℕ) (f : Fault) → PieceFault h place moved rest f → f ≢ Changed
+  piece_other rest f broken is = went rest (λ height. subst (λ z. rest_fault h (record { height = height; entities = place.entities; heights = cond place.given 1 0 }) (cond moved 1 0) false rest ≡ Some z) is (broken height)) where
+    went : (rest : List ℕ) → ((height : ℕ) → rest_fault h (record { height = height; entities = place.entities; heights = cond place.given 1 0 }) (cond moved 1 0) false rest ≡ Some Changed) → ⊥
+    went [] k = let e = k 0 in cc
+    went (b ∷ []) k = one_byte (b == 255) (k 0)
+    went (b ∷ escape ∷ bytes) k =
+        let same : nat_eq (big_number 4 bytes) (big_number 4 bytes) ≡ true = grind (arith, nat_tests) in
+        by_escape (b == 255) ((escape == 0) || (escape == 2) || (escape == 3)) (escape == 4) (escape == 1) (nat_le 8 escape) (escape == 5) (escape == 6)
+        (length_fault h (record { height = big_number 4 bytes; entities = place.entities; heights = cond place.given 1 0 }) bytes) (move_fault h (cond moved 1 0) bytes) (comment_fault bytes)
+        (length_same (is_variable h) (cond place.given 1 0 == 0) (nat_lt (length bytes) 4) (is_valid_length h place.entities (big_number 4 bytes)) (nat_eq (big_number 4 bytes) (big_number 4 bytes)) same)
+        (move_other (not (cond moved 1 0 == 0)) (nat_lt (length bytes) 6) (is_legal_move h bytes))
+        (comment_other (nat_lt (length bytes) 4) (nat_lt (length bytes) (4 + big_number 4 bytes)))
+        (k (big_number 4 bytes))
+
+-- ---- the ends
+
+-- what bytes fix that are broken or end too early, whatever follows
+pub cut_fixes : (h : Fields) (height : ℕ) (text out rest : List ℕ) (f : Fault) → (c : CutOff h height text out f) → (f ≡ Truncated → rest ≡ []) → Fixes h height (text ++ rest) f c.cut.rows
+cut_fixes h height text out rest f c nothing = went (fixes_more h height c.cut.ends.given (c.unread ++ rest) f c.cut.rows has) where
   has : Fixes h height c.cut.ends.given f c.cut.rows
   has = subst (λ z. Fixes h height c.cut.ends.given z c.cut.rows) c.counted c.cut.ends.has_fault
 
-  went : (f ≡ Truncated) ⊎ Fixes h height (c.cut.ends.given ++ c.unread) f c.cut.rows → Fixes h height text f c.cut.rows
-  went (inl ended) = subst (λ z. Fixes h height z f c.cut.rows) (sym (c.cut.ends.taken ∙ ap (λ z. c.cut.ends.given ++ z) (c.cut.ends.at_end ended) ∙ append-nil c.cut.ends.given)) has
-  went (inr more) = subst (λ z. Fixes h height z f c.cut.rows) (sym c.cut.ends.taken) more
+  all : text ++ rest ≡ c.cut.ends.given ++ (c.unread ++ rest)
+  all = ap (λ z. z ++ rest) c.cut.ends.taken ∙ append_assoc c.cut.ends.given c.unread rest
 
--- it stays so, whatever comes, but where the end is the fault
-pub cut_later : (h : Fields) (height : ℕ) (text out : List ℕ) (f : Fault) → CutOff h height text out f → f ≢ Truncated → (later : List ℕ) → CutOff h height (text ++ later) out f
-cut_later h height text out f c other later = record {
-  counted = c.counted;
-  unread = c.unread ++ later;
-  cut = record {
-    rows = c.cut.rows;
-    ends = record {
-      given = c.cut.ends.given;
-      taken = ap (λ z. z ++ later) c.cut.ends.taken ∙ append_assoc c.cut.ends.given c.unread later;
-      has_fault = c.cut.ends.has_fault;
-      at_end = λ e. absurd (other e);
-    };
-    appended = c.cut.appended;
-  };
-}
+  went : (f ≡ Truncated) ⊎ Fixes h height (c.cut.ends.given ++ (c.unread ++ rest)) f c.cut.rows → Fixes h height (text ++ rest) f c.cut.rows
+  went (inl ended) = subst (λ z. Fixes h height z f c.cut.rows) (sym (all ∙ ap (λ z. c.cut.ends.given ++ z) (ap (λ z. z ++ rest) (c.cut.ends.at_end ended) ∙ nothing ended) ∙ append-nil c.cut.ends.given)) has
+  went (inr more) = subst (λ z. Fixes h height z f c.cut.rows) (sym all) more
+
+pub cut_hands : (h : Fields) (height : ℕ) (text out rest : List ℕ) (f : Fault) → HasHeight h (text ++ rest) height → (f ≡ Truncated → rest ≡ []) → CutOff h height text out f → HandsOut h (text ++ rest) height f out
+cut_hands h height text out rest f is nothing c = record { height_is = is; rows = c.cut.rows; fixes = cut_fixes h height text out rest f c nothing; out_is = c.cut.appended }
+
+-- where no height came before it
+pub cut_hands_first : (h : Fields) (text out rest : List ℕ) (f : Fault) → IsInUse h h.yd → f ≢ Changed → (f ≡ Truncated → rest ≡ []) → CutOff h h.yd text out f → HandsOut h (text ++ rest) h.yd f out
+cut_hands_first h text out rest f use_ other nothing c = cut_hands h h.yd text out rest f (height_broken h (text ++ rest) f use_ (cut_fixes h h.yd text out rest f c nothing).broken other) nothing c
 
 -- what a whole body holds
-pub read_holds : (h : Fields) (height : ℕ) (text out rest : List ℕ) → ImageRead h height (Some text) (Some []) (Some []) (Some out) → HoldsImage (h, height) (text ++ rest) out
-read_holds h height text out rest i = (
-  i.rows,
-  subst (λ z. DenotesAt h height z (record { width = h.xd; rows = i.rows })) (ap (λ z. z ++ rest) (sym (i.taken ∙ append-nil i.given))) (i.denotes rest),
-  i.appended,
-)
-
--- the bytes that were taken
-pub taken_is : (piece rest given : List ℕ) → piece ≡ given ++ rest → take (length piece - length rest) piece ≡ given
-taken_is piece rest given e =
-    let long = length-append given rest in
-    let all : length piece ≡ length (given ++ rest) = ap length e in
-    let n : length piece - length rest ≡ length given = omega (arith, long, all) in
-    ap (λ k. take k piece) n ∙ ap (take (length given)) e ∙ take-append_seam given rest
-
--- ---- a call
-
-module _ (old new : PieceDecoder) (same : image_of new ≡ image_of old) (sound : old.broken ≡ None) (piece rest : List ℕ) where
-  before : (text out : List ℕ) → HasDecoded old text out → WalkStands (fields_of old.header) old.height old.walk text out
-  before text out s = subst (λ b. StandsOr b old text out) sound s
-
-  after : new.broken ≡ None → (text out : List ℕ) → WalkStands (fields_of old.header) old.height new.walk text out → HasDecoded new text out
-  after none text out s =
-      subst (λ b. StandsOr b new text out) (sym none)
-      (subst (λ (z : Fields × ℕ). WalkStands z.0 z.1 new.walk text out) (sym same) s)
-
-  pub goes : (row : List ℕ) → new.broken ≡ None → StepsOn (fields_of old.header) old.height old.walk new.walk piece rest row → (text out : List ℕ) → HasDecoded old text out →
-      HasDecoded new (text ++ take (length piece - length rest) piece) (out ++ row)
-  goes row none on text out s =
-      let k = on text out (before text out s) in
-      subst (λ z. HasDecoded new (text ++ z) (out ++ row)) (sym (taken_is piece rest k.0 k.1)) (after none (text ++ k.0) (out ++ row) k.2)
-
-  pub keeps : new.broken ≡ None → StepsOn (fields_of old.header) old.height old.walk new.walk piece rest [] → (text out : List ℕ) → HasDecoded old text out →
-      HasDecoded new (text ++ take (length piece - length rest) piece) out
-  keeps none on text out s = subst (HasDecoded new (text ++ take (length piece - length rest) piece)) (append-nil out) (goes [] none on text out s)
-
-  pub hands : (f : Fault) → StepsOff (fields_of old.header) old.height old.walk piece f → (text out : List ℕ) → HasDecoded old text out → HandsOut (image_of old) (text ++ piece) f out
-  hands f off text out s = cut_hands (fields_of old.header) old.height (text ++ piece) out f (off text out (before text out s))
-
-  pub holds : StepsOn (fields_of old.header) old.height old.walk new.walk piece rest [] → new.walk.stage ≡ stage.Done → (text out : List ℕ) → HasDecoded old text out → (later : List ℕ) →
-      HoldsImage (image_of old) ((text ++ take (length piece - length rest) piece) ++ later) out
-  holds on done text out s later =
-      let k = on text out (before text out s) in
-      subst (λ z. HoldsImage (image_of old) ((text ++ z) ++ later) out) (sym (taken_is piece rest k.0 k.1))
-      (subst (HoldsImage (image_of old) ((text ++ k.0) ++ later)) (append-nil out) (read_holds (fields_of old.header) old.height (text ++ k.0) (out ++ []) later (at_stage done k.2)))
-
-  pub lates : (n : ℕ) → new.broken ≡ None → StepsOn (fields_of old.header) old.height old.walk new.walk piece rest [] → new.walk.stage ≡ stage.Late n → (text out : List ℕ) → HasDecoded old text out →
-      HasDecoded new (text ++ take (length piece - length rest) piece) out × LateStands (fields_of old.header) n (text ++ take (length piece - length rest) piece) out
-  lates n none on late text out s =
-      let k = on text out (before text out s) in (
-        keeps none on text out s,
-        subst (λ z. LateStands (fields_of old.header) n (text ++ z) out) (sym (taken_is piece rest k.0 k.1)) (subst (LateStands (fields_of old.header) n (text ++ k.0)) (append-nil out) (at_stage late k.2)),
-      )
-
-  pub breaks : (f : Fault) → new.broken ≡ Some f → f ≢ Truncated → rest ≡ [] → StepsOff (fields_of old.header) old.height old.walk piece f → (text out : List ℕ) → HasDecoded old text out →
-      HasDecoded new (text ++ take (length piece - length rest) piece) out × ((later : List ℕ) → HandsOut (image_of old) ((text ++ piece) ++ later) f out)
-  breaks f is other none off text out s =
-      let cut = off text out (before text out s) in
-      let later = cut_later (fields_of old.header) old.height (text ++ piece) out f cut other in (
-        subst (λ z. HasDecoded new (text ++ z) out) (sym (taken_is piece rest piece (sym (append-nil piece) ∙ ap (λ z. piece ++ z) (sym none))))
-            (subst (λ b. StandsOr b new (text ++ piece) out) (sym is) (λ l. subst (λ (z : Fields × ℕ). CutOff z.0 z.1 ((text ++ piece) ++ l) out f) (sym same) (later l))),
-        λ l. cut_hands (fields_of old.header) old.height ((text ++ piece) ++ l) out f (later l),
-      )
-
--- it was broken before
-pub stays_broken : (d : PieceDecoder) (piece : List ℕ) (f : Fault) → d.broken ≡ Some f → (text out : List ℕ) → HasDecoded d text out →
-    HasDecoded d (text ++ take (length piece) piece) out × ((later : List ℕ) → HandsOut (image_of d) ((text ++ piece) ++ later) f out)
-stays_broken d piece f is text out s = (
-  subst (λ z. HasDecoded d (text ++ z) out) (sym all) (subst (λ b. StandsOr b d (text ++ piece) out) (sym is) after),
-  λ later. cut_hands (fields_of d.header) d.height ((text ++ piece) ++ later) out f (after later),
-) where
-  before : (later : List ℕ) → CutOff (fields_of d.header) d.height (text ++ later) out f
-  before = subst (λ b. StandsOr b d text out) is s
-
-  after : (later : List ℕ) → CutOff (fields_of d.header) d.height ((text ++ piece) ++ later) out f
-  after later = subst (λ z. CutOff (fields_of d.header) d.height z out f) (sym (append_assoc text piece later)) (before (piece ++ later))
-
-  all : take (length piece) piece ≡ piece
-  all = ap (take (length piece)) (sym (append-nil piece)) ∙ take-append_seam piece []
+pub read_holds : (h : Fields) (height : ℕ) (text out rest : List ℕ) → HasHeight h (text ++ rest) height → ImageRead h height (Some text) (Some []) (Some []) (Some out) → HoldsImage h (text ++ rest) height out
+read_holds h height text out rest is i = record {
+  height_is = is;
+  rows = i.rows;
+  denotes = subst (λ z. DenotesAt h height z (record { width = h.xd; rows = take height i.rows })) (ap (λ z. z ++ rest) (sym (i.taken ∙ append-nil i.given)))
+      (subst (λ z. DenotesAt h height (i.given ++ rest) (record { width = h.xd; rows = z })) (sym (ap (λ n. take n i.rows) (sym (i.denotes rest).height) ∙ take-length i.rows)) (i.denotes rest));
+  out_is = i.appended;
+}

@@ -1,12 +1,13 @@
 -- Steps of a walk, one after another.
-use Rattle.std.proofs.Common.{◌≡◌, ◌<◌, ◌≤◌, ◌+◌, ◌-◌, ◌*◌, ℕ, suc, ◌⊎◌, inl, inr, Bool, true, false, cond, List, [], ◌∷◌, ◌++◌, length, min, Some, None, Result, Ok, Err, refl, sym, ap, ◌∙◌, subst, append_assoc, append-nil, arith}
+use Rattle.std.proofs.Common.{◌≡◌, ◌≢◌, ◌<◌, ◌≤◌, ◌+◌, ◌-◌, ◌*◌, ℕ, suc, ◌⊎◌, inl, inr, Bool, true, false, cond, List, [], ◌∷◌, ◌++◌, length, min, Some, None, Result, Ok, Err, refl, sym, ap, ◌∙◌, subst, append_assoc, append-nil, arith}
+use Rattle.std.specs.Prelude.{OnOk, IfErr}
 use Rattle.std.specs.Int.{div_ceil}
 use Rattle.std.specs.Result.{IsErrAnd}
 use Rattle.std.proofs.lemmas.Bool.{cases_lt}
 use Rattle.std.proofs.lemmas.Grind.{div_ceil_times}
 use Rattle.std.proofs.Math.Nat.{mul-le-mul_right}
 use Rattle.t85_core.specs.declared.fault.Fault.{Fault}
-use Rattle.t85_core.specs.declared.fault.Fault.TheVariants.{Truncated}
+use Rattle.t85_core.specs.declared.fault.Fault.TheVariants.{Truncated, Changed}
 use Rattle.t85_core.specs.declared.pieces.walk.Walk.{Walk}
 use Rattle.raster_core.specs.Window.{held}
 use Rattle.t85_core.specs.declared.pieces.walk.Stage.{Stage}
@@ -15,7 +16,9 @@ use Rattle.t85_core.specs.declared.state.CodingState.{CodingState}
 use Rattle.t85_core.specs.Header.{Fields}
 use Rattle.t85_core.specs.Steps.State.{image_start, first_row_start}
 use Rattle.t85_core.specs.Steps.DecodeRows.{IsCarried}
-use Rattle.t85_core.specs.Steps.Pieces.{CutOff, HeadStands, WalkStands, StageStands, StepsOn, StepsOff, Step, RowStep, Turn, IsOver, CodeStands, rows_in}
+use Rattle.t85_core.specs.declared.segments.Code.TheVariants as code
+use Rattle.t85_core.specs.Steps.PieceCode.{EndsInNoEscape}
+use Rattle.t85_core.specs.Steps.Pieces.{CutOff, HeadStands, WalkStands, StageStands, StepsOn, StepsOff, Step, RowStep, RowLeaves, KeepsPlace, HasMarker, Turn, IsOver, CodeStands, rows_in}
 use Rattle.t85_core.proofs.Walks.Passed.{passed_none}
 use Rattle.t85_core.proofs.Decodings.ImagePut.{stripes_start}
 
@@ -121,6 +124,46 @@ pub row_exit : (h : Fields) (height : ℕ) (w w' : Walk) (p p' : List ℕ) (r : 
 row_exit h height w w' p p' (Ok x) e a off on = absurd a
 row_exit h height w w' p p' (Err y) e a off on = record { ok = tt; err = subst (StepsOff h height w p) (sym a) off; more = λ is. on (sym a ∙ (let same : y ≡ Truncated = cc in same)) }
 
+-- a fault that is another
+pub other_exit : (r : Result (Unit {0}) Fault) (e : Fault) → IsErrAnd r (λ y. y ≡ e) → e ≢ Changed → IfErr r (λ f. f ≢ Changed)
+other_exit (Ok x) e a other = tt
+other_exit (Err y) e a other = λ is. other (sym a ∙ is)
+
+-- a row breaks, or waits
+pub leaves_exit : (w w' : Walk) (p p' : List ℕ) (r : Result (Unit {0}) Fault) (e : Fault) → IsErrAnd r (λ y. y ≡ e) → KeepsPlace w w' → (w'.row ≡ w.row) × (w'.stage ≡ stage.Row) × (w'.first ≡ None) × (w'.marker ≡ w.marker) →
+    (HasMarker w → ⊥) → (EndsInNoEscape p → p' ≡ []) → e ≢ Changed → RowLeaves w w' p p' r
+leaves_exit w w' p p' (Ok x) e a keeps same never drained other = absurd a
+leaves_exit w w' p p' (Err y) e a keeps same never drained other = record {
+  place = keeps;
+  row = tt;
+  same_row = same;
+  whole = λ m. absurd (never m);
+  drained = drained;
+  other = λ is. other (sym a ∙ is);
+}
+
+-- a row was entered before
+pub leaves_then : (w w1 w2 : Walk) (p p' : List ℕ) (r : Result (Unit {0}) Fault) → KeepsPlace w w1 → (w1.row ≡ w.row) × (w1.first ≡ w.first) × (w1.marker ≡ w.marker) → RowLeaves w1 w2 p p' r → RowLeaves w w2 p p' r
+leaves_then w w1 w2 p p' r keeps same next = record {
+  place = record { entities = next.place.entities ∙ keeps.entities; left = next.place.left ∙ keeps.left; given = next.place.given ∙ keeps.given; at = next.place.at ∙ keeps.at };
+  row = row_of r next.row;
+  same_row = same_of r next.same_row;
+  whole = λ m. next.whole (m.0, marker_of m.0 m.1);
+  drained = next.drained;
+  other = next.other;
+} where
+  row_of : (r : Result (Unit {0}) Fault) → OnOk r ((w2.row ≡ w1.row + 1) × (w2.stage ≡ stage.Code)) → OnOk r ((w2.row ≡ w.row + 1) × (w2.stage ≡ stage.Code))
+  row_of (Ok x) k = (k.0 ∙ ap (λ n. n + 1) same.0, k.1)
+  row_of (Err y) k = tt
+
+  same_of : (r : Result (Unit {0}) Fault) → IfErr r (λ _. (w2.row ≡ w1.row) × (w2.stage ≡ stage.Row) × (w2.first ≡ None) × (w2.marker ≡ w1.marker)) → IfErr r (λ _. (w2.row ≡ w.row) × (w2.stage ≡ stage.Row) × (w2.first ≡ None) × (w2.marker ≡ w.marker))
+  same_of (Ok x) k = tt
+  same_of (Err y) k = (k.0 ∙ same.0, k.1, k.2, k.3 ∙ same.2)
+
+  marker_of : (reset : Bool) → (w.marker ≡ Some reset) ⊎ (w.first ≡ Some (code.Marker reset)) → (w1.marker ≡ Some reset) ⊎ (w1.first ≡ Some (code.Marker reset))
+  marker_of reset (inl e) = inl (same.2 ∙ e)
+  marker_of reset (inr e) = inr (same.1 ∙ e)
+
 -- one of two stages, and not the third
 pub two_of : {A B C : Type 0} → A ⊎ (B ⊎ C) → (A → ⊥) → B ⊎ C
 two_of (inl a) n = absurd (n a)
@@ -169,27 +212,22 @@ turn_then h height w w1 w2 p p1 p2 on (Err f) t = record {
 }
 
 -- which stage it is
-pub over_done : (k : Stage) → IsOver k → ((n : ℕ) → k ≡ stage.Late n → ⊥) → k ≡ stage.Done
-over_done stage.Head o n = absurd o
-over_done stage.Comment o n = absurd o
-over_done stage.Code o n = absurd o
-over_done stage.Row o n = absurd o
-over_done stage.Done o n = refl
-over_done (stage.Late m) o n = absurd (n m refl)
-
 pub over_not_code : (k : Stage) → IsOver k → k ≡ stage.Code → ⊥
 over_not_code stage.Head o e = o
 over_not_code stage.Comment o e = o
 over_not_code stage.Code o e = o
 over_not_code stage.Row o e = o
 over_not_code stage.Done o e = cc
-over_not_code (stage.Late m) o e = cc
+
+pub over_done : (k : Stage) → IsOver k → k ≡ stage.Done
+over_done stage.Head o = absurd o
+over_done stage.Comment o = absurd o
+over_done stage.Code o = absurd o
+over_done stage.Row o = absurd o
+over_done stage.Done o = refl
 
 pub is_over : (k : Stage) → k ≡ stage.Done → IsOver k
 is_over k e = subst IsOver (sym e) tt
-
-pub is_late : (k : Stage) (n : ℕ) → k ≡ stage.Late n → IsOver k
-is_late k n e = subst IsOver (sym e) tt
 
 -- of four, not the last two
 pub first_two : {A B C D : Type 0} → A ⊎ (B ⊎ (C ⊎ D)) → (C → ⊥) → (D → ⊥) → A ⊎ B

@@ -16,6 +16,7 @@ use Rattle.raster_core.specs.declared.place.RowPlace.{RowPlace}
 use Rattle.raster_core.specs.declared.shape.Shape.{Shape}
 use Rattle.t85_core.specs.declared.fault.Fault.{Fault}
 use Rattle.t85_core.specs.declared.segments.Code as code_type
+use Rattle.t85_core.specs.declared.segments.Code.TheVariants as code
 use Rattle.t85_core.specs.declared.segments.Move as move
 use Rattle.t85_core.specs.declared.state.CodingState.{CodingState}
 use Rattle.t85_core.specs.Header.{Fields}
@@ -28,7 +29,7 @@ use Rattle.t85_core.specs.Steps.State.{StripeStart, first_row_start, next_stripe
 use Rattle.t85_core.specs.Steps.Cut.{BegunRun}
 use Rattle.t85_core.specs.Steps.DecodeRows.{pair_of, IsShapeOf, IsCarried}
 use Rattle.t85_core.specs.Steps.DecodeStripes.{StripeCut, StripeRead, StripesRead, ImageRead}
-use Rattle.t85_core.specs.Steps.PieceCode.{CodeText, CodeBreaks, PieceRowTaken, RowBroken, RowWaits, MarkerFound, MarkerMissing, CodeKept}
+use Rattle.t85_core.specs.Steps.PieceCode.{CodeText, CodeOpen, CodeBreaks, PieceRowTaken, RowBroken, RowWaits, MarkerFound, MarkerMissing, CodeKept}
 use Rattle.t85_core.specs.Steps.Pieces.{CutOff, HeadStands, CodeStands, InRowStands, rows_in}
 use Rattle.t85_core.proofs.Walks.Passed.{passed_none}
 use Rattle.t85_core.proofs.Decodings.ImagePut.{stripes_next, image_read}
@@ -190,7 +191,7 @@ module _ {h : Fields} {height entities : ℕ} {given : Bool} {at : Option move.M
     -- ---- it ends
 
     module _ (all : row ≡ count) (p p' : List ℕ) (reset : Bool) (m : MarkerFound s.read.answers s.code p p' reset) (next : CodingState) (next_is : IsCarried (first_row_start (next_stripe_start h.xd reset s.read.last)) next) where
-      whole : StripesRead h height (Some (text ++ m.given)) (Some []) (entities + 1) (cond given 1 0) next (Some []) (Some out)
+      pub whole : StripesRead h height (Some (text ++ m.given)) (Some []) (entities + 1) (cond given 1 0) next (Some []) (Some out)
       whole =
           subst (λ z. StripesRead h height (Some z) (Some []) (entities + 1) (cond given 1 0) next (Some []) (Some out)) all_text
           (stripes_next h height (Some (s.head.front ++ (s.head.back ++ (s.code ++ m.given)))) (Some (s.head.back ++ (s.code ++ m.given))) (Some []) entities (cond s.head.before 1 0) count s.start next (Some []) (Some s.began) (Some out)
@@ -295,3 +296,83 @@ module _ {h : Fields} {height entities : ℕ} {given : Bool} {at : Option move.M
     code_is = m.code_is;
     text_is = sym (with_more m.given);
   }
+
+  -- its end marker came
+  pub code_marked : row ≡ count → marker ≡ None → (p p' : List ℕ) (reset : Bool) → (m : MarkerFound s.read.answers s.code p p' reset) →
+      CodeStands h height entities given at row (Some (code.Marker reset)) marker carried d (text ++ m.given) out
+  code_marked all unmarked p p' reset m = record {
+    before = s.before;
+    began = s.began;
+    start = s.start;
+    head = s.head;
+    shape = s.shape;
+    read = s.read;
+    few = s.few;
+    extra = m.agrees.rest;
+    rows_first = λ lt. absurd (omega (arith, lt, all));
+    code = s.code ++ m.given;
+    code_is = subst (λ z. CodeText (Some (code.Marker reset)) z s.read.answers m.agrees.rest (s.code ++ m.given)) (sym unmarked) open_;
+    text_is = sym (with_more m.given);
+  } where
+    was_open : CodeOpen first s.read.answers s.extra s.code
+    was_open = subst (λ z. CodeText first z s.read.answers s.extra s.code) unmarked s.code_is
+
+    open_ : CodeOpen (Some (code.Marker reset)) s.read.answers m.agrees.rest (s.code ++ m.given)
+    open_ = record {
+      going = was_open.going;
+      bytes = was_open.bytes;
+      small = m.agrees.bytes;
+      ahead = tt;
+      begun = λ none. absurd (let bot : ⊥ = cc in bot);
+      text_is = m.text_is ∙ ap (λ z. stuffed z ++ marker_bytes reset) m.agrees.is;
+    }
+
+-- ---- an end marker is read ahead
+
+text_marked : (first : Option code_type.Code) (marker : Option Bool) (answers : List Pulled) (extra text : List ℕ) (reset : Bool) → first ≡ None → marker ≡ None → CodeText first marker answers extra text →
+    CodeText (Some (code.Marker reset)) marker answers extra (text ++ marker_bytes reset)
+text_marked first marker answers extra text reset none unmarked o = subst (λ z. CodeText (Some (code.Marker reset)) z answers extra (text ++ marker_bytes reset)) (sym unmarked) now where
+  was : CodeOpen None answers extra text
+  was = subst (λ z. CodeOpen z answers extra text) none (subst (λ z. CodeText first z answers extra text) unmarked o)
+
+  now : CodeOpen (Some (code.Marker reset)) answers extra (text ++ marker_bytes reset)
+  now = record {
+    going = was.going;
+    bytes = was.bytes;
+    small = was.small;
+    ahead = tt;
+    begun = λ e. absurd (let bot : ⊥ = cc in bot);
+    text_is = ap (λ z. z ++ marker_bytes reset) (was.text_is ∙ append-nil (stuffed (bytes_of answers ++ extra)));
+  }
+
+pub code_ahead : {h : Fields} {height entities : ℕ} {given : Bool} {at : Option move.Move} {row : ℕ} {first : Option code_type.Code} {marker : Option Bool} {carried : CodingState} {d : Decoder} {text out : List ℕ} (reset : Bool) → first ≡ None → marker ≡ None →
+    CodeStands h height entities given at row first marker carried d text out → CodeStands h height entities given at row (Some (code.Marker reset)) marker carried d (text ++ marker_bytes reset) out
+code_ahead {first = first} {marker = marker} reset none unmarked s = record {
+  before = s.before;
+  began = s.began;
+  start = s.start;
+  head = s.head;
+  shape = s.shape;
+  read = s.read;
+  few = s.few;
+  extra = s.extra;
+  rows_first = s.rows_first;
+  code = s.code ++ marker_bytes reset;
+  code_is = text_marked first marker s.read.answers s.extra s.code reset none unmarked s.code_is;
+  text_is = ap (λ z. z ++ marker_bytes reset) s.text_is ∙ append_assoc s.before s.code (marker_bytes reset);
+}
+
+pub row_ahead : {h : Fields} {height entities : ℕ} {given : Bool} {at : Option move.Move} {row : ℕ} {first : Option code_type.Code} {marker : Option Bool} {carried : CodingState} {d : Decoder} {in_row : RowPlace} {text out : List ℕ} (reset : Bool) → first ≡ None → marker ≡ None →
+    InRowStands h height entities given at row first marker carried d in_row text out → InRowStands h height entities given at row (Some (code.Marker reset)) marker carried d in_row (text ++ marker_bytes reset) out
+row_ahead {first = first} {marker = marker} reset none unmarked s = record {
+  before = s.before;
+  began = s.began;
+  start = s.start;
+  head = s.head;
+  shape = s.shape;
+  begun = s.begun;
+  few = s.few;
+  code = s.code ++ marker_bytes reset;
+  code_is = text_marked first marker (s.begun.read.answers ++ s.begun.since) [] s.code reset none unmarked s.code_is;
+  text_is = ap (λ z. z ++ marker_bytes reset) s.text_is ∙ append_assoc s.before s.code (marker_bytes reset);
+}

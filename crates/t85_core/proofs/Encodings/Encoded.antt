@@ -21,7 +21,7 @@ use Rattle.t85_core.specs.Jbg.{Settings, AreSettings, jbg, jbg_up_to, IsAnnounce
 use Rattle.t85_core.specs.Options.{settings_of}
 use Rattle.t85_core.specs.Laws.{CodeDenotes}
 use Rattle.t85_core.specs.Failures.{CountsBoth, CountsWrite}
-use Rattle.t85_core.proofs.Bytes.Ends.{on_ok, always}
+use Rattle.t85_core.proofs.Bytes.Ends.{on_ok, map_ok, always}
 use Rattle.t85_core.proofs.Bytes.Held.{Keeps-same}
 use Rattle.t85_core.proofs.Encodings.BufferEncoded.{nothing_short}
 use Rattle.t85_core.proofs.Walks.Passed.{Consumes-none}
@@ -174,6 +174,7 @@ module _ (s : Settings) (form : Form) (width height' : ℕ) (in_old in_new out_o
     not_low = always r low;
     told_if_low = always_err r low;
     whole = on_ok r (λ is i. code_whole law are low is i) (always r size) ok;
+    taken = map_ok r (λ i. (i.read.given, i.read.taken, record { rows = i.rows; are_rows = i.read.are_rows; many = i.many })) ok;
     short = λ fault other e. code_short fault (short fault e) other;
     unread = λ e. code_unread (short pbm.Read e);
     front = front_written held grows begun;
@@ -199,6 +200,7 @@ told_low s form width height' known text reads writes some is = record {
   not_low = tt;
   told_if_low = λ n. absurd (n refl);
   whole = tt;
+  taken = tt;
   short = λ fault _ e. absurd (let bot : ⊥ = cc in bot);
   unread = λ e. absurd (let bot : ⊥ = cc in bot);
   front = (

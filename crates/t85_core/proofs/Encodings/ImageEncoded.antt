@@ -103,6 +103,7 @@ module _ (s : Settings) (in_old in_new : Option (List ℕ)) (reads_old reads_new
       ToJbg s (between in_old in_new reads_old reads_new) (between out out writes writes) flushed (Err (Pbm fault))
   refused_header fault has given taken shows counted = record {
     whole = tt;
+    taken = tt;
     flushed_last = tt;
     refused = λ other read is. (let same : fault ≡ other = cc in refused in_old other (subst (λ x. x ≢ pbm.Read → IfSome in_old (λ bytes. HasFault bytes x)) same has read));
     low = λ e. absurd (let bot : ⊥ = cc in bot);
@@ -125,6 +126,7 @@ module _ (s : Settings) (in_old in_new : Option (List ℕ)) (reads_old reads_new
     pub too_low : is_low s height' ≡ true → reads_new ≡ reads_old → ToJbg s (between in_old in_new reads_old reads_new) (between out out writes writes) flushed (Err AnnouncedLow)
     too_low is counted = record {
       whole = tt;
+      taken = tt;
       flushed_last = tt;
       refused = λ fault _ e. absurd (let bot : ⊥ = cc in bot);
       low = λ _. (Keeps-same out, (size_alone true is).0, (size_alone true is).1, (size_alone true is).2);
@@ -140,6 +142,7 @@ module _ (s : Settings) (in_old in_new : Option (List ℕ)) (reads_old reads_new
     pub no_room : is_low s height' ≡ false → reads_new ≡ reads_old → ToJbg s (between in_old in_new reads_old reads_new) (between out out writes writes) flushed (Err OutOfMemory)
     no_room is counted = record {
       whole = tt;
+      taken = tt;
       flushed_last = tt;
       refused = λ fault _ e. absurd (let bot : ⊥ = cc in bot);
       low = λ e. absurd (let bot : ⊥ = cc in bot);

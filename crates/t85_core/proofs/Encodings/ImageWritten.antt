@@ -1,5 +1,5 @@
 -- From a header and the rows after it to what is said of a whole image that was written, or begun.
-use Rattle.std.proofs.Common.{◌≡◌, inl, inr, ℕ, Bool, true, false, ap, List, ◌++◌, length, Option, None, Some, Ok, Err, refl, sym, ◌∙◌, subst}
+use Rattle.std.proofs.Common.{◌≡◌, inl, inr, ℕ, Bool, true, false, ap, List, ◌++◌, length, Option, None, Some, Ok, Err, refl, sym, ◌∙◌, subst, append-nil}
 use Rattle.std.specs.Prelude.{IfSome}
 use Rattle.std.specs.Io.KnownBytes.{Consumes, Keeps}
 use Rattle.pbm_core.specs.Device.{one_more}
@@ -10,8 +10,8 @@ use Rattle.pbm_core.specs.declared.fault.PbmFault.TheVariants as pbm
 use Rattle.pbm_core.specs.declared.form.Form.{Form}
 use Rattle.t85_core.specs.declared.fault.Fault.{Fault}
 use Rattle.t85_core.specs.declared.fault.Fault.TheVariants.{Write, OutOfMemory}
-use Rattle.t85_core.specs.Encode.{raster_of, IsEncodeFault, WritesCode, WritesCodeBegun, WritesCodeFront, Encode}
-use Rattle.t85_core.specs.ToJbg.{WritesStreamFront, WritesStream, WritesStreamBegun, RefusesPbm, ToJbg}
+use Rattle.t85_core.specs.Encode.{raster_of, IsEncodeFault, WritesCode, WritesCodeBegun, WritesCodeFront, AreAllRows, Encode}
+use Rattle.t85_core.specs.ToJbg.{IsImage, WritesStreamFront, WritesStream, WritesStreamBegun, RefusesPbm, ToJbg}
 use Rattle.t85_core.specs.Jbg.{Settings, is_low, jbg}
 use Rattle.t85_core.specs.Failures.{CountsBoth}
 use Rattle.t85_core.proofs.Encodings.ImageEncoded.{TakesHeader, among_faults, not_no_memory}
@@ -41,6 +41,7 @@ module _ (s : Settings) (in_old mid in_new : Option (List ℕ)) (reads_old reads
       ToJbg s (between in_old in_new reads_old reads_new) (between out_old out_last writes_old writes_last) flushed (Err Write)
   image_unflushed flushed out_last writes_last e keeps more = record {
     whole = tt;
+    taken = tt;
     flushed_last = tt;
     refused = λ fault _ is. absurd (let bot : ⊥ = cc in bot);
     low = λ is. absurd (let bot : ⊥ = cc in bot);
@@ -57,6 +58,7 @@ module _ (s : Settings) (in_old mid in_new : Option (List ℕ)) (reads_old reads
       ToJbg s (between in_old in_new reads_old reads_new) (between out_old out_new writes_old writes_new) flushed (Err f)
   image_broken fits flushed f e = record {
     whole = tt;
+    taken = tt;
     flushed_last = tt;
     refused = λ fault read is.
         refused in_old mid fault t.taken (e.short fault read is);
@@ -87,6 +89,7 @@ module _ (s : Settings) (in_old mid in_new : Option (List ℕ)) (reads_old reads
       ToJbg s (between in_old in_new reads_old reads_new) (between out_old out_last writes_old writes_last) flushed (Ok tt)
   image_whole flushed out_last writes_last e keeps last same = record {
     whole = whole in_old mid t.taken e.whole;
+    taken = (t.front ++ e.taken.0, Consumes-more in_old mid in_new t.front e.taken.0 t.taken e.taken.1, image e.taken.0 e.taken.2);
     flushed_last = last;
     refused = λ fault _ is. absurd (let bot : ⊥ = cc in bot);
     low = λ is. absurd (let bot : ⊥ = cc in bot);
@@ -97,6 +100,18 @@ module _ (s : Settings) (in_old mid in_new : Option (List ℕ)) (reads_old reads
     reads = e.reads ∙ counted;
     writes = same ∙ e.writes;
   } where
+    image : (given : List ℕ) → AreAllRows form width height' given → IsImage (t.front ++ given)
+    image given all = record {
+      width = width;
+      rows = all.rows;
+      is = record {
+        form = form;
+        body = given;
+        header = subst (λ n. HasHeader (t.front ++ given) form width n given) (sym all.many) (t.header given);
+        holds = record { front = given; bytes_are = sym (append-nil given); are_rows = all.are_rows };
+      };
+    }
+
     whole : (old new : Option (List ℕ)) → Consumes old new t.front → IfSome new (λ body. WritesCode s form width height' body out_old out_new) → IfSome old (λ bytes. WritesStream s bytes out_old out_last)
     whole None new taken w = tt
     whole (Some bytes) None taken w = absurd taken

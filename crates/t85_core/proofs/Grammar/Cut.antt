@@ -173,7 +173,7 @@ spot_of height k n = record { height = height; entities = k; heights = n }
 none_some : {f : Fault} → None ≡ Some f → ⊥
 none_some e = cc
 
-no_code_in : (h : Fields) (spot : Spot) (m : ℕ) (c : Bool) (rest : List ℕ) (f : Fault) → rest_fault h spot m c rest ≡ Some f → NoCode rest
+pub no_code_in : (h : Fields) (spot : Spot) (m : ℕ) (c : Bool) (rest : List ℕ) (f : Fault) → rest_fault h spot m c rest ≡ Some f → NoCode rest
 no_code_in h spot m c rest f e b z is = went (stuff_cases b) where
   plain : b ≢ 255 → (y : List ℕ) → rest_fault h spot m c (b ∷ y) ≡ Some f → ⊥
   plain n [] e = let t : nat_eq b 255 ≡ false = grind (arith, nat_tests) in none_some (ap (λ u. cond u (Some Truncated) None) (sym t) ∙ e)
@@ -183,7 +183,7 @@ no_code_in h spot m c rest f e b z is = went (stuff_cases b) where
   went (inl p) = none_some (subst (λ u. rest_fault h spot m c u ≡ Some f) (is ∙ ap (λ u. u ++ z) p.1) e)
   went (inr p) = plain p.0 z (subst (λ u. rest_fault h spot m c u ≡ Some f) (is ∙ ap (λ u. u ++ z) p.1) e)
 
-no_marker_fault : (h : Fields) (spot : Spot) (m : ℕ) (c reset : Bool) (x : List ℕ) (f : Fault) → rest_fault h spot m c (marker_bytes reset ++ x) ≡ Some f → ⊥
+pub no_marker_fault : (h : Fields) (spot : Spot) (m : ℕ) (c reset : Bool) (x : List ℕ) (f : Fault) → rest_fault h spot m c (marker_bytes reset ++ x) ≡ Some f → ⊥
 no_marker_fault h spot m c true x f k = none_some k
 no_marker_fault h spot m c false x f k = none_some k
 

@@ -1,5 +1,5 @@
 -- Bytes that are read ahead or held back, and what a buffer takes of a code.
-use Rattle.std.specs.Prelude.{ℕ, ◌-◌, ◌<◌, ◌≢◌, List, length, take, drop, Option, Some, None, Result, OnOk, OnErr, IfOk, IfErr, IfSome, IsErrOf, ◌≡◌, ◌≤◌, [], ◌∷◌}
+use Rattle.std.specs.Prelude.{ℕ, zero, suc, ◌++◌, ◌-◌, ◌<◌, ◌≢◌, List, length, take, drop, Option, Some, None, Result, OnOk, OnErr, IfOk, IfErr, IfSome, IsErrOf, ◌≡◌, ◌≤◌, [], ◌∷◌}
 use Rattle.std.specs.List.{AllByRecursion}
 use Rattle.std.specs.Io.KnownBytes.{Appends, Consumes, Keeps}
 use Rattle.pbm_core.specs.Device.{AppendsBeginning}
@@ -86,6 +86,11 @@ pub record PutsBytes (bytes : List ℕ) (old new : TargetView) (result : Result 
   pub grows : old.written ≤ new.written
   pub counts : CountsWrite old.failures new.failures result
   pub same_writer : new.writer ≡ old.writer
+
+-- the same bytes so many times
+abbrev pub copies : ℕ → List ℕ → List ℕ
+copies zero bytes = []
+copies (suc count) bytes = bytes ++ copies count bytes
 
 -- the byte was taken, or left out
 pub record Pushes (byte : ℕ) (old new : TargetView) (result : Result (Unit {0}) Fault) : Type 0 where

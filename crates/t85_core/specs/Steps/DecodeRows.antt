@@ -1,5 +1,5 @@
 -- What a decoder of the rows of a stripe leaves.
-use Rattle.std.specs.Prelude.{ℕ, ◌+◌, ◌≡◌, ◌≤◌, Bool, List, length, Option, flat_map, Result, Ok, Err}
+use Rattle.std.specs.Prelude.{ℕ, ◌+◌, ◌≡◌, ◌≤◌, Bool, true, List, ◌++◌, length, replicate, Option, flat_map, Result, Ok, Err}
 use Rattle.std.specs.Io.KnownBytes.{Appends}
 use Rattle.pbm_core.specs.Device.{one_more}
 use Rattle.pbm_core.specs.Device.{AppendsBeginning}
@@ -98,6 +98,28 @@ DecodeRowStep {S} pull old new shape move row carried carried' d d' text text' =
     RowsRead pull from old h shape c segments row carried d began text →
     RowsRead pull from new h shape c segments (row + 1) carried' d' began text'
 
+-- rows more, in whatever stripe
+abbrev pub DecodeRowsStep : {S : Type 0} → (S → Pulled → S → Type 0) → S → S → Shape → Option (ℕ × ℕ) → ℕ → ℕ → CodingState → CodingState → Decoder → Decoder → Option (List ℕ) → Option (List ℕ) → Type 0
+DecodeRowsStep {S} pull old new shape move row row' carried carried' d d' text text' =
+    (from : S) (began : Option (List ℕ)) (h : Fields) (c : StripeStart) (segments : List Segment) → move ≡ move_of segments →
+    RowsRead pull from old h shape c segments row carried d began text →
+    RowsRead pull from new h shape c segments row' carried' d' began text'
+
+-- First rows of a stripe, and then as many as `count` that equal the last of them.
+pub record RowsRepeated (h : Fields) (c : StripeStart) (segments : List Segment) (answers : List Pulled) (rows : List (List Bool)) (flags : List Bool) (before : RowStart) (count : ℕ)
+    (carried : CodingState) (d : Decoder) : Type 0 where
+  pub last : RowStart
+  pub so_far : RowsSoFar h c segments answers (rows ++ replicate count before.above) (flags ++ replicate count true) last
+  pub stands : DecoderIsAt d last.state.place answers
+  pub is_carried : IsCarried last carried
+
+-- rows more that equal the one before, in whatever stripe
+abbrev pub RepeatsRows : Shape → Option (ℕ × ℕ) → ℕ → ℕ → CodingState → CodingState → Decoder → Decoder → Type 0
+RepeatsRows shape move row count carried carried' d d' =
+    (h : Fields) (c : StripeStart) (segments : List Segment) (answers : List Pulled) (rows : List (List Bool)) (flags : List Bool) (last : RowStart) → move ≡ move_of segments → IsShapeOf h shape →
+    RowsSoFar h c segments answers rows flags last → length rows ≡ row → DecoderIsAt d last.state.place answers → IsCarried last carried →
+    RowsRepeated h c segments answers rows flags last count carried' d'
+
 -- no row more, in whatever stripe
 abbrev pub DecodeRowStepCut : {S : Type 0} → (S → Pulled → S → Type 0) → S → S → Shape → Option (ℕ × ℕ) → ℕ → CodingState → Decoder → Option (List ℕ) → Option (List ℕ) → Type 0
 DecodeRowStepCut {S} pull old new shape move row carried d text text' =
@@ -109,6 +131,12 @@ DecodeRowStepCut {S} pull old new shape move row carried d text text' =
 abbrev pub DecodeRowStepUnwritten : {S : Type 0} → (S → Pulled → S → Type 0) → S → S → Shape → Option (ℕ × ℕ) → ℕ → CodingState → Decoder → Option (List ℕ) → Option (List ℕ) → Type 0
 DecodeRowStepUnwritten {S} pull old new shape move row carried d text text' =
     (from : S) (began : Option (List ℕ)) (h : Fields) (c : StripeStart) (segments : List Segment) (count : ℕ) → move ≡ move_of segments → row + 1 ≤ count →
+    RowsRead pull from old h shape c segments row carried d began text → RowsUnwritten pull from new h c segments count began text'
+
+-- some of the rows up to `until` were decoded, and the target didn't take them, in whatever stripe
+abbrev pub DecodeRowsStepUnwritten : {S : Type 0} → (S → Pulled → S → Type 0) → S → S → Shape → Option (ℕ × ℕ) → ℕ → ℕ → CodingState → Decoder → Option (List ℕ) → Option (List ℕ) → Type 0
+DecodeRowsStepUnwritten {S} pull old new shape move row until carried d text text' =
+    (from : S) (began : Option (List ℕ)) (h : Fields) (c : StripeStart) (segments : List Segment) (count : ℕ) → move ≡ move_of segments → until ≤ count →
     RowsRead pull from old h shape c segments row carried d began text → RowsUnwritten pull from new h c segments count began text'
 
 -- the rows of a stripe

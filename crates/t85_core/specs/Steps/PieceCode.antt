@@ -1,5 +1,5 @@
 -- How far the code of a stripe has come of which pieces came.
-use Rattle.std.specs.Prelude.{ℕ, ◌+◌, ◌≡◌, ◌≤◌, ◌<◌, Bool, List, [], ◌++◌, length, Option, Some, None, IfSome, flat_map}
+use Rattle.std.specs.Prelude.{ℕ, ◌+◌, ◌≡◌, ◌≤◌, ◌<◌, Bool, List, [], ◌∷◌, ◌++◌, length, Option, Some, None, IfSome, flat_map}
 use Rattle.std.specs.List.{AllByRecursion}
 use Rattle.qm_core.specs.Code.{stuffed}
 use Rattle.qm_core.specs.Source.{bytes_of, heard_of, Agrees}
@@ -132,6 +132,10 @@ BreaksRow shape s fault = FromRow shape s (λ h c segments row began out text. (
 
 abbrev pub WaitsInRow : Shape → RowState → RowState → Type 0
 WaitsInRow shape s t = FromRow shape s (λ h c segments row began out text. RowWaits h shape c segments row t.first t.marker t.carried t.decoder t.place began out text s.piece t.piece)
+
+-- bytes whose last is no FF
+abbrev pub EndsInNoEscape : List ℕ → Type 0
+EndsInNoEscape bytes = (front : List ℕ) → bytes ≡ front ++ 255 ∷ [] → ⊥
 
 -- ---- after the last row of a stripe
 

@@ -1,5 +1,5 @@
 -- How far a decoder has come that is fed in pieces.
-use Rattle.std.specs.Prelude.{⊤, take, ℕ, ◌+◌, ◌-◌, ◌*◌, ◌^◌, ◌≡◌, ◌≤◌, ◌<◌, Bool, true, false, List, [], ◌∷◌, ◌++◌, length, min, Option, Some, None, IfSome, is_some, if◌then◌else◌, flat_map, Result, Ok, OnOk, IfErr, IsErrOf}
+use Rattle.std.specs.Prelude.{⊤, take, ℕ, ◌+◌, ◌-◌, ◌*◌, ◌^◌, ◌≡◌, ◌≢◌, ◌≤◌, ◌<◌, Bool, true, false, List, [], ◌∷◌, ◌++◌, length, min, Option, Some, None, IfSome, is_some, if◌then◌else◌, flat_map, Result, Ok, ◌⊎◌, IsOk, OnOk, IfErr, IsErrOf}
 use Rattle.byteorder.specs.Endian.{big_bytes}
 use Rattle.qm_core.specs.declared.decoder.Decoder.{Decoder}
 use Rattle.raster_core.specs.Packed.{packed_row}
@@ -7,8 +7,9 @@ use Rattle.raster_core.specs.Window.{held, width_of}
 use Rattle.raster_core.specs.declared.shape.Shape.{Shape}
 use Rattle.raster_core.specs.declared.place.RowPlace.{RowPlace}
 use Rattle.t85_core.specs.declared.fault.Fault.{Fault}
-use Rattle.t85_core.specs.declared.fault.Fault.TheVariants.{Truncated}
+use Rattle.t85_core.specs.declared.fault.Fault.TheVariants.{Truncated, Changed}
 use Rattle.t85_core.specs.declared.segments.Code.{Code}
+use Rattle.t85_core.specs.declared.segments.Code.TheVariants as code
 use Rattle.t85_core.specs.declared.segments.Move as move
 use Rattle.t85_core.specs.declared.state.CodingState.{CodingState}
 use Rattle.t85_core.specs.declared.pieces.walk.Walk.{Walk}
@@ -21,7 +22,7 @@ use Rattle.t85_core.specs.Denotes.{DenotesAt}
 use Rattle.t85_core.specs.Failures.{counted_as}
 use Rattle.t85_core.specs.Steps.Segments.{HasPassed, IsByteOrMarker}
 use Rattle.t85_core.specs.Steps.DecodeStripes.{StripesRead, ImageRead, ImageCut}
-use Rattle.t85_core.specs.Steps.PieceCode.{RowsKnown, RowBegun, CodeText}
+use Rattle.t85_core.specs.Steps.PieceCode.{RowsKnown, RowBegun, CodeText, EndsInNoEscape}
 
 -- These bytes are broken, or end too early, and fix the rows that were handed out.
 pub record CutOff (h : Fields) (height : ℕ) (text out : List ℕ) (fault : Fault) : Type 0 where
@@ -80,17 +81,6 @@ pub record InRowStands (h : Fields) (height entities : ℕ) (given : Bool) (at :
   pub code_is : CodeText first marker (begun.read.answers ++ begun.since) [] code
   pub text_is : text ≡ before ++ code
 
--- The height of a body is this one, and it denotes the first of these rows there.
-pub record LateHeight (h : Fields) (n : ℕ) (body : List ℕ) (rows : List (List Bool)) : Type 0 where
-  pub gives : GivesHeight h body n
-  pub denotes : DenotesAt h n body (record { width = h.xd; rows = take n rows })
-
--- A height came late, which needs no row more than was handed out.
-pub record LateStands (h : Fields) (n : ℕ) (text out : List ℕ) : Type 0 where
-  pub rows : List (List Bool)
-  pub out_is : out ≡ flat_map packed_row rows
-  pub late : (rest : List ℕ) → LateHeight h n (text ++ rest) rows
-
 -- whether the image is whole
 abbrev pub IsOver : Stage → Type 0
 IsOver stage.Head = ⊥
@@ -98,7 +88,6 @@ IsOver stage.Comment = ⊥
 IsOver stage.Code = ⊥
 IsOver stage.Row = ⊥
 IsOver stage.Done = ⊤
-IsOver (stage.Late n) = ⊤
 
 abbrev pub StageStands : Stage → Fields → ℕ → Walk → List ℕ → List ℕ → Type 0
 StageStands stage.Head h height w text out = HeadStands h height w.entities w.given w.at w.carried text out
@@ -107,7 +96,6 @@ StageStands stage.Code h height w text out = CodeStands h height w.entities w.gi
 StageStands stage.Row h height w text out = InRowStands h height w.entities w.given w.at w.row w.first w.marker w.carried w.decoder w.place text out
 -- whatever comes after it
 StageStands stage.Done h height w text out = ImageRead h height (Some text) (Some []) (Some []) (Some out)
-StageStands (stage.Late n) h height w text out = LateStands h n text out
 
 -- A walk has taken these bytes, and has handed out these.
 pub record WalkStands (h : Fields) (height : ℕ) (w : Walk) (text out : List ℕ) : Type 0 where
@@ -143,6 +131,51 @@ pub record RowStep (h : Fields) (height : ℕ) (w w' : Walk) (piece piece' : Lis
   pub ok : OnOk answer (StepsOn h height w w' piece piece' (held w'.carried.window.now).current)
   pub err : IfErr answer (λ f. StepsOff h height w piece f)
   pub more : IsErrOf answer Truncated → StepsOn h height w w' piece piece' []
+
+-- a walk before the first byte
+pub record IsFirstWalk (w : Walk) : Type 0 where
+  pub stage : w.stage ≡ stage.Head
+  pub at : w.at ≡ None
+  pub entities : w.entities ≡ 0
+  pub given : w.given ≡ false
+
+-- the end marker of the code was read
+abbrev pub HasMarker : Walk → Type 0
+HasMarker w = (reset : Bool) × ((w.marker ≡ Some reset) ⊎ (w.first ≡ Some (code.Marker reset)))
+
+-- the stripe stays the same
+pub record KeepsPlace (w w' : Walk) : Type 0 where
+  pub entities : w'.entities ≡ w.entities
+  pub left : w'.left ≡ w.left
+  pub given : w'.given ≡ w.given
+  pub at : w'.at ≡ w.at
+
+-- the code of a stripe has begun
+abbrev pub IsInCode : Stage → Type 0
+IsInCode s = (s ≡ stage.Code) ⊎ (s ≡ stage.Row)
+
+-- a row has begun, or is still to come
+abbrev pub WantsRow : Fields → ℕ → Walk → Type 0
+WantsRow h height w = (w.stage ≡ stage.Row) ⊎ ((w.stage ≡ stage.Code) × (w.row < rows_in h height w.entities))
+
+abbrev pub RowIsLeft : ℕ → Walk → Type 0
+RowIsLeft l0 w = (w.stage ≡ stage.Row) ⊎ ((w.stage ≡ stage.Code) × (w.row < min w.left l0))
+
+-- A stripe ended: so many were decoded, and handed out.
+abbrev pub StripesOn : Fields → ℕ → Walk → Walk → List ℕ → List ℕ → Type 0
+StripesOn h height w w' piece piece' =
+    (text out : List ℕ) → WalkStands h height w text out →
+    (given : List ℕ) × (piece ≡ given ++ piece') × StripesRead h height (Some (text ++ given)) (Some []) (w.entities + 1) (if w.given then 1 else 0) w'.carried (Some []) (Some out)
+
+-- What a step to a row leaves beside the row.
+pub record RowLeaves (w w' : Walk) (piece piece' : List ℕ) (answer : Result (Unit {0}) Fault) : Type 0 where
+  pub place : KeepsPlace w w'
+  pub row : OnOk answer ((w'.row ≡ w.row + 1) × (w'.stage ≡ stage.Code))
+  pub same_row : IfErr answer (λ _. (w'.row ≡ w.row) × (w'.stage ≡ stage.Row) × (w'.first ≡ None) × (w'.marker ≡ w.marker))
+  -- a row of a code whose end marker was read is whole
+  pub whole : HasMarker w → IsOk answer × HasMarker w'
+  pub drained : IfErr answer (λ _. EndsInNoEscape piece → piece' ≡ [])
+  pub other : IfErr answer (λ f. f ≢ Changed)
 
 -- What a step leaves that may hand out a row, or find that the image is whole.
 pub record Turn (h : Fields) (height : ℕ) (w w' : Walk) (piece piece' : List ℕ) (answer : Result Bool Fault) : Type 0 where

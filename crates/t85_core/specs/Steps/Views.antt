@@ -7,7 +7,7 @@ use Rattle.t85_core.specs.declared.decoding.entity.EntityReader.{EntityReader}
 use Rattle.t85_core.specs.declared.pieces.piece.PieceCode.{PieceCode}
 use Rattle.t85_core.specs.declared.encoding.sink.EntitySink.{EntitySink}
 use Rattle.t85_core.specs.declared.output_buffer.OutputBuffer.{OutputBuffer}
-use Rattle.t85_core.specs.Steps.Buffers.{Writer, SinkView, TargetView, held_of}
+use Rattle.t85_core.specs.Steps.Buffers.{Writer, SinkView, TargetView, held_of, known_length}
 use Rattle.t85_core.specs.Steps.Entity.{EntityView, entity_known}
 
 -- an entity, by what its stream reports
@@ -52,3 +52,13 @@ text_taken {W} {N} {G} b = append_known (G.view b.output.now).contents (held_of 
 -- and its writer
 abbrev pub writer_of : {W : Type 0} {N : ℕ} {G : device.Ghosts W} → OutputBuffer W N G → Writer
 writer_of {W} {N} {G} b = record { reference = b.output.ghost_name; target = (G.view b.output.now).target; flushes = (G.view b.output.now).flushes }
+
+-- what a buffer is as a target
+abbrev pub target_view : {W : Type 0} {N : ℕ} {G : device.Ghosts W} → OutputBuffer W N G → TargetView
+target_view {W} {N} {G} b = record {
+  text = text_taken b;
+  held = held_of b.bytes b.at b.end;
+  written = known_length (G.view b.output.now).contents;
+  failures = (G.view b.output.now).failures;
+  writer = writer_of b;
+}

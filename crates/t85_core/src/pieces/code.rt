@@ -1,6 +1,7 @@
 //! What is left of a code after the last row of its stripe.
 
-ghost use Rattle.std.specs.Prelude.{None, IfErr, IfOk, IsErrOf, Some};
+ghost use Rattle.std.specs.Prelude.{◌≡◌, ◌⊎◌, Bool, None, IfErr, IfOk, IsErrOf, IsOk, Some};
+ghost use Rattle.t85_core.specs.declared.segments.Code.TheVariants as code;
 ghost use Rattle.t85_core.specs.declared.fault.Fault.TheVariants.{Truncated};
 ghost use Rattle.t85_core.specs.Steps.PieceCode.{FindsMarker, MissesMarker, KeepsCode, SkipsSome, SkipBreaks};
 
@@ -19,6 +20,8 @@ pub fn find_marker(
     ensures err { IfErr result (MissesMarker first.old marker piece.old.rest.now) }
     ensures more { IsErrOf result Truncated → KeepsCode first.old first.new marker
         piece.old.rest.now piece.new.rest.now }
+    ensures whole { (reset : Bool) → (marker ≡ Some reset) ⊎ (first.old ≡ Some (code.Marker reset))
+        → IsOk result }
 {
     if let Some(reset) = marker {
         return Ok(reset);

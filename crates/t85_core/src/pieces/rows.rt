@@ -6,7 +6,7 @@ ghost use Rattle.raster_core.specs.Window.{width_of};
 ghost use Rattle.raster_core.specs.Row.{IsRowStart};
 ghost use Rattle.t85_core.specs.declared.fault.Fault.TheVariants.{Truncated};
 ghost use Rattle.t85_core.specs.Steps.Segments.{IsByteOrMarker};
-ghost use Rattle.t85_core.specs.Steps.PieceCode.{row_state, EndsRow, BreaksRow, WaitsInRow};
+ghost use Rattle.t85_core.specs.Steps.PieceCode.{row_state, EndsRow, BreaksRow, WaitsInRow, EndsInNoEscape};
 
 use crate::fault::Fault;
 use crate::input_buffer::ESCAPE;
@@ -46,6 +46,10 @@ pub fn go_on_in_row(
     ensures offset { carried.new.kept.offset ≤ 127 }
     ensures within { place.new.done < shape.width }
     ensures start { OnOk result (IsRowStart place.new) }
+    ensures ahead { IfErr result (λ _. first.new ≡ None) }
+    ensures marker { IfErr result (λ _. marker.new ≡ marker.old) }
+    ensures drained { IfErr result (λ _. EndsInNoEscape piece.old.rest.now →
+        piece.new.rest.now ≡ []) }
 {
     // What the proof cites of the coder.
     coder_laws();

@@ -1,11 +1,11 @@
 //! How far a stream has been decoded that comes in pieces.
 
-ghost use Rattle.std.specs.Prelude.{◌≡◌, ◌≢◌, ◌*◌, false, ◌≤◌, ◌<◌, ◌⊎◌, ◌∷◌, [], ℕ, List, true, length, OnOk};
+ghost use Rattle.std.specs.Prelude.{◌≡◌, ◌≢◌, false, ◌≤◌, ◌<◌, ◌+◌, ◌-◌, ◌⊎◌, ◌∷◌, [], ℕ, List, None, true, length, min, IsOk, IfErr, OnOk};
 ghost use Rattle.raster_core.specs.Window.{width_of};
-ghost use Rattle.t85_core.specs.declared.fault.Fault.TheVariants.{Truncated};
+ghost use Rattle.t85_core.specs.declared.fault.Fault.TheVariants.{Truncated, Changed};
 ghost use Rattle.t85_core.specs.declared.pieces.walk.Stage.TheVariants as stage;
 ghost use Rattle.t85_core.specs.Options.{fields_of};
-ghost use Rattle.t85_core.specs.Steps.Pieces.{WalkStands, SomeStands, IsOver, Step, RowStep, Turn, rows_in};
+ghost use Rattle.t85_core.specs.Steps.Pieces.{WalkStands, SomeStands, IsOver, Step, RowStep, RowLeaves, KeepsPlace, HasMarker, WantsRow, RowIsLeft, StripesOn, IsFirstWalk, Turn, rows_in};
 
 use crate::decoding::rows::offset_in;
 use crate::fault::Fault;
@@ -33,8 +33,6 @@ pub enum Stage {
     Row,
     /// Nothing: the image is whole.
     Done,
-    /// Nothing: this height came late, and needs no row more.
-    Late(u32),
 }
 
 /// How far a stream has been decoded.
@@ -68,7 +66,8 @@ impl<'a, 'b> Walk<'a, 'b> {
     pub fn start(header: &Header, height: u32, window: &'a mut Window<'b>) -> Walk<'a, 'b>
         requires width { width_of window.old ≡ header.now.xd }
         requires from { 1 ≤ height }
-        ensures { WalkStands (fields_of header.now) height result [] [] }
+        ensures stands { WalkStands (fields_of header.now) height result [] [] }
+        ensures first { IsFirstWalk result }
     {
         // The proof reads from this value that a stripe has rows.
         let _rows = header.l0;
@@ -236,10 +235,6 @@ impl Walk<'_, '_> {
                     self.given = true;
                     return Ok(());
                 }
-                if needs_no_more(header, height, self.entities, other) {
-                    self.stage = Stage::Late(other);
-                    return Ok(());
-                }
                 Err(Fault::Changed)
             }
             segments::Piece::Move(to) => {
@@ -307,6 +302,9 @@ impl Walk<'_, '_> {
             WalkStands (fields_of header.now) height self.old text out →
             WalkStands (fields_of header.now) height self.new text out }
         ensures stage { self.new.stage ≡ stage.Row }
+        ensures place { KeepsPlace self.old self.new }
+        ensures same { (self.new.row ≡ self.old.row) × (self.new.first ≡ self.old.first) ×
+            (self.new.marker ≡ self.old.marker) }
     {
         // The proof reads from this value that a row has pixels.
         let _width = header.xd;
@@ -329,6 +327,7 @@ impl Walk<'_, '_> {
         requires stands { SomeStands (fields_of header.now) height self.old }
         ensures step { RowStep (fields_of header.now) height self.old self.new piece.old.rest.now
             piece.new.rest.now result }
+        ensures leaves { RowLeaves self.old self.new piece.old.rest.now piece.new.rest.now result }
     {
         // What the proof cites of the coder.
         coder_laws();
@@ -355,13 +354,83 @@ impl Walk<'_, '_> {
         requires stands { SomeStands (fields_of header.now) height self.old }
         ensures step { RowStep (fields_of header.now) height self.old self.new piece.old.rest.now
             piece.new.rest.now result }
+        ensures leaves { RowLeaves self.old self.new piece.old.rest.now piece.new.rest.now result }
     {
         self.enter_row(header, height);
         self.finish_row(header, height, piece)
     }
 
+    /// Goes on to the end of the next row, where one is wanted.
+    pub fn give_row(
+        &mut self,
+        header: &Header,
+        height: u32,
+        piece: &mut Piece<'_>,
+    ) -> Result<(), Fault>
+        requires from { 1 ≤ height }
+        requires to { height ≤ header.now.yd }
+        requires wants { WantsRow (fields_of header.now) height self.old }
+        requires stands { SomeStands (fields_of header.now) height self.old }
+        ensures step { RowStep (fields_of header.now) height self.old self.new piece.old.rest.now
+            piece.new.rest.now result }
+        ensures leaves { RowLeaves self.old self.new piece.old.rest.now piece.new.rest.now result }
+    {
+        match self.stage {
+            Stage::Row => self.finish_row(header, height, piece),
+            _ => self.read_row(header, height, piece),
+        }
+    }
+
+    /// Whether a row of a stripe whose code has begun is still to come, or to be finished.
+    pub fn wants_row(&self, header: &Header) -> bool
+        ensures wants { result ≡ true → (self.now.stage ≡ stage.Code) ⊎ (self.now.stage ≡ stage.Row)
+            → RowIsLeft header.now.l0 self.now }
+        ensures all { result ≡ false → (self.now.stage ≡ stage.Code) ⊎ (self.now.stage ≡ stage.Row)
+            → (self.now.stage ≡ stage.Code) × (min self.now.left header.now.l0 ≤ self.now.row) }
+    {
+        match self.stage {
+            Stage::Row => true,
+            _ => self.row < self.left.min(header.l0),
+        }
+    }
+
+    /// Whether the end marker of the code was read.
+    pub fn has_marker(&self) -> bool
+        ensures yes { result ≡ true → HasMarker self.now }
+        ensures no { result ≡ false → self.now.marker ≡ None }
+    {
+        self.marker.is_some() || matches!(self.first, Some(Code::Marker(_)))
+    }
+
+    /// Skips what is left of the code of a stripe, after its last row, up to its end marker. That is read ahead.
+    pub fn find_end(
+        &mut self,
+        header: &Header,
+        height: u32,
+        piece: &mut Piece<'_>,
+    ) -> Result<(), Fault>
+        requires from { 1 ≤ height }
+        requires to { height ≤ header.now.yd }
+        requires stage { self.old.stage ≡ stage.Code }
+        requires row { self.old.row ≡ rows_in (fields_of header.now) height self.old.entities }
+        requires unmarked { self.old.marker ≡ None }
+        requires stands { SomeStands (fields_of header.now) height self.old }
+        ensures step { Step (fields_of header.now) height self.old self.new piece.old.rest.now
+            piece.new.rest.now result }
+        ensures place { KeepsPlace self.old self.new }
+        ensures stage { self.new.stage ≡ stage.Code }
+        ensures marked { OnOk result (HasMarker self.new) }
+        ensures other { IfErr result (λ f. f ≢ Changed) }
+    {
+        // What the proof cites of the coder.
+        coder_laws();
+        let reset = find_marker(&mut self.first, self.marker, piece)?;
+        self.first = Some(Code::Marker(reset));
+        Ok(())
+    }
+
     /// Skips what is left of the code of a stripe, after its last row.
-    fn finish_stripe(
+    pub fn finish_stripe(
         &mut self,
         header: &Header,
         height: u32,
@@ -376,6 +445,13 @@ impl Walk<'_, '_> {
             piece.new.rest.now result }
         ensures stage { OnOk result ((self.new.stage ≡ stage.Done)
             ⊎ (self.new.stage ≡ stage.Head)) }
+        ensures marked { HasMarker self.old → IsOk result }
+        ensures read { OnOk result (StripesOn (fields_of header.now) height self.old self.new
+            piece.old.rest.now piece.new.rest.now) }
+        ensures left { OnOk result (header.now.l0 < self.old.left → self.new.stage ≡ stage.Head) }
+        ensures next { OnOk result ((self.new.entities ≡ self.old.entities + 1)
+            × (self.new.left ≡ self.old.left - header.now.l0)
+            × (self.new.given ≡ self.old.given) × (self.new.at ≡ None)) }
     {
         // What the proof cites of the coder.
         coder_laws();
@@ -465,24 +541,12 @@ impl Walk<'_, '_> {
                 }
             }
             Stage::Done => Ok(false),
-            Stage::Late(_) => Ok(false),
         }
     }
 }
 
-/// Whether a height needs no more rows than those of so many data entities at the header's height.
-fn needs_no_more(header: &Header, height: u32, entities: u32, other: u32) -> bool
-    ensures announced { result ≡ true → height ≡ header.now.yd }
-    ensures some { result ≡ true → 1 ≤ entities }
-    ensures enough { result ≡ true → other ≤ entities * header.now.l0 }
-{
-    height == header.yd
-        && entities >= 1
-        && u64::from(other) <= u64::from(entities) * u64::from(header.l0)
-}
-
 /// Whether a comment comes next.
-fn is_comment(bytes: &[u8]) -> bool
+pub fn is_comment(bytes: &[u8]) -> bool
     ensures { result ≡ true → (rest : List ℕ) × (bytes.now ≡ 255 ∷ 7 ∷ rest) }
 {
     bytes.len() >= 2 && bytes[0] == ESCAPE && bytes[1] == COMMENT

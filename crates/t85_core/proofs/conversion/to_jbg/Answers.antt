@@ -1,37 +1,15 @@
-use Rattle.std.proofs.Common.{rules, ◌∙◌, sym}
-use Rattle.t85_core.specs.ToJbg.{ToJbg}
-use Rattle.t85_core.proofs.Walks.InfoEnds.{exit_all}
-use Rattle.t85_core.proofs.Encodings.ImageEncoded.{takes_header, refused_header, too_low, no_room}
-use Rattle.t85_core.proofs.Encodings.ImageWritten.{image_broken, image_unflushed, image_whole}
+use Rattle.std.proofs.Common.{rules, ◌∙◌, ap}
+use Rattle.pbm_core.specs.Buffered.{bytes_between}
+use Rattle.t85_core.specs.Options.{settings_of}
+use Rattle.t85_core.proofs.Bytes.Held.{known_unheld}
+use Rattle.t85_core.proofs.Encodings.ReadAhead.{read_ahead}
 use Rattle.t85_core.proofs.conversion.to_jbg.Goals as goal
-
-pub returns-in-Err-clause-outcome : goal.returns-in-Err-clause-outcome
-returns-in-Err-clause-outcome g c = refused_header _ _ _ _ _ _ _ _ c.in-Err.fault (c.headers.ensures.read_fault_is_theirs _ _ c.in-Err.fault c.in-Err.ensures) c.in-Err.ensures.given c.in-Err.ensures.taken c.in-Err.ensures.fault c.in-Err.ensures.failures
-
-pub returns-then-is_low-clause-outcome : goal.returns-then-is_low-clause-outcome
-returns-then-is_low-clause-outcome g c =
-    let size = c.in-Ok.header.0 in
-    too_low _ _ _ _ _ _ _ _ c.in-Ok.header.1 size.width size.height (takes_header _ _ size c.in-Ok.header.1 c.headers.ensures.written_is_read (search rules) (c.headers.ensures.read_header_is_theirs _ _ c.in-Ok.header c.in-Ok.ensures)) (sym c.is_low.ensures ∙ c.if-is_low.true) c.in-Ok.ensures.failures
-
-pub returns-in_default-clause-outcome : goal.returns-in_default-clause-outcome
-returns-in_default-clause-outcome g c =
-    let size = c.in-Ok.header.0 in
-    no_room _ _ _ _ _ _ _ _ c.in-Ok.header.1 size.width size.height (takes_header _ _ size c.in-Ok.header.1 c.headers.ensures.written_is_read (search rules) (c.headers.ensures.read_header_is_theirs _ _ c.in-Ok.header c.in-Ok.ensures)) (sym c.is_low.ensures ∙ c.if-is_low.false) c.in-Ok.ensures.failures
-
-pub returns-in_err-encode-clause-outcome : goal.returns-in_err-encode-clause-outcome
-returns-in_err-encode-clause-outcome g c =
-    let size = c.in-Ok.header.0 in
-    exit_all (ToJbg _ _ _ _) c.from_residual.result c.from_residual.ensures.1
-    (image_broken _ _ _ _ _ _ _ _ _ _ _ c.in-Ok.header.1 size.width size.height (takes_header _ _ size c.in-Ok.header.1 c.headers.ensures.written_is_read (search rules) (c.headers.ensures.read_header_is_theirs _ _ c.in-Ok.header c.in-Ok.ensures)) c.in-Ok.ensures.failures (sym c.is_low.ensures ∙ c.if-is_low.false) _ _ c.in_err-encode.ensures.outcome)
-
-pub returns-in-Ok-flush-clause-outcome : goal.returns-in-Ok-flush-clause-outcome
-returns-in-Ok-flush-clause-outcome g c =
-    let size = c.in-Ok.header.0 in
-    image_whole _ _ _ _ _ _ _ _ _ _ _ c.in-Ok.header.1 size.width size.height (takes_header _ _ size c.in-Ok.header.1 c.headers.ensures.written_is_read (search rules) (c.headers.ensures.read_header_is_theirs _ _ c.in-Ok.header c.in-Ok.ensures)) c.in-Ok.ensures.failures _ _ _
-    c.in_ok-encode.ensures.outcome c.in-Ok-flush.ensures.bytes c.in-Ok-flush.ensures.flushed c.in-Ok-flush.ensures.failures
 
 pub returns-clause-outcome : goal.returns-clause-outcome
 returns-clause-outcome g c =
-    let size = c.in-Ok.header.0 in
-    image_unflushed _ _ _ _ _ _ _ _ _ _ _ c.in-Ok.header.1 size.width size.height (takes_header _ _ size c.in-Ok.header.1 c.headers.ensures.written_is_read (search rules) (c.headers.ensures.read_header_is_theirs _ _ c.in-Ok.header c.in-Ok.ensures)) c.in-Ok.ensures.failures _ _ _
-    c.in_ok-encode.ensures.outcome c.in-Err-flush.ensures.bytes c.in-Err-flush.ensures.failures
+    let source = c.new-source.result in
+    let last = c.to_jbg_from.new.input in
+    let known = known_unheld source.bytes source.at source.end (g.R.Input.view source.input.now).remaining c.new-source.ensures.empty ∙ ap (λ m. (g.R.Input.view m.now).remaining) c.new-source.ensures.lent in
+    let same = c.to_jbg_from.ensures.same_input.same_source in
+    read_ahead (λ d. (g.R.Input.view d).remaining) (λ d. (g.R.Input.view d).failures) (settings_of c.args.options.now) _ _ (bytes_between last.bytes last.at last.end) c.args.input.now last.input.now _ _ _ c.to_jbg_from.result
+    known (ap (λ m. (g.R.Input.view m.now).failures) c.new-source.ensures.lent) (search (rules, same)) c.to_jbg_from.ensures.same_input.drained c.to_jbg_from.ensures.outcome

@@ -27,6 +27,7 @@ returns-in-Ok-write_held g c =
       grows = (let more = c.write_held-in_default.ensures.grows in let before = c.in-Err.ensures.writes.grows in omega (arith, more, before));
       among = c.in-Err.ensures.among;
       reads = counts_any _ _ _ c.in-Err.ensures.reads;
+      same_input = c.in-Err.ensures.same_input;
       writes = c.in-Ok-write_held.ensures.counts ∙ c.in-Err.ensures.writes.counts;
       same_writer = c.write_held-in_default.ensures.same_writer ∙ c.in-Err.ensures.writes.same_writer;
     }
@@ -42,6 +43,7 @@ returns-in-Err-write_held g c =
       grows = (let more = c.write_held-in_default.ensures.grows in let before = c.in-Err.ensures.writes.grows in omega (arith, more, before));
       among = subst IsEncodeFault (sym last) tt;
       reads = counts_written _ _ c.in-Err.fault _ c.in-Err.ensures.reads last;
+      same_input = c.in-Err.ensures.same_input;
       writes = c.in-Err-write_held.ensures.counts ∙ ap (writes_after _) (c.in-Err.ensures.writes.counts ∙ none _);
       same_writer = c.write_held-in_default.ensures.same_writer ∙ c.in-Err.ensures.writes.same_writer;
     }

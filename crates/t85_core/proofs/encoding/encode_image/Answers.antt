@@ -29,6 +29,7 @@ rows-init g c =
       width = c.clear.ensures.width ∙ c.requires.width;
       lined = (white_lines c.args.size.width, white);
       reads = refl;
+      same_source = refl;
       writes = put.writes.counts;
       grows = put.writes.grows;
       same_writer = put.writes.same_writer;
@@ -78,6 +79,7 @@ rows-preserved g c =
       width = c.in_ok-put_taken.ensures.width ∙ c.in_ok-read_next_row.ensures.width ∙ c.rows.invariant.width;
       lined = c.in_ok-put_taken.ensures.lined;
       reads = c.in_ok-read_next_row.ensures.reads ∙ c.rows.invariant.reads;
+      same_source = c.in_ok-read_next_row.ensures.same_input.same_source ∙ c.rows.invariant.same_source;
       writes = (c.in_ok-put_taken.ensures.writes c.rows.invariant.going).counts ∙ c.rows.invariant.writes;
       grows = (let more = (c.in_ok-put_taken.ensures.writes c.rows.invariant.going).grows in let before = c.rows.invariant.grows in omega (arith, more, before));
       same_writer = (c.in_ok-put_taken.ensures.writes c.rows.invariant.going).same_writer ∙ c.rows.invariant.same_writer;

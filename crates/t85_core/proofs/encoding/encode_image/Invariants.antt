@@ -15,6 +15,7 @@ invariant-rows g l = record {
   width : width_of l.window ≡ l.size.width;
   lined : IsLined (held l.window);
   reads : (g.R.Input.view l.source).failures ≡ (g.R.Input.view l.fn.source).failures;
+  same_source : (g.R.Input.view l.source).source ≡ (g.R.Input.view l.fn.source).source;
   writes : (g.P.ByteTarget.view l.target).failures ≡ (g.P.ByteTarget.view l.fn.target).failures;
   grows : (g.P.ByteTarget.view l.fn.target).written ≤ (g.P.ByteTarget.view l.target).written;
   same_writer : (g.P.ByteTarget.view l.target).writer ≡ (g.P.ByteTarget.view l.fn.target).writer;

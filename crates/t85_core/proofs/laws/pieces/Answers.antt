@@ -1,4 +1,4 @@
-use Rattle.t85_core.proofs.Theorems.InPieces.{taken_at, more_at, whole_at, late_at, broken_at}
+use Rattle.t85_core.proofs.Theorems.InPieces.{taken_at, more_at, whole_at, broken_at}
 use Rattle.t85_core.proofs.laws.pieces.Goals as goal
 
 pub returns-clause-taken : goal.returns-clause-taken
@@ -12,6 +12,3 @@ returns-clause-whole c = whole_at
 
 pub returns-clause-broken : goal.returns-clause-broken
 returns-clause-broken c = broken_at
-
-pub returns-clause-late : goal.returns-clause-late
-returns-clause-late c = late_at

@@ -1,4 +1,4 @@
-use Rattle.std.proofs.Common.{◌≡◌, ◌≤◌, ◌+◌, ◌^◌, Bool, true, arith, ◌⊎◌, inr, ℕ, List, [], ◌++◌, length, append-nil, take, Option, Some, None, Result, Ok, Err, refl, sym, ap, ◌∙◌, subst}
+use Rattle.std.proofs.Common.{rules, ◌≡◌, ◌≤◌, ◌+◌, ◌^◌, Bool, true, arith, ◌⊎◌, inr, ℕ, List, [], ◌++◌, length, append-nil, take, Option, Some, None, Result, Ok, Err, refl, sym, ap, ◌∙◌, subst}
 use Rattle.std.specs.Prelude.{OnOk, IfErr, IfSome}
 use Rattle.std.specs.Io.KnownBytes.{Appends}
 use Rattle.t85_core.specs.Change.{between}
@@ -62,12 +62,15 @@ never_failed : (again : Option Held) → again_failures (λ (held : Held). 0) ag
 never_failed None = refl
 never_failed (Some held) = refl
 
+pub returns-in_err-to_jbg-clause-told : goal.returns-in_err-to_jbg-clause-told
+returns-in_err-to_jbg-clause-told g c = let leaves = c.in_err-to_jbg.ensures.outcome.leaves in let among = leaves.among in search (rules, among)
+
 pub returns-clause-again : goal.returns-clause-again
 returns-clause-again g c =
     came_back (settings_of c.args.options.now) c.written.result.now (g.W.Output.view c.args.output.now).contents (g.W.Output.view c.to_pbm.new.output).contents c.images.ensures.one_image c.images.ensures.written_image_is_read
     (g.R.Input.view c.args.input.now).remaining c.new-stream.result.bytes.now (take c.to_jbg.new.output.len c.to_jbg.new.output.bytes.now) c.written-2.result.now c.new-stream.result.len c.to_pbm.result
     c.new-stream.ensures.room.0 c.written.ensures c.written-2.ensures
-    c.in_ok-to_jbg.ensures.outcome.whole c.to_pbm.ensures.outcome.denoted
+    c.in_ok-to_jbg.ensures.outcome.leaves.whole c.to_pbm.ensures.outcome.denoted
 
 pub returns-clause-told : goal.returns-clause-told
 returns-clause-told g c =
@@ -75,4 +78,4 @@ returns-clause-told g c =
     (g.R.Input.view c.args.input.now).remaining c.new-stream.result.bytes.now (take c.to_jbg.new.output.len c.to_jbg.new.output.bytes.now) c.written-2.result.now c.new-stream.result.len 4294967295
     _ _ _ _ _ _ _ c.to_pbm.result
     c.new-stream.ensures.room.0 c.written.ensures c.written-2.ensures (omega arith) (never_failed c.to_pbm.new.again)
-    c.in_ok-to_jbg.ensures.outcome.whole c.to_pbm.ensures.outcome
+    c.in_ok-to_jbg.ensures.outcome.leaves.whole c.to_pbm.ensures.outcome

@@ -81,10 +81,10 @@ returns-clause-line g c =
     known_line (settings_of c.args.options.now) (are_settings c.args.options.now) c.written.result.now (g.W.Output.view c.args.output.now).contents (g.W.Output.view c.info.new.output).contents
     c.lines.ensures.one_line c.places.ensures.start_is_place c.places.ensures.events_keep_place c.codes.ensures.one_code
     (g.R.Input.view c.args.input.now).remaining c.new-stream.result.bytes.now (take c.to_jbg.new.output.len c.to_jbg.new.output.bytes.now) c.new-stream.result.len c.info.result
-    c.new-stream.ensures.room.0 c.written.ensures c.in_ok-to_jbg.ensures.outcome.whole c.info.ensures.outcome.line
+    c.new-stream.ensures.room.0 c.written.ensures c.in_ok-to_jbg.ensures.outcome.leaves.whole c.info.ensures.outcome.line
 
 pub returns-clause-told : goal.returns-clause-told
 returns-clause-told g c =
     known_told c.lines.ensures.line_or_fault (settings_of c.args.options.now)
     (g.R.Input.view c.args.input.now).remaining c.new-stream.result.bytes.now (take c.to_jbg.new.output.len c.to_jbg.new.output.bytes.now) c.written.result.now c.new-stream.result.len c.info.result
-    c.new-stream.ensures.room.0 c.written.ensures c.in_ok-to_jbg.ensures.outcome.whole c.info.ensures.outcome.refused c.info.ensures.outcome.reads
+    c.new-stream.ensures.room.0 c.written.ensures c.in_ok-to_jbg.ensures.outcome.leaves.whole c.info.ensures.outcome.refused c.info.ensures.outcome.reads

@@ -1,5 +1,5 @@
 use Rattle.std.proofs.Common.{◌++◌, [], subst}
-use Rattle.std.specs.Prelude.{flat_map}
+use Rattle.std.specs.Prelude.{flat_map, true}
 use Rattle.std.proofs.lemmas.Result.{IfOk-weaker}
 use Rattle.t85_core.specs.Pieces.{row_given}
 use Rattle.uses.specs.Pieces.{SaysOfRows}
@@ -9,7 +9,13 @@ pub returns : goal.returns
 returns c =
     let body = c.args.first.now ++ c.args.second.now in
     IfOk-weaker c.rows_of_two.result _ _ (λ answer t. record {
-      out = flat_map row_given t.calls;
+      decoder = c.start-decoder.result;
+      fresh = c.start-decoder.ensures.none;
+      last = c.rows_of_two.new.decoder;
+      calls = t.calls;
+      made = t.made;
       appended = t.appended;
-      says = subst (λ image. SaysOfRows image answer body body (flat_map row_given t.calls)) c.start-decoder.ensures.image (t.tells [] [] c.start-decoder.ensures.none);
+      full = t.full;
+      ends = t.ends;
+      says = subst (λ h. SaysOfRows h true c.rows_of_two.new.decoder answer body (flat_map row_given t.calls)) c.start-decoder.ensures.stream (t.tells [] [] c.start-decoder.ensures.none);
     }) c.rows_of_two.ensures.read

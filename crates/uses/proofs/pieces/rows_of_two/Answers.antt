@@ -1,4 +1,4 @@
-use Rattle.std.proofs.Common.{◌≡◌, ◌∙◌, ◌++◌, ap, drop, subst}
+use Rattle.std.proofs.Common.{◌≡◌, ◌∙◌, ◌++◌, ap, drop, false, subst}
 use Rattle.std.proofs.lemmas.List.{take_rest}
 use Rattle.uses.specs.Pieces.{PieceRead}
 use Rattle.uses.proofs.PieceRows.{first_told, second_told, second_short, on_err}
@@ -17,7 +17,7 @@ returns-in_ok-ended-in-More-clause-read c =
     ∙ ap (λ z. z ++ c.args.second.now) (c.in_ok-rest-in-More.ensures.items ∙ take_rest c.args.first.now c.in_ok-begun.begun.taken) in
     second_told c.args.decoder.now c.rows_of_piece.new.decoder c.args.first.now c.args.second.now c.args.limit c.in_ok-begun.begun.taken c.args.rows.now.items c.rows_of_piece.new.rows.items
     c.rows_of_piece-in-More.new.decoder c.as_slice.result.now c.in_ok-ended-in-More.ended.outcome c.in_ok-ended-in-More.ended.taken c.rows_of_piece-in-More.new.rows.items
-    (subst (λ o. PieceRead c.args.decoder.now c.rows_of_piece.new.decoder c.args.first.now c.args.limit o c.in_ok-begun.begun.taken c.args.rows.now.items c.rows_of_piece.new.rows.items) c.in-More.is c.in_ok-begun.ensures.read)
+    (subst (λ o. PieceRead false c.args.decoder.now c.rows_of_piece.new.decoder c.args.first.now c.args.limit o c.in_ok-begun.begun.taken c.args.rows.now.items c.rows_of_piece.new.rows.items) c.in-More.is c.in_ok-begun.ensures.read)
     c.rows_of_piece.ensures.same rest_is c.in_ok-ended-in-More.ensures.read
 
 pub returns-in_default-clause-read : goal.returns-in_default-clause-read

@@ -11,15 +11,14 @@ map_ok : {T E : Type 0} (r : Result T E) {P Q : Type 0} → (P → Q) → OnOk r
 map_ok (Ok x) k p = k p
 map_ok (Err e) k p = tt
 
-pub returns : goal.returns
-returns g c = record {
-  whole = map_ok c.finish.result (λ all.
-      let s = settings_of c.args.options.now in
-      let first_wide = ap (λ z. z.width) c.in_ok-encoder.ensures.size in
-      let second_wide = ap (λ z. z.width) (c.in_ok-put_row.ensures.size ∙ c.in_ok-encoder.ensures.size) in
-      let one = c.in_ok-put_row.ensures.ok s c.args.size.width c.args.size.height [] (g.W.Output.view c.args.output.now).contents c.in_ok-encoder.ensures.begun in
-      let two = c.in_ok-put_row-2.ensures.ok s c.args.size.width c.args.size.height (pixels_of c.in_ok-encoder.encoder.size.width c.args.first.now ∷ []) (g.W.Output.view c.args.output.now).contents one in
-      subst (λ w. Appends (g.W.Output.view c.args.output.now).contents (g.W.Output.view c.finish.new.output).contents (jbg s (raster_of c.args.size.width (pixels_of w c.args.first.now ∷ pixels_of c.args.size.width c.args.second.now ∷ [])))) first_wide
-      (subst (λ w. Appends (g.W.Output.view c.args.output.now).contents (g.W.Output.view c.finish.new.output).contents (jbg s (raster_of c.args.size.width (pixels_of c.in_ok-encoder.encoder.size.width c.args.first.now ∷ pixels_of w c.args.second.now ∷ [])))) second_wide
-      (all s c.args.size.width c.args.size.height _ (g.W.Output.view c.args.output.now).contents two))) c.finish.ensures.ok;
-}
+pub returns-clause-whole : goal.returns-clause-whole
+returns-clause-whole g c =
+    map_ok c.finish.result (λ all.
+    let s = settings_of c.args.options.now in
+    let first_wide = ap (λ z. z.width) c.in_ok-encoder.ensures.size in
+    let second_wide = ap (λ z. z.width) (c.in_ok-put_row.ensures.size ∙ c.in_ok-encoder.ensures.size) in
+    let one = c.in_ok-put_row.ensures.ok s c.args.size.width c.args.size.height [] (g.W.Output.view c.args.output.now).contents c.in_ok-encoder.ensures.begun in
+    let two = c.in_ok-put_row-2.ensures.ok s c.args.size.width c.args.size.height (pixels_of c.in_ok-encoder.encoder.size.width c.args.first.now ∷ []) (g.W.Output.view c.args.output.now).contents one in
+    subst (λ w. Appends (g.W.Output.view c.args.output.now).contents (g.W.Output.view c.finish.new.output).contents (jbg s (raster_of c.args.size.width (pixels_of w c.args.first.now ∷ pixels_of c.args.size.width c.args.second.now ∷ [])))) first_wide
+    (subst (λ w. Appends (g.W.Output.view c.args.output.now).contents (g.W.Output.view c.finish.new.output).contents (jbg s (raster_of c.args.size.width (pixels_of c.in_ok-encoder.encoder.size.width c.args.first.now ∷ pixels_of w c.args.second.now ∷ [])))) second_wide
+    (all s c.args.size.width c.args.size.height _ (g.W.Output.view c.args.output.now).contents two))) c.finish.ensures.ok

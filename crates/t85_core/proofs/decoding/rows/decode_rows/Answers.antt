@@ -6,6 +6,7 @@ use Rattle.t85_core.proofs.decoding.rows.decode_rows.Goals as goal
 
 pub rows-init : goal.rows-init
 rows-init g c = record {
+  within = omega arith;
   read = λ h c' segments _ shape_is is. rows_begin (Pulls g.C.CodeBytes.gives g.C.CodeBytes.failed) c.args.source.now h c.args.shape c' segments c.args.carried.now c.start-decoder.result (g.P.ByteTarget.view c.args.target.now).text c.start-decoder.ensures.stands shape_is is;
   width = refl;
   offset = c.requires.offset;
@@ -17,9 +18,9 @@ rows-init g c = record {
 
 pub returns-clause-ok : goal.returns-clause-ok
 returns-clause-ok g c h c' segments move shape_is is =
-    let all : c.rows.row ≡ c.args.rows = omega (arith, c.rows.auto.row-end, c.rows-test.false) in
+    let all : c.rows.row ≡ c.args.rows = omega (arith, c.rows.invariant.within, c.rows-test.false) in
     (c.rows.decoder, rw all at c.rows.invariant.read h c' segments move shape_is is)
 
-pub returns-in_err-decode_next_row-clause-unwritten : goal.returns-in_err-decode_next_row-clause-unwritten
-returns-in_err-decode_next_row-clause-unwritten g c = λ is h c' segments move shape_is i.
-    exit_same c.from_residual.result c.from_residual.ensures.1 (λ e. c.in_err-decode_next_row.ensures.unwritten e c.args.source.now (g.P.ByteTarget.view c.args.target.now).text h c' segments c.args.rows move (omega (arith, c.rows-test.true)) (c.rows.invariant.read h c' segments move shape_is i)) is
+pub returns-in_err-decode_next_rows-clause-unwritten : goal.returns-in_err-decode_next_rows-clause-unwritten
+returns-in_err-decode_next_rows-clause-unwritten g c = λ is h c' segments move shape_is i.
+    exit_same c.from_residual.result c.from_residual.ensures.1 (λ e. c.in_err-decode_next_rows.ensures.unwritten e c.args.source.now (g.P.ByteTarget.view c.args.target.now).text h c' segments c.args.rows move (omega arith) (c.rows.invariant.read h c' segments move shape_is i)) is

@@ -16,3 +16,6 @@ returns-clause-enters c = λ text out s.
       within = omega (arith, c.start-self.ensures.done, c.args.header.now.some_width);
       stands = row_entered k c.requires.row _ _ (record { is_begun = c.start-self.ensures.none; done = c.start-self.ensures.done; past = c.start-self.ensures.past }) refl c.turn.ensures c.offset_in-self.ensures.is refl;
     }
+
+pub returns-clause-place : goal.returns-clause-place
+returns-clause-place c = record { entities = refl; left = refl; given = refl; at = refl }

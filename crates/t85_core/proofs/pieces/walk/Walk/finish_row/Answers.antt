@@ -2,9 +2,12 @@ use Rattle.std.proofs.Common.{◌++◌, ◌+◌, [], ap, Err, subst, refl, ◌�
 use Rattle.t85_core.specs.declared.pieces.walk.Stage.TheVariants as stage
 use Rattle.t85_core.specs.Options.{fields_of}
 use Rattle.t85_core.specs.Steps.DecodeRows.{IsShapeOf}
+use Rattle.t85_core.specs.Steps.Pieces.{rows_in}
 use Rattle.t85_core.specs.Steps.PieceCode.{row_state, EndsRow, BreaksRow, WaitsInRow}
 use Rattle.t85_core.proofs.Decodings.ImagePut.{in_use}
-use Rattle.t85_core.proofs.Decodings.PieceSteps.{on_same, at_stage, put_stage, row_exit}
+use Rattle.t85_core.proofs.Decodings.PieceSteps.{on_same, at_stage, put_stage, row_exit, leaves_exit}
+use Rattle.t85_core.proofs.Decodings.PieceEnds.{whole_text, never_breaks, never_changed, stays_marked, before_all}
+use Rattle.t85_core.specs.Steps.Segments.{RestFault}
 use Rattle.t85_core.proofs.Decodings.PieceWalk.{ahead_is, behind_is, in_row_going, in_row_shape, row_on, row_off, row_kept}
 use Rattle.t85_core.proofs.pieces.walk.Walk.finish_row.Goals as goal
 
@@ -33,6 +36,16 @@ returns-in_err-go_on_in_row c =
             within = (let within = c.go_on_in_row.ensures.within in let width = c.shape.ensures.width in omega arith);
             stands = put_stage (fields_of c.args.header.now) c.args.height (record c.args.self.now { carried = c.go_on_in_row.new.carried; decoder = c.go_on_in_row.new.decoder; place = c.go_on_in_row.new.place; first = c.go_on_in_row.new.first; marker = c.go_on_in_row.new.marker }) (text ++ m.given) out _ c.requires.stage (row_kept k m);
           }));
+      leaves =
+          let k = at_stage c.requires.stage c.requires.stands.2 in
+          let m =
+          subst (λ z. BreaksRow z (row_state c.args.self.now.carried c.args.self.now.decoder c.args.self.now.place c.args.self.now.first c.args.self.now.marker c.args.piece.now.rest.now) c.in_err-go_on_in_row.field-0.0) (in_row_shape k c.shape.result shape) c.in_err-go_on_in_row.ensures.err
+          (fields_of c.args.header.now) k.head.stripes.next k.head.passed.segments c.args.self.now.row k.began c.requires.stands.1 k.code k.begun k.code_is (rows_in (fields_of c.args.header.now) c.args.height c.args.self.now.entities) (let few = k.few in omega arith) in
+          leaves_exit c.args.self.now (record c.args.self.now { carried = c.go_on_in_row.new.carried; decoder = c.go_on_in_row.new.decoder; place = c.go_on_in_row.new.place; first = c.go_on_in_row.new.first; marker = c.go_on_in_row.new.marker }) c.args.piece.now.rest.now c.go_on_in_row.new.piece.rest.now c.from_residual.result c.in_err-go_on_in_row.field-0.0 c.from_residual.ensures.1
+          (record { entities = refl; left = refl; given = refl; at = refl }) (refl, c.requires.stage, c.in_err-go_on_in_row.ensures.ahead, c.in_err-go_on_in_row.ensures.marker)
+          (λ marked. never_breaks (fields_of c.args.header.now) before_all k.code c.args.piece.now.rest.now m.bytes c.in_err-go_on_in_row.field-0.0 (whole_text c.args.self.now.first c.args.self.now.marker _ [] _ k.code_is marked) m.breaks)
+          c.in_err-go_on_in_row.ensures.drained
+          (λ e. never_changed (fields_of c.args.header.now) before_all m.breaks.rest (subst (RestFault m.breaks.rest) e m.breaks.broken));
     }
 
 pub returns : goal.returns
@@ -58,4 +71,18 @@ returns c = record {
     err = tt;
     more = λ e. absurd (let bot : ⊥ = cc in bot);
   };
+  leaves =
+      let shape : IsShapeOf (fields_of c.args.header.now) c.shape.result = record { width_is = c.shape.ensures.width; mode_is = c.shape.ensures.mode } in
+      let k = at_stage c.requires.stage c.requires.stands.2 in
+      let m =
+      subst (λ z. EndsRow z (row_state c.args.self.now.carried c.args.self.now.decoder c.args.self.now.place c.args.self.now.first c.args.self.now.marker c.args.piece.now.rest.now) (row_state c.go_on_in_row.new.carried c.go_on_in_row.new.decoder c.go_on_in_row.new.place c.go_on_in_row.new.first c.go_on_in_row.new.marker c.go_on_in_row.new.piece.rest.now)) (in_row_shape k c.shape.result shape) c.in_ok-go_on_in_row.ensures.ok
+      (fields_of c.args.header.now) k.head.stripes.next k.head.passed.segments c.args.self.now.row k.began c.requires.stands.1 k.code k.begun k.code_is in
+      record {
+        place = record { entities = refl; left = refl; given = refl; at = refl };
+        row = (refl, refl);
+        same_row = tt;
+        whole = λ marked. (refl, stays_marked k.code m.given (whole_text c.args.self.now.first c.args.self.now.marker _ [] _ k.code_is marked) c.go_on_in_row.new.first c.go_on_in_row.new.marker _ [] m.code_is);
+        drained = tt;
+        other = tt;
+      };
 }

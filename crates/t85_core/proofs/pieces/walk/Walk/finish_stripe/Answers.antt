@@ -4,7 +4,7 @@ use Rattle.t85_core.specs.Options.{fields_of}
 use Rattle.t85_core.proofs.Decodings.ImagePut.{in_use}
 use Rattle.t85_core.proofs.Decodings.CodePut.{kept_wide}
 use Rattle.t85_core.proofs.Decodings.PieceSteps.{on_same, at_stage, put_stage, step_exit, last_stripe, next_stripe, offset_low}
-use Rattle.t85_core.proofs.Decodings.PieceWalk.{ahead_is, behind_is, marker_off, code_kept, stripe_last, stripe_on}
+use Rattle.t85_core.proofs.Decodings.PieceWalk.{ahead_is, behind_is, marker_off, code_kept, whole, stripe_last, stripe_on}
 use Rattle.t85_core.proofs.pieces.walk.Walk.finish_stripe.Goals as goal
 
 pub returns-in_err-reset-clause-step : goal.returns-in_err-reset-clause-step
@@ -76,3 +76,20 @@ returns-clause-step c = record {
   err = tt;
   more = λ e. absurd (let bot : ⊥ = cc in bot);
 }
+
+pub returns-in_err-reset-clause-marked : goal.returns-in_err-reset-clause-marked
+returns-in_err-reset-clause-marked c = λ m. absurd (let bad = c.in_err-reset.ensures.whole m.0 m.1 in let bot : ⊥ = cc in bot)
+
+pub returns-then-self-eq0-clause-read : goal.returns-then-self-eq0-clause-read
+returns-then-self-eq0-clause-read c = λ text out s.
+    let k = at_stage c.requires.stage s in
+    let m = c.in_ok-reset.ensures.ok k.read.answers k.extra k.code k.code_is in
+    let next = kept_wide (width_of c.args.self.now.carried.window.now) (fields_of c.args.header.now).xd c.in_ok-reset.reset c.args.self.now.carried c.end_stripe.new.self s.width_is c.end_stripe.ensures.next k.read.last k.read.is_carried in
+    (m.given, m.taken, whole k c.coder_laws.ensures (in_use c.args.header.now c.args.height c.requires.from c.requires.to) c.requires.row c.args.piece.now.rest.now c.find_marker.new.piece.rest.now c.in_ok-reset.reset m c.end_stripe.new.self next)
+
+pub returns-clause-read : goal.returns-clause-read
+returns-clause-read c = λ text out s.
+    let k = at_stage c.requires.stage s in
+    let m = c.in_ok-reset.ensures.ok k.read.answers k.extra k.code k.code_is in
+    let next = kept_wide (width_of c.args.self.now.carried.window.now) (fields_of c.args.header.now).xd c.in_ok-reset.reset c.args.self.now.carried c.end_stripe.new.self s.width_is c.end_stripe.ensures.next k.read.last k.read.is_carried in
+    (m.given, m.taken, whole k c.coder_laws.ensures (in_use c.args.header.now c.args.height c.requires.from c.requires.to) c.requires.row c.args.piece.now.rest.now c.find_marker.new.piece.rest.now c.in_ok-reset.reset m c.end_stripe.new.self next)

@@ -6,8 +6,6 @@ use Rattle.t85_core.specs.Grammar.{NewLength, Move, Comment, segment_bytes}
 use Rattle.t85_core.specs.Steps.Segments.{PieceFault, code_bytes}
 use Rattle.t85_core.proofs.Decodings.ImagePut.{in_use}
 use Rattle.t85_core.proofs.Decodings.PieceHead.{head_length, head_move, head_comment, head_code, head_cut, head_other, counted_of}
-use Rattle.t85_core.specs.Steps.Pieces.{HeadStands}
-use Rattle.t85_core.proofs.Decodings.LateHeight.{late_stands}
 use Rattle.t85_core.proofs.Decodings.PieceSteps.{on_same, stays, at_stage, put_stage}
 use Rattle.t85_core.proofs.pieces.walk.Walk.pass_segment.Goals as goal
 
@@ -92,37 +90,11 @@ returns-in-Code-clause-step c =
       more = λ e. absurd (let bot : ⊥ = cc in bot);
     }
 
-pub returns-else-needs_no_more-clause-step : goal.returns-else-needs_no_more-clause-step
-returns-else-needs_no_more-clause-step c =
+pub returns-else-other-height-clause-step : goal.returns-else-other-height-clause-step
+returns-else-other-height-clause-step c =
     let h = rw c.in-NewLength.is at c.in-Ok.ensures.ok in
     record {
       ok = tt;
       err = λ text out s. head_other (at_stage c.requires.stage s) c.coder_laws.ensures (in_use c.args.header.now c.args.height c.requires.from c.requires.to) c.args.piece.now.rest.now c.next_piece.new.stream.rest.now c.in-NewLength.other h.0 h.1 h.2.legal c.if-other-height.false h.2.taken;
-      more = λ e. absurd (let bot : ⊥ = cc in bot);
-    }
-
-pub returns-then-needs_no_more-clause-step : goal.returns-then-needs_no_more-clause-step
-returns-then-needs_no_more-clause-step c =
-    let h = rw c.in-NewLength.is at c.in-Ok.ensures.ok in
-    let yes : c.needs_no_more.result ≡ true = search rules in
-    let announced = c.needs_no_more.ensures.announced yes in
-    let some = c.needs_no_more.ensures.some yes in
-    let all = c.needs_no_more.ensures.enough yes in
-    record {
-      ok = λ text out s.
-          let k = at_stage c.requires.stage s in
-          let at_yd = subst (λ z. HeadStands (fields_of c.args.header.now) z c.args.self.now.entities c.args.self.now.given c.args.self.now.at c.args.self.now.carried text out) announced k in
-          let ungiven = subst (λ z. HeadStands (fields_of c.args.header.now) c.args.header.now.yd c.args.self.now.entities z c.args.self.now.at c.args.self.now.carried text out) h.0 at_yd in
-          on_same (fields_of c.args.header.now) c.args.height _ text out c.args.piece.now.rest.now c.next_piece.new.stream.rest.now (segment_bytes (NewLength c.in-NewLength.other)) h.2.taken (record {
-            left_is = s.left_is;
-            width_is = s.width_is;
-            offset_is = s.offset_is;
-            at_is = s.at_is;
-            code_is = s.code_is;
-            behind = s.behind;
-            within = s.within;
-            stands = late_stands c.coder_laws.ensures ungiven c.in-NewLength.other (in_use c.args.header.now c.args.height c.requires.from c.requires.to).accepted h.2.legal.0 h.1 some all;
-          });
-      err = tt;
       more = λ e. absurd (let bot : ⊥ = cc in bot);
     }

@@ -1,10 +1,10 @@
-use Rattle.std.proofs.Common.{◌*◌, ◌≡◌, ◌∙◌, arith}
+use Rattle.std.proofs.Common.{◌*◌, ◌≡◌, ◌∙◌, refl, arith}
 use Rattle.t85_core.specs.Options.{fields_of}
 use Rattle.t85_core.proofs.Decodings.PieceSteps.{head_first}
 use Rattle.t85_core.proofs.pieces.walk.Walk.start.Goals as goal
 
-pub returns : goal.returns
-returns c = record {
+pub returns-clause-stands : goal.returns-clause-stands
+returns-clause-stands c = record {
   left_is = (let z : 0 * c.args.header.now.l0 ≡ 0 = omega arith in omega (arith, z));
   width_is = c.first.ensures.width ∙ c.requires.width;
   offset_is = omega (arith, c.first.ensures.offset);
@@ -14,3 +14,6 @@ returns c = record {
   within = omega (arith, c.start-2.ensures.done, c.args.header.now.some_width);
   stands = head_first (fields_of c.args.header.now) c.args.height _ c.first.result c.requires.from c.args.header.now.some_rows (c.first.ensures.width ∙ c.requires.width) c.first.ensures.first;
 }
+
+pub returns-clause-first : goal.returns-clause-first
+returns-clause-first c = record { stage = refl; at = refl; entities = refl; given = refl }

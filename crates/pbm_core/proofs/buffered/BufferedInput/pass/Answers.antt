@@ -1,0 +1,15 @@
+use Rattle.std.proofs.Common.{◌≤◌, ◌+◌, refl, arith}
+use Rattle.pbm_core.proofs.Held.{some_taken, length_between}
+use Rattle.pbm_core.proofs.buffered.BufferedInput.pass.Goals as goal
+
+pub returns-clause-passed : goal.returns-clause-passed
+returns-clause-passed g c _ =
+    let s = c.args.self.now in
+    let fits : s.at + c.args.count ≤ s.end = omega (arith, c.if-count-self.false, s.ordered) in
+    record {
+      within = omega (arith, length_between s.bytes s.at s.end (omega arith));
+      taken = some_taken s.bytes s.at c.args.count s.end _ fits;
+      left = omega (arith, fits);
+      failures = refl;
+      same_source = refl;
+    }

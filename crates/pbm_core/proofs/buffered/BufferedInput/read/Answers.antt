@@ -1,0 +1,45 @@
+use Rattle.std.proofs.Common.{◌≡◌, ◌≤◌, ◌+◌, ◌-◌, ℕ, List, drop, refl, sym, length-take, arith}
+use Rattle.std.specs.Io.KnownBytes.{Keeps, IsAtEnd, prepend_known}
+use Rattle.pbm_core.specs.Device.{InputView}
+use Rattle.pbm_core.specs.Buffered.{bytes_between, view_behind}
+use Rattle.pbm_core.proofs.Held.{Keeps-same, Keeps-consumes, keeps_refilled, none_held, some_taken, copied, at_end_unheld}
+use Rattle.pbm_core.proofs.buffered.BufferedInput.read.Goals as goal
+use Rattle.pbm_core.proofs.buffered.BufferedInput.read.Goals.{then-self+in-Ok, else-self}
+
+pub returns : goal.returns
+returns g c =
+    let old = c.args.self.now in
+    let bytes : List ℕ = c.if-self.self.bytes in
+    let at : ℕ = c.if-self.self.at in
+    let end : ℕ = c.if-self.self.end in
+    let count : ℕ = c.min-count.result in
+    let behind : InputView = g.R.Input.view c.if-self.self.input.now in
+    let kept : Keeps (prepend_known (bytes_between old.bytes old.at old.end) (view_behind old).remaining) (prepend_known (bytes_between bytes at end) behind.remaining) =
+    elim c.if-self.branch [
+      | then-self+in-Ok w ↦ rw w.self-is (keeps_refilled _ _ _ _ _ (none_held _ _ _ w.if-self.true) w.in-Ok.ensures.bytes.0)
+      | else-self w ↦ rw w.self-is (Keeps-same _)
+    ] in
+    let left : (end - at) + behind.left ≡ (old.end - old.at) + (view_behind old).left =
+    elim c.if-self.branch [ then-self+in-Ok w ↦ rw w.self-is (omega (arith, w.if-self.true, w.in-Ok.ensures.left)) | else-self w ↦ rw w.self-is refl ] in
+    let failures : behind.failures ≡ (view_behind old).failures =
+    elim c.if-self.branch [ then-self+in-Ok w ↦ rw w.self-is w.in-Ok.ensures.failures | else-self w ↦ rw w.self-is refl ] in
+    let same_source : c.if-self.self.input.ghost_name ≡ old.input.ghost_name =
+    elim c.if-self.branch [ then-self+in-Ok w ↦ rw w.self-is refl | else-self w ↦ rw w.self-is refl ] in
+    let last : at ≡ end → IsAtEnd behind.remaining =
+    elim c.if-self.branch [
+      | then-self+in-Ok w ↦ rw w.self-is (λ e. w.in-Ok.ensures.bytes.1 (sym e) (omega (arith, w.read.auto.buf)))
+      | else-self w ↦ rw w.self-is (λ e. absurd (w.if-self.false e))
+    ] in
+    let fits : at + count ≤ end = omega (arith, c.min-count.ensures) in
+    let given = copied bytes c.copy_from_slice.new.self (drop count c.args.buf.now) at count end c.copy_from_slice.ensures.after (omega (arith, c.copy_from_slice.auto.self, c.min-count.ensures, length-take c.min-count.result c.args.buf.now)) fits in
+    record {
+      within = omega arith;
+      bytes = (
+        Keeps-consumes _ _ _ _ kept (rw given (some_taken bytes at count end behind.remaining fits)),
+        (λ none some. at_end_unheld _ _ (none_held bytes (at + count) end (omega (arith, none, some, c.min-count.ensures))) (last (omega (arith, none, some, c.min-count.ensures)))),
+      );
+      left = omega (arith, left);
+      failures = failures;
+      drained = tt;
+      same_source = same_source;
+    }

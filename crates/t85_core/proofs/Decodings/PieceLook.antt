@@ -1,0 +1,339 @@
+-- What comes behind the last stripe, and heights that come late.
+use Rattle.std.proofs.Common.{cond, ◌≡◌, ◌≢◌, ◌<◌, ◌≤◌, ◌+◌, ◌-◌, ◌*◌, ◌^◌, ◌⊎◌, inl, inr, ℕ, Bool, true, false, List, [], ◌∷◌, ◌++◌, length, take, nat_le, count_by, Option, None, Some, refl, sym, ap, ◌∙◌, subst, append_assoc, append-nil, length-append, arith, true≢false}
+use Rattle.std.specs.Prelude.{flat_map, IsTrue, IfSome}
+use Rattle.std.specs.List.{AllByRecursion}
+use Rattle.std.proofs.lemmas.Bool.Decides.{nat_tests}
+use Rattle.std.proofs.lemmas.List.Sums.{sum_by-append}
+use Rattle.std.proofs.lemmas.Grind.{div_ceil_times}
+use Rattle.byteorder.specs.Endian.{big_bytes}
+use Rattle.t85_core.specs.declared.fault.Fault.{Fault}
+use Rattle.t85_core.specs.declared.fault.Fault.TheVariants.{Truncated, Read}
+use Rattle.t85_core.specs.declared.pieces.PieceDecoder.{PieceDecoder}
+use Rattle.t85_core.specs.declared.pieces.behind.Behind.{Behind}
+use Rattle.t85_core.specs.declared.pieces.walk.Walk.{Walk}
+use Rattle.t85_core.specs.declared.pieces.walk.Stage.TheVariants as stage
+use Rattle.t85_core.specs.declared.segments.Code as code_type
+use Rattle.t85_core.specs.declared.segments.Move as move
+use Rattle.t85_core.specs.declared.segments.Place.{Place}
+use Rattle.t85_core.specs.Header.{Fields, is_variable}
+use Rattle.t85_core.specs.Options.{fields_of}
+use Rattle.t85_core.specs.Grammar.{Segment, NewLength, Move, Comment, ESC, COMMENT, segment_bytes, stripe_bytes, stripe_count, all_segments, lengths, is_move, is_comment, is_valid_length, IsLegal}
+use Rattle.t85_core.specs.Failures.{Ends, counted_as}
+use Rattle.t85_core.specs.Height.{GivesHeight, IsHeight}
+use Rattle.t85_core.specs.Denotes.{DenotesAt}
+use Rattle.t85_core.specs.Steps.State.{image_start}
+use Rattle.t85_core.specs.Pieces.{HasHeight, HoldsImage, MayFollow}
+use Rattle.t85_core.specs.Steps.CoderLaws.{CoderLaws}
+use Rattle.t85_core.specs.Steps.Segments.{HasPassed, PieceFault, code_bytes}
+use Rattle.t85_core.specs.Steps.HeightWalk.{Comments, LookEnds}
+use Rattle.t85_core.specs.Steps.DecodeStripes.{StripesRead}
+use Rattle.t85_core.specs.Steps.Behind.{BehindStands, BehindOn, BreaksBehind, StopsBehind, move_came}
+use Rattle.t85_core.specs.Steps.Pieces.{HeadStands, WalkStands, IsInCode, CodeStands, InRowStands}
+use Rattle.t85_core.specs.Steps.PieceStands.{DecoderStands, HeightKnown, WalkWaits, IsAtMarker, place_behind, last_behind, entities_behind, is_last}
+use Rattle.t85_core.specs.Steps.PieceSteps.{SomeStand, DecoderOn, EndsWhole, StripeLeft, HeadEntered, HeightComes, LookIsOver, KeepsDecoder, head_stage}
+use Rattle.t85_core.proofs.Bytes.Lengths.{gives_none}
+use Rattle.t85_core.proofs.Grammar.Heights.{one_height_of}
+use Rattle.t85_core.proofs.Grammar.SomeHeight.{height_of_ended}
+use Rattle.t85_core.proofs.Walks.Looked.{HasLooked, looked_fault, looked_code}
+use Rattle.t85_core.proofs.Walks.Segments.{comment_cut}
+use Rattle.t85_core.proofs.Decodings.CarriedDenotes.{stripes_whole}
+use Rattle.t85_core.proofs.Decodings.ImagePut.{image_read}
+use Rattle.t85_core.proofs.Decodings.PieceHead.{passed_ext}
+use Rattle.t85_core.proofs.Decodings.PieceSteps.{at_stage, put_stage, nil_of, last_stripe}
+use Rattle.t85_core.proofs.Decodings.PieceHeights.{valid_over, height_comes, head_raised}
+use Rattle.t85_core.proofs.Decodings.PieceBehind.{front_is, part_of}
+use Rattle.t85_core.proofs.Decodings.PieceGiven.{read_holds}
+use Rattle.t85_core.proofs.Decodings.PieceLate.{RowsHeld, code_held, in_row_held, late_denotes, late_out, late_gives}
+use Rattle.t85_core.proofs.Decodings.PieceStood.{own_height, waits_of, put_walks, put_waits, known_more, in_code_entities, in_code_last, marker_of, head_of}
+
+-- segments without a move and a height are comments
+only_comments : (segments : List Segment) → count_by is_move segments ≡ 0 → lengths segments ≡ [] → AllByRecursion (λ s. IsTrue (is_comment s)) segments
+only_comments [] none empty = tt
+only_comments (NewLength n ∷ segments) none empty = absurd (let bot : ⊥ = cc in bot)
+only_comments (Move row offset ∷ segments) none empty = absurd (let e = sum_by-append (λ y. cond (is_move y) 1 0) (Move row offset ∷ []) segments in omega (arith, none, e))
+only_comments (Comment text ∷ segments) none empty = (refl, only_comments segments (let e = sum_by-append (λ y. cond (is_move y) 1 0) (Comment text ∷ []) segments in omega (arith, none, e)) empty)
+
+module _ {h : Fields} {place : Place} {b : Behind} {back : List ℕ} (fresh : place.given ≡ false) (s : BehindStands h place true b back) where
+  pub are_comments : AllByRecursion (λ s. IsTrue (is_comment s)) s.passed.segments
+  are_comments = only_comments s.passed.segments (let e = s.passed.counted in omega (arith, e)) (nil_of (lengths s.passed.segments) (let e = s.passed.given_is in let z : cond {A = ℕ} place.given 1 0 ≡ 0 = ap (λ (t : Bool). cond {A = ℕ} t 1 0) fresh in omega (arith, e, z)))
+
+  has_looked : (more : List ℕ) → HasLooked h (Some (s.front ++ more)) (Some more)
+  has_looked more = record { segments = s.passed.segments; are = record { comments = are_comments; legal = s.passed.begun.legal }; taken = (passed_ext s.passed more).taken }
+
+  -- a code comes there
+  pub look_code : (c : code_type.Code) (p rest more : List ℕ) → b.comment ≡ None → p ≡ code_bytes c ++ rest → LookEnds h place.entities ((back ++ p) ++ more)
+  look_code c p rest more between is =
+      subst (LookEnds h place.entities) (ap (λ z. z ++ (p ++ more)) (sym (front_is s between)) ∙ sym (append_assoc back p more))
+      (looked_code (has_looked (p ++ more)) (Some (rest ++ more)) place.entities c (ap (λ z. z ++ more) is ∙ append_assoc (code_bytes c) rest more))
+
+  longer : (p more : List ℕ) (f : Fault) → (f ≡ Truncated → more ≡ []) → (unread : List ℕ) → Ends Truncated (Some p) (Some unread) (PieceFault h place true) f →
+      Ends Truncated (Some (p ++ more)) (Some (unread ++ more)) (PieceFault h (record { height = 0; entities = place.entities; given = false }) true) f
+  longer p more f nothing unread ends = record {
+    given = ends.given;
+    taken = ap (λ z. z ++ more) ends.taken ∙ append_assoc ends.given unread more;
+    has_fault = subst (λ g. PieceFault h (record { height = 0; entities = place.entities; given = g }) true ends.given (counted_as Truncated f)) fresh ends.has_fault;
+    at_end = λ e. ap (λ z. z ++ more) (ends.at_end e) ∙ nothing e;
+  }
+
+  comment_text : (p more part : List ℕ) (left : ℕ) → more ≡ [] → back ≡ s.front ++ (ESC ∷ COMMENT ∷ (big_bytes 4 (length part + left) ++ part)) → s.front ++ (ESC ∷ COMMENT ∷ (big_bytes 4 (length part + left) ++ (part ++ p))) ≡ (back ++ p) ++ more
+  comment_text p more part left nothing is =
+      ap (λ z. s.front ++ (ESC ∷ COMMENT ∷ z)) (sym (append_assoc (big_bytes 4 (length part + left)) part p)) ∙ sym (append_assoc s.front (ESC ∷ COMMENT ∷ (big_bytes 4 (length part + left) ++ part)) p)
+      ∙ ap (λ z. z ++ p) (sym is) ∙ sym (append-nil (back ++ p)) ∙ ap (λ z. (back ++ p) ++ z) (sym nothing)
+
+  -- a fault, or the end
+  pub look_fault : (p more : List ℕ) (f : Fault) → h.yd < 2 ^ 32 → is_variable h ≡ true → StopsBehind h place true b p f → (f ≡ Truncated → more ≡ []) → LookEnds h place.entities ((back ++ p) ++ more)
+  look_fault p more f small variable stops nothing = by b.comment refl stops.breaks where
+    readable : f ≢ Read
+    readable e = let k : counted_as Truncated Read ≡ Read = ap (counted_as Truncated) (sym e) ∙ stops.counted ∙ e in let z : Truncated ≡ Read = k in cc
+
+    by : (o : Option ℕ) → b.comment ≡ o → BreaksBehind h place true b o p f → LookEnds h place.entities ((back ++ p) ++ more)
+    by None between (unread, ends) =
+        subst (LookEnds h place.entities) (ap (λ z. z ++ (p ++ more)) (sym (front_is s between)) ∙ sym (append_assoc back p more))
+        (looked_fault (has_looked (p ++ more)) place.entities f small variable readable (longer p more f nothing unread ends))
+    by (Some left) inside (short, ended) =
+        let k = part_of s left inside in
+        let long = length-append k.0 p in
+        subst (LookEnds h place.entities) (comment_text p more k.0 left (nothing ended) k.2)
+        (looked_fault {c = Some []} (has_looked (ESC ∷ COMMENT ∷ (big_bytes 4 (length k.0 + left) ++ (k.0 ++ p)))) place.entities f small variable readable (record {
+          given = ESC ∷ COMMENT ∷ (big_bytes 4 (length k.0 + left) ++ (k.0 ++ p));
+          taken = sym (append-nil (ESC ∷ COMMENT ∷ (big_bytes 4 (length k.0 + left) ++ (k.0 ++ p))));
+          has_fault = subst (λ z. PieceFault h (record { height = 0; entities = place.entities; given = false }) true (ESC ∷ COMMENT ∷ (big_bytes 4 (length k.0 + left) ++ (k.0 ++ p))) z) (sym (stops.counted ∙ ended)) (λ other. comment_cut (length k.0 + left) (k.0 ++ p) k.1 (omega (arith, long, short)));
+          at_end = λ _. refl;
+        }))
+
+-- ---- a walk at an end marker
+
+-- where the last stripe is over a walk is in its code
+pub in_last : (h : Fields) (w : Walk) → IsAtMarker w → last_behind h w ≡ true → IsInCode w.stage
+in_last h w (inl head) last = absurd (true≢false (sym last ∙ ap (λ z. is_last z (nat_le w.left h.l0)) head.0))
+in_last h w (inr k) last = k.0
+
+module _ (h : Fields) (w : Walk) (b : Behind) (text out : List ℕ) (q : CoderLaws) (s : WalkWaits h w b text out) (in_code : IsInCode w.stage) where
+  -- its rows
+  pub rows_held : RowsHeld h w.entities w.row s.done out
+  rows_held = by in_code where
+    by : IsInCode w.stage → RowsHeld h w.entities w.row s.done out
+    by (inl e) = code_held q (subst (λ g. CodeStands h h.yd w.entities g w.at w.row w.first w.marker w.carried w.decoder s.done out) s.ungiven (at_stage e s.walk)) (marker_of w s.at in_code)
+    by (inr e) = in_row_held q (subst (λ g. InRowStands h h.yd w.entities g w.at w.row w.first w.marker w.carried w.decoder w.place s.done out) s.ungiven (at_stage e s.walk)) (marker_of w s.at in_code)
+
+  pub fewer_here : w.entities < stripe_count h.yd h.l0
+  fewer_here = rows_held.head.fewer
+
+  pub place_here : place_behind h w ≡ record { height = h.yd; entities = w.entities + 1; given = false }
+  place_here = ap place_of (in_code_entities w.stage w.entities in_code) where
+    place_of : ℕ → Place
+    place_of n = record { height = h.yd; entities = n; given = false }
+
+-- ---- the image ends in the stripe before
+
+pub late_whole : (d : PieceDecoder) (q : CoderLaws) (n : ℕ) (p rest : List ℕ) → d.is_open ≡ true → d.waits ≡ true → d.behind.comment ≡ None → IsInCode d.walk.stage → HeightComes (fields_of d.header) d.walk n p rest → d.walk.left - (d.header.yd - n) ≤ d.header.l0 →
+    d.walk.left - (d.header.yd - n) ≤ d.walk.row → (is_all : Bool) → EndsWhole is_all d p n
+late_whole d q n p rest late waits between in_code comes fits few is_all text out more s follows = record {
+  height_is = λ m is. one_height_of (fields_of d.header) ((text ++ p) ++ more) m n (own_height d.header).accepted is (inl (subst (λ z. GivesHeight (fields_of d.header) z n) (sym body) (late_gives q (own_height d.header).accepted r n (d.walk.left - (d.header.yd - n)) n_is few some fits within variable valid passed comments (rest ++ more))));
+  rows = r.head.stripes.rows ++ r.rows;
+  denotes = subst (λ z. DenotesAt (fields_of d.header) n z (record { width = d.header.xd; rows = take n (r.head.stripes.rows ++ r.rows) })) (sym body) (late_denotes q (own_height d.header).accepted r n (d.walk.left - (d.header.yd - n)) n_is few some fits within (w.behind.front ++ (segment_bytes (NewLength n) ++ (rest ++ more))));
+  out_is = late_out q (own_height d.header).accepted r n (d.walk.left - (d.header.yd - n)) n_is few some fits within;
+} where
+  w : WalkWaits (fields_of d.header) d.walk d.behind text out
+  w = waits_of d text out late waits s
+
+  r : RowsHeld (fields_of d.header) d.walk.entities d.walk.row w.done out
+  r = rows_held (fields_of d.header) d.walk d.behind text out q w in_code
+
+  valid : is_valid_length (fields_of d.header) (d.walk.entities + 1) n ≡ true
+  valid = subst (λ z. is_valid_length (fields_of d.header) z n ≡ true) (in_code_entities d.walk.stage d.walk.entities in_code) comes.valid
+
+  over : d.walk.entities * d.header.l0 < n
+  over = let o = valid_over (fields_of d.header) (d.walk.entities + 1) n valid in let e : (d.walk.entities + 1 - 1) * d.header.l0 ≡ d.walk.entities * d.header.l0 = ap (λ (m : ℕ). m * d.header.l0) (let z : d.walk.entities + 1 - 1 ≡ d.walk.entities = omega arith in z) in omega (arith, o, e)
+
+  within : n ≤ d.header.yd
+  within = comes.legal.2
+
+  n_is : n ≡ d.walk.entities * d.header.l0 + (d.walk.left - (d.header.yd - n))
+  n_is = let left = w.walk.left_is in omega (arith, left, over, within)
+
+  some : 1 ≤ (d.walk.left - (d.header.yd - n))
+  some = omega (arith, n_is, over)
+
+  variable : IsTrue (is_variable (fields_of d.header))
+  variable = s.height.variable late
+
+  passed : HasPassed (fields_of d.header) (record { height = d.header.yd; entities = d.walk.entities + 1; given = false }) (last_behind (fields_of d.header) d.walk) (Some w.behind.front) (Some []) d.behind.at (move_came (last_behind (fields_of d.header) d.walk) d.behind.at) false w.behind.comments
+  passed = subst (λ z. HasPassed (fields_of d.header) z (last_behind (fields_of d.header) d.walk) (Some w.behind.front) (Some []) d.behind.at (move_came (last_behind (fields_of d.header) d.walk) d.behind.at) false w.behind.comments) (place_here (fields_of d.header) d.walk d.behind text out q w in_code) w.behind.passed
+
+  comments : d.walk.entities + 1 ≡ stripe_count d.header.yd d.header.l0 → AllByRecursion (λ s. IsTrue (is_comment s)) passed.segments
+  comments last = only_comments passed.segments moves (nil_of (lengths passed.segments) (let e = passed.given_is in omega (arith, e))) where
+    all : d.header.yd ≤ (d.walk.entities + 1) * d.header.l0
+    all = let t = div_ceil_times d.header.yd d.header.l0 d.header.some_rows in let e = ap (λ (m : ℕ). m * d.header.l0) last in omega (arith, t.0, e)
+
+    is_last_here : last_behind (fields_of d.header) d.walk ≡ true
+    is_last_here =
+        let left = w.walk.left_is in
+        let times : (d.walk.entities + 1) * d.header.l0 ≡ d.walk.entities * d.header.l0 + d.header.l0 = omega arith in
+        let le : d.walk.left ≤ d.header.l0 = omega (arith, left, all, times) in
+        let t : nat_le d.walk.left d.header.l0 ≡ true = grind (arith, nat_tests) in
+        in_code_last d.walk.stage (nat_le d.walk.left d.header.l0) in_code ∙ t
+
+    zero_moves : (l : Bool) → l ≡ true → cond {A = ℕ} (move_came l d.behind.at) 1 0 ≡ cond {A = ℕ} l 1 0 + count_by is_move passed.segments → count_by is_move passed.segments ≡ 0
+    zero_moves true e c = omega (arith, c)
+    zero_moves false e c = absurd (true≢false (sym e))
+
+    moves : count_by is_move passed.segments ≡ 0
+    moves = zero_moves (last_behind (fields_of d.header) d.walk) is_last_here passed.counted
+
+  body : (text ++ p) ++ more ≡ w.done ++ (w.behind.front ++ (segment_bytes (NewLength n) ++ (rest ++ more)))
+  body =
+      append_assoc text p more ∙ ap (λ z. z ++ (p ++ more)) w.text_is ∙ append_assoc w.done w.back (p ++ more)
+      ∙ ap (λ z. w.done ++ (z ++ (p ++ more))) (front_is w.behind between) ∙ ap (λ z. w.done ++ (w.behind.front ++ z)) (ap (λ z. z ++ more) comes.piece_is ∙ append_assoc (segment_bytes (NewLength n)) rest more)
+
+-- ---- the look is over
+
+pub look_whole : (d d' : PieceDecoder) (p : List ℕ) (is_all : Bool) → CoderLaws → d.is_open ≡ true → d.waits ≡ true → last_behind (fields_of d.header) d.walk ≡ true → LookIsOver is_all d p → StripeLeft d d' → EndsWhole is_all d p d.header.yd
+look_whole d d' p is_all q late waits last over ended text out more s follows =
+    subst (λ z. HoldsImage (fields_of d.header) z d.header.yd out) (sym body)
+    (read_holds (fields_of d.header) d.header.yd w.done out ((w.back ++ p) ++ more)
+    (λ m is. one_height_of (fields_of d.header) (w.done ++ ((w.back ++ p) ++ more)) m d.header.yd (own_height d.header).accepted is height)
+    (image_read (fields_of d.header) d.header.yd (Some w.done) (Some []) (d.walk.entities + 1) 0 d'.walk.carried (Some []) (Some out) read (own_height d.header) many))
+  where
+    w : WalkWaits (fields_of d.header) d.walk d.behind text out
+    w = waits_of d text out late waits s
+
+    in_code : IsInCode d.walk.stage
+    in_code = in_last (fields_of d.header) d.walk w.at last
+
+    read : StripesRead (fields_of d.header) d.header.yd (Some w.done) (Some []) (d.walk.entities + 1) 0 d'.walk.carried (Some []) (Some out)
+    read = subst (λ g. StripesRead (fields_of d.header) d.header.yd (Some w.done) (Some []) (d.walk.entities + 1) (cond {A = ℕ} g 1 0) d'.walk.carried (Some []) (Some out)) w.ungiven (ended.read w.done out w.walk)
+
+    all : d.header.yd ≤ (d.walk.entities + 1) * d.header.l0
+    all =
+        let t = sym (in_code_last d.walk.stage (nat_le d.walk.left d.header.l0) in_code) ∙ last in
+        let le : d.walk.left ≤ d.header.l0 = grind (arith, nat_tests) in
+        let left = w.walk.left_is in
+        let times : (d.walk.entities + 1) * d.header.l0 ≡ d.walk.entities * d.header.l0 + d.header.l0 = omega arith in
+        omega (arith, le, left, times)
+
+    many : d.walk.entities + 1 ≡ stripe_count d.header.yd d.header.l0
+    many = last_stripe d.header.yd d.header.l0 d.walk.entities d.header.some_rows (fewer_here (fields_of d.header) d.walk d.behind text out q w in_code) all
+
+    look : LookEnds (fields_of d.header) (place_behind (fields_of d.header) d.walk).entities ((w.back ++ p) ++ more)
+    look = over w.back more (subst (λ l. BehindStands (fields_of d.header) (place_behind (fields_of d.header) d.walk) l d.behind w.back) last w.behind) follows
+
+    same : length read.stripes ≡ (place_behind (fields_of d.header) d.walk).entities
+    same = read.many ∙ sym (in_code_entities d.walk.stage d.walk.entities in_code)
+
+    none : lengths (all_segments read.stripes) ≡ []
+    none = nil_of (lengths (all_segments read.stripes)) (let e = read.gives_in.heights_are in omega (arith, e))
+
+    height : IsHeight (fields_of d.header) (w.done ++ ((w.back ++ p) ++ more)) d.header.yd
+    height = height_of_ended (fields_of d.header) (own_height d.header).accepted (w.done ++ ((w.back ++ p) ++ more)) read.stripes ((w.back ++ p) ++ more) look.segments look.last (read.many ∙ many)
+        (stripes_whole (fields_of d.header) d.header.yd (image_start d.header.xd) read.stripes read.rows read.flags read.next read.run) (gives_none 0 0 (all_segments read.stripes) (omega arith) none)
+        (ap (λ z. z ++ ((w.back ++ p) ++ more)) (read.taken ∙ append-nil (flat_map stripe_bytes read.stripes))) look.are.comments look.are.legal
+        (λ n z valid e. look.no_height n z (subst (λ m. is_valid_length (fields_of d.header) m n ≡ true) same valid) e) look.no_comment look.rest_is
+
+    body : (text ++ p) ++ more ≡ w.done ++ ((w.back ++ p) ++ more)
+    body = ap (λ z. (z ++ p) ++ more) w.text_is ∙ ap (λ z. z ++ more) (append_assoc w.done w.back p) ∙ append_assoc w.done (w.back ++ p) more
+
+-- ---- the height is raised
+
+pub height_over : (d e : PieceDecoder) (n : ℕ) (p rest : List ℕ) → d.is_open ≡ true → d.waits ≡ true → SomeStand d → HeadEntered d e → HeightComes (fields_of d.header) d.walk n p rest → (IsInCode d.walk.stage → d.header.l0 < d.walk.left - (d.header.yd - n)) →
+    e.walk.entities * d.header.l0 < n
+height_over d e n p rest late waits some head comes beyond = by w.at where
+  w : WalkWaits (fields_of d.header) d.walk d.behind some.0 some.1
+  w = waits_of d some.0 some.1 late waits some.2
+
+  by : IsAtMarker d.walk → e.walk.entities * d.header.l0 < n
+  by (inl k) =
+      let zero : e.walk.entities ≡ 0 = head.entities ∙ ap (λ z. entities_behind z d.walk.entities) k.0 ∙ k.2 in
+      let times : e.walk.entities * d.header.l0 ≡ 0 * d.header.l0 = ap (λ (m : ℕ). m * d.header.l0) zero in
+      let none : 0 * d.header.l0 ≡ 0 = omega arith in
+      omega (arith, times, none, comes.legal.1)
+  by (inr k) =
+      let next : e.walk.entities ≡ d.walk.entities + 1 = head.entities ∙ in_code_entities d.walk.stage d.walk.entities k.0 in
+      let times : e.walk.entities * d.header.l0 ≡ (d.walk.entities + 1) * d.header.l0 = ap (λ (m : ℕ). m * d.header.l0) next in
+      let one : (d.walk.entities + 1) * d.header.l0 ≡ d.walk.entities * d.header.l0 + d.header.l0 = omega arith in
+      let left = w.walk.left_is in
+      let more = beyond k.0 in
+      omega (arith, times, one, left, more, comes.legal.2)
+
+pub left_over : (d e : PieceDecoder) (n : ℕ) (p rest : List ℕ) → d.is_open ≡ true → d.waits ≡ true → SomeStand d → HeadEntered d e → HeightComes (fields_of d.header) d.walk n p rest → e.walk.entities * d.header.l0 < n → d.header.yd - n ≤ e.walk.left
+left_over d e n p rest late waits some head comes over =
+    let left = (head.stands some.0 some.1 (waits_of d some.0 some.1 late waits some.2)).left_is in omega (arith, left, over, comes.legal.2)
+
+pub raised_on : (d e d' : PieceDecoder) (n : ℕ) (p rest : List ℕ) → d.is_open ≡ true → d.waits ≡ true → HeadEntered d e → d.behind.comment ≡ None → HeightComes (fields_of d.header) d.walk n p rest → e.walk.entities * d.header.l0 < n →
+    d'.header ≡ e.header → d'.height ≡ n → d'.is_open ≡ false → d'.walk ≡ record e.walk { left = e.walk.left - (d.header.yd - n); given = true } → DecoderOn d d' p rest []
+raised_on d e d' n p rest late waits head between comes over header height closed walk text out s = (
+  segment_bytes (NewLength n),
+  comes.piece_is,
+  put_walks d' (text ++ segment_bytes (NewLength n)) (out ++ []) closed
+      (subst (λ z. HeightKnown (fields_of z) d'.height d'.is_open (text ++ segment_bytes (NewLength n))) (sym (header ∙ head.keeps.header)) (subst (λ m. HeightKnown (fields_of d.header) m d'.is_open (text ++ segment_bytes (NewLength n))) (sym height)
+      (subst (λ b. HeightKnown (fields_of d.header) n b (text ++ segment_bytes (NewLength n))) (sym closed) known)))
+      (subst (λ z. WalkStands (fields_of z) d'.height d'.walk (text ++ segment_bytes (NewLength n)) (out ++ [])) (sym (header ∙ head.keeps.header)) (subst (λ m. WalkStands (fields_of d.header) m d'.walk (text ++ segment_bytes (NewLength n)) (out ++ [])) (sym height)
+      (subst (λ z. WalkStands (fields_of d.header) n z (text ++ segment_bytes (NewLength n)) (out ++ [])) (sym walk) (subst (WalkStands (fields_of d.header) n (record e.walk { left = e.walk.left - (d.header.yd - n); given = true }) (text ++ segment_bytes (NewLength n))) (sym (append-nil out)) now)))),
+) where
+  there : WalkStands (fields_of d.header) d.header.yd e.walk text out
+  there = head.stands text out (waits_of d text out late waits s)
+
+  is_head : e.walk.stage ≡ stage.Head
+  is_head = head.stage ∙ ap head_stage between
+
+  in_head : HeadStands (fields_of d.header) d.header.yd e.walk.entities false e.walk.at e.walk.carried text out
+  in_head = subst (λ g. HeadStands (fields_of d.header) d.header.yd e.walk.entities g e.walk.at e.walk.carried text out) head.given (at_stage is_head there)
+
+  variable : IsTrue (is_variable (fields_of d.header))
+  variable = s.height.variable late
+
+  valid : is_valid_length (fields_of d.header) e.walk.entities n ≡ true
+  valid = subst (λ m. is_valid_length (fields_of d.header) m n ≡ true) (sym head.entities) comes.valid
+
+  known : HeightKnown (fields_of d.header) n false (text ++ segment_bytes (NewLength n))
+  known = record {
+    variable = λ e. absurd (true≢false (sym e));
+    first = λ e. absurd (true≢false (sym e));
+    came = λ _ _ more. height_comes in_head n variable valid more;
+    fixed = λ _ v. absurd (true≢false (sym variable ∙ v));
+  }
+
+  now : WalkStands (fields_of d.header) n (record e.walk { left = e.walk.left - (d.header.yd - n); given = true }) (text ++ segment_bytes (NewLength n)) out
+  now = record {
+    left_is = (let left = there.left_is in omega (arith, left, over, comes.legal.2));
+    width_is = there.width_is;
+    offset_is = there.offset_is;
+    at_is = there.at_is;
+    code_is = there.code_is;
+    behind = there.behind;
+    within = there.within;
+    stands = put_stage (fields_of d.header) n (record e.walk { left = e.walk.left - (d.header.yd - n); given = true }) (text ++ segment_bytes (NewLength n)) out stage.Head is_head (head_raised in_head n variable valid d.header.some_rows comes.legal over);
+  }
+
+pub height_some : (n : ℕ) (p rest : List ℕ) → p ≡ segment_bytes (NewLength n) ++ rest → length rest < length p
+height_some n p rest e = let l : length p ≡ length (segment_bytes (NewLength n) ++ rest) = ap length e in omega (arith, l)
+
+-- ---- what came behind the marker
+
+pub passed_on : (d d1 : PieceDecoder) (b : Behind) (p p1 : List ℕ) → d.is_open ≡ true → d.waits ≡ true → d1.header ≡ d.header → d1.height ≡ d.height → d1.is_open ≡ d.is_open → d1.waits ≡ d.waits → d1.walk ≡ d.walk → d1.behind ≡ b →
+    BehindOn (fields_of d.header) (place_behind (fields_of d.header) d.walk) (last_behind (fields_of d.header) d.walk) d.behind b p p1 → DecoderOn d d1 p p1 []
+passed_on d d1 b p p1 late waits header height is_open same_waits walk behind on text out s =
+    let w = waits_of d text out late waits s in
+    let k = on w.back w.behind in (
+      k.0,
+      k.1,
+      put_waits d1 (text ++ k.0) (out ++ []) (is_open ∙ late) (same_waits ∙ waits)
+          (subst (λ z. HeightKnown (fields_of z) d1.height d1.is_open (text ++ k.0)) (sym header) (subst (λ m. HeightKnown (fields_of d.header) m d1.is_open (text ++ k.0)) (sym height)
+          (subst (λ z. HeightKnown (fields_of d.header) d.height z (text ++ k.0)) (sym is_open) (known_more (fields_of d.header) d.height d.is_open text k.0 s.height))))
+          (subst (λ z. WalkWaits (fields_of z) d1.walk d1.behind (text ++ k.0) (out ++ [])) (sym header) (subst (λ z. WalkWaits (fields_of d.header) z d1.behind (text ++ k.0) (out ++ [])) (sym walk)
+          (subst (λ z. WalkWaits (fields_of d.header) d.walk z (text ++ k.0) (out ++ [])) (sym behind) (record {
+            done = w.done;
+            back = w.back ++ k.0;
+            text_is = ap (λ z. z ++ k.0) w.text_is ∙ append_assoc w.done w.back k.0;
+            walk = subst (WalkStands (fields_of d.header) d.header.yd d.walk w.done) (sym (append-nil out)) w.walk;
+            at = w.at;
+            ungiven = w.ungiven;
+            behind = k.2;
+          })))),
+    )
+
+pub own_first : (d : PieceDecoder) → d.is_open ≡ true → SomeStand d → d.height ≡ d.header.yd
+own_first d late some = some.2.height.first late
+
+pub own_whole : (d d' : PieceDecoder) (p : List ℕ) (is_all : Bool) → d.header.yd ≡ d'.header.yd → EndsWhole is_all d p d.header.yd → EndsWhole is_all d p d'.header.yd
+own_whole d d' p is_all same k = subst (EndsWhole is_all d p) same k

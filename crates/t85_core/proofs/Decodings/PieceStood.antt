@@ -1,0 +1,701 @@
+-- Where a decoder stands, before a step and after it.
+use Rattle.std.proofs.Common.{cond, ◌≡◌, ◌≢◌, ◌<◌, ◌≤◌, ◌+◌, ◌-◌, ◌*◌, ◌⊎◌, inl, inr, ℕ, Bool, true, false, List, [], ◌∷◌, ◌++◌, length, take, drop, slice_index, min, nat_le, Option, None, Some, Result, Ok, Err, refl, sym, ap, ◌∙◌, subst, append_assoc, append-nil, length-append, arith, true≢false}
+use Rattle.std.specs.Prelude.{IsOk, OnOk, IfSome, is_some}
+use Rattle.std.proofs.lemmas.Bool.Decides.{nat_tests}
+use Rattle.std.proofs.Math.Seq.{drop-append_seam, take-append_seam}
+use Rattle.t85_core.specs.Outcomes.{end_in}
+use Rattle.std.proofs.lemmas.Bool.{cases_lt}
+use Rattle.std.proofs.lemmas.List.{take-append-drop}
+use Rattle.byteorder.specs.Endian.{big_bytes}
+use Rattle.t85_core.proofs.Decodings.PieceHeights.{head_behind}
+use Rattle.t85_core.specs.Grammar.{ESC, COMMENT}
+use Rattle.t85_core.specs.declared.segments.Code.TheVariants as code
+use Rattle.t85_core.specs.Grammar.{marker_bytes}
+use Rattle.t85_core.proofs.Decodings.PieceSteps.{at_stage, put_stage}
+use Rattle.t85_core.proofs.Decodings.PieceWalk.{code_ahead, row_ahead}
+use Rattle.t85_core.specs.declared.segments.Place.{Place}
+use Rattle.t85_core.specs.Steps.DecodeStripes.{StripesRead}
+use Rattle.t85_core.specs.declared.segments.Code as code_type
+use Rattle.qm_core.specs.Place.{start}
+use Rattle.qm_core.specs.Decoder.{DecoderIsAt}
+use Rattle.qm_core.specs.declared.decoder.Decoder.{Decoder}
+use Rattle.t85_core.specs.Failures.{Ends}
+use Rattle.t85_core.specs.Steps.CoderLaws.{CoderLaws}
+use Rattle.t85_core.specs.Steps.Segments.{IsByteOrMarker, PieceFault, code_bytes}
+use Rattle.t85_core.specs.declared.fault.Fault.{Fault}
+use Rattle.t85_core.specs.declared.fault.Fault.TheVariants.{Truncated, Changed}
+use Rattle.t85_core.specs.declared.header.Header.{Header}
+use Rattle.t85_core.specs.declared.pieces.PieceDecoder.{PieceDecoder}
+use Rattle.t85_core.specs.declared.pieces.Outcome.{Outcome}
+use Rattle.t85_core.specs.declared.pieces.Outcome.TheVariants as outcome
+use Rattle.t85_core.specs.declared.pieces.behind.Behind.{Behind}
+use Rattle.t85_core.specs.declared.pieces.walk.Walk.{Walk}
+use Rattle.t85_core.specs.declared.pieces.walk.Stage.{Stage}
+use Rattle.t85_core.specs.declared.pieces.walk.Stage.TheVariants as stage
+use Rattle.t85_core.specs.Header.{Fields, is_variable}
+use Rattle.t85_core.specs.Options.{fields_of}
+use Rattle.t85_core.specs.Height.{GivesHeight}
+use Rattle.t85_core.specs.Laws.{IsInUse}
+use Rattle.t85_core.specs.Pieces.{IsDecoding, HasDecoded, HasHeight, HandsOut, HoldsImage, MayFollow, row_held}
+use Rattle.t85_core.specs.Steps.Behind.{BehindStands, BreaksBehind, StopsBehind}
+use Rattle.t85_core.specs.Steps.Pieces.{HeadStands, CommentStands, IsFirstWalk, WalkStands, CutOff, StepsOn, StepsOff, Step, RowStep, RowLeaves, StripesOn, StageStands, KeepsPlace, HasMarker, IsInCode}
+use Rattle.t85_core.specs.Steps.PieceStands.{DecoderStands, HeightKnown, StandsAs, CodeWalks, WalkWaits, IsAtMarker, entities_behind, is_last, place_behind, last_behind}
+use Rattle.t85_core.specs.Steps.PieceSteps.{SomeStand, DecoderOn, EndsWhole, EndsBroken, StepLeaves, KeepsDecoder, StripeLeft, StripeClosed, HeadEntered, head_stage, steps_left}
+use Rattle.t85_core.proofs.Decodings.ImagePut.{in_use}
+use Rattle.t85_core.proofs.Decodings.PieceBehind.{behind_first, front_is, part_of}
+use Rattle.t85_core.proofs.Decodings.PieceGiven.{cut_hands, cut_hands_first, piece_other, height_known, read_holds}
+use Rattle.t85_core.proofs.Decodings.PieceHead.{head_code, head_cut, comment_off}
+use Rattle.t85_core.proofs.Bytes.Stuffing.{stuff, stuff_cases, stuffed_cons}
+
+-- more text
+pub known_more : (h : Fields) (height : ℕ) (is_open : Bool) (text more : List ℕ) → HeightKnown h height is_open text → HeightKnown h height is_open (text ++ more)
+known_more h height is_open text more k = record {
+  variable = k.variable;
+  first = k.first;
+  came = λ o v rest. subst (λ z. GivesHeight h z height) (sym (append_assoc text more rest)) (k.came o v (more ++ rest));
+  fixed = k.fixed;
+}
+
+-- a header's own height is in use
+pub own_height : (header : Header) → IsInUse (fields_of header) header.yd
+own_height header = in_use header header.yd header.some_height (omega arith)
+
+module _ (d : PieceDecoder) (text out : List ℕ) where
+  pub walks_of : d.is_open ≡ false → DecoderStands d text out → WalkStands (fields_of d.header) d.height d.walk text out
+  walks_of known s = subst (λ b. StandsAs b d.waits d text out) known s.stands
+
+  pub code_of : d.is_open ≡ true → d.waits ≡ false → DecoderStands d text out → CodeWalks (fields_of d.header) d.walk text out
+  code_of late going s = subst (λ b. StandsAs true b d text out) going (subst (λ b. StandsAs b d.waits d text out) late s.stands)
+
+  pub waits_of : d.is_open ≡ true → d.waits ≡ true → DecoderStands d text out → WalkWaits (fields_of d.header) d.walk d.behind text out
+  waits_of late waits s = subst (λ b. StandsAs true b d text out) waits (subst (λ b. StandsAs b d.waits d text out) late s.stands)
+
+  pub put_walks : d.is_open ≡ false → HeightKnown (fields_of d.header) d.height d.is_open text → WalkStands (fields_of d.header) d.height d.walk text out → DecoderStands d text out
+  put_walks known k s = record { height = k; stands = subst (λ b. StandsAs b d.waits d text out) (sym known) s }
+
+  pub put_code : d.is_open ≡ true → d.waits ≡ false → HeightKnown (fields_of d.header) d.height d.is_open text → CodeWalks (fields_of d.header) d.walk text out → DecoderStands d text out
+  put_code late going k s = record { height = k; stands = subst (λ b. StandsAs b d.waits d text out) (sym late) (subst (λ b. StandsAs true b d text out) (sym going) s) }
+
+  pub put_waits : d.is_open ≡ true → d.waits ≡ true → HeightKnown (fields_of d.header) d.height d.is_open text → WalkWaits (fields_of d.header) d.walk d.behind text out → DecoderStands d text out
+  put_waits late waits k s = record { height = k; stands = subst (λ b. StandsAs b d.waits d text out) (sym late) (subst (λ b. StandsAs true b d text out) (sym waits) s) }
+
+-- a walk begins to wait
+pub waits_first : (h : Fields) (w : Walk) (b : Behind) (text out : List ℕ) → WalkStands h h.yd w text out → IsAtMarker w → w.given ≡ false → b.at ≡ None → b.comment ≡ None → WalkWaits h w b text out
+waits_first h w b text out s at ungiven none empty = record {
+  done = text;
+  back = [];
+  text_is = sym (append-nil text);
+  walk = s;
+  at = at;
+  ungiven = ungiven;
+  behind = behind_first h (place_behind h w) (last_behind h w) b refl none empty;
+}
+
+-- ---- how many steps are left
+
+pub fewer_bytes : (d d' : PieceDecoder) (p p' : List ℕ) → length p' < length p → steps_left d' p' < steps_left d p
+fewer_bytes d d' p p' less = went d.waits d'.waits where
+  went : (a b : Bool) → 2 * length p' + cond {A = ℕ} b 0 1 < 2 * length p + cond {A = ℕ} a 0 1
+  went true true = omega (arith, less)
+  went true false = omega (arith, less)
+  went false true = omega (arith, less)
+  went false false = omega (arith, less)
+
+pub begins_to_wait : (d d' : PieceDecoder) (p p' : List ℕ) → d.waits ≡ false → d'.waits ≡ true → length p' ≤ length p → steps_left d' p' < steps_left d p
+begins_to_wait d d' p p' going waits le =
+    subst (λ b. 2 * length p' + cond {A = ℕ} d'.waits 0 1 < 2 * length p + cond {A = ℕ} b 0 1) (sym going)
+    (subst (λ b. 2 * length p' + cond {A = ℕ} b 0 1 < 2 * length p + cond {A = ℕ} false 0 1) (sym waits) (omega (arith, le)))
+
+pub taken_less : (p given p' : List ℕ) → p ≡ given ++ p' → length p' ≤ length p
+taken_less p given p' e = let l = length-append given p' in let k : length p ≡ length (given ++ p') = ap length e in omega (arith, l, k)
+
+-- ---- answers
+
+none_some : {A : Type 0} {x : A} → None ≡ Some x → ⊥
+none_some e = cc
+
+-- another step is to be taken
+pub leaves_on : (is_all : Bool) (d d' : PieceDecoder) (p p' : List ℕ) → d'.header ≡ d.header → d'.end ≡ d.end → DecoderOn d d' p p' [] → StepLeaves is_all d d' p p' None
+leaves_on is_all d d' p p' header going on = record {
+  header = header;
+  going = going;
+  on = λ _. on;
+  row = λ e. absurd (none_some e);
+  more = λ e. absurd (none_some e);
+  done = λ n e. absurd (none_some e);
+  broken = λ f e. absurd (none_some e);
+}
+
+-- a row
+pub leaves_row : (is_all : Bool) (d d' : PieceDecoder) (p p' : List ℕ) → d'.header ≡ d.header → d'.end ≡ d.end → DecoderOn d d' p p' (row_held d') → StepLeaves is_all d d' p p' (Some outcome.Row)
+leaves_row is_all d d' p p' header going on = record {
+  header = header;
+  going = going;
+  on = λ e. absurd (none_some (sym e));
+  row = λ _. on;
+  more = λ e. absurd (let bot : ⊥ = cc in bot);
+  done = λ n e. absurd (let bot : ⊥ = cc in bot);
+  broken = λ f e. absurd (let bot : ⊥ = cc in bot);
+}
+
+-- what a fault comes to
+pub record Comes (fault : Fault) (is_all : Bool) (r : Outcome) : Type 0 where
+  pub more : r ≡ outcome.More → (fault ≡ Truncated) × (is_all ≡ false)
+  pub broken : (f : Fault) → r ≡ outcome.Broken f → (f ≡ fault) × (f ≡ Truncated → is_all ≡ true)
+  pub row : r ≢ outcome.Row
+  pub done : (n : ℕ) → r ≢ outcome.Done n
+
+some_is : {r s : Outcome} → Some r ≡ Some s → r ≡ s
+some_is e = cc
+
+pub leaves_stop : (is_all : Bool) (d d' : PieceDecoder) (p p' : List ℕ) (fault : Fault) (r : Outcome) → Comes fault is_all r → d'.header ≡ d.header → d'.end ≡ d.end → (fault ≡ Truncated → DecoderOn d d' p p' []) →
+    ((is_all : Bool) → (fault ≡ Truncated → is_all ≡ true) → EndsBroken is_all d p d'.height fault) → StepLeaves is_all d d' p p' (Some r)
+leaves_stop is_all d d' p p' fault r c header going on broken = record {
+  header = header;
+  going = going;
+  on = λ e. absurd (none_some (sym e));
+  row = λ e. absurd (c.row (some_is e));
+  more = λ e. let k = c.more (some_is e) in (k.1, on k.0, λ _. subst (EndsBroken true d p d'.height) k.0 (broken true (λ _. refl)));
+  done = λ n e. absurd (c.done n (some_is e));
+  broken = λ f e. let k = c.broken f (some_is e) in subst (EndsBroken is_all d p d'.height) (sym k.0) (broken is_all (λ t. k.1 (k.0 ∙ t)));
+}
+
+-- a fault in the code, where no height came
+pub code_broken : (d : PieceDecoder) (p : List ℕ) (fault : Fault) → d.is_open ≡ true → d.waits ≡ false → StepsOff (fields_of d.header) d.header.yd d.walk p fault → fault ≢ Changed → (is_all : Bool) → (fault ≡ Truncated → is_all ≡ true) → EndsBroken is_all d p d.height fault
+code_broken d p fault late going off other is_all all text out rest s follows =
+    subst (λ n. HandsOut (fields_of d.header) ((text ++ p) ++ rest) n fault out) (sym (s.height.first late))
+    (cut_hands_first (fields_of d.header) (text ++ p) out rest fault (own_height d.header) other (λ t. follows (all t)) (off text out (code_of d text out late going s).walk))
+
+-- ---- behind an end marker
+
+pub in_code_entities : (s : Stage) (e : ℕ) → IsInCode s → entities_behind s e ≡ e + 1
+in_code_entities s e (inl k) = ap (λ z. entities_behind z e) k
+in_code_entities s e (inr k) = ap (λ z. entities_behind z e) k
+
+pub in_code_last : (s : Stage) (b : Bool) → IsInCode s → is_last s b ≡ b
+in_code_last s b (inl k) = ap (λ z. is_last z b) k
+in_code_last s b (inr k) = ap (λ z. is_last z b) k
+
+not_head : (s : Stage) → s ≡ stage.Head → IsInCode s → ⊥
+not_head s e (inl k) = let z : stage.Head ≡ stage.Code = sym e ∙ k in cc
+not_head s e (inr k) = let z : stage.Head ≡ stage.Row = sym e ∙ k in cc
+
+pub marker_of : (w : Walk) → IsAtMarker w → IsInCode w.stage → HasMarker w
+marker_of w (inl head) code = absurd (not_head w.stage head.0 code)
+marker_of w (inr k) code = k.1
+
+pub head_of : (w : Walk) → IsAtMarker w → (IsInCode w.stage → ⊥) → (w.stage ≡ stage.Head) × (w.at ≡ None) × (w.entities ≡ 0)
+head_of w (inl head) outside = head
+head_of w (inr k) outside = absurd (outside k.0)
+
+-- what came stays behind the same marker
+pub behind_same : (h : Fields) (w w' : Walk) (b : Behind) (back : List ℕ) → IsInCode w.stage → IsInCode w'.stage → KeepsPlace w w' → BehindStands h (place_behind h w) (last_behind h w) b back → BehindStands h (place_behind h w') (last_behind h w') b back
+behind_same h w w' b back code code' keeps s =
+    subst (λ p. BehindStands h p (last_behind h w') b back) (ap (λ e. place_at e) entities) (subst (λ l. BehindStands h (place_behind h w) l b back) last s)
+  where
+    place_at : ℕ → Place
+    place_at e = record { height = h.yd; entities = e; given = false }
+
+    entities : entities_behind w.stage w.entities ≡ entities_behind w'.stage w'.entities
+    entities = in_code_entities w.stage w.entities code ∙ ap (λ z. z + 1) (sym keeps.entities) ∙ sym (in_code_entities w'.stage w'.entities code')
+
+    last : last_behind h w ≡ last_behind h w'
+    last = in_code_last w.stage (nat_le w.left h.l0) code ∙ ap (λ z. nat_le z h.l0) (sym keeps.left) ∙ sym (in_code_last w'.stage (nat_le w'.left h.l0) code')
+
+pub on_ok : {A : Type 0} (r : Result A Fault) (P : Type 0) → IsOk r → OnOk r P → P
+on_ok (Ok x) P is k = k
+on_ok (Err f) P is k = absurd (let bot : ⊥ = cc in bot)
+
+no_bytes : (g p' : List ℕ) → [] ≡ g ++ p' → g ≡ []
+no_bytes [] p' e = refl
+no_bytes (x ∷ g) p' e = absurd (let bot : ⊥ = cc in bot)
+
+-- a step that has no bytes
+pub step_none : (h : Fields) (height : ℕ) (w w' : Walk) (p' row : List ℕ) → StepsOn h height w w' [] p' row → (text out : List ℕ) → WalkStands h height w text out → WalkStands h height w' text (out ++ row)
+step_none h height w w' p' row on text out s = let k = on text out s in subst (λ z. WalkStands h height w' z (out ++ row)) (ap (λ z. text ++ z) (no_bytes k.0 p' k.1) ∙ append-nil text) k.2
+
+-- the same is known of the height
+pub keep_known : (d d' : PieceDecoder) (text : List ℕ) → KeepsDecoder d d' → HeightKnown (fields_of d.header) d.height d.is_open text → HeightKnown (fields_of d'.header) d'.height d'.is_open text
+keep_known d d' text keeps k =
+    subst (λ z. HeightKnown (fields_of z) d'.height d'.is_open text) (sym keeps.header) (subst (λ n. HeightKnown (fields_of d.header) n d'.is_open text) (sym keeps.height)
+    (subst (λ b. HeightKnown (fields_of d.header) d.height b text) (sym keeps.is_open) k))
+
+-- a row that waited
+pub row_given : (d d' : PieceDecoder) → d.is_open ≡ true → d.waits ≡ true → IsInCode d.walk.stage → KeepsDecoder d d' → (p' : List ℕ) (r : Result (Unit {0}) Fault) → RowStep (fields_of d.header) d.header.yd d.walk d'.walk [] p' r → RowLeaves d.walk d'.walk [] p' r →
+    DecoderOn d d' [] [] (row_held d')
+row_given d d' late waits code keeps p' r step leaves text out s = (
+  [],
+  refl,
+  put_waits d' (text ++ []) (out ++ row_held d') (keeps.is_open ∙ late) (keeps.waits ∙ waits)
+      (keep_known d d' (text ++ []) keeps (known_more (fields_of d.header) d.height d.is_open text [] s.height))
+      (subst (λ k. WalkWaits (fields_of k) d'.walk d'.behind (text ++ []) (out ++ row_held d')) (sym keeps.header) (subst (λ b. WalkWaits (fields_of d.header) d'.walk b (text ++ []) (out ++ row_held d')) (sym keeps.behind) now)),
+) where
+  w : WalkWaits (fields_of d.header) d.walk d.behind text out
+  w = waits_of d text out late waits s
+
+  marked : HasMarker d.walk
+  marked = marker_of d.walk w.at code
+
+  whole : IsOk r × HasMarker d'.walk
+  whole = leaves.whole marked
+
+  code' : IsInCode d'.walk.stage
+  code' = inl (on_ok r _ whole.0 leaves.row).1
+
+  now : WalkWaits (fields_of d.header) d'.walk d.behind (text ++ []) (out ++ row_held d')
+  now = record {
+    done = w.done;
+    back = w.back;
+    text_is = append-nil text ∙ w.text_is;
+    walk = step_none (fields_of d.header) d.header.yd d.walk d'.walk p' (row_held d') (on_ok r _ whole.0 step.ok) w.done out w.walk;
+    at = inr (code', whole.1);
+    ungiven = leaves.place.given ∙ w.ungiven;
+    behind = behind_same (fields_of d.header) d.walk d'.walk d.behind w.back code code' leaves.place w.behind;
+  }
+
+-- a stripe ended
+pub stripe_ended : (d d' : PieceDecoder) → d.is_open ≡ true → d.waits ≡ true → SomeStand d → IsInCode d.walk.stage → KeepsDecoder d d' → (p' : List ℕ) (r : Result (Unit {0}) Fault) → Step (fields_of d.header) d.header.yd d.walk d'.walk [] p' r → (HasMarker d.walk → IsOk r) →
+    OnOk r (StripesOn (fields_of d.header) d.header.yd d.walk d'.walk [] p') → OnOk r (d.header.l0 < d.walk.left → d'.walk.stage ≡ stage.Head) →
+    OnOk r ((d'.walk.entities ≡ d.walk.entities + 1) × (d'.walk.left ≡ d.walk.left - d.header.l0) × (d'.walk.given ≡ d.walk.given) × (d'.walk.at ≡ None)) → StripeLeft d d'
+stripe_ended d d' late waits some code keeps p' r step whole read left next = record {
+  keeps = keeps;
+  entities = there.0;
+  given = there.2;
+  at = there.3;
+  stage = on_ok r _ ok left;
+  stands = λ text out s. subst (WalkStands (fields_of d.header) d.header.yd d'.walk text) (append-nil out) (step_none (fields_of d.header) d.header.yd d.walk d'.walk p' [] (on_ok r _ ok step.ok) text out s);
+  read = λ text out s.
+      let k = on_ok r _ ok read text out s in
+      subst (λ z. StripesRead (fields_of d.header) d.header.yd (Some z) (Some []) (d.walk.entities + 1) (cond d.walk.given 1 0) d'.walk.carried (Some []) (Some out)) (ap (λ z. text ++ z) (no_bytes k.0 p' k.1) ∙ append-nil text) k.2;
+} where
+  ok : IsOk r
+  ok = whole (marker_of d.walk (waits_of d some.0 some.1 late waits some.2).at code)
+
+  there : (d'.walk.entities ≡ d.walk.entities + 1) × (d'.walk.left ≡ d.walk.left - d.header.l0) × (d'.walk.given ≡ d.walk.given) × (d'.walk.at ≡ None)
+  there = on_ok r _ ok next
+
+-- ---- steps one after another
+
+pub on_compose : (d e d' : PieceDecoder) (p p1 p' row : List ℕ) → DecoderOn d e p p1 [] → DecoderOn e d' p1 p' row → DecoderOn d d' p p' row
+on_compose d e d' p p1 p' row on next text out s =
+    let a = on text out s in
+    let b = next (text ++ a.0) (out ++ []) a.2 in (
+      a.0 ++ b.0,
+      a.1 ∙ ap (λ z. a.0 ++ z) b.1 ∙ sym (append_assoc a.0 b.0 p'),
+      subst (λ z. DecoderStands d' z (out ++ row)) (append_assoc text a.0 b.0) (subst (λ z. DecoderStands d' ((text ++ a.0) ++ b.0) (z ++ row)) (append-nil out) b.2),
+    )
+
+pub on_none : (d e : PieceDecoder) (p : List ℕ) → ((text out : List ℕ) → DecoderStands d text out → DecoderStands e text out) → DecoderOn d e p p []
+on_none d e p k text out s = ([], refl, subst (λ z. DecoderStands e z (out ++ [])) (sym (append-nil text)) (subst (DecoderStands e text) (sym (append-nil out)) (k text out s)))
+
+module _ (is_all : Bool) (d e d' : PieceDecoder) (p p1 p' : List ℕ) (header : e.header ≡ d.header) (going : e.end ≡ d.end) (on : DecoderOn d e p p1 []) where
+  all_text : (text g rest : List ℕ) → p ≡ g ++ p1 → ((text ++ g) ++ p1) ++ rest ≡ (text ++ p) ++ rest
+  all_text text g rest is = ap (λ z. z ++ rest) (append_assoc text g p1 ∙ ap (λ z. text ++ z) (sym is))
+
+  broken_after : (all : Bool) (height : ℕ) (f : Fault) → EndsBroken all e p1 height f → EndsBroken all d p height f
+  broken_after all height f broken text out rest s follows =
+      let a = on text out s in
+      subst (λ k. HandsOut (fields_of k) ((text ++ p) ++ rest) height f out) header (subst (λ z. HandsOut (fields_of e.header) z height f out) (all_text text a.0 rest a.1)
+      (subst (λ z. HandsOut (fields_of e.header) (((text ++ a.0) ++ p1) ++ rest) height f z) (append-nil out) (broken (text ++ a.0) (out ++ []) rest a.2 follows)))
+
+  whole_after : (n : ℕ) → EndsWhole is_all e p1 n → EndsWhole is_all d p n
+  whole_after n whole text out rest s follows =
+      let a = on text out s in
+      subst (λ k. HoldsImage (fields_of k) ((text ++ p) ++ rest) n out) header (subst (λ z. HoldsImage (fields_of e.header) z n out) (all_text text a.0 rest a.1)
+      (subst (λ z. HoldsImage (fields_of e.header) (((text ++ a.0) ++ p1) ++ rest) n z) (append-nil out) (whole (text ++ a.0) (out ++ []) rest a.2 follows)))
+
+  pub leaves_after : (r : Option Outcome) → StepLeaves is_all e d' p1 p' r → StepLeaves is_all d d' p p' r
+  leaves_after r k = record {
+    header = k.header ∙ header;
+    going = k.going ∙ going;
+    on = λ is. on_compose d e d' p p1 p' [] on (k.on is);
+    row = λ is. on_compose d e d' p p1 p' (row_held d') on (k.row is);
+    more = λ is. let m = k.more is in (m.0, on_compose d e d' p p1 p' [] on m.1, λ w. broken_after true d'.height Truncated (m.2 w));
+    done = λ n is. let m = k.done n is in (m.0, whole_after n m.1);
+    broken = λ f is. broken_after is_all d'.height f (k.broken f is);
+  }
+
+-- a fault for good
+pub leaves_broken : (is_all : Bool) (d d' : PieceDecoder) (p p' : List ℕ) (f : Fault) → d'.header ≡ d.header → d'.end ≡ d.end → EndsBroken is_all d p d'.height f → StepLeaves is_all d d' p p' (Some (outcome.Broken f))
+leaves_broken is_all d d' p p' f header going broken = record {
+  header = header;
+  going = going;
+  on = λ e. absurd (none_some (sym e));
+  row = λ e. absurd (let bot : ⊥ = cc in bot);
+  more = λ e. absurd (let bot : ⊥ = cc in bot);
+  done = λ n e. absurd (let bot : ⊥ = cc in bot);
+  broken = λ g e. subst (EndsBroken is_all d p d'.height) (let k : f ≡ g = cc in k) broken;
+}
+
+pub leaves_done : (is_all : Bool) (d d' : PieceDecoder) (p p' : List ℕ) (n : ℕ) → d'.header ≡ d.header → d'.end ≡ d.end → d'.height ≡ n → EndsWhole is_all d p n → StepLeaves is_all d d' p p' (Some (outcome.Done n))
+leaves_done is_all d d' p p' n header going height whole = record {
+  header = header;
+  going = going;
+  on = λ e. absurd (none_some (sym e));
+  row = λ e. absurd (let bot : ⊥ = cc in bot);
+  more = λ e. absurd (let bot : ⊥ = cc in bot);
+  done = λ m e. let k : n ≡ m = cc in (height ∙ k, subst (EndsWhole is_all d p) k whole);
+  broken = λ g e. absurd (let bot : ⊥ = cc in bot);
+}
+
+-- ---- in the code
+
+-- a part of a piece was taken
+pub code_on : (d d' : PieceDecoder) (p front behind part' p' row : List ℕ) → d.is_open ≡ true → d.waits ≡ false → KeepsDecoder d d' → p ≡ front ++ behind → ((g : List ℕ) → front ≡ g ++ part' → p' ≡ part' ++ behind) →
+    StepsOn (fields_of d.header) d.header.yd d.walk d'.walk front part' row → IsInCode d'.walk.stage → d'.walk.given ≡ d.walk.given → DecoderOn d d' p p' row
+code_on d d' p front behind part' p' row late going keeps p_is rest on code given text out s =
+    let w = code_of d text out late going s in
+    let k = on text out w.walk in (
+      k.0,
+      p_is ∙ ap (λ z. z ++ behind) k.1 ∙ append_assoc k.0 part' behind ∙ ap (λ z. k.0 ++ z) (sym (rest k.0 k.1)),
+      put_code d' (text ++ k.0) (out ++ row) (keeps.is_open ∙ late) (keeps.waits ∙ going) (keep_known d d' (text ++ k.0) keeps (known_more (fields_of d.header) d.height d.is_open text k.0 s.height))
+          (subst (λ z. CodeWalks (fields_of z) d'.walk (text ++ k.0) (out ++ row)) (sym keeps.header) (record { walk = k.2; in_code = code; ungiven = given ∙ w.ungiven })),
+    )
+
+-- a fault in a part of the piece
+pub part_broken : (d : PieceDecoder) (p front behind : List ℕ) (fault : Fault) → d.is_open ≡ true → d.waits ≡ false → p ≡ front ++ behind → StepsOff (fields_of d.header) d.header.yd d.walk front fault → fault ≢ Changed → fault ≢ Truncated → (is_all : Bool) →
+    EndsBroken is_all d p d.height fault
+part_broken d p front behind fault late going p_is off other not_end is_all text out rest s follows =
+    subst (λ z. HandsOut (fields_of d.header) z d.height fault out) (sym (append_assoc (text ++ front) behind rest) ∙ ap (λ z. z ++ rest) (append_assoc text front behind ∙ ap (λ z. text ++ z) (sym p_is)))
+    (code_broken d front fault late going off other false (λ t. absurd (not_end t)) text out (behind ++ rest) s (λ e. absurd (true≢false (sym e))))
+
+-- an end marker is read ahead
+pub walk_ahead : (h : Fields) (height : ℕ) (w : Walk) (text out : List ℕ) (reset : Bool) → IsInCode w.stage → w.first ≡ None → w.marker ≡ None → WalkStands h height w text out →
+    WalkStands h height (record w { first = Some (code.Marker reset) }) (text ++ marker_bytes reset) out
+walk_ahead h height w text out reset in_code none unmarked s = record {
+  left_is = s.left_is;
+  width_is = s.width_is;
+  offset_is = s.offset_is;
+  at_is = s.at_is;
+  code_is = tt;
+  behind = subst (λ z. IfSome z (λ _. Some (code.Marker reset) ≡ None)) (sym unmarked) tt;
+  within = s.within;
+  stands = by in_code;
+} where
+  by : IsInCode w.stage → StageStands w.stage h height (record w { first = Some (code.Marker reset) }) (text ++ marker_bytes reset) out
+  by (inl e) = put_stage h height (record w { first = Some (code.Marker reset) }) (text ++ marker_bytes reset) out stage.Code e (code_ahead reset none unmarked (at_stage e s))
+  by (inr e) = put_stage h height (record w { first = Some (code.Marker reset) }) (text ++ marker_bytes reset) out stage.Row e (row_ahead reset none unmarked (at_stage e s))
+
+-- ---- the stripe before
+
+pub closed_none : (d d' : PieceDecoder) → d.is_open ≡ true → d.waits ≡ true → SomeStand d → (IsInCode d.walk.stage → ⊥) → KeepsDecoder d d' → d'.walk ≡ d.walk → StripeClosed d d'
+closed_none d d' late waits some outside keeps same = record {
+  keeps = keeps;
+  stage = ap (λ w. w.stage) same ∙ head.0;
+  entities = ap (λ w. w.entities) same ∙ sym (ap (λ z. entities_behind z d.walk.entities) head.0);
+  given = ap (λ w. w.given) same ∙ here.ungiven;
+  at = ap (λ w. w.at) same ∙ head.1;
+  stands = λ text out w. subst (λ z. WalkStands (fields_of d.header) d.header.yd z w.done out) (sym same) w.walk;
+} where
+  here : WalkWaits (fields_of d.header) d.walk d.behind some.0 some.1
+  here = waits_of d some.0 some.1 late waits some.2
+
+  head : (d.walk.stage ≡ stage.Head) × (d.walk.at ≡ None) × (d.walk.entities ≡ 0)
+  head = head_of d.walk here.at outside
+
+pub closed_ended : (d d' : PieceDecoder) → d.is_open ≡ true → d.waits ≡ true → SomeStand d → IsInCode d.walk.stage → last_behind (fields_of d.header) d.walk ≡ false → StripeLeft d d' → StripeClosed d d'
+closed_ended d d' late waits some code more e = record {
+  keeps = e.keeps;
+  stage = e.stage (let t = sym (in_code_last d.walk.stage (nat_le d.walk.left d.header.l0) code) ∙ more in grind (arith, nat_tests));
+  entities = e.entities ∙ sym (in_code_entities d.walk.stage d.walk.entities code);
+  given = e.given ∙ (waits_of d some.0 some.1 late waits some.2).ungiven;
+  at = e.at;
+  stands = λ text out w. e.stands w.done out w.walk;
+}
+
+pub marker_split : (reset : Bool) (p rest behind : List ℕ) → p ≡ marker_bytes reset ++ rest → behind ≡ drop 2 p → p ≡ marker_bytes reset ++ behind
+marker_split reset p rest behind is back = is ∙ ap (λ z. marker_bytes reset ++ z) (sym (back ∙ ap (drop 2) is))
+
+-- what is left of a piece
+pub part_left : (p front behind g part' p' : List ℕ) (n : ℕ) → p ≡ front ++ behind → front ≡ g ++ part' → n ≡ length front - length part' → p' ≡ drop n p → p' ≡ part' ++ behind
+part_left p front behind g part' p' n p_is front_is n_is back =
+    let long = length-append g part' in
+    let all : length front ≡ length (g ++ part') = ap length front_is in
+    let same : n ≡ length g = omega (arith, long, all, n_is) in
+    back ∙ ap (λ m. drop m p) same ∙ ap (drop (length g)) (p_is ∙ ap (λ z. z ++ behind) front_is ∙ append_assoc g part' behind) ∙ drop-append_seam g (part' ++ behind)
+
+pub split_is : (p front behind : List ℕ) (n : ℕ) → front ≡ take n p → behind ≡ drop n p → p ≡ front ++ behind
+split_is p front behind n f b = sym (take-append-drop n p) ∙ ap (λ z. z ++ drop n p) (sym f) ∙ ap (λ z. front ++ z) (sym b)
+
+-- what follows a part is shorter than all, where the part has a byte or what follows loses one
+pub shorter_rest : (p front behind p' : List ℕ) → p ≡ front ++ behind → length p' ≤ length behind → (length front ≡ 0 → length p' < length behind) → length p' < length p
+shorter_rest p front behind p' p_is le less =
+    let long = length-append front behind in
+    let all : length p ≡ length (front ++ behind) = ap length p_is in
+    by (cases_lt 0 (length front)) long all
+  where
+    by : (0 < length front) ⊎ (length front ≤ 0) → length (front ++ behind) ≡ length front + length behind → length p ≡ length (front ++ behind) → length p' < length p
+    by (inl some) long all = omega (arith, some, long, all, le)
+    by (inr none) long all = let l = less (omega (arith, none)) in omega (arith, l, long, all)
+
+-- an end marker at the front
+pub marker_front : (xs : List ℕ) (n b : ℕ) → n ≡ 0 → slice_index xs n ≡ 255 → slice_index xs (n + 1) ≡ b → n + 1 < length xs → xs ≡ 255 ∷ b ∷ drop 2 xs
+marker_front [] n b zero first second some = absurd (omega (arith, some))
+marker_front (x ∷ []) n b zero first second some = absurd (omega (arith, some))
+marker_front (x ∷ y ∷ xs) n b zero first second some =
+    let e : x ≡ 255 = ap (slice_index (x ∷ y ∷ xs)) (sym zero) ∙ first in
+    let one : n + 1 ≡ 1 = omega (arith, zero) in
+    let f : y ≡ b = ap (slice_index (x ∷ y ∷ xs)) (sym one) ∙ second in
+    ap (λ z. z ∷ y ∷ xs) e ∙ ap (λ z. 255 ∷ z ∷ xs) f
+
+same_left : {m n : ℕ} → Some m ≡ Some n → m ≡ n
+same_left e = cc
+
+-- ---- the head of the next stripe
+
+module _ (h : Fields) (w : Walk) (b : Behind) (place : Place) (done back out : List ℕ) (s : WalkStands h h.yd w done out) (is : w.stage ≡ stage.Head) (none : w.at ≡ None) (ungiven : w.given ≡ false) (entities : place ≡ record { height = h.yd; entities = w.entities; given = false })
+    (bs : BehindStands h place false b back) where
+  bare : HeadStands h h.yd w.entities false None w.carried done out
+  bare = subst (λ a. HeadStands h h.yd w.entities false a w.carried done out) none (subst (λ g. HeadStands h h.yd w.entities g w.at w.carried done out) ungiven (at_stage is s))
+
+  full : HeadStands h h.yd w.entities w.given b.at w.carried (done ++ bs.front) out
+  full = subst (λ g. HeadStands h h.yd w.entities g b.at w.carried (done ++ bs.front) out) (sym ungiven) (head_behind entities bare bs.passed)
+
+  pub head_walk : b.comment ≡ None → WalkStands h h.yd (record w { at = b.at }) (done ++ back) out
+  head_walk between = record {
+    left_is = s.left_is;
+    width_is = s.width_is;
+    offset_is = s.offset_is;
+    at_is = bs.at_is;
+    code_is = s.code_is;
+    behind = s.behind;
+    within = s.within;
+    stands = put_stage h h.yd (record w { at = b.at }) (done ++ back) out stage.Head is (subst (λ z. HeadStands h h.yd w.entities w.given b.at w.carried (done ++ z) out) (sym (front_is bs between)) full);
+  }
+
+  pub comment_walk : (left : ℕ) → b.comment ≡ Some left → WalkStands h h.yd (record w { at = b.at; comment = left; stage = stage.Comment }) (done ++ back) out
+  comment_walk left inside =
+      let k = part_of bs left inside in
+      record {
+        left_is = s.left_is;
+        width_is = s.width_is;
+        offset_is = s.offset_is;
+        at_is = bs.at_is;
+        code_is = s.code_is;
+        behind = s.behind;
+        within = s.within;
+        stands = record {
+          before = done ++ bs.front;
+          head = full;
+          part = k.0;
+          small = k.1;
+          text_is = ap (λ z. done ++ z) k.2 ∙ sym (append_assoc done bs.front (ESC ∷ COMMENT ∷ (big_bytes 4 (length k.0 + left) ++ k.0)));
+        };
+      }
+
+module _ (d e d' : PieceDecoder) (closed : StripeClosed d e) (keeps : KeepsDecoder e d') (more : last_behind (fields_of d.header) d.walk ≡ false) where
+  all_keeps : KeepsDecoder d d'
+  all_keeps = record {
+    header = keeps.header ∙ closed.keeps.header;
+    height = keeps.height ∙ closed.keeps.height;
+    is_open = keeps.is_open ∙ closed.keeps.is_open;
+    waits = keeps.waits ∙ closed.keeps.waits;
+    behind = keeps.behind ∙ closed.keeps.behind;
+    going = keeps.going ∙ closed.keeps.going;
+  }
+
+  place_is : place_behind (fields_of d.header) d.walk ≡ record { height = d.header.yd; entities = e.walk.entities; given = false }
+  place_is = ap at_entities (sym closed.entities) where
+    at_entities : ℕ → Place
+    at_entities n = record { height = d.header.yd; entities = n; given = false }
+
+  there : {text out : List ℕ} (w : WalkWaits (fields_of d.header) d.walk d.behind text out) → BehindStands (fields_of d.header) (place_behind (fields_of d.header) d.walk) false d.behind w.back
+  there w = subst (λ l. BehindStands (fields_of d.header) (place_behind (fields_of d.header) d.walk) l d.behind w.back) more w.behind
+
+  pub entered_none : d.behind.comment ≡ None → d'.walk ≡ record e.walk { at = d.behind.at } → HeadEntered d d'
+  entered_none between walk = record {
+    keeps = all_keeps;
+    stage = ap (λ w. w.stage) walk ∙ closed.stage ∙ sym (ap head_stage between);
+    comment = λ n is. absurd (none_some (sym between ∙ is));
+    entities = ap (λ w. w.entities) walk ∙ closed.entities;
+    given = ap (λ w. w.given) walk ∙ closed.given;
+    at = ap (λ w. w.at) walk;
+    stands = λ text out w. subst (λ z. WalkStands (fields_of d.header) d.header.yd z text out) (sym walk) (subst (λ z. WalkStands (fields_of d.header) d.header.yd (record e.walk { at = d.behind.at }) z out) (sym w.text_is)
+        (head_walk (fields_of d.header) e.walk d.behind (place_behind (fields_of d.header) d.walk) w.done w.back out (closed.stands text out w) closed.stage closed.at closed.given place_is (there w) between));
+  }
+
+  pub entered_some : (left : ℕ) → d.behind.comment ≡ Some left → d'.walk ≡ record e.walk { at = d.behind.at; comment = left; stage = stage.Comment } → HeadEntered d d'
+  entered_some left inside walk = record {
+    keeps = all_keeps;
+    stage = ap (λ w. w.stage) walk ∙ sym (ap head_stage inside);
+    comment = λ n is. ap (λ w. w.comment) walk ∙ same_left (sym inside ∙ is);
+    entities = ap (λ w. w.entities) walk ∙ closed.entities;
+    given = ap (λ w. w.given) walk ∙ closed.given;
+    at = ap (λ w. w.at) walk;
+    stands = λ text out w. subst (λ z. WalkStands (fields_of d.header) d.header.yd z text out) (sym walk) (subst (λ z. WalkStands (fields_of d.header) d.header.yd (record e.walk { at = d.behind.at; comment = left; stage = stage.Comment }) z out) (sym w.text_is)
+        (comment_walk (fields_of d.header) e.walk d.behind (place_behind (fields_of d.header) d.walk) w.done w.back out (closed.stands text out w) closed.stage closed.at closed.given place_is (there w) left inside));
+  }
+
+-- ---- what comes behind
+
+-- a code begins
+pub code_entered : (d e d' : PieceDecoder) (c : code_type.Code) (dec : Decoder) (p rest : List ℕ) → d.is_open ≡ true → d.waits ≡ true → HeadEntered d e → d.behind.comment ≡ None → IsByteOrMarker c → DecoderIsAt dec start [] → p ≡ code_bytes c ++ rest →
+    d'.header ≡ e.header → d'.height ≡ e.height → d'.is_open ≡ e.is_open → d'.waits ≡ false → d'.walk ≡ record e.walk { decoder = dec; stage = stage.Code; row = 0; first = Some c; marker = None } → DecoderOn d d' p rest []
+code_entered d e d' c dec p rest late waits head between is at p_is header height is_open going walk text out s = (
+  code_bytes c,
+  p_is,
+  put_code d' (text ++ code_bytes c) (out ++ []) (is_open ∙ head.keeps.is_open ∙ late) going
+      (subst (λ z. HeightKnown (fields_of z) d'.height d'.is_open (text ++ code_bytes c)) (sym (header ∙ head.keeps.header)) (subst (λ n. HeightKnown (fields_of d.header) n d'.is_open (text ++ code_bytes c)) (sym (height ∙ head.keeps.height))
+      (subst (λ b. HeightKnown (fields_of d.header) d.height b (text ++ code_bytes c)) (sym (is_open ∙ head.keeps.is_open)) (known_more (fields_of d.header) d.height d.is_open text (code_bytes c) s.height))))
+      (subst (λ z. CodeWalks (fields_of z) d'.walk (text ++ code_bytes c) (out ++ [])) (sym (header ∙ head.keeps.header)) (subst (λ w. CodeWalks (fields_of d.header) w (text ++ code_bytes c) (out ++ [])) (sym walk) now)),
+) where
+  there : WalkStands (fields_of d.header) d.header.yd e.walk text out
+  there = head.stands text out (waits_of d text out late waits s)
+
+  in_head : HeadStands (fields_of d.header) d.header.yd e.walk.entities e.walk.given e.walk.at e.walk.carried text out
+  in_head = at_stage (head.stage ∙ ap head_stage between) there
+
+  now : CodeWalks (fields_of d.header) (record e.walk { decoder = dec; stage = stage.Code; row = 0; first = Some c; marker = None }) (text ++ code_bytes c) (out ++ [])
+  now = record {
+    walk = subst (WalkStands (fields_of d.header) d.header.yd (record e.walk { decoder = dec; stage = stage.Code; row = 0; first = Some c; marker = None }) (text ++ code_bytes c)) (sym (append-nil out)) (record {
+      left_is = there.left_is;
+      width_is = there.width_is;
+      offset_is = there.offset_is;
+      at_is = there.at_is;
+      code_is = is;
+      behind = tt;
+      within = there.within;
+      stands = head_code in_head c is dec at;
+    });
+    in_code = inl refl;
+    ungiven = head.given;
+  }
+
+pub code_some : (c : code_type.Code) (p rest : List ℕ) → p ≡ code_bytes c ++ rest → length rest < length p
+code_some (code.Byte b) p rest e = by (stuff_cases b) where
+  by : ((b ≡ 255) × (stuff b ≡ 255 ∷ 0 ∷ [])) ⊎ ((b ≢ 255) × (stuff b ≡ b ∷ [])) → length rest < length p
+  by (inl k) = let z : length p ≡ length (255 ∷ 0 ∷ rest) = ap length (e ∙ stuffed_cons b [] rest ∙ ap (λ z. z ++ rest) k.1) in omega (arith, z)
+  by (inr k) = let z : length p ≡ length (b ∷ rest) = ap length (e ∙ stuffed_cons b [] rest ∙ ap (λ z. z ++ rest) k.1) in omega (arith, z)
+code_some (code.Marker true) p rest e = let z : length p ≡ length (255 ∷ 3 ∷ rest) = ap length e in omega (arith, z)
+code_some (code.Marker false) p rest e = let z : length p ≡ length (255 ∷ 2 ∷ rest) = ap length e in omega (arith, z)
+
+-- a fault comes next
+module _ (d e : PieceDecoder) (q : CoderLaws) (late : d.is_open ≡ true) (waits : d.waits ≡ true) (head : HeadEntered d e) (p : List ℕ) (f : Fault) (stops : StopsBehind (fields_of d.header) (place_behind (fields_of d.header) d.walk) false d.behind p f) where
+  behind_off : (text out : List ℕ) → DecoderStands d text out → CutOff (fields_of d.header) d.header.yd (text ++ p) out f × (f ≢ Changed)
+  behind_off text out s = by d.behind.comment refl stops.breaks where
+    there : WalkStands (fields_of d.header) d.header.yd e.walk text out
+    there = head.stands text out (waits_of d text out late waits s)
+
+    by : (o : Option ℕ) → d.behind.comment ≡ o → BreaksBehind (fields_of d.header) (place_behind (fields_of d.header) d.walk) false d.behind o p f → CutOff (fields_of d.header) d.header.yd (text ++ p) out f × (f ≢ Changed)
+    by None is (unread, ends) =
+        let k : HeadStands (fields_of d.header) d.header.yd e.walk.entities e.walk.given e.walk.at e.walk.carried text out = at_stage (head.stage ∙ ap head_stage is) there in (
+          head_cut k q (own_height d.header) p unread f stops.counted
+              (subst (λ a. Ends Truncated (Some p) (Some unread) (PieceFault (fields_of d.header) (record { height = d.header.yd; entities = e.walk.entities; given = e.walk.given }) (is_some a)) f) (sym head.at)
+              (subst (λ g. Ends Truncated (Some p) (Some unread) (PieceFault (fields_of d.header) (record { height = d.header.yd; entities = e.walk.entities; given = g }) (is_some d.behind.at)) f) (sym head.given)
+              (subst (λ n. Ends Truncated (Some p) (Some unread) (PieceFault (fields_of d.header) (record { height = d.header.yd; entities = n; given = false }) (is_some d.behind.at)) f) (sym head.entities) ends))),
+          piece_other (fields_of d.header) (place_behind (fields_of d.header) d.walk) (is_some d.behind.at) refl ends.given f (subst (PieceFault (fields_of d.header) (place_behind (fields_of d.header) d.walk) (is_some d.behind.at) ends.given) stops.counted ends.has_fault),
+        )
+    by (Some left) is (short, ended) =
+        let k : CommentStands (fields_of d.header) d.header.yd e.walk.entities e.walk.given e.walk.at e.walk.carried e.walk.comment text out = at_stage (head.stage ∙ ap head_stage is) there in (
+          subst (CutOff (fields_of d.header) d.header.yd (text ++ p) out) (sym ended) (comment_off k q (own_height d.header) p (subst (λ n. length p < n) (sym (head.comment left is)) short)),
+          (λ t. let z : Truncated ≡ Changed = sym ended ∙ t in cc),
+        )
+
+  pub behind_broken : (is_all : Bool) → (f ≡ Truncated → is_all ≡ true) → EndsBroken is_all d p e.height f
+  behind_broken is_all all text out rest s follows =
+      let k = behind_off text out s in
+      subst (λ n. HandsOut (fields_of d.header) ((text ++ p) ++ rest) n f out) (sym (head.keeps.height ∙ s.height.first late)) (cut_hands_first (fields_of d.header) (text ++ p) out rest f (own_height d.header) k.1 (λ t. follows (all t)) k.0)
+
+-- of the same decoder
+pub leaves_of : {is_all : Bool} {d0 d d' : PieceDecoder} {p p' : List ℕ} {r : Option Outcome} → d0 ≡ d → StepLeaves is_all d0 d' p p' r → StepLeaves is_all d d' p p' r
+leaves_of {is_all} {d0} {d} {d'} {p} {p'} {r} same k = subst (λ z. StepLeaves is_all z d' p p' r) same k
+
+-- ---- where the height is known
+
+module _ (d : PieceDecoder) (known : d.is_open ≡ false) where
+  known_of : (text more : List ℕ) → HeightKnown (fields_of d.header) d.height d.is_open text → HasHeight (fields_of d.header) (text ++ more) d.height
+  known_of text more k = height_known (fields_of d.header) d.height text more (own_height d.header).accepted (subst (λ b. HeightKnown (fields_of d.header) d.height b text) known k)
+
+  pub turn_on : (d' : PieceDecoder) (p p' row : List ℕ) → KeepsDecoder d d' → StepsOn (fields_of d.header) d.height d.walk d'.walk p p' row → DecoderOn d d' p p' row
+  turn_on d' p p' row keeps on text out s =
+      let k = on text out (walks_of d text out known s) in (
+        k.0,
+        k.1,
+        put_walks d' (text ++ k.0) (out ++ row) (keeps.is_open ∙ known) (keep_known d d' (text ++ k.0) keeps (known_more (fields_of d.header) d.height d.is_open text k.0 s.height))
+            (subst (λ z. WalkStands (fields_of z) d'.height d'.walk (text ++ k.0) (out ++ row)) (sym keeps.header) (subst (λ n. WalkStands (fields_of d.header) n d'.walk (text ++ k.0) (out ++ row)) (sym keeps.height) k.2)),
+      )
+
+  pub turn_whole : (w : Walk) (p p' : List ℕ) → StepsOn (fields_of d.header) d.height d.walk w p p' [] → w.stage ≡ stage.Done → (is_all : Bool) → EndsWhole is_all d p d.height
+  turn_whole w p p' on done is_all text out rest s follows =
+      let k = on text out (walks_of d text out known s) in
+      let body : (text ++ k.0) ++ (p' ++ rest) ≡ (text ++ p) ++ rest = append_assoc text k.0 (p' ++ rest) ∙ ap (λ z. text ++ z) (sym (append_assoc k.0 p' rest) ∙ ap (λ z. z ++ rest) (sym k.1)) ∙ sym (append_assoc text p rest) in
+      subst (λ z. HoldsImage (fields_of d.header) z d.height out) body
+      (read_holds (fields_of d.header) d.height (text ++ k.0) out (p' ++ rest) (subst (λ z. HasHeight (fields_of d.header) z d.height) (sym (append_assoc text k.0 (p' ++ rest))) (known_of text (k.0 ++ (p' ++ rest)) s.height))
+      (at_stage done (subst (WalkStands (fields_of d.header) d.height w (text ++ k.0)) (append-nil out) k.2)))
+
+  pub turn_broken : (p : List ℕ) (f : Fault) → StepsOff (fields_of d.header) d.height d.walk p f → (is_all : Bool) → (f ≡ Truncated → is_all ≡ true) → EndsBroken is_all d p d.height f
+  turn_broken p f off is_all all text out rest s follows =
+      cut_hands (fields_of d.header) d.height (text ++ p) out rest f (subst (λ z. HasHeight (fields_of d.header) z d.height) (sym (append_assoc text p rest)) (known_of text (p ++ rest) s.height)) (λ t. follows (all t)) (off text out (walks_of d text out known s))
+
+-- more is wanted behind a marker
+pub leaves_more : (is_all : Bool) (d d' : PieceDecoder) (p p' : List ℕ) → d'.header ≡ d.header → d'.end ≡ d.end → is_all ≡ false → d'.waits ≡ true → DecoderOn d d' p p' [] → StepLeaves is_all d d' p p' (Some outcome.More)
+leaves_more is_all d d' p p' header going open_ waits on = record {
+  header = header;
+  going = going;
+  on = λ e. absurd (none_some (sym e));
+  row = λ e. absurd (let bot : ⊥ = cc in bot);
+  more = λ _. (open_, on, λ w. absurd (true≢false (sym waits ∙ w)));
+  done = λ n e. absurd (let bot : ⊥ = cc in bot);
+  broken = λ f e. absurd (let bot : ⊥ = cc in bot);
+}
+
+pub fewer_after : (d d1 d' : PieceDecoder) (p p1 p' : List ℕ) → d1.waits ≡ d.waits → length p1 ≤ length p → steps_left d' p' < steps_left d1 p1 → steps_left d' p' < steps_left d p
+fewer_after d d1 d' p p1 p' same le less = let k : steps_left d' p' < 2 * length p1 + cond {A = ℕ} d.waits 0 1 = subst (λ b. steps_left d' p' < 2 * length p1 + cond {A = ℕ} b 0 1) same less in omega (arith, k, le)
+
+-- before the first byte
+pub started : (d : PieceDecoder) → d.is_open ≡ is_variable (fields_of d.header) → d.waits ≡ d.is_open → d.height ≡ d.header.yd → IsFirstWalk d.walk → WalkStands (fields_of d.header) d.header.yd d.walk [] [] → d.behind.at ≡ None → d.behind.comment ≡ None → DecoderStands d [] []
+started d open_is waits height first s at comment = by d.is_open refl where
+  known : HeightKnown (fields_of d.header) d.height d.is_open []
+  known = record {
+    variable = λ e. sym open_is ∙ e;
+    first = λ _. height;
+    came = λ closed v. absurd (true≢false (sym v ∙ sym open_is ∙ closed));
+    fixed = λ _ _. height;
+  }
+
+  by : (b : Bool) → d.is_open ≡ b → DecoderStands d [] []
+  by true e = put_waits d [] [] e (waits ∙ e) known (waits_first (fields_of d.header) d.walk d.behind [] [] s (inl (first.stage, first.at, first.entities)) first.given at comment)
+  by false e = put_walks d [] [] e known (subst (λ n. WalkStands (fields_of d.header) n d.walk [] []) (sym height) s)
+
+-- the same but for how the stream has ended
+pub stands_same : (d d' : PieceDecoder) (text out : List ℕ) → d'.header ≡ d.header → d'.height ≡ d.height → d'.is_open ≡ d.is_open → d'.waits ≡ d.waits → d'.walk ≡ d.walk → d'.behind ≡ d.behind → DecoderStands d text out → DecoderStands d' text out
+stands_same d d' text out header height is_open waits walk behind s = by d.is_open d.waits refl refl where
+  known : HeightKnown (fields_of d'.header) d'.height d'.is_open text
+  known = subst (λ z. HeightKnown (fields_of z) d'.height d'.is_open text) (sym header) (subst (λ n. HeightKnown (fields_of d.header) n d'.is_open text) (sym height) (subst (λ b. HeightKnown (fields_of d.header) d.height b text) (sym is_open) s.height))
+
+  by : (a b : Bool) → d.is_open ≡ a → d.waits ≡ b → DecoderStands d' text out
+  by false b e f = put_walks d' text out (is_open ∙ e) known
+      (subst (λ z. WalkStands (fields_of z) d'.height d'.walk text out) (sym header) (subst (λ n. WalkStands (fields_of d.header) n d'.walk text out) (sym height) (subst (λ w. WalkStands (fields_of d.header) d.height w text out) (sym walk) (walks_of d text out e s))))
+  by true false e f = put_code d' text out (is_open ∙ e) (waits ∙ f) known (subst (λ z. CodeWalks (fields_of z) d'.walk text out) (sym header) (subst (λ w. CodeWalks (fields_of d.header) w text out) (sym walk) (code_of d text out e f s)))
+  by true true e f = put_waits d' text out (is_open ∙ e) (waits ∙ f) known
+      (subst (λ z. WalkWaits (fields_of z) d'.walk d'.behind text out) (sym header) (subst (λ w. WalkWaits (fields_of d.header) w d'.behind text out) (sym walk) (subst (λ b. WalkWaits (fields_of d.header) d.walk b text out) (sym behind) (waits_of d text out e f s))))
+
+-- ---- calls
+
+pub taken_is : (p p' g : List ℕ) → p ≡ g ++ p' → take (length p - length p') p ≡ g
+taken_is p p' g e =
+    let long = length-append g p' in
+    let all : length p ≡ length (g ++ p') = ap length e in
+    let same : length p - length p' ≡ length g = omega (arith, long, all) in
+    ap (λ n. take n p) same ∙ ap (take (length g)) e ∙ take-append_seam g p'
+
+-- it goes on
+pub call_on : (d e d' : PieceDecoder) (p p' row : List ℕ) (taken : ℕ) → taken ≡ length p - length p' → d'.header ≡ e.header → d'.height ≡ e.height → d'.is_open ≡ e.is_open → d'.waits ≡ e.waits → d'.walk ≡ e.walk → d'.behind ≡ e.behind → d'.end ≡ None → DecoderOn d e p p' row →
+    (text out : List ℕ) → HasDecoded d text out → HasDecoded d' (text ++ take taken p) (out ++ row)
+call_on d e d' p p' row taken count header height is_open waits walk behind going on text out s =
+    let k = on text out s.stands in
+    record { going = going; stands = subst (λ z. DecoderStands d' (text ++ z) (out ++ row)) (sym (taken_is p p' k.0 k.1) ∙ ap (λ n. take n p) (sym count)) (stands_same e d' (text ++ k.0) (out ++ row) header height is_open waits walk behind k.2) }
+
+pub goes_on : (r : Outcome) → end_in r ≡ None → (r ≡ outcome.Row) ⊎ (r ≡ outcome.More)
+goes_on outcome.Row e = inl refl
+goes_on outcome.More e = inr refl
+goes_on (outcome.Done n) e = absurd (none_some (sym e))
+goes_on (outcome.Broken f) e = absurd (none_some (sym e))
+
+-- it has taken some bytes still, unless it ends
+pub call_decodes : (d e d' : PieceDecoder) (p p' row : List ℕ) (r : Outcome) → d'.header ≡ e.header → d'.height ≡ e.height → d'.is_open ≡ e.is_open → d'.waits ≡ e.waits → d'.walk ≡ e.walk → d'.behind ≡ e.behind → d'.end ≡ end_in r →
+    (r ≡ outcome.Row → DecoderOn d e p p' row) → (r ≡ outcome.More → DecoderOn d e p p' []) → IsDecoding d → d.end ≡ None → IsDecoding d'
+call_decodes d e d' p p' row r header height is_open waits walk behind ended on_row on_more some going still = went (goes_on r (sym ended ∙ still)) where
+  went : (r ≡ outcome.Row) ⊎ (r ≡ outcome.More) → (text : List ℕ) × (out : List ℕ) × HasDecoded d' text out
+  went (inl is) = let s = some going in (s.0 ++ take (length p - length p') p, s.1 ++ row, call_on d e d' p p' row (length p - length p') refl header height is_open waits walk behind still (on_row is) s.0 s.1 s.2)
+  went (inr is) = let s = some going in (s.0 ++ take (length p - length p') p, s.1 ++ [], call_on d e d' p p' [] (length p - length p') refl header height is_open waits walk behind still (on_more is) s.0 s.1 s.2)

@@ -1,0 +1,23 @@
+-- An image that is read by a buffer, and what its reader then has left.
+use Rattle.std.proofs.Common.{◌≡◌, ◌⊎◌, inl, inr, ℕ, Bool, List, [], Option, Result, sym, ap, ◌∙◌, subst}
+use Rattle.std.specs.Io.KnownBytes.{prepend_known}
+use Rattle.t85_core.specs.declared.fault.Fault.{Fault}
+use Rattle.t85_core.specs.Change.{Change, between}
+use Rattle.t85_core.specs.Jbg.{Settings}
+use Rattle.t85_core.specs.ToJbg.{ToJbg, ToJbgAhead}
+
+-- the reader as it is before it is lent and when its loan ends
+pub read_ahead : {R : Type 0} (remaining : R → Option (List ℕ)) (failures : R → ℕ) (s : Settings) (output : Change) (flushed : Bool) (held : List ℕ) (start reader reader' : R) (known : Option (List ℕ)) (count : ℕ) (r : Result (Unit {0}) Fault)
+    → known ≡ remaining start → count ≡ failures start → reader ≡ reader' → (failures reader ≡ count) ⊎ (held ≡ [])
+    → ToJbg s (between known (prepend_known held (remaining reader)) count (failures reader)) output flushed r
+    → ToJbgAhead s (between (remaining start) (remaining reader') (failures start) (failures reader')) output flushed r
+read_ahead {R} remaining failures s output flushed held start reader reader' known count r same_known same_count same drained leaves = record {
+  ahead = held;
+  leaves = subst (λ x. ToJbg s (between (remaining start) (prepend_known held (remaining x)) (failures start) (failures x)) output flushed r) same
+      (subst (λ z. ToJbg s (between z (prepend_known held (remaining reader)) (failures start) (failures reader)) output flushed r) same_known
+      (subst (λ z. ToJbg s (between known (prepend_known held (remaining reader)) z (failures reader)) output flushed r) same_count leaves));
+  none_unread = went drained;
+} where
+  went : (failures reader ≡ count) ⊎ (held ≡ []) → (failures reader' ≡ failures start) ⊎ (held ≡ [])
+  went (inl e) = inl (sym (ap failures same) ∙ e ∙ same_count)
+  went (inr none) = inr none

@@ -1,0 +1,14 @@
+use Rattle.std.proofs.Common.{◌≡◌, []}
+use Rattle.t85_core.specs.Steps.PieceSteps.{DecoderOn, SomeStand, steps_left}
+use Rattle.t85_core.proofs.pieces.PieceDecoder.go_on.Given as goal
+
+abbrev pub invariant-steps : goal.invariant-steps
+invariant-steps l = record {
+  header : l.self.header ≡ l.fn.self.header;
+  going : l.self.end ≡ l.fn.self.end;
+  stands : SomeStand l.self;
+  so_far : DecoderOn l.fn.self l.self l.fn.piece.rest.now l.piece.rest.now [];
+}
+
+abbrev pub decreases-steps : goal.decreases-steps
+decreases-steps l = steps_left l.self l.piece.rest.now

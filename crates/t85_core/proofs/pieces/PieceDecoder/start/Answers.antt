@@ -1,0 +1,6 @@
+use Rattle.std.proofs.Common.{refl}
+use Rattle.t85_core.proofs.Decodings.PieceStood.{started}
+use Rattle.t85_core.proofs.pieces.PieceDecoder.start.Goals as goal
+
+pub returns-clause-none : goal.returns-clause-none
+returns-clause-none c = record { going = refl; stands = started _ c.is_variable-is_open.ensures refl refl c.start.ensures.first c.start.ensures.stands c.start-2.ensures.at c.start-2.ensures.comment }

@@ -1,0 +1,12 @@
+use Rattle.std.proofs.Common.{◌≡◌, ◌∙◌, refl, ap, rules}
+use Rattle.t85_core.proofs.Decodings.PieceStood.{leaves_of, leaves_on, code_entered}
+use Rattle.t85_core.proofs.pieces.PieceDecoder.take_code.Goals as goal
+
+pub returns-clause-leaves : goal.returns-clause-leaves
+returns-clause-leaves c = λ is_all.
+    let above = c.gives_below.ensures.stays (search rules) in
+    let h = c.enter_head.ensures.head in
+    leaves_of above.same
+    (leaves_on is_all c.gives_below.new.self _ c.args.piece.now.rest.now c.args.rest.now h.keeps.header h.keeps.going
+    (code_entered c.gives_below.new.self c.enter_head.new.self _ c.args.code c.start-self.result c.args.piece.now.rest.now c.args.rest.now (ap (λ z. z.is_open) above.same ∙ c.requires.late) (ap (λ z. z.waits) above.same ∙ c.requires.waits) h
+    (ap (λ z. z.behind.comment) above.same ∙ c.requires.between) c.requires.code c.start-self.ensures.stands c.requires.comes refl refl refl refl refl))

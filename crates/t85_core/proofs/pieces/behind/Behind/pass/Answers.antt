@@ -1,0 +1,61 @@
+use Rattle.std.proofs.Common.{◌≡◌, ◌++◌, None, refl, sym, ap, ◌∙◌, subst, arith}
+use Rattle.t85_core.specs.Options.{fields_of}
+use Rattle.t85_core.specs.Grammar.{Move, Comment, segment_bytes}
+use Rattle.t85_core.specs.Steps.Behind.{BehindOn, BreaksBehind, StopsBehind, move_came}
+use Rattle.t85_core.specs.Steps.Segments.{PieceFault}
+use Rattle.t85_core.specs.Failures.{Ends}
+use Rattle.t85_core.specs.declared.fault.Fault.TheVariants.{Truncated}
+use Rattle.t85_core.proofs.Decodings.PieceBehind.{behind_then, behind_move, behind_comment}
+use Rattle.t85_core.proofs.Decodings.PieceHead.{counted_of}
+use Rattle.t85_core.proofs.pieces.behind.Behind.pass.Goals as goal
+
+pub returns-in_err-leave_comment-clause-on : goal.returns-in_err-leave_comment-clause-on
+returns-in_err-leave_comment-clause-on c =
+    behind_then (fields_of c.args.header.now) c.args.place c.args.is_last c.args.self.now c.segments.self c.leave_comment.new.self c.args.piece.now.rest.now c.segments.piece.rest.now c.leave_comment.new.piece.rest.now c.segments.invariant.so_far c.leave_comment.ensures.on
+
+pub segments-preserved-in-Continue-branch-2 : goal.segments-preserved-in-Continue-branch-2
+segments-preserved-in-Continue-branch-2 c = record {
+  so_far = behind_then (fields_of c.args.header.now) c.args.place c.args.is_last c.args.self.now c.leave_comment.new.self c.enter_comment.new.self c.args.piece.now.rest.now c.leave_comment.new.piece.rest.now c.enter_comment.new.piece.rest.now
+      (behind_then (fields_of c.args.header.now) c.args.place c.args.is_last c.args.self.now c.segments.self c.leave_comment.new.self c.args.piece.now.rest.now c.segments.piece.rest.now c.leave_comment.new.piece.rest.now c.segments.invariant.so_far c.leave_comment.ensures.on)
+      c.enter_comment.ensures.on;
+}
+
+pub returns-in_err-enter_comment-clause-on : goal.returns-in_err-enter_comment-clause-on
+returns-in_err-enter_comment-clause-on c =
+    behind_then (fields_of c.args.header.now) c.args.place c.args.is_last c.args.self.now c.leave_comment.new.self c.enter_comment.new.self c.args.piece.now.rest.now c.leave_comment.new.piece.rest.now c.enter_comment.new.piece.rest.now
+    (behind_then (fields_of c.args.header.now) c.args.place c.args.is_last c.args.self.now c.segments.self c.leave_comment.new.self c.args.piece.now.rest.now c.segments.piece.rest.now c.leave_comment.new.piece.rest.now c.segments.invariant.so_far c.leave_comment.ensures.on)
+    c.enter_comment.ensures.on
+
+pub returns-in_err-to-clause-on : goal.returns-in_err-to-clause-on
+returns-in_err-to-clause-on c =
+    behind_then (fields_of c.args.header.now) c.args.place c.args.is_last c.args.self.now c.segments.self c.leave_comment.new.self c.args.piece.now.rest.now c.segments.piece.rest.now c.leave_comment.new.piece.rest.now c.segments.invariant.so_far c.leave_comment.ensures.on
+
+pub segments-preserved-in-Move : goal.segments-preserved-in-Move
+segments-preserved-in-Move c =
+    let h = rw c.in-Move.is at c.in_ok-to.ensures.ok in
+    record {
+      so_far = behind_then (fields_of c.args.header.now) c.args.place c.args.is_last c.args.self.now c.leave_comment.new.self _ c.args.piece.now.rest.now c.leave_comment.new.piece.rest.now c.next_piece.new.stream.rest.now
+          (behind_then (fields_of c.args.header.now) c.args.place c.args.is_last c.args.self.now c.segments.self c.leave_comment.new.self c.args.piece.now.rest.now c.segments.piece.rest.now c.leave_comment.new.piece.rest.now c.segments.invariant.so_far c.leave_comment.ensures.on)
+          (λ back s. (
+            segment_bytes (Move c.in-Move.to.row c.in-Move.to.offset),
+            h.1.taken,
+            behind_move s c.in_ok-leave_comment.ensures.ok c.in-Move.to (sym c.is_moved.ensures ∙ h.0) h.1.legal (let low = h.1.legal.1 in let most = c.args.header.now.in_range in omega (arith, low, most)),
+          ));
+    }
+
+pub segments-preserved : goal.segments-preserved
+segments-preserved c =
+    let h = rw c.in-Comment.is at c.in_ok-to.ensures.ok in
+    record {
+      so_far = behind_then (fields_of c.args.header.now) c.args.place c.args.is_last c.args.self.now c.leave_comment.new.self c.leave_comment.new.self c.args.piece.now.rest.now c.leave_comment.new.piece.rest.now c.next_piece.new.stream.rest.now
+          (behind_then (fields_of c.args.header.now) c.args.place c.args.is_last c.args.self.now c.segments.self c.leave_comment.new.self c.args.piece.now.rest.now c.segments.piece.rest.now c.leave_comment.new.piece.rest.now c.segments.invariant.so_far c.leave_comment.ensures.on)
+          (λ back s. (segment_bytes (Comment h.0), h.1.taken, behind_comment s c.in_ok-leave_comment.ensures.ok h.0 h.1.legal));
+    }
+
+pub returns-in-NewLength-clause-on : goal.returns-in-NewLength-clause-on
+returns-in-NewLength-clause-on c =
+    behind_then (fields_of c.args.header.now) c.args.place c.args.is_last c.args.self.now c.segments.self c.leave_comment.new.self c.args.piece.now.rest.now c.segments.piece.rest.now c.leave_comment.new.piece.rest.now c.segments.invariant.so_far c.leave_comment.ensures.on
+
+pub returns-in-Code-clause-on : goal.returns-in-Code-clause-on
+returns-in-Code-clause-on c =
+    behind_then (fields_of c.args.header.now) c.args.place c.args.is_last c.args.self.now c.segments.self c.leave_comment.new.self c.args.piece.now.rest.now c.segments.piece.rest.now c.leave_comment.new.piece.rest.now c.segments.invariant.so_far c.leave_comment.ensures.on

@@ -1,0 +1,49 @@
+-- What stands behind an end marker, while a height may still come.
+use Rattle.std.specs.Prelude.{ℕ, ◌+◌, ◌^◌, ◌≡◌, ◌≤◌, ◌<◌, Bool, true, false, ◌||◌, List, [], ◌∷◌, ◌++◌, length, Option, Some, None, IfSome, is_some}
+use Rattle.byteorder.specs.Endian.{big_bytes}
+use Rattle.t85_core.specs.declared.fault.Fault.{Fault}
+use Rattle.t85_core.specs.declared.fault.Fault.TheVariants.{Truncated}
+use Rattle.t85_core.specs.declared.pieces.behind.Behind.{Behind}
+use Rattle.t85_core.specs.declared.segments.Move as move
+use Rattle.t85_core.specs.declared.segments.Next.{Next}
+use Rattle.t85_core.specs.declared.segments.Next.TheVariants as next
+use Rattle.t85_core.specs.declared.segments.Place.{Place}
+use Rattle.t85_core.specs.Header.{Fields}
+use Rattle.t85_core.specs.Grammar.{NewLength, ESC, COMMENT, segment_bytes, IsLegal, is_valid_length}
+use Rattle.t85_core.specs.Failures.{Ends, counted_as}
+use Rattle.t85_core.specs.Steps.Segments.{HasPassed, PieceFault, IsByteOrMarker, code_bytes}
+
+-- whether a move may not come
+abbrev pub move_came : Bool → Option move.Move → Bool
+move_came last at = last || is_some at
+
+-- these segments, and bytes of a comment that has begun
+abbrev pub CommentBegun : Option ℕ → List ℕ → List ℕ → Type 0
+CommentBegun None front back = back ≡ front
+CommentBegun (Some left) front back = (part : List ℕ) × (length part + left < 2 ^ 32) × (back ≡ front ++ (ESC ∷ COMMENT ∷ (big_bytes 4 (length part + left) ++ part)))
+
+-- These bytes came behind a marker: whole segments, and what has begun of a comment.
+pub record BehindStands (h : Fields) (place : Place) (last : Bool) (b : Behind) (back : List ℕ) : Type 0 where
+  pub front : List ℕ
+  pub comments : ℕ
+  pub passed : HasPassed h place last (Some front) (Some []) b.at (move_came last b.at) false comments
+  pub at_is : IfSome b.at (λ to. to.offset ≤ 127)
+  pub begun : CommentBegun b.comment front back
+
+-- More bytes came.
+abbrev pub BehindOn : Fields → Place → Bool → Behind → Behind → List ℕ → List ℕ → Type 0
+BehindOn h place last b b' piece piece' = (back : List ℕ) → BehindStands h place last b back → (given : List ℕ) × (piece ≡ given ++ piece') × BehindStands h place last b' (back ++ given)
+
+-- what comes next is a valid height or what a code begins with
+abbrev pub ComesBehind : Fields → Place → Next → List ℕ → List ℕ → Type 0
+ComesBehind h place (next.Height n) piece rest = (is_valid_length h place.entities n ≡ true) × IsLegal h (NewLength n) × (piece ≡ segment_bytes (NewLength n) ++ rest)
+ComesBehind h place (next.Code c) piece rest = IsByteOrMarker c × (piece ≡ code_bytes c ++ rest)
+
+-- what is left of the piece breaks, or ends too early: before a segment, or in a comment
+abbrev pub BreaksBehind : Fields → Place → Bool → Behind → Option ℕ → List ℕ → Fault → Type 0
+BreaksBehind h place last b None piece fault = (unread : List ℕ) × Ends Truncated (Some piece) (Some unread) (PieceFault h place (move_came last b.at)) fault
+BreaksBehind h place last b (Some left) piece fault = (length piece < left) × (fault ≡ Truncated)
+
+pub record StopsBehind (h : Fields) (place : Place) (last : Bool) (b : Behind) (piece : List ℕ) (fault : Fault) : Type 0 where
+  pub counted : counted_as Truncated fault ≡ fault
+  pub breaks : BreaksBehind h place last b b.comment piece fault

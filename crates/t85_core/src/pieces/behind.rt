@@ -1,0 +1,155 @@
+//! What stands behind an end marker, while a height may still come.
+
+ghost use Rattle.std.specs.Prelude.{◌≡◌, ◌≤◌, ◌<◌, ◌∷◌, [], ℕ, List, None, false, true, length, IfErr, IfOk, OnOk};
+ghost use Rattle.t85_core.specs.Options.{fields_of};
+ghost use Rattle.t85_core.specs.Steps.Behind.{BehindOn, ComesBehind, StopsBehind, move_came};
+
+use crate::fault::Fault;
+use crate::header::Header;
+use crate::pieces::piece::Piece;
+use crate::pieces::walk::is_comment;
+use crate::segments::{self, Move, Next, Place, next_piece, number};
+
+/// The segments behind an end marker that came, or before the first stripe.
+#[derive(Clone, Copy, Drop)]
+pub struct Behind {
+    /// The move of the stripe that they begin.
+    pub at: Option<Move>,
+    /// How many bytes are to come of a comment that has begun.
+    pub comment: Option<u32>,
+}
+
+/// What tells whether a height comes, and the bytes after it.
+#[derive(Clone, Copy)]
+pub struct Coming<'a> {
+    pub next: Next,
+    pub rest: &'a [u8],
+}
+
+impl Behind {
+    /// Nothing came yet.
+    pub fn start() -> Behind
+        ensures at { result.at ≡ None }
+        ensures comment { result.comment ≡ None }
+    {
+        Behind {
+            at: None,
+            comment: None,
+        }
+    }
+
+    /// Whether a move may not come: one did, or the last stripe is over.
+    fn is_moved(&self, is_last: bool) -> bool
+        ensures { result ≡ move_came is_last self.now.at }
+    {
+        is_last || self.at.is_some()
+    }
+
+    /// Passes comments and a move, up to what tells whether a height comes. That is looked at, and not taken.
+    pub fn pass<'a>(
+        &mut self,
+        header: &Header,
+        place: Place,
+        is_last: bool,
+        piece: &mut Piece<'a>,
+    ) -> Result<Coming<'a>, Fault>
+        requires none { place.given ≡ false }
+        ensures on { BehindOn (fields_of header.now) place is_last self.old self.new
+            piece.old.rest.now piece.new.rest.now }
+        ensures ok { IfOk result (λ coming. (self.new.comment ≡ None) ×
+            ComesBehind (fields_of header.now) place coming.next piece.new.rest.now
+            coming.rest.now) }
+        ensures err { IfErr result (StopsBehind (fields_of header.now) place is_last self.new
+            piece.new.rest.now) }
+    {
+        'segments: loop {
+            self.leave_comment(header, place, is_last, piece)?;
+            if is_comment(piece.rest) {
+                self.enter_comment(header, place, is_last, piece)?;
+            } else {
+                let mut ahead = Piece { rest: piece.rest };
+                match next_piece(header, place, self.is_moved(is_last), &mut ahead)? {
+                    segments::Piece::Move(to) => {
+                        self.at = Some(to);
+                        piece.rest = ahead.rest;
+                    }
+                    segments::Piece::Comment => piece.rest = ahead.rest,
+                    segments::Piece::NewLength(height) => {
+                        return Ok(Coming {
+                            next: Next::Height(height),
+                            rest: ahead.rest,
+                        });
+                    }
+                    segments::Piece::Code(code) => {
+                        return Ok(Coming {
+                            next: Next::Code(code),
+                            rest: ahead.rest,
+                        });
+                    }
+                }
+            }
+        }
+    }
+
+    /// Skips the rest of a comment, if one has begun.
+    fn leave_comment(
+        &mut self,
+        header: &Header,
+        place: Place,
+        is_last: bool,
+        piece: &mut Piece<'_>,
+    ) -> Result<(), Fault>
+        requires none { place.given ≡ false }
+        ensures on { BehindOn (fields_of header.now) place is_last self.old self.new
+            piece.old.rest.now piece.new.rest.now }
+        ensures ok { OnOk result (self.new.comment ≡ None) }
+        ensures err { IfErr result (StopsBehind (fields_of header.now) place is_last self.new
+            piece.new.rest.now) }
+        ensures no_more { length piece.new.rest.now ≤ length piece.old.rest.now }
+    {
+        let Some(left) = self.comment else {
+            return Ok(());
+        };
+        let len = piece.rest.len().min(left as usize);
+        let (_, rest) = piece.rest.split_at(len);
+        piece.rest = rest;
+        if len < left as usize {
+            self.comment = Some(left - len as u32);
+            return Err(Fault::Truncated);
+        }
+        self.comment = None;
+        Ok(())
+    }
+
+    /// Reads the length of a comment.
+    fn enter_comment(
+        &mut self,
+        header: &Header,
+        place: Place,
+        is_last: bool,
+        piece: &mut Piece<'_>,
+    ) -> Result<(), Fault>
+        requires none { place.given ≡ false }
+        requires between { self.old.comment ≡ None }
+        requires comment { (rest : List ℕ) × (piece.old.rest.now ≡ 255 ∷ 7 ∷ rest) }
+        ensures on { BehindOn (fields_of header.now) place is_last self.old self.new
+            piece.old.rest.now piece.new.rest.now }
+        ensures err { IfErr result (StopsBehind (fields_of header.now) place is_last self.new
+            piece.new.rest.now) }
+        ensures lowers { OnOk result (length piece.new.rest.now < length piece.old.rest.now) }
+    {
+        let bytes = piece.rest;
+        let (_, rest) = bytes.split_at(2);
+        piece.rest = rest;
+        match number(piece) {
+            Ok(len) => {
+                self.comment = Some(len);
+                Ok(())
+            }
+            Err(fault) => {
+                piece.rest = bytes;
+                Err(fault)
+            }
+        }
+    }
+}

@@ -1,0 +1,239 @@
+//! The steps of a decoder whose bytes come in pieces.
+
+ghost use Rattle.std.specs.Prelude.{◌≡◌, ◌≢◌, ◌≤◌, ◌<◌, ◌++◌, [], ℕ, Bool, List, None, Some, IfSome, length, take, min, true, false};
+ghost use Rattle.t85_core.specs.Steps.PieceCode.{EndsInNoEscape};
+ghost use Rattle.t85_core.specs.Grammar.{marker_bytes};
+ghost use Rattle.t85_core.specs.declared.pieces.Outcome.TheVariants as outcome;
+ghost use Rattle.t85_core.specs.declared.fault.Fault.{Fault};
+ghost use Rattle.t85_core.specs.declared.fault.Fault.TheVariants.{Truncated};
+
+use crate::fault::Fault;
+use crate::input_buffer::ESCAPE;
+use crate::pieces::behind::Behind;
+use crate::pieces::piece::Piece;
+use crate::pieces::{Outcome, PieceDecoder};
+use crate::segments::{Code, SDNORM, SDRST, STUFF};
+
+/// How many bytes of a code are looked at, at most, for its end marker.
+const AHEAD: usize = 256;
+
+impl PieceDecoder<'_, '_> {
+    ghost use Rattle.t85_core.specs.declared.pieces.walk.Stage.TheVariants as stage;
+    ghost use Rattle.t85_core.specs.Steps.Pieces.{IsInCode, RowIsLeft};
+    ghost use Rattle.t85_core.specs.Steps.PieceSteps.{SomeStand, DecoderOn, StepLeaves, steps_left};
+
+    /// Goes on up to the next row, to an end, or as far as the bytes go.
+    pub(super) fn go_on(&mut self, piece: &mut Piece<'_>, is_all: bool) -> Outcome
+        requires stands { SomeStand self.old }
+        ensures leaves { StepLeaves is_all self.old self.new piece.old.rest.now piece.new.rest.now
+            (Some result) }
+    {
+        'steps: loop {
+            if let Some(outcome) = self.step(piece, is_all) {
+                return outcome;
+            }
+        }
+    }
+
+    /// Takes a step: to a row, to an end, to where more is wanted, or to where another step may be taken.
+    fn step(&mut self, piece: &mut Piece<'_>, is_all: bool) -> Option<Outcome>
+        requires stands { SomeStand self.old }
+        ensures leaves { StepLeaves is_all self.old self.new piece.old.rest.now piece.new.rest.now
+            result }
+        ensures lowers { result ≡ None → steps_left self.new piece.new.rest.now < steps_left
+            self.old piece.old.rest.now }
+    {
+        if !self.is_open {
+            return Some(self.take_turn(piece, is_all));
+        }
+        if self.waits {
+            self.step_behind(piece, is_all)
+        } else {
+            self.step_in_code(piece, is_all)
+        }
+    }
+
+    /// Goes on where the height is known.
+    fn take_turn(&mut self, piece: &mut Piece<'_>, is_all: bool) -> Outcome
+        requires known { self.old.is_open ≡ false }
+        requires stands { SomeStand self.old }
+        ensures leaves { StepLeaves is_all self.old self.new piece.old.rest.now piece.new.rest.now
+            (Some result) }
+    {
+        match self.walk.next(&self.header, self.height, piece) {
+            Ok(true) => Outcome::Row,
+            Ok(false) => Outcome::Done(self.height),
+            Err(fault) => outcome_of(fault, is_all),
+        }
+    }
+
+    /// Goes on in the code of a stripe, where a height may still come.
+    fn step_in_code(&mut self, piece: &mut Piece<'_>, is_all: bool) -> Option<Outcome>
+        requires late { self.old.is_open ≡ true }
+        requires going { self.old.waits ≡ false }
+        requires stands { SomeStand self.old }
+        ensures leaves { StepLeaves is_all self.old self.new piece.old.rest.now piece.new.rest.now
+            result }
+        ensures lowers { result ≡ None → steps_left self.new piece.new.rest.now < steps_left
+            self.old piece.old.rest.now }
+    {
+        if self.walk.has_marker() {
+            self.waits = true;
+            self.behind = Behind::start();
+            return None;
+        }
+        if self.walk.wants_row(&self.header) {
+            self.step_in_rows(piece, is_all)
+        } else {
+            self.step_to_marker(piece, is_all)
+        }
+    }
+
+    /// Goes on after the last row of a stripe, to the end marker.
+    fn step_to_marker(&mut self, piece: &mut Piece<'_>, is_all: bool) -> Option<Outcome>
+        requires late { self.old.is_open ≡ true }
+        requires going { self.old.waits ≡ false }
+        requires unmarked { self.old.walk.marker ≡ None }
+        requires stage { self.old.walk.stage ≡ stage.Code }
+        requires all { min self.old.walk.left self.old.header.l0 ≤ self.old.walk.row }
+        requires stands { SomeStand self.old }
+        ensures leaves { StepLeaves is_all self.old self.new piece.old.rest.now piece.new.rest.now
+            result }
+        ensures lowers { result ≡ None → steps_left self.new piece.new.rest.now < steps_left
+            self.old piece.old.rest.now }
+    {
+        match self.walk.find_end(&self.header, self.header.yd, piece) {
+            Ok(()) => {
+                self.waits = true;
+                self.behind = Behind::start();
+                None
+            }
+            Err(fault) => Some(outcome_of(fault, is_all)),
+        }
+    }
+
+    /// Goes on in the rows of a stripe. What its end marker alone decides waits.
+    fn step_in_rows(&mut self, piece: &mut Piece<'_>, is_all: bool) -> Option<Outcome>
+        requires late { self.old.is_open ≡ true }
+        requires going { self.old.waits ≡ false }
+        requires unmarked { self.old.walk.marker ≡ None }
+        requires wants { RowIsLeft self.old.header.l0 self.old.walk }
+        requires stands { SomeStand self.old }
+        ensures leaves { StepLeaves is_all self.old self.new piece.old.rest.now piece.new.rest.now
+            result }
+        ensures lowers { result ≡ None → steps_left self.new piece.new.rest.now < steps_left
+            self.old piece.old.rest.now }
+    {
+        let bytes = piece.rest;
+        let (front, behind) = bytes.split_at(code_len(bytes));
+        let mut part = Piece { rest: front };
+        match self.walk.give_row(&self.header, self.header.yd, &mut part) {
+            Ok(()) => {
+                let (_, rest) = bytes.split_at(front.len() - part.rest.len());
+                piece.rest = rest;
+                Some(Outcome::Row)
+            }
+            Err(fault) => {
+                if front.len() == bytes.len() {
+                    piece.rest = part.rest;
+                    return Some(outcome_of(fault, is_all));
+                }
+                match fault {
+                    Fault::Truncated => {
+                        piece.rest = behind;
+                        self.wait_at_marker(piece);
+                        None
+                    }
+                    _ => Some(Outcome::Broken(fault)),
+                }
+            }
+        }
+    }
+
+    /// Takes the end marker that comes next, if one does, and waits there.
+    fn wait_at_marker(&mut self, piece: &mut Piece<'_>)
+        requires late { self.old.is_open ≡ true }
+        requires going { self.old.waits ≡ false }
+        requires ahead { self.old.walk.first ≡ None }
+        requires unmarked { self.old.walk.marker ≡ None }
+        requires stage { IsInCode self.old.walk.stage }
+        requires stands { SomeStand self.old }
+        ensures header { self.new.header ≡ self.old.header }
+        ensures end { self.new.end ≡ self.old.end }
+        ensures on { DecoderOn self.old self.new piece.old.rest.now piece.new.rest.now [] }
+        ensures stays { ((reset : Bool) (rest : List ℕ) →
+            piece.old.rest.now ≡ marker_bytes reset ++ rest → ⊥) → self.new.waits ≡ false }
+        ensures no_more { length piece.new.rest.now ≤ length piece.old.rest.now }
+        ensures marked { (reset : Bool) (rest : List ℕ) →
+            piece.old.rest.now ≡ marker_bytes reset ++ rest →
+            length piece.new.rest.now < length piece.old.rest.now }
+    {
+        if let Some(reset) = marker_at(piece.rest) {
+            let (_, rest) = piece.rest.split_at(2);
+            piece.rest = rest;
+            self.walk.first = Some(Code::Marker(reset));
+            self.waits = true;
+            self.behind = Behind::start();
+        }
+    }
+}
+
+/// What a fault comes to: that bytes end is one only where they are the last.
+fn outcome_of(fault: Fault, is_all: bool) -> Outcome
+    ensures more { result ≡ outcome.More → (fault ≡ Truncated) × (is_all ≡ false) }
+    ensures broken { (f : Fault) → result ≡ outcome.Broken f → (f ≡ fault) × (f ≡ Truncated → is_all
+        ≡ true) }
+    ensures row { result ≢ outcome.Row }
+    ensures done { (n : ℕ) → result ≢ outcome.Done n }
+{
+    match fault {
+        Fault::Truncated => {
+            if is_all {
+                Outcome::Broken(fault)
+            } else {
+                Outcome::More
+            }
+        }
+        _ => Outcome::Broken(fault),
+    }
+}
+
+/// How many bytes of a code to look at: those before its end marker, so many at most, or all where another escape comes
+/// before one.
+fn code_len(bytes: &[u8]) -> usize
+    ensures bound { result ≤ length bytes.now }
+    ensures escape { result < length bytes.now → EndsInNoEscape (take result bytes.now) }
+    ensures some { result ≡ 0 → 0 < length bytes.now → (reset : Bool) × (rest : List ℕ) ×
+        (bytes.now ≡ marker_bytes reset ++ rest) }
+{
+    let mut len = 0;
+    while len < bytes.len() && len < AHEAD {
+        if bytes[len] != ESCAPE {
+            len += 1;
+        } else if len + 1 == bytes.len() {
+            return bytes.len();
+        } else {
+            match bytes[len + 1] {
+                STUFF => len += 2,
+                SDNORM => return len,
+                SDRST => return len,
+                _ => return bytes.len(),
+            }
+        }
+    }
+    len
+}
+
+/// The end marker that bytes begin with: whether it resets.
+fn marker_at(bytes: &[u8]) -> Option<bool>
+    ensures some { IfSome result (λ reset. (rest : List ℕ) ×
+        (bytes.now ≡ marker_bytes reset ++ rest)) }
+    ensures none { result ≡ None → (reset : Bool) (rest : List ℕ) →
+        bytes.now ≡ marker_bytes reset ++ rest → ⊥ }
+{
+    match bytes {
+        [ESCAPE, SDNORM, ..] => Some(false),
+        [ESCAPE, SDRST, ..] => Some(true),
+        _ => None,
+    }
+}
