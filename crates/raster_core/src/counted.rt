@@ -10,10 +10,10 @@ use crate::agreement::{add_all, add_word, held_row};
 use crate::words::{mask_at, word_at};
 
 /// For each lag, how many pixels of a row equal the one that is `lag` to their left. A row of at most
-/// 1,024 bytes is kept, so that the same row is not counted again.
+/// 2,048 bytes is kept, so that the same row is not counted again.
 #[derive(Drop)]
 pub struct Counted {
-    row: [u8; 1024],
+    row: [u8; 2048],
     /// How many bytes the row has.
     len: usize,
     width: u32,
@@ -25,17 +25,17 @@ pub struct Counted {
     below_itself: Option<u64>,
     ghost small: { (lag : ℕ) → slice_index agreed lag ≤ 2 ^ 32 },
     ghost below_small: { (n : ℕ) → below_itself ≡ Some n → n ≤ 2 ^ 32 },
-    ghost below_agrees: { (n : ℕ) → below_itself ≡ Some n → len ≤ 1024 →
+    ghost below_agrees: { (n : ℕ) → below_itself ≡ Some n → len ≤ 2048 →
         AgreesBelowItself (take len row) width n },
-    ghost agrees: { len ≤ 1024 → AgreesAt (take len row) width least most agreed },
+    ghost agrees: { len ≤ 2048 → AgreesAt (take len row) width least most agreed },
 }
 
 impl Counted {
     /// No row.
     pub(crate) fn none() -> Counted {
         Counted {
-            row: [0; 1024],
-            len: 1025,
+            row: [0; 2048],
+            len: 2049,
             width: 0,
             least: 0,
             most: 0,
@@ -55,7 +55,7 @@ impl Counted {
         if width != self.width || least != self.least || most != self.most {
             return false;
         }
-        if self.len > 1024 {
+        if self.len > 2048 {
             return false;
         }
         row == &self.row[..self.len]
@@ -67,7 +67,7 @@ impl Counted {
         requires least_small { least < 64 }
         requires most { most ≤ 127 }
         ensures agreed { AgreesAt row.now width least most self.new.agreed }
-        ensures row { self.new.len ≤ 1024 → take self.new.len self.new.row ≡ row.now }
+        ensures row { self.new.len ≤ 2048 → take self.new.len self.new.row ≡ row.now }
         ensures width { self.new.width ≡ width }
         ensures least { self.new.least ≡ least }
         ensures most { self.new.most ≡ most }
@@ -75,7 +75,7 @@ impl Counted {
         if self.is_of(row, width, least, most) {
             return;
         }
-        self.agreed = agreed_in(row, width, least, most);
+        count_agreed(&mut self.agreed, row, width, least, most);
         keep(&mut self.row, row);
         self.len = row.len();
         self.width = width;
@@ -90,7 +90,7 @@ impl Counted {
         requires offset { offset ≤ 127 }
         requires agreed { AgreesAt row.now self.old.width self.old.least self.old.most
             self.old.agreed }
-        requires row { self.old.len ≤ 1024 → take self.old.len self.old.row ≡ row.now }
+        requires row { self.old.len ≤ 2048 → take self.old.len self.old.row ≡ row.now }
         ensures agreed { (lines : Lines) → row.now ≡ packed_row lines.row →
             above.now ≡ packed_row lines.above →
             result ≡ part_agreement lines self.old.width offset 0
@@ -100,7 +100,7 @@ impl Counted {
         let lag = offset as usize;
         if self.least <= lag && lag <= self.most {
             self.agreed[lag]
-        } else if offset == 0 && self.len <= 1024 && row == above {
+        } else if offset == 0 && self.len <= 2048 && row == above {
             self.held_below_itself()
         } else {
             held_row(row, above, self.width, offset)
@@ -110,7 +110,7 @@ impl Counted {
     /// At how many pixels of the row that was counted last the adaptive pixel in its nominal place
     /// is the same one, where the row above is the same row.
     fn held_below_itself(&mut self) -> u64
-        requires { self.old.len ≤ 1024 }
+        requires { self.old.len ≤ 2048 }
         ensures agreed { AgreesBelowItself (take self.old.len self.old.row) self.old.width result }
         ensures small { result ≤ 2 ^ 32 }
     {
@@ -126,37 +126,36 @@ impl Counted {
     }
 }
 
-/// Puts a row of at most 1,024 bytes at the front.
-fn keep(kept: &mut [u8; 1024], row: &[u8])
-    ensures { length row.now ≤ 1024 → take (length row.now) kept.new ≡ row.now }
+/// Puts a row of at most 2,048 bytes at the front.
+fn keep(kept: &mut [u8; 2048], row: &[u8])
+    ensures { length row.now ≤ 2048 → take (length row.now) kept.new ≡ row.now }
 {
     let len = row.len();
-    if len <= 1024 {
+    if len <= 2048 {
         kept[..len].copy_from_slice(row);
     }
 }
 
-/// For each lag from `least` to `most`, how many pixels of a row equal the one that is `lag` to their
-/// left.
-fn agreed_in(row: &[u8], width: u32, least: usize, most: usize) -> [u64; 128]
+/// Counts for each lag from `least` to `most` how many pixels of a row equal the one that is `lag` to
+/// their left.
+fn count_agreed(counts: &mut [u64; 128], row: &[u8], width: u32, least: usize, most: usize)
     requires least { 1 ≤ least }
     requires least_small { least < 64 }
     requires most { most ≤ 127 }
-    ensures agrees { AgreesAt row.now width least most result }
-    ensures small { (lag : ℕ) → slice_index result lag ≤ 2 ^ 32 }
+    ensures agrees { AgreesAt row.now width least most counts.new }
+    ensures small { (lag : ℕ) → slice_index counts.new lag ≤ 2 ^ 32 }
 {
     let words = (width as usize).div_ceil(64);
-    let mut counts = [0; 128];
+    *counts = [0; 128];
     let mut alike = 0;
     let mut second = 0;
     let mut before = 0;
     for k in 0..words {
         let word = word_at(row, k + 2);
         let mask = mask_at(width, k);
-        alike += add_word(&mut counts, least, most, second, before, word, mask);
+        alike += add_word(counts, least, most, second, before, word, mask);
         second = before;
         before = word;
     }
-    add_all(&mut counts, least, most + 1, alike);
-    counts
+    add_all(counts, least, most + 1, alike);
 }

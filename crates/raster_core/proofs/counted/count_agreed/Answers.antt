@@ -3,7 +3,7 @@ use Rattle.raster_core.specs.Machine.Words.{word, led, is_within}
 use Rattle.raster_core.proofs.Choosing.{zeros}
 use Rattle.raster_core.proofs.Packs.{led_white}
 use Rattle.raster_core.proofs.Parts.{row_part, part_none, part_next}
-use Rattle.raster_core.proofs.counted.agreed_in.Goals as goal
+use Rattle.raster_core.proofs.counted.count_agreed.Goals as goal
 
 pub loop-k-init : goal.loop-k-init
 loop-k-init c = record {

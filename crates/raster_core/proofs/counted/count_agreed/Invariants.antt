@@ -2,7 +2,7 @@ use Rattle.std.proofs.Common.{◌≡◌, ℕ, ◌+◌, ◌*◌, ◌≤◌, get_o
 use Rattle.raster_core.specs.Lines.{Lines}
 use Rattle.raster_core.specs.Packed.{packed_row}
 use Rattle.raster_core.specs.Machine.Words.{word, led, part_agreement}
-use Rattle.raster_core.proofs.counted.agreed_in.Given as goal
+use Rattle.raster_core.proofs.counted.count_agreed.Given as goal
 
 abbrev pub invariant-loop-k : goal.invariant-loop-k
 invariant-loop-k l = record {
