@@ -16,7 +16,7 @@ use crate::options::{T85Options, accept};
 use pbm_core::{Form, Size, row_bytes};
 use raster_core::{Window, window_bytes};
 use t85_core::laws::{code_denotes, lengths};
-use t85_core::{Fault, Options, encode};
+use t85_core::{Fault, Options, encode_in_memory};
 
 /// The version of `T85Options`.
 const VERSION: u32 = 1;
@@ -195,7 +195,7 @@ fn write_stream(
     code_denotes();
     let mut lines = Window::over(window, size.width);
     let mut input = LinedInput::new(rows, size.height, row_bytes(size.width), stride);
-    let answer = encode(size, Form::Raw, options, &mut lines, &mut input, room);
+    let answer = encode_in_memory(size, Form::Raw, options, &mut lines, &mut input, room);
     if room.spilled.is_some() {
         return FULL;
     }

@@ -26,6 +26,9 @@ pub mod PieceWalk
 pub mod PieceGiven
 pub mod PieceHeights
 pub mod PieceBehind
+pub mod PieceAhead
 pub mod PieceLate
 pub mod PieceStood
 pub mod PieceLook
+pub mod PieceCertain
+pub mod PieceBelow

@@ -1,5 +1,5 @@
 -- What a decoder leaves that is given a stream in pieces.
-use Rattle.std.specs.Prelude.{ℕ, ◌≡◌, ◌≤◌, ⊤, Bool, true, false, List, [], ◌∷◌, ◌++◌, take, Option, Some, None, flat_map}
+use Rattle.std.specs.Prelude.{ℕ, ◌+◌, ◌*◌, ◌≡◌, ◌≤◌, ⊤, Bool, true, false, List, [], ◌∷◌, ◌++◌, take, Some, None, flat_map}
 use Rattle.raster_core.specs.Packed.{packed_row}
 use Rattle.raster_core.specs.Window.{held}
 use Rattle.t85_core.specs.declared.fault.Fault.{Fault}
@@ -14,6 +14,7 @@ use Rattle.t85_core.specs.Height.{IsHeight}
 use Rattle.t85_core.specs.Denotes.{DenotesAt}
 use Rattle.t85_core.specs.Fixed.{Fixes}
 use Rattle.t85_core.specs.Outcomes.{end_told}
+use Rattle.t85_core.specs.Steps.Pieces.{HasMarker}
 use Rattle.t85_core.specs.Steps.PieceStands.{DecoderStands}
 
 -- the header of the stream that a decoder decodes
@@ -41,6 +42,15 @@ IsDecoding d = d.end ≡ None → (text : List ℕ) × (out : List ℕ) × HasDe
 abbrev pub HasHeight : Fields → List ℕ → ℕ → Type 0
 HasHeight h body height = (n : ℕ) → IsHeight h body n → n ≡ height
 
+-- The least height of the bodies that begin with these bytes: as many first rows are the image's, whatever follows.
+pub record IsLeastHeight (h : Fields) (text : List ℕ) (least : ℕ) : Type 0 where
+  pub below : (rest : List ℕ) (height : ℕ) → IsHeight h (text ++ rest) height → least ≤ height
+  pub reached : (rest : List ℕ) × IsHeight h (text ++ rest) least
+
+-- so many first rows are certain, and not one more
+abbrev pub AreCertain : PieceDecoder → ℕ → Type 0
+AreCertain d rows = (text out : List ℕ) → HasDecoded d text out → IsLeastHeight (stream_of d) text rows
+
 -- A body that is broken, or ends too early: its height, its fault, and the rows that it fixes, packed.
 pub record HandsOut (h : Fields) (body : List ℕ) (height : ℕ) (fault : Fault) (out : List ℕ) : Type 0 where
   pub height_is : HasHeight h body height
@@ -65,6 +75,17 @@ MayFollow is_all rest = is_all ≡ true → rest ≡ []
 abbrev pub GivesRow : PieceDecoder → PieceDecoder → List ℕ → ℕ → Outcome → Type 0
 GivesRow old new piece taken answer =
     answer ≡ outcome.Row → (text out : List ℕ) → HasDecoded old text out → HasDecoded new (text ++ take taken piece) (out ++ row_held new)
+
+-- how many rows it gave, up to the last one of a stripe whose code it is in
+abbrev pub rows_given : PieceDecoder → ℕ
+rows_given d = d.walk.entities * d.header.l0 + d.walk.row
+
+-- A row that the end marker of its code decides waits for what comes behind the marker, while a height may come: none
+-- that comes then is below the rows that were given.
+abbrev pub RowsWait : Bool → PieceDecoder → PieceDecoder → List ℕ → Outcome → Type 0
+RowsWait is_all old new piece answer =
+    answer ≡ outcome.Row → new.is_open ≡ true → HasMarker new.walk → (text out rest : List ℕ) (height : ℕ) → HasDecoded old text out → MayFollow is_all rest → IsHeight (stream_of old) ((text ++ piece) ++ rest) height →
+    rows_given new ≤ height
 
 -- No row is given. If nothing waits, and nothing comes after the piece, the stream ends too early, and what was given is
 -- what it fixes.
@@ -101,6 +122,7 @@ pub record Call : Type 0 where
 pub record IsCall (old : PieceDecoder) (call : Call) : Type 0 where
   pub same : stream_of call.new ≡ stream_of old
   pub row : GivesRow old call.new call.piece call.taken call.answer
+  pub waits : RowsWait call.is_all old call.new call.piece call.answer
   pub more : WantsMore old call.new call.piece call.taken call.answer
   pub done : IsWhole call.is_all old call.new call.piece call.answer
   pub broken : IsBroken call.is_all old call.new call.piece call.answer
@@ -156,3 +178,8 @@ abbrev pub PiecesMore : Type 0
 PiecesMore =
     (d : PieceDecoder) (calls : List Call) (last : Call) → HasDecoded d [] [] → AreCalls d calls → IsCall (decoder_after d calls) last → last.answer ≡ outcome.More → last.new.waits ≡ false →
     HandsOut (stream_of d) (flat_map bytes_taken calls ++ last.piece) last.new.height Truncated (flat_map row_given calls)
+
+abbrev pub PiecesWait : Type 0
+PiecesWait =
+    (d : PieceDecoder) (calls : List Call) (last : Call) (height : ℕ) (rest : List ℕ) → HasDecoded d [] [] → AreCalls d calls → IsCall (decoder_after d calls) last → last.answer ≡ outcome.Row → last.new.is_open ≡ true → HasMarker last.new.walk →
+    MayFollow last.is_all rest → IsHeight (stream_of d) ((flat_map bytes_taken calls ++ last.piece) ++ rest) height → rows_given last.new ≤ height

@@ -1,6 +1,6 @@
 //! Encoding an image.
 
-ghost use Rattle.std.specs.Prelude.{◌≡◌, ◌≤◌, OnOk, IfErr, IsErrOf, false};
+ghost use Rattle.std.specs.Prelude.{◌≡◌, ◌≤◌, ◌<◌, OnOk, IfErr, IsErrOf, false};
 ghost use Rattle.t85_core.specs.Change.{input_change, output_change};
 ghost use Rattle.pbm_core.specs.Device.{SameInput};
 ghost use Rattle.pbm_core.specs.declared.fault.PbmFault.{PbmFault};
@@ -26,7 +26,7 @@ use self::steps::write_head;
 use crate::fault::Fault;
 use crate::laws::{code_denotes, fronts};
 use crate::options::Options;
-use crate::output_buffer::{ByteTarget, IMAGE_HELD, OutputBuffer};
+use crate::output_buffer::{ByteTarget, IMAGE_HELD, OutputBuffer, ROW_HELD};
 use pbm_core::{Form, Input, Output, Size, read_row};
 use raster_core::Window;
 
@@ -50,23 +50,65 @@ pub fn encode<R: Input, W: Output>(
     ensures no_flush { (W.view output.new).flushes ≡ (W.view output.old).flushes }
     ensures same_target { (W.view output.new).target ≡ (W.view output.old).target }
 {
+    encode_by::<R, W, IMAGE_HELD>(size, form, options, window, input, output)
+}
+
+/// As `encode`, between devices in memory, for which it holds little back: a write costs no call of the system.
+pub fn encode_in_memory<R: Input, W: Output>(
+    size: Size,
+    form: Form,
+    options: &Options<'_>,
+    window: &mut Window<'_>,
+    input: &mut R,
+    output: &mut W,
+) -> Result<(), Fault>
+    requires width { width_of window.old ≡ size.width }
+    ensures outcome { Encode (settings_of options.now) form size.width size.height
+        (input_change R.view input.old input.new)
+        (output_change W.view output.old output.new) result }
+    ensures same_input { SameInput (R.view input.old) (R.view input.new) }
+    ensures no_flush { (W.view output.new).flushes ≡ (W.view output.old).flushes }
+    ensures same_target { (W.view output.new).target ≡ (W.view output.old).target }
+{
+    encode_by::<R, W, ROW_HELD>(size, form, options, window, input, output)
+}
+
+/// As `encode`, by an array of so many bytes.
+fn encode_by<R: Input, W: Output, const HELD: usize>(
+    size: Size,
+    form: Form,
+    options: &Options<'_>,
+    window: &mut Window<'_>,
+    input: &mut R,
+    output: &mut W,
+) -> Result<(), Fault>
+    requires width { width_of window.old ≡ size.width }
+    requires held { 0 < HELD }
+    requires few_held { HELD ≤ 4096 }
+    ensures outcome { Encode (settings_of options.now) form size.width size.height
+        (input_change R.view input.old input.new)
+        (output_change W.view output.old output.new) result }
+    ensures same_input { SameInput (R.view input.old) (R.view input.new) }
+    ensures no_flush { (W.view output.new).flushes ≡ (W.view output.old).flushes }
+    ensures same_target { (W.view output.new).target ≡ (W.view output.old).target }
+{
     // What the proof cites.
     code_denotes();
     if options.is_low(size) {
         return Err(Fault::AnnouncedLow);
     }
-    let mut buffer = OutputBuffer::new(output);
+    let mut buffer: OutputBuffer<'_, W, HELD> = OutputBuffer::new(output);
     encode_buffered(size, form, options, window, input, &mut buffer)
 }
 
 /// Writes the stream, and writes what is held, except after a failed write.
-fn encode_buffered<R: Input, W: Output>(
+fn encode_buffered<R: Input, W: Output, const HELD: usize>(
     size: Size,
     form: Form,
     options: &Options<'_>,
     window: &mut Window<'_>,
     source: &mut R,
-    buffer: &mut OutputBuffer<'_, W, IMAGE_HELD>,
+    buffer: &mut OutputBuffer<'_, W, HELD>,
 ) -> Result<(), Fault>
     requires width { width_of window.old ≡ size.width }
     requires low { is_low (settings_of options.now) size.height ≡ false }

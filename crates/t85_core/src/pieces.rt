@@ -1,6 +1,6 @@
 //! Decoding a stream whose bytes come in pieces, row by row.
 
-ghost use Rattle.std.specs.Prelude.{◌≡◌, ◌≢◌, ◌≤◌, [], length, true, false};
+ghost use Rattle.std.specs.Prelude.{◌≡◌, ◌≢◌, ◌≤◌, [], IfSome, length, true, false};
 ghost use Rattle.raster_core.specs.Window.{width_of};
 ghost use Rattle.t85_core.specs.Outcomes.{end_in};
 
@@ -95,7 +95,7 @@ impl<'a, 'b> PieceDecoder<'a, 'b> {
 
 impl PieceDecoder<'_, '_> {
     ghost use Rattle.t85_core.specs.declared.pieces.Outcome.TheVariants as outcome;
-    ghost use Rattle.t85_core.specs.Pieces.{IsDecoding, GivesRow, WantsMore, IsWhole, IsBroken, EndsAgain, row_held, stream_of, height_in_use};
+    ghost use Rattle.t85_core.specs.Pieces.{IsDecoding, GivesRow, RowsWait, WantsMore, IsWhole, IsBroken, EndsAgain, AreCertain, row_held, stream_of, height_in_use};
 
     /// Goes on with these bytes up to the end of the next row, or as far as they go.
     pub fn next_row(&mut self, piece: &[u8]) -> Progress
@@ -103,6 +103,7 @@ impl PieceDecoder<'_, '_> {
         ensures same { stream_of self.new ≡ stream_of self.old }
         ensures bound { result.taken ≤ length piece.now }
         ensures row { GivesRow self.old self.new piece.now result.taken result.outcome }
+        ensures waits { RowsWait false self.old self.new piece.now result.outcome }
         ensures more { WantsMore self.old self.new piece.now result.taken result.outcome }
         ensures done { IsWhole false self.old self.new piece.now result.outcome }
         ensures broken { IsBroken false self.old self.new piece.now result.outcome }
@@ -119,6 +120,7 @@ impl PieceDecoder<'_, '_> {
         ensures same { stream_of self.new ≡ stream_of self.old }
         ensures bound { result.taken ≤ length piece.now }
         ensures row { GivesRow self.old self.new piece.now result.taken result.outcome }
+        ensures waits { RowsWait true self.old self.new piece.now result.outcome }
         ensures ends { result.outcome ≢ outcome.More }
         ensures done { IsWhole true self.old self.new piece.now result.outcome }
         ensures broken { IsBroken true self.old self.new piece.now result.outcome }
@@ -134,6 +136,7 @@ impl PieceDecoder<'_, '_> {
         ensures same { stream_of self.new ≡ stream_of self.old }
         ensures bound { result.taken ≤ length piece.now }
         ensures row { GivesRow self.old self.new piece.now result.taken result.outcome }
+        ensures waits { RowsWait is_all self.old self.new piece.now result.outcome }
         ensures more { WantsMore self.old self.new piece.now result.taken result.outcome }
         ensures ends { is_all ≡ true → result.outcome ≢ outcome.More }
         ensures done { IsWhole is_all self.old self.new piece.now result.outcome }
@@ -161,6 +164,21 @@ impl PieceDecoder<'_, '_> {
         ensures { result.now ≡ row_held self.now }
     {
         self.walk.carried.window.row(0)
+    }
+
+    /// How many first rows are the image's, whatever bytes follow: a height that comes later is not below this.
+    pub fn certain(&self) -> u32
+        ensures certain { AreCertain self.now result }
+        ensures ended { IfSome self.now.end (λ _. result ≡ height_in_use self.now) }
+    {
+        if !self.is_open || self.end.is_some() {
+            return self.height;
+        }
+        // Each stripe that has begun has a row of the image.
+        self.header
+            .yd
+            .saturating_sub(self.walk.left)
+            .saturating_add(1)
     }
 
     /// The height in use: the header's, until another has come.

@@ -142,7 +142,8 @@ fn answers_again(decoder: &mut PieceDecoder<'_, '_>, end: Outcome, rest: &[u8]) 
 }
 
 /// What a stream gives that comes in pieces. It is none where no end comes, a call after the end answers something else,
-/// more is wanted after the last byte, or more of a piece is left than may be.
+/// more is wanted after the last byte, more of a piece is left than may be, or rows that were certain are not so later, or
+/// not the image's.
 fn take_pieces(
     alloc: Global,
     header: Header,
@@ -156,11 +157,17 @@ fn take_pieces(
     let mut rows = Vec::new(alloc);
     let by_itself = cuts.ends_by_itself();
     let mut told = false;
+    let mut certain = 0;
     let calls = (body.len() as u64)
         .saturating_add(u64::from(header.yd))
         .saturating_add(3);
     'calls: for _ in 0..calls {
-        match call(&mut decoder, &mut feed, told) {
+        let answer = call(&mut decoder, &mut feed, told);
+        if decoder.certain() < certain {
+            return Ok(None);
+        }
+        certain = decoder.certain();
+        match answer {
             Outcome::Row => rows.extend_from_slice(decoder.row())?,
             Outcome::More if told || feed.come > MOST_LEFT => return Ok(None),
             Outcome::More if feed.is_all() => told = true,
@@ -169,7 +176,8 @@ fn take_pieces(
                 told = feed.is_all() && !by_itself;
             }
             end => {
-                let stays = answers_again(&mut decoder, end, feed.rest);
+                let stays = certain == decoder.height()
+                    && answers_again(&mut decoder, end, feed.rest);
                 if let Outcome::Done(height) = end {
                     rows.truncate(row_bytes(header.xd).saturating_mul(height as usize));
                 }
@@ -274,19 +282,19 @@ fn check(
 
 /// What calls answer, each of which is shown so many bytes more, of a stream with one pixel in a row: two stripes of one
 /// row, of nine that are announced, and the height. A row that only its end marker decides waits until what comes behind
-/// tells that no height cuts it off.
-static ANSWERS: [(usize, Outcome); 9] = [
+/// tells that no height cuts it off. The last number is how many rows are certain then.
+static ANSWERS: [(usize, Outcome, u32); 9] = [
     // The first stripe, and the code of the second.
-    (3, Outcome::More),
-    (1, Outcome::Row),
-    (0, Outcome::More),
+    (3, Outcome::More, 1),
+    (1, Outcome::Row, 1),
+    (0, Outcome::More, 2),
     // Its end, and the height.
-    (2, Outcome::More),
-    (2, Outcome::More),
-    (3, Outcome::More),
-    (1, Outcome::Row),
-    (0, Outcome::Done(2)),
-    (0, Outcome::Done(2)),
+    (2, Outcome::More, 2),
+    (2, Outcome::More, 2),
+    (3, Outcome::More, 2),
+    (1, Outcome::Row, 2),
+    (0, Outcome::Done(2), 2),
+    (0, Outcome::Done(2), 2),
 ];
 
 #[test]
@@ -300,9 +308,10 @@ fn rows_wait_for_a_height(rt: HostRuntime) -> Result<(), Fail> {
     let mut window = Window::over(lent.as_mut_slice(), header.xd);
     let mut decoder = PieceDecoder::start(header, &mut window);
     let mut feed = Feed::new(input.rest);
-    'calls: for &(count, answer) in &ANSWERS {
+    'calls: for &(count, answer, certain) in &ANSWERS {
         feed.come(count);
         assert_eq!(rt; call(&mut decoder, &mut feed, false), answer);
+        assert_eq!(rt; decoder.certain(), certain);
     }
     assert_eq!(rt; decoder.height(), 2);
     Ok(())

@@ -3,7 +3,7 @@
 ghost use Rattle.std.specs.Prelude.{◌≡◌, ◌≢◌, ◌≤◌, ◌++◌, length, true, IfOk, OnErr};
 ghost use Rattle.raster_core.specs.Window.{width_of};
 ghost use Rattle.t85_core.specs.Options.{fields_of};
-ghost use Rattle.t85_core.specs.Pieces.{IsDecoding, GivesRow, WantsMore, IsWhole, IsBroken, stream_of};
+ghost use Rattle.t85_core.specs.Pieces.{IsDecoding, GivesRow, RowsWait, WantsMore, IsWhole, IsBroken, stream_of};
 ghost use Rattle.t85_core.specs.declared.pieces.Outcome.TheVariants as outcome;
 ghost use Rattle.uses.specs.Pieces.{BodyRead, PieceRead, TextRead, SomeRead};
 
@@ -94,6 +94,7 @@ fn next_row(decoder: &mut PieceDecoder<'_, '_>, piece: &[u8], is_all: bool) -> P
     ensures same { stream_of decoder.new ≡ stream_of decoder.old }
     ensures bound { result.taken ≤ length piece.now }
     ensures row { GivesRow decoder.old decoder.new piece.now result.taken result.outcome }
+    ensures waits { RowsWait is_all decoder.old decoder.new piece.now result.outcome }
     ensures more { WantsMore decoder.old decoder.new piece.now result.taken result.outcome }
     ensures ends { is_all ≡ true → result.outcome ≢ outcome.More }
     ensures done { IsWhole is_all decoder.old decoder.new piece.now result.outcome }

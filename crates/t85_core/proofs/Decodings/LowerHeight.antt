@@ -1,21 +1,11 @@
 -- First rows of a run: a code that lies where its rows lead lies where fewer of them lead.
-use Rattle.std.proofs.Common.{◌≡◌, ℕ, zero, suc, ◌+◌, ◌-◌, ◌*◌, ◌<◌, ◌≤◌, Bool, List, [], ◌∷◌, ◌++◌, length, take, min, refl, sym, ◌∙◌, ap, subst, arith, Option, append-nil}
-use Rattle.std.specs.Prelude.{flat_map}
-use Rattle.std.proofs.lemmas.List.{length-take-le}
-use Rattle.std.proofs.Math.Seq.{take-append-add}
+use Rattle.std.proofs.Common.{ℕ, zero, suc, ◌+◌, Bool, List, [], ◌∷◌, take, refl, sym, subst, Option}
 use Rattle.qm_core.specs.Place.{IsPlace}
 use Rattle.qm_core.specs.Code.{Lies}
 use Rattle.raster_core.specs.Lines.{Mode}
-use Rattle.t85_core.specs.Header.{Fields, IsAccepted}
-use Rattle.t85_core.specs.Grammar.{Stripe, stripe_bytes, stripe_count, all_segments, lengths}
-use Rattle.t85_core.specs.Coding.{mode_of, move_of}
-use Rattle.t85_core.specs.Denotes.{DenotesAt}
 use Rattle.t85_core.specs.Steps.CoderLaws.{CoderLaws}
-use Rattle.t85_core.specs.Steps.State.{RowStart, StripeStart, first_row_start, image_start, after_row, next_stripe_start, Run, StripeRun, StripesRun}
+use Rattle.t85_core.specs.Steps.State.{RowStart, after_row, Run}
 use Rattle.t85_core.specs.Steps.Cut.{events_with}
-use Rattle.t85_core.proofs.Theorems.Agreed.{start_IsPlace}
-use Rattle.t85_core.proofs.Bytes.Lengths.{gives_none}
-use Rattle.t85_core.proofs.Decodings.CarriedDenotes.{carried_denotes}
 
 -- a code that lies where rows lead lies where they begin
 run_inside : CoderLaws → (w : ℕ) (mode : Mode) (move : Option (ℕ × ℕ)) (r : ℕ) (b : RowStart) (rows : List (List Bool)) (flags : List Bool) (last : RowStart) (code : List ℕ) →

@@ -9,7 +9,7 @@ use Rattle.t85_core.specs.declared.segments.Code.{Code}
 use Rattle.t85_core.specs.declared.segments.Code.TheVariants as code
 use Rattle.t85_core.specs.Header.{Fields}
 use Rattle.t85_core.specs.Grammar.{marker_bytes}
-use Rattle.t85_core.specs.Refusal.{Spot, rest_fault, length_fault, move_fault, comment_fault, escape_fault}
+use Rattle.t85_core.specs.Refusal.{Spot, rest_fault, length_fault, move_fault, comment_fault}
 use Rattle.t85_core.specs.Steps.Segments.{RestFault}
 use Rattle.t85_core.specs.Steps.PieceCode.{ahead_bytes, CodeText, CodeBreaks}
 use Rattle.t85_core.proofs.Bytes.Known.{stable_rest}

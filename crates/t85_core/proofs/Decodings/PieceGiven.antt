@@ -1,20 +1,19 @@
 -- What was given of a stream that comes in pieces: its height, its image, or its fault and the rows that it fixes.
-use Rattle.std.proofs.Common.{cond, ◌≡◌, ◌≢◌, ◌<◌, ◌≤◌, ◌+◌, ◌-◌, ◌*◌, ◌^◌, ◌⊎◌, inl, inr, not, ℕ, Bool, true, false, List, [], ◌∷◌, ◌++◌, length, take, drop, count_by, nat_eq, nat_lt, nat_le, ◌==◌, ◌||◌, Option, None, Some, refl, sym, ap, ◌∙◌, subst, append_assoc, append-nil, length-append, arith, true≢false}
+use Rattle.std.proofs.Common.{cond, ◌≡◌, ◌≢◌, ◌+◌, ◌⊎◌, inl, inr, not, ℕ, Bool, true, false, List, [], ◌∷◌, ◌++◌, length, take, nat_eq, nat_lt, nat_le, ◌==◌, ◌||◌, Option, None, Some, refl, sym, ap, ◌∙◌, subst, append_assoc, append-nil, arith, true≢false}
 use Rattle.std.specs.Prelude.{flat_map}
 use Rattle.std.proofs.lemmas.Bool.Decides.{nat_tests}
-use Rattle.std.proofs.lemmas.Bool.{cases_lt, cases_eq}
+use Rattle.std.proofs.lemmas.Bool.{cases_eq}
 use Rattle.std.proofs.Math.Seq.{take-length}
 use Rattle.byteorder.specs.Endian.{big_bytes, big_number}
 use Rattle.t85_core.specs.declared.fault.Fault.{Fault}
 use Rattle.t85_core.specs.declared.fault.Fault.TheVariants.{Truncated, BadEscape, Aborted, LengthRefused, SecondLength, MoveRefused, SecondMove, Changed}
 use Rattle.t85_core.specs.Header.{Fields, IsAccepted, is_variable}
-use Rattle.t85_core.specs.Grammar.{NewLength, Stripe, segment_bytes, stripe_bytes, stripe_count, all_segments, lengths, is_move, is_valid_length}
+use Rattle.t85_core.specs.Grammar.{NewLength, segment_bytes, stripe_count, all_segments, lengths, is_valid_length}
 use Rattle.t85_core.specs.Refusal.{BodyFault, StripeFault, spot_after, rest_fault, length_fault, move_fault, comment_fault, is_legal_move}
-use Rattle.t85_core.specs.Height.{GivesHeight, IsHeight}
 use Rattle.t85_core.specs.Denotes.{DenotesAt}
 use Rattle.t85_core.specs.Fixed.{Fixes}
 use Rattle.t85_core.specs.Laws.{IsInUse}
-use Rattle.t85_core.specs.Pieces.{HasHeight, HandsOut, HoldsImage, MayFollow}
+use Rattle.t85_core.specs.Pieces.{HasHeight, HandsOut, HoldsImage}
 use Rattle.t85_core.specs.declared.segments.Place.{Place}
 use Rattle.t85_core.specs.Steps.Segments.{PieceFault}
 use Rattle.t85_core.specs.Steps.DecodeStripes.{ImageRead}

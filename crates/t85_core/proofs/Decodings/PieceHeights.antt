@@ -10,7 +10,7 @@ use Rattle.std.proofs.Math.Nat.{mul-le-mul_right}
 use Rattle.t85_core.specs.declared.segments.Move as move
 use Rattle.t85_core.specs.declared.segments.Place.{Place}
 use Rattle.t85_core.specs.declared.state.CodingState.{CodingState}
-use Rattle.t85_core.specs.Header.{Fields, IsAccepted, is_variable}
+use Rattle.t85_core.specs.Header.{Fields, is_variable}
 use Rattle.t85_core.specs.Grammar.{Segment, Move, NewLength, Comment, Stripe, segment_bytes, stripe_bytes, stripe_count, all_segments, lengths, is_move, is_comment, is_valid_length, IsLegal}
 use Rattle.t85_core.specs.Coding.{move_of}
 use Rattle.t85_core.specs.Height.{GivesHeight}

@@ -1,5 +1,5 @@
 -- A height that comes behind an end marker, and has not all rows of the stripe before.
-use Rattle.std.proofs.Common.{◌≡◌, ◌<◌, ◌≤◌, ◌+◌, ◌-◌, ◌*◌, ◌⊎◌, inl, inr, ℕ, Bool, true, false, List, [], ◌∷◌, ◌++◌, length, take, min, Option, None, Some, refl, sym, ap, ◌∙◌, subst, append_assoc, append-nil, length-append, arith}
+use Rattle.std.proofs.Common.{◌≡◌, ◌<◌, ◌≤◌, ◌+◌, ◌-◌, ◌*◌, inl, inr, ℕ, Bool, true, false, List, [], ◌∷◌, ◌++◌, length, take, min, Option, None, Some, refl, sym, ap, ◌∙◌, subst, append_assoc, append-nil, length-append, arith}
 use Rattle.std.specs.Prelude.{flat_map, IsTrue}
 use Rattle.std.specs.List.{AllByRecursion}
 use Rattle.std.proofs.lemmas.List.{length-take-le}
@@ -7,7 +7,6 @@ use Rattle.std.proofs.lemmas.Grind.{flat_map-append}
 use Rattle.std.proofs.Math.Seq.{take-append-add}
 use Rattle.qm_core.specs.Code.{stuffed, Lies}
 use Rattle.qm_core.specs.Source.{bytes_of, heard_of, IsClosed, Agrees}
-use Rattle.qm_core.specs.Decoder.{DecoderIsAt}
 use Rattle.qm_core.specs.declared.source.Pulled.{Pulled}
 use Rattle.qm_core.specs.declared.source.Pulled.TheVariants.{Byte, End, Fault}
 use Rattle.qm_core.specs.declared.source.Heard.TheVariants.{Ended}
@@ -15,17 +14,16 @@ use Rattle.qm_core.specs.declared.decoder.Decoder.{Decoder}
 use Rattle.raster_core.specs.Packed.{packed_row}
 use Rattle.raster_core.specs.declared.place.RowPlace.{RowPlace}
 use Rattle.t85_core.specs.declared.segments.Code as code_type
-use Rattle.t85_core.specs.declared.segments.Code.TheVariants as code
 use Rattle.t85_core.specs.declared.segments.Move as move
 use Rattle.t85_core.specs.declared.state.CodingState.{CodingState}
 use Rattle.t85_core.specs.Header.{Fields, IsAccepted, is_variable}
-use Rattle.t85_core.specs.Grammar.{Segment, NewLength, Stripe, segment_bytes, stripe_bytes, marker_bytes, stripe_count, all_segments, lengths, is_comment, is_valid_length}
+use Rattle.t85_core.specs.Grammar.{NewLength, Stripe, segment_bytes, stripe_bytes, marker_bytes, stripe_count, all_segments, lengths, is_comment, is_valid_length}
 use Rattle.t85_core.specs.Height.{GivesHeight}
 use Rattle.t85_core.specs.Steps.Segments.{HasPassed}
 use Rattle.t85_core.specs.Coding.{mode_of, move_of}
 use Rattle.t85_core.specs.Denotes.{DenotesAt}
 use Rattle.t85_core.specs.Steps.CoderLaws.{CoderLaws}
-use Rattle.t85_core.specs.Steps.State.{RowStart, StripeStart, first_row_start, image_start, next_stripe_start, Run, StripeRun, StripesRun}
+use Rattle.t85_core.specs.Steps.State.{RowStart, first_row_start, image_start, next_stripe_start, Run, StripeRun, StripesRun}
 use Rattle.t85_core.specs.Steps.PieceCode.{CodeText, MarkerFound}
 use Rattle.t85_core.specs.Steps.Pieces.{HeadStands, CodeStands, InRowStands}
 use Rattle.t85_core.proofs.Bytes.Lists.{flat_map_push}

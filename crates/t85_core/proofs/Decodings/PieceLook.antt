@@ -1,6 +1,6 @@
 -- What comes behind the last stripe, and heights that come late.
-use Rattle.std.proofs.Common.{cond, ◌≡◌, ◌≢◌, ◌<◌, ◌≤◌, ◌+◌, ◌-◌, ◌*◌, ◌^◌, ◌⊎◌, inl, inr, ℕ, Bool, true, false, List, [], ◌∷◌, ◌++◌, length, take, nat_le, count_by, Option, None, Some, refl, sym, ap, ◌∙◌, subst, append_assoc, append-nil, length-append, arith, true≢false}
-use Rattle.std.specs.Prelude.{flat_map, IsTrue, IfSome}
+use Rattle.std.proofs.Common.{cond, ◌≡◌, ◌≢◌, ◌<◌, ◌≤◌, ◌+◌, ◌-◌, ◌*◌, ◌^◌, inl, inr, ℕ, Bool, true, false, List, [], ◌∷◌, ◌++◌, length, take, nat_le, count_by, Option, None, Some, refl, sym, ap, ◌∙◌, subst, append_assoc, append-nil, length-append, arith, true≢false}
+use Rattle.std.specs.Prelude.{flat_map, IsTrue}
 use Rattle.std.specs.List.{AllByRecursion}
 use Rattle.std.proofs.lemmas.Bool.Decides.{nat_tests}
 use Rattle.std.proofs.lemmas.List.Sums.{sum_by-append}
@@ -17,20 +17,20 @@ use Rattle.t85_core.specs.declared.segments.Move as move
 use Rattle.t85_core.specs.declared.segments.Place.{Place}
 use Rattle.t85_core.specs.Header.{Fields, is_variable}
 use Rattle.t85_core.specs.Options.{fields_of}
-use Rattle.t85_core.specs.Grammar.{Segment, NewLength, Move, Comment, ESC, COMMENT, segment_bytes, stripe_bytes, stripe_count, all_segments, lengths, is_move, is_comment, is_valid_length, IsLegal}
+use Rattle.t85_core.specs.Grammar.{Segment, NewLength, Move, Comment, ESC, COMMENT, segment_bytes, stripe_bytes, stripe_count, all_segments, lengths, is_move, is_comment, is_valid_length}
 use Rattle.t85_core.specs.Failures.{Ends, counted_as}
 use Rattle.t85_core.specs.Height.{GivesHeight, IsHeight}
 use Rattle.t85_core.specs.Denotes.{DenotesAt}
 use Rattle.t85_core.specs.Steps.State.{image_start}
-use Rattle.t85_core.specs.Pieces.{HasHeight, HoldsImage, MayFollow}
+use Rattle.t85_core.specs.Pieces.{HoldsImage}
 use Rattle.t85_core.specs.Steps.CoderLaws.{CoderLaws}
 use Rattle.t85_core.specs.Steps.Segments.{HasPassed, PieceFault, code_bytes}
-use Rattle.t85_core.specs.Steps.HeightWalk.{Comments, LookEnds}
+use Rattle.t85_core.specs.Steps.HeightWalk.{LookEnds}
 use Rattle.t85_core.specs.Steps.DecodeStripes.{StripesRead}
 use Rattle.t85_core.specs.Steps.Behind.{BehindStands, BehindOn, BreaksBehind, StopsBehind, move_came}
 use Rattle.t85_core.specs.Steps.Pieces.{HeadStands, WalkStands, IsInCode, CodeStands, InRowStands}
-use Rattle.t85_core.specs.Steps.PieceStands.{DecoderStands, HeightKnown, WalkWaits, IsAtMarker, place_behind, last_behind, entities_behind, is_last}
-use Rattle.t85_core.specs.Steps.PieceSteps.{SomeStand, DecoderOn, EndsWhole, StripeLeft, HeadEntered, HeightComes, LookIsOver, KeepsDecoder, head_stage}
+use Rattle.t85_core.specs.Steps.PieceStands.{HeightKnown, WalkWaits, IsAtMarker, place_behind, last_behind, entities_behind, is_last}
+use Rattle.t85_core.specs.Steps.PieceSteps.{SomeStand, DecoderOn, EndsWhole, StripeLeft, HeadEntered, HeightComes, LookIsOver, head_stage}
 use Rattle.t85_core.proofs.Bytes.Lengths.{gives_none}
 use Rattle.t85_core.proofs.Grammar.Heights.{one_height_of}
 use Rattle.t85_core.proofs.Grammar.SomeHeight.{height_of_ended}
@@ -44,10 +44,10 @@ use Rattle.t85_core.proofs.Decodings.PieceHeights.{valid_over, height_comes, hea
 use Rattle.t85_core.proofs.Decodings.PieceBehind.{front_is, part_of}
 use Rattle.t85_core.proofs.Decodings.PieceGiven.{read_holds}
 use Rattle.t85_core.proofs.Decodings.PieceLate.{RowsHeld, code_held, in_row_held, late_denotes, late_out, late_gives}
-use Rattle.t85_core.proofs.Decodings.PieceStood.{own_height, waits_of, put_walks, put_waits, known_more, in_code_entities, in_code_last, marker_of, head_of}
+use Rattle.t85_core.proofs.Decodings.PieceStood.{own_height, waits_of, put_walks, put_waits, known_more, in_code_entities, in_code_last, marker_of}
 
 -- segments without a move and a height are comments
-only_comments : (segments : List Segment) → count_by is_move segments ≡ 0 → lengths segments ≡ [] → AllByRecursion (λ s. IsTrue (is_comment s)) segments
+pub only_comments : (segments : List Segment) → count_by is_move segments ≡ 0 → lengths segments ≡ [] → AllByRecursion (λ s. IsTrue (is_comment s)) segments
 only_comments [] none empty = tt
 only_comments (NewLength n ∷ segments) none empty = absurd (let bot : ⊥ = cc in bot)
 only_comments (Move row offset ∷ segments) none empty = absurd (let e = sum_by-append (λ y. cond (is_move y) 1 0) (Move row offset ∷ []) segments in omega (arith, none, e))
@@ -124,6 +124,24 @@ module _ (h : Fields) (w : Walk) (b : Behind) (text out : List ℕ) (q : CoderLa
     place_of : ℕ → Place
     place_of n = record { height = h.yd; entities = n; given = false }
 
+-- behind the last stripe only comments came
+pub comments_behind : (h : Fields) (w : Walk) → 1 ≤ h.l0 → IsInCode w.stage → w.left ≡ h.yd - w.entities * h.l0 → {place : Place} {front : List ℕ} {at : Option move.Move} {comments : ℕ}
+    (p : HasPassed h place (last_behind h w) (Some front) (Some []) at (move_came (last_behind h w) at) false comments) → w.entities + 1 ≡ stripe_count h.yd h.l0 → AllByRecursion (λ s. IsTrue (is_comment s)) p.segments
+comments_behind h w some in_code left {at = at} p last = only_comments p.segments (zero_moves (last_behind h w) is_last_here p.counted) (nil_of (lengths p.segments) (let e = p.given_is in omega (arith, e))) where
+  all : h.yd ≤ (w.entities + 1) * h.l0
+  all = let t = div_ceil_times h.yd h.l0 some in let e = ap (λ (m : ℕ). m * h.l0) last in omega (arith, t.0, e)
+
+  is_last_here : last_behind h w ≡ true
+  is_last_here =
+      let times : (w.entities + 1) * h.l0 ≡ w.entities * h.l0 + h.l0 = omega arith in
+      let le : w.left ≤ h.l0 = omega (arith, left, all, times) in
+      let t : nat_le w.left h.l0 ≡ true = grind (arith, nat_tests) in
+      in_code_last w.stage (nat_le w.left h.l0) in_code ∙ t
+
+  zero_moves : (l : Bool) → l ≡ true → cond {A = ℕ} (move_came l at) 1 0 ≡ cond {A = ℕ} l 1 0 + count_by is_move p.segments → count_by is_move p.segments ≡ 0
+  zero_moves true e c = omega (arith, c)
+  zero_moves false e c = absurd (true≢false (sym e))
+
 -- ---- the image ends in the stripe before
 
 pub late_whole : (d : PieceDecoder) (q : CoderLaws) (n : ℕ) (p rest : List ℕ) → d.is_open ≡ true → d.waits ≡ true → d.behind.comment ≡ None → IsInCode d.walk.stage → HeightComes (fields_of d.header) d.walk n p rest → d.walk.left - (d.header.yd - n) ≤ d.header.l0 →
@@ -162,24 +180,7 @@ late_whole d q n p rest late waits between in_code comes fits few is_all text ou
   passed = subst (λ z. HasPassed (fields_of d.header) z (last_behind (fields_of d.header) d.walk) (Some w.behind.front) (Some []) d.behind.at (move_came (last_behind (fields_of d.header) d.walk) d.behind.at) false w.behind.comments) (place_here (fields_of d.header) d.walk d.behind text out q w in_code) w.behind.passed
 
   comments : d.walk.entities + 1 ≡ stripe_count d.header.yd d.header.l0 → AllByRecursion (λ s. IsTrue (is_comment s)) passed.segments
-  comments last = only_comments passed.segments moves (nil_of (lengths passed.segments) (let e = passed.given_is in omega (arith, e))) where
-    all : d.header.yd ≤ (d.walk.entities + 1) * d.header.l0
-    all = let t = div_ceil_times d.header.yd d.header.l0 d.header.some_rows in let e = ap (λ (m : ℕ). m * d.header.l0) last in omega (arith, t.0, e)
-
-    is_last_here : last_behind (fields_of d.header) d.walk ≡ true
-    is_last_here =
-        let left = w.walk.left_is in
-        let times : (d.walk.entities + 1) * d.header.l0 ≡ d.walk.entities * d.header.l0 + d.header.l0 = omega arith in
-        let le : d.walk.left ≤ d.header.l0 = omega (arith, left, all, times) in
-        let t : nat_le d.walk.left d.header.l0 ≡ true = grind (arith, nat_tests) in
-        in_code_last d.walk.stage (nat_le d.walk.left d.header.l0) in_code ∙ t
-
-    zero_moves : (l : Bool) → l ≡ true → cond {A = ℕ} (move_came l d.behind.at) 1 0 ≡ cond {A = ℕ} l 1 0 + count_by is_move passed.segments → count_by is_move passed.segments ≡ 0
-    zero_moves true e c = omega (arith, c)
-    zero_moves false e c = absurd (true≢false (sym e))
-
-    moves : count_by is_move passed.segments ≡ 0
-    moves = zero_moves (last_behind (fields_of d.header) d.walk) is_last_here passed.counted
+  comments = comments_behind (fields_of d.header) d.walk d.header.some_rows in_code w.walk.left_is passed
 
   body : (text ++ p) ++ more ≡ w.done ++ (w.behind.front ++ (segment_bytes (NewLength n) ++ (rest ++ more)))
   body =

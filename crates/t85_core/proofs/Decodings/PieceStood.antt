@@ -1,5 +1,5 @@
 -- Where a decoder stands, before a step and after it.
-use Rattle.std.proofs.Common.{cond, ◌≡◌, ◌≢◌, ◌<◌, ◌≤◌, ◌+◌, ◌-◌, ◌*◌, ◌⊎◌, inl, inr, ℕ, Bool, true, false, List, [], ◌∷◌, ◌++◌, length, take, drop, slice_index, min, nat_le, Option, None, Some, Result, Ok, Err, refl, sym, ap, ◌∙◌, subst, append_assoc, append-nil, length-append, arith, true≢false}
+use Rattle.std.proofs.Common.{cond, ◌≡◌, ◌≢◌, ◌<◌, ◌≤◌, ◌+◌, ◌-◌, ◌*◌, ◌⊎◌, inl, inr, ℕ, Bool, true, false, List, [], ◌∷◌, ◌++◌, length, take, drop, slice_index, nat_le, Option, None, Some, Result, Ok, Err, refl, sym, ap, ◌∙◌, subst, append_assoc, append-nil, length-append, arith, true≢false}
 use Rattle.std.specs.Prelude.{IsOk, OnOk, IfSome, is_some}
 use Rattle.std.proofs.lemmas.Bool.Decides.{nat_tests}
 use Rattle.std.proofs.Math.Seq.{drop-append_seam, take-append_seam}
@@ -34,13 +34,13 @@ use Rattle.t85_core.specs.declared.pieces.walk.Stage.{Stage}
 use Rattle.t85_core.specs.declared.pieces.walk.Stage.TheVariants as stage
 use Rattle.t85_core.specs.Header.{Fields, is_variable}
 use Rattle.t85_core.specs.Options.{fields_of}
-use Rattle.t85_core.specs.Height.{GivesHeight}
+use Rattle.t85_core.specs.Height.{GivesHeight, IsHeight}
 use Rattle.t85_core.specs.Laws.{IsInUse}
-use Rattle.t85_core.specs.Pieces.{IsDecoding, HasDecoded, HasHeight, HandsOut, HoldsImage, MayFollow, row_held}
+use Rattle.t85_core.specs.Pieces.{IsDecoding, HasDecoded, HasHeight, HandsOut, HoldsImage, row_held}
 use Rattle.t85_core.specs.Steps.Behind.{BehindStands, BreaksBehind, StopsBehind}
 use Rattle.t85_core.specs.Steps.Pieces.{HeadStands, CommentStands, IsFirstWalk, WalkStands, CutOff, StepsOn, StepsOff, Step, RowStep, RowLeaves, StripesOn, StageStands, KeepsPlace, HasMarker, IsInCode}
 use Rattle.t85_core.specs.Steps.PieceStands.{DecoderStands, HeightKnown, StandsAs, CodeWalks, WalkWaits, IsAtMarker, entities_behind, is_last, place_behind, last_behind}
-use Rattle.t85_core.specs.Steps.PieceSteps.{SomeStand, DecoderOn, EndsWhole, EndsBroken, StepLeaves, KeepsDecoder, StripeLeft, StripeClosed, HeadEntered, head_stage, steps_left}
+use Rattle.t85_core.specs.Steps.PieceSteps.{SomeStand, DecoderOn, EndsWhole, EndsBroken, NoHeightBelow, StepLeaves, KeepsDecoder, StripeLeft, StripeClosed, HeadEntered, head_stage, steps_left}
 use Rattle.t85_core.proofs.Decodings.ImagePut.{in_use}
 use Rattle.t85_core.proofs.Decodings.PieceBehind.{behind_first, front_is, part_of}
 use Rattle.t85_core.proofs.Decodings.PieceGiven.{cut_hands, cut_hands_first, piece_other, height_known, read_holds}
@@ -121,18 +121,20 @@ leaves_on is_all d d' p p' header going on = record {
   going = going;
   on = λ _. on;
   row = λ e. absurd (none_some e);
+  waits = λ e. absurd (none_some e);
   more = λ e. absurd (none_some e);
   done = λ n e. absurd (none_some e);
   broken = λ f e. absurd (none_some e);
 }
 
 -- a row
-pub leaves_row : (is_all : Bool) (d d' : PieceDecoder) (p p' : List ℕ) → d'.header ≡ d.header → d'.end ≡ d.end → DecoderOn d d' p p' (row_held d') → StepLeaves is_all d d' p p' (Some outcome.Row)
-leaves_row is_all d d' p p' header going on = record {
+pub leaves_row : (is_all : Bool) (d d' : PieceDecoder) (p p' : List ℕ) → d'.header ≡ d.header → d'.end ≡ d.end → DecoderOn d d' p p' (row_held d') → NoHeightBelow is_all d d' p → StepLeaves is_all d d' p p' (Some outcome.Row)
+leaves_row is_all d d' p p' header going on waits = record {
   header = header;
   going = going;
   on = λ e. absurd (none_some (sym e));
   row = λ _. on;
+  waits = λ _. waits;
   more = λ e. absurd (let bot : ⊥ = cc in bot);
   done = λ n e. absurd (let bot : ⊥ = cc in bot);
   broken = λ f e. absurd (let bot : ⊥ = cc in bot);
@@ -155,6 +157,7 @@ leaves_stop is_all d d' p p' fault r c header going on broken = record {
   going = going;
   on = λ e. absurd (none_some (sym e));
   row = λ e. absurd (c.row (some_is e));
+  waits = λ e. absurd (c.row (some_is e));
   more = λ e. let k = c.more (some_is e) in (k.1, on k.0, λ _. subst (EndsBroken true d p d'.height) k.0 (broken true (λ _. refl)));
   done = λ n e. absurd (c.done n (some_is e));
   broken = λ f e. let k = c.broken f (some_is e) in subst (EndsBroken is_all d p d'.height) (sym k.0) (broken is_all (λ t. k.1 (k.0 ∙ t)));
@@ -206,7 +209,7 @@ pub on_ok : {A : Type 0} (r : Result A Fault) (P : Type 0) → IsOk r → OnOk r
 on_ok (Ok x) P is k = k
 on_ok (Err f) P is k = absurd (let bot : ⊥ = cc in bot)
 
-no_bytes : (g p' : List ℕ) → [] ≡ g ++ p' → g ≡ []
+pub no_bytes : (g p' : List ℕ) → [] ≡ g ++ p' → g ≡ []
 no_bytes [] p' e = refl
 no_bytes (x ∷ g) p' e = absurd (let bot : ⊥ = cc in bot)
 
@@ -252,6 +255,10 @@ row_given d d' late waits code keeps p' r step leaves text out s = (
     ungiven = leaves.place.given ∙ w.ungiven;
     behind = behind_same (fields_of d.header) d.walk d'.walk d.behind w.back code code' leaves.place w.behind;
   }
+
+-- its place
+pub row_after : (d : PieceDecoder) (w : Walk) → d.is_open ≡ true → d.waits ≡ true → SomeStand d → IsInCode d.walk.stage → (p' : List ℕ) (r : Result (Unit {0}) Fault) → RowLeaves d.walk w [] p' r → w.row ≡ d.walk.row + 1
+row_after d w late waits some code p' r leaves = (on_ok r _ (leaves.whole (marker_of d.walk (waits_of d some.0 some.1 late waits some.2).at code)).0 leaves.row).0
 
 -- a stripe ended
 pub stripe_ended : (d d' : PieceDecoder) → d.is_open ≡ true → d.waits ≡ true → SomeStand d → IsInCode d.walk.stage → KeepsDecoder d d' → (p' : List ℕ) (r : Result (Unit {0}) Fault) → Step (fields_of d.header) d.header.yd d.walk d'.walk [] p' r → (HasMarker d.walk → IsOk r) →
@@ -304,12 +311,18 @@ module _ (is_all : Bool) (d e d' : PieceDecoder) (p p1 p' : List ℕ) (header : 
       subst (λ k. HoldsImage (fields_of k) ((text ++ p) ++ rest) n out) header (subst (λ z. HoldsImage (fields_of e.header) z n out) (all_text text a.0 rest a.1)
       (subst (λ z. HoldsImage (fields_of e.header) (((text ++ a.0) ++ p1) ++ rest) n z) (append-nil out) (whole (text ++ a.0) (out ++ []) rest a.2 follows)))
 
+  waits_after : NoHeightBelow is_all e d' p1 → NoHeightBelow is_all d d' p
+  waits_after waits late marked text out rest n s follows i =
+      let a = on text out s in
+      waits late marked (text ++ a.0) (out ++ []) rest n a.2 follows (subst (λ k. IsHeight (fields_of k) (((text ++ a.0) ++ p1) ++ rest) n) (sym header) (subst (λ z. IsHeight (fields_of d.header) z n) (sym (all_text text a.0 rest a.1)) i))
+
   pub leaves_after : (r : Option Outcome) → StepLeaves is_all e d' p1 p' r → StepLeaves is_all d d' p p' r
   leaves_after r k = record {
     header = k.header ∙ header;
     going = k.going ∙ going;
     on = λ is. on_compose d e d' p p1 p' [] on (k.on is);
     row = λ is. on_compose d e d' p p1 p' (row_held d') on (k.row is);
+    waits = λ is. waits_after (k.waits is);
     more = λ is. let m = k.more is in (m.0, on_compose d e d' p p1 p' [] on m.1, λ w. broken_after true d'.height Truncated (m.2 w));
     done = λ n is. let m = k.done n is in (m.0, whole_after n m.1);
     broken = λ f is. broken_after is_all d'.height f (k.broken f is);
@@ -322,6 +335,7 @@ leaves_broken is_all d d' p p' f header going broken = record {
   going = going;
   on = λ e. absurd (none_some (sym e));
   row = λ e. absurd (let bot : ⊥ = cc in bot);
+  waits = λ e. absurd (let bot : ⊥ = cc in bot);
   more = λ e. absurd (let bot : ⊥ = cc in bot);
   done = λ n e. absurd (let bot : ⊥ = cc in bot);
   broken = λ g e. subst (EndsBroken is_all d p d'.height) (let k : f ≡ g = cc in k) broken;
@@ -333,6 +347,7 @@ leaves_done is_all d d' p p' n header going height whole = record {
   going = going;
   on = λ e. absurd (none_some (sym e));
   row = λ e. absurd (let bot : ⊥ = cc in bot);
+  waits = λ e. absurd (let bot : ⊥ = cc in bot);
   more = λ e. absurd (let bot : ⊥ = cc in bot);
   done = λ m e. let k : n ≡ m = cc in (height ∙ k, subst (EndsWhole is_all d p) k whole);
   broken = λ g e. absurd (let bot : ⊥ = cc in bot);
@@ -634,6 +649,7 @@ leaves_more is_all d d' p p' header going open_ waits on = record {
   going = going;
   on = λ e. absurd (none_some (sym e));
   row = λ e. absurd (let bot : ⊥ = cc in bot);
+  waits = λ e. absurd (let bot : ⊥ = cc in bot);
   more = λ _. (open_, on, λ w. absurd (true≢false (sym waits ∙ w)));
   done = λ n e. absurd (let bot : ⊥ = cc in bot);
   broken = λ f e. absurd (let bot : ⊥ = cc in bot);

@@ -1,13 +1,12 @@
 -- A stream in pieces: calls one after another.
 use Rattle.std.proofs.Common.{◌≡◌, ℕ, List, [], ◌∷◌, ◌++◌, refl, sym, ap, ◌∙◌, subst, append_assoc, append-nil}
 use Rattle.std.specs.Prelude.{flat_map}
-use Rattle.t85_core.specs.declared.fault.Fault.{Fault}
 use Rattle.t85_core.specs.declared.fault.Fault.TheVariants.{Truncated}
 use Rattle.t85_core.specs.declared.pieces.PieceDecoder.{PieceDecoder}
 use Rattle.t85_core.specs.declared.pieces.Outcome.{Outcome}
 use Rattle.t85_core.specs.declared.pieces.Outcome.TheVariants as outcome
-use Rattle.t85_core.specs.Header.{Fields}
-use Rattle.t85_core.specs.Pieces.{stream_of, row_held, HasDecoded, HandsOut, HoldsImage, PiecesTaken, PiecesMore, PiecesWhole, PiecesBroken, Call, IsCall, StreamGoesOn, bytes_taken, given_with, row_given, AreCalls, decoder_after}
+use Rattle.t85_core.specs.Height.{IsHeight}
+use Rattle.t85_core.specs.Pieces.{stream_of, row_held, HasDecoded, HandsOut, HoldsImage, PiecesTaken, PiecesWait, PiecesMore, PiecesWhole, PiecesBroken, Call, IsCall, StreamGoesOn, bytes_taken, given_with, row_given, AreCalls, decoder_after}
 
 -- a call more
 call_on : (d : PieceDecoder) (call : Call) → IsCall d call → StreamGoesOn call.answer → (text out : List ℕ) → HasDecoded d text out → HasDecoded call.new (text ++ bytes_taken call) (out ++ row_given call)
@@ -36,6 +35,11 @@ taken_at d calls s are = calls_on d calls are [] [] s
 stream_after : (d : PieceDecoder) (calls : List Call) → AreCalls d calls → stream_of (decoder_after d calls) ≡ stream_of d
 stream_after d [] are = refl
 stream_after d (call ∷ calls) are = stream_after call.new calls are.2 ∙ are.0.same
+
+pub wait_at : PiecesWait
+wait_at d calls last height rest s are is e late marked follows i =
+    is.waits e late marked (flat_map bytes_taken calls) (flat_map row_given calls) rest height (taken_at d calls s are) follows
+    (subst (λ z. IsHeight z ((flat_map bytes_taken calls ++ last.piece) ++ rest) height) (sym (stream_after d calls are)) i)
 
 pub more_at : PiecesMore
 more_at d calls last s are is e waits =

@@ -12,11 +12,12 @@ use Rattle.t85_core.specs.declared.pieces.walk.Stage.{Stage}
 use Rattle.t85_core.specs.declared.pieces.walk.Stage.TheVariants as stage
 use Rattle.t85_core.specs.Header.{Fields}
 use Rattle.t85_core.specs.Grammar.{NewLength, segment_bytes, is_valid_length, IsLegal}
+use Rattle.t85_core.specs.Height.{IsHeight}
 use Rattle.t85_core.specs.Steps.DecodeStripes.{StripesRead}
 use Rattle.t85_core.specs.Steps.HeightWalk.{LookEnds}
 use Rattle.t85_core.specs.Steps.Behind.{BehindStands}
-use Rattle.t85_core.specs.Steps.Pieces.{WalkStands, IsInCode}
-use Rattle.t85_core.specs.Pieces.{HandsOut, HoldsImage, MayFollow, row_held, stream_of}
+use Rattle.t85_core.specs.Steps.Pieces.{WalkStands, IsInCode, HasMarker}
+use Rattle.t85_core.specs.Pieces.{HandsOut, HoldsImage, MayFollow, row_held, rows_given, stream_of}
 
 -- it stands somewhere
 abbrev pub SomeStand : PieceDecoder → Type 0
@@ -33,12 +34,18 @@ EndsWhole is_all d piece n = (text out rest : List ℕ) → DecoderStands d text
 abbrev pub EndsBroken : Bool → PieceDecoder → List ℕ → ℕ → Fault → Type 0
 EndsBroken is_all d piece height fault = (text out rest : List ℕ) → DecoderStands d text out → MayFollow is_all rest → HandsOut (stream_of d) ((text ++ piece) ++ rest) height fault out
 
+-- no height that may come is below the rows that were given, if the end marker of the last one's code was read
+abbrev pub NoHeightBelow : Bool → PieceDecoder → PieceDecoder → List ℕ → Type 0
+NoHeightBelow is_all d d' piece =
+    d'.is_open ≡ true → HasMarker d'.walk → (text out rest : List ℕ) (n : ℕ) → DecoderStands d text out → MayFollow is_all rest → IsHeight (stream_of d) ((text ++ piece) ++ rest) n → rows_given d' ≤ n
+
 -- What a step leaves: none of the answers where another step is to be taken.
 pub record StepLeaves (is_all : Bool) (d d' : PieceDecoder) (piece piece' : List ℕ) (answer : Option Outcome) : Type 0 where
   pub header : d'.header ≡ d.header
   pub going : d'.end ≡ d.end
   pub on : answer ≡ None → DecoderOn d d' piece piece' []
   pub row : answer ≡ Some outcome.Row → DecoderOn d d' piece piece' (row_held d')
+  pub waits : answer ≡ Some outcome.Row → NoHeightBelow is_all d d' piece
   pub more : answer ≡ Some outcome.More → (is_all ≡ false) × DecoderOn d d' piece piece' [] × (d'.waits ≡ false → EndsBroken true d piece d'.height Truncated)
   pub done : (n : ℕ) → answer ≡ Some (outcome.Done n) → (d'.height ≡ n) × EndsWhole is_all d piece n
   pub broken : (f : Fault) → answer ≡ Some (outcome.Broken f) → EndsBroken is_all d piece d'.height f
@@ -54,9 +61,12 @@ pub record KeepsDecoder (d d' : PieceDecoder) : Type 0 where
   pub behind : d'.behind ≡ d.behind
   pub going : d'.end ≡ d.end
 
--- a row that waited was given
-pub record GivesBelow (d d' : PieceDecoder) : Type 0 where
+-- a row that waited was given, below this one of the stripe before
+pub record GivesBelow (d d' : PieceDecoder) (limit : ℕ) : Type 0 where
   pub keeps : KeepsDecoder d d'
+  pub code : IsInCode d.walk.stage
+  pub entities : d'.walk.entities ≡ d.walk.entities
+  pub below : d'.walk.row ≤ limit
   pub on : DecoderOn d d' [] [] (row_held d')
 
 -- none is left above this one

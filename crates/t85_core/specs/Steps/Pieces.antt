@@ -1,8 +1,7 @@
 -- How far a decoder has come that is fed in pieces.
-use Rattle.std.specs.Prelude.{⊤, take, ℕ, ◌+◌, ◌-◌, ◌*◌, ◌^◌, ◌≡◌, ◌≢◌, ◌≤◌, ◌<◌, Bool, true, false, List, [], ◌∷◌, ◌++◌, length, min, Option, Some, None, IfSome, is_some, if◌then◌else◌, flat_map, Result, Ok, ◌⊎◌, IsOk, OnOk, IfErr, IsErrOf}
+use Rattle.std.specs.Prelude.{⊤, ℕ, ◌+◌, ◌-◌, ◌*◌, ◌^◌, ◌≡◌, ◌≢◌, ◌≤◌, ◌<◌, Bool, true, false, List, [], ◌∷◌, ◌++◌, length, min, Option, Some, None, IfSome, is_some, if◌then◌else◌, Result, Ok, ◌⊎◌, IsOk, OnOk, IfErr, IsErrOf}
 use Rattle.byteorder.specs.Endian.{big_bytes}
 use Rattle.qm_core.specs.declared.decoder.Decoder.{Decoder}
-use Rattle.raster_core.specs.Packed.{packed_row}
 use Rattle.raster_core.specs.Window.{held, width_of}
 use Rattle.raster_core.specs.declared.shape.Shape.{Shape}
 use Rattle.raster_core.specs.declared.place.RowPlace.{RowPlace}
@@ -17,8 +16,6 @@ use Rattle.t85_core.specs.declared.pieces.walk.Stage.{Stage}
 use Rattle.t85_core.specs.declared.pieces.walk.Stage.TheVariants as stage
 use Rattle.t85_core.specs.Header.{Fields}
 use Rattle.t85_core.specs.Grammar.{stripe_count, ESC, COMMENT}
-use Rattle.t85_core.specs.Height.{GivesHeight}
-use Rattle.t85_core.specs.Denotes.{DenotesAt}
 use Rattle.t85_core.specs.Failures.{counted_as}
 use Rattle.t85_core.specs.Steps.Segments.{HasPassed, IsByteOrMarker}
 use Rattle.t85_core.specs.Steps.DecodeStripes.{StripesRead, ImageRead, ImageCut}

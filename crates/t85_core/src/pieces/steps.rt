@@ -1,7 +1,7 @@
 //! The steps of a decoder whose bytes come in pieces.
 
 ghost use Rattle.std.specs.Prelude.{◌≡◌, ◌≢◌, ◌≤◌, ◌<◌, ◌++◌, [], ℕ, Bool, List, None, Some, IfSome, length, take, min, true, false};
-ghost use Rattle.t85_core.specs.Steps.PieceCode.{EndsInNoEscape};
+ghost use Rattle.t85_core.specs.Steps.PieceCode.{EndsInNoEscape, HasNoMarker};
 ghost use Rattle.t85_core.specs.Grammar.{marker_bytes};
 ghost use Rattle.t85_core.specs.declared.pieces.Outcome.TheVariants as outcome;
 ghost use Rattle.t85_core.specs.declared.fault.Fault.{Fault};
@@ -19,7 +19,7 @@ const AHEAD: usize = 256;
 
 impl PieceDecoder<'_, '_> {
     ghost use Rattle.t85_core.specs.declared.pieces.walk.Stage.TheVariants as stage;
-    ghost use Rattle.t85_core.specs.Steps.Pieces.{IsInCode, RowIsLeft};
+    ghost use Rattle.t85_core.specs.Steps.Pieces.{HasMarker, IsInCode, RowIsLeft};
     ghost use Rattle.t85_core.specs.Steps.PieceSteps.{SomeStand, DecoderOn, StepLeaves, steps_left};
 
     /// Goes on up to the next row, to an end, or as far as the bytes go.
@@ -117,6 +117,7 @@ impl PieceDecoder<'_, '_> {
         requires late { self.old.is_open ≡ true }
         requires going { self.old.waits ≡ false }
         requires unmarked { self.old.walk.marker ≡ None }
+        requires ahead { HasMarker self.old.walk → ⊥ }
         requires wants { RowIsLeft self.old.header.l0 self.old.walk }
         requires stands { SomeStand self.old }
         ensures leaves { StepLeaves is_all self.old self.new piece.old.rest.now piece.new.rest.now
@@ -203,6 +204,7 @@ fn outcome_of(fault: Fault, is_all: bool) -> Outcome
 fn code_len(bytes: &[u8]) -> usize
     ensures bound { result ≤ length bytes.now }
     ensures escape { result < length bytes.now → EndsInNoEscape (take result bytes.now) }
+    ensures unmarked { HasNoMarker (take result bytes.now) }
     ensures some { result ≡ 0 → 0 < length bytes.now → (reset : Bool) × (rest : List ℕ) ×
         (bytes.now ≡ marker_bytes reset ++ rest) }
 {

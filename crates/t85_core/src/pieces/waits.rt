@@ -153,7 +153,7 @@ impl PieceDecoder<'_, '_> {
         requires waits { self.old.waits ≡ true }
         requires stands { SomeStand self.old }
         requires limit { limit ≤ min self.old.walk.left self.old.header.l0 }
-        ensures gives { result ≡ true → GivesBelow self.old self.new }
+        ensures gives { result ≡ true → GivesBelow self.old self.new limit }
         ensures stays { result ≡ false → StaysAbove self.old self.new limit }
     {
         if !self.is_in_code() || self.walk.row >= limit {

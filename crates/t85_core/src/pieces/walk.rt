@@ -398,6 +398,7 @@ impl Walk<'_, '_> {
     pub fn has_marker(&self) -> bool
         ensures yes { result ≡ true → HasMarker self.now }
         ensures no { result ≡ false → self.now.marker ≡ None }
+        ensures unmarked { result ≡ false → HasMarker self.now → ⊥ }
     {
         self.marker.is_some() || matches!(self.first, Some(Code::Marker(_)))
     }

@@ -14,7 +14,7 @@ calls-preserved c =
     (ap (λ z. c.calls.rows.items ++ z) (sym c.row.ensures) ∙ sym c.in_ok-extend_from_slice-in-Row.ensures.items)
     (row_more c.args.decoder.now c.calls.decoder c.args.piece.now c.calls.taken c.args.rows.now.items c.calls.rows.items c.calls.counter c.calls.invariant
     (record { piece = take (length c.args.piece.now - c.calls.taken) (drop c.calls.taken c.args.piece.now); taken = c.next_row-step.result.taken; answer = c.next_row-step.result.outcome; is_all = c.args.is_all; new = c.next_row-step.new.decoder })
-    (record { same = c.next_row-step.ensures.same; row = c.next_row-step.ensures.row; more = c.next_row-step.ensures.more; done = c.next_row-step.ensures.done; broken = c.next_row-step.ensures.broken })
+    (record { same = c.next_row-step.ensures.same; row = c.next_row-step.ensures.row; waits = c.next_row-step.ensures.waits; more = c.next_row-step.ensures.more; done = c.next_row-step.ensures.done; broken = c.next_row-step.ensures.broken })
     (take_rest c.args.piece.now c.calls.taken) c.next_row-step.ensures.bound c.in-Row.is c.next_row-step.ensures.decoding)
 
 pub returns-in_err-extend_from_slice-in-Row-clause-short : goal.returns-in_err-extend_from_slice-in-Row-clause-short
@@ -27,7 +27,7 @@ pub returns-in_default-clause-read : goal.returns-in_default-clause-read
 returns-in_default-clause-read c =
     last_came c.args.decoder.now c.calls.decoder c.args.piece.now c.calls.taken c.args.rows.now.items c.calls.rows.items c.calls.counter c.calls.invariant
     (record { piece = take (length c.args.piece.now - c.calls.taken) (drop c.calls.taken c.args.piece.now); taken = c.next_row-step.result.taken; answer = c.next_row-step.result.outcome; is_all = c.args.is_all; new = c.next_row-step.new.decoder })
-    (record { same = c.next_row-step.ensures.same; row = c.next_row-step.ensures.row; more = c.next_row-step.ensures.more; done = c.next_row-step.ensures.done; broken = c.next_row-step.ensures.broken })
+    (record { same = c.next_row-step.ensures.same; row = c.next_row-step.ensures.row; waits = c.next_row-step.ensures.waits; more = c.next_row-step.ensures.more; done = c.next_row-step.ensures.done; broken = c.next_row-step.ensures.broken })
     (take_rest c.args.piece.now c.calls.taken) c.next_row-step.ensures.bound c.args.limit c.in_default.not-Row c.next_row-step.ensures.ends
 
 pub returns-clause-read : goal.returns-clause-read

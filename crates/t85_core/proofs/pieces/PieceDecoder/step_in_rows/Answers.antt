@@ -1,9 +1,10 @@
-use Rattle.std.proofs.Common.{◌≡◌, ◌<◌, ◌≤◌, ◌++◌, ◌∙◌, [], drop, length, Err, inl, inr, refl, sym, ap, subst, append-nil, arith}
+use Rattle.std.proofs.Common.{◌≡◌, ◌++◌, ◌∙◌, [], drop, Err, inl, inr, refl, sym, ap, subst, append-nil, arith}
 use Rattle.t85_core.specs.Options.{fields_of}
-use Rattle.t85_core.specs.Steps.PieceCode.{EndsInNoEscape}
+use Rattle.t85_core.specs.Steps.PieceCode.{EndsInNoEscape, HasNoMarker}
 use Rattle.t85_core.specs.Steps.Pieces.{StepsOff}
 use Rattle.t85_core.proofs.Decodings.PieceSteps.{nil_of}
 use Rattle.t85_core.proofs.Decodings.PieceStood.{code_on, code_broken, part_broken, part_left, split_is, shorter_rest, on_compose, leaves_on, leaves_row, leaves_stop, leaves_broken, fewer_bytes}
+use Rattle.t85_core.proofs.Decodings.PieceBelow.{row_unmarked}
 use Rattle.t85_core.proofs.pieces.PieceDecoder.step_in_rows.Goals as goal
 
 pub returns-in-Ok-clause-leaves : goal.returns-in-Ok-clause-leaves
@@ -11,6 +12,7 @@ returns-in-Ok-clause-leaves c = leaves_row c.args.is_all c.args.self.now _ c.arg
     (code_on c.args.self.now _ c.args.piece.now.rest.now c.split_at.result.0.now c.split_at.result.1.now c.give_row.new.piece.rest.now c.split_at-in-Ok.result.1.now _ c.requires.late c.requires.going (record { header = refl; height = refl; is_open = refl; waits = refl; behind = refl; going = refl }) (split_is c.args.piece.now.rest.now c.split_at.result.0.now c.split_at.result.1.now c.code_len.result c.split_at.ensures.front c.split_at.ensures.back)
     (λ g e. part_left c.args.piece.now.rest.now c.split_at.result.0.now c.split_at.result.1.now g c.give_row.new.piece.rest.now c.split_at-in-Ok.result.1.now _ (split_is c.args.piece.now.rest.now c.split_at.result.0.now c.split_at.result.1.now c.code_len.result c.split_at.ensures.front c.split_at.ensures.back) e refl c.split_at-in-Ok.ensures.back)
     c.in-Ok.ensures.step.ok (inl c.in-Ok.ensures.leaves.row.1) c.in-Ok.ensures.leaves.place.given)
+    (λ _ marked text out rest n s follows i. absurd (row_unmarked c.args.self.now c.give_row.new.self c.split_at.result.0.now c.give_row.new.piece.rest.now _ c.requires.late c.requires.going c.requires.ahead (subst HasNoMarker (sym c.split_at.ensures.front) c.code_len.ensures.unmarked) c.in-Ok.ensures.leaves.row.1 c.in-Ok.ensures.leaves.place c.in-Ok.ensures.step.ok text out s marked))
 
 pub returns-then-front-bytes-clause-leaves : goal.returns-then-front-bytes-clause-leaves
 returns-then-front-bytes-clause-leaves c =

@@ -1,4 +1,4 @@
-use Rattle.std.proofs.Common.{◌++◌, ◌∙◌, [], Some, ap, append-nil, refl, subst, sym}
+use Rattle.std.proofs.Common.{◌++◌, ◌∙◌, [], Some, ap, append-nil, refl, subst}
 use Rattle.t85_core.specs.Outcomes.{end_in}
 use Rattle.t85_core.specs.Pieces.{HasDecoded, HandsOut, stream_of, row_held}
 use Rattle.t85_core.specs.declared.fault.Fault.TheVariants.{Truncated}
@@ -7,6 +7,9 @@ use Rattle.t85_core.proofs.pieces.PieceDecoder.take.Goals as goal
 
 pub returns-clause-row : goal.returns-clause-row
 returns-clause-row c = λ is. call_on c.args.self.now c.go_on-outcome.new.self _ c.args.piece.now c.go_on-outcome.new.piece.rest.now (row_held c.go_on-outcome.new.self) _ c.saturating_sub.ensures refl refl refl refl refl refl (c.end_of-self.ensures ∙ ap end_in is) (c.go_on-outcome.ensures.leaves.row (ap Some is))
+
+pub returns-clause-waits : goal.returns-clause-waits
+returns-clause-waits c = λ is late marked text out rest n s follows i. c.go_on-outcome.ensures.leaves.waits (ap Some is) late marked text out rest n s.stands follows i
 
 pub returns-clause-more : goal.returns-clause-more
 returns-clause-more c = λ is text out s.

@@ -1,6 +1,11 @@
-use Rattle.std.proofs.Common.{◌≡◌, ◌∙◌, refl, ap, rules}
+use Rattle.std.proofs.Common.{◌∙◌, refl, ap, rules, arith}
 use Rattle.t85_core.proofs.Decodings.PieceStood.{leaves_of, leaves_on, code_entered}
+use Rattle.t85_core.proofs.Decodings.PieceBelow.{leaves_code}
 use Rattle.t85_core.proofs.pieces.PieceDecoder.take_code.Goals as goal
+
+pub returns-then-gives_below-clause-leaves : goal.returns-then-gives_below-clause-leaves
+returns-then-gives_below-clause-leaves c = λ is_all.
+    leaves_code c.args.self.now c.gives_below.new.self c.requires.late c.requires.waits c.min.result (c.gives_below.ensures.gives (search rules)) c.args.code c.args.piece.now.rest.now c.args.rest.now c.requires.between c.requires.more c.requires.code c.requires.comes (let e = c.min.ensures in omega (arith, e)) is_all
 
 pub returns-clause-leaves : goal.returns-clause-leaves
 returns-clause-leaves c = λ is_all.

@@ -1,9 +1,15 @@
-use Rattle.std.proofs.Common.{◌≡◌, ◌∙◌, false, sym, ap, subst, rules}
+use Rattle.std.proofs.Common.{◌∙◌, false, sym, ap, subst, rules, arith}
 use Rattle.t85_core.specs.Options.{fields_of}
 use Rattle.t85_core.specs.Steps.Behind.{StopsBehind}
 use Rattle.t85_core.specs.Steps.PieceStands.{place_behind}
 use Rattle.t85_core.proofs.Decodings.PieceStood.{leaves_of, leaves_broken, behind_broken}
+use Rattle.t85_core.proofs.Decodings.PieceBelow.{leaves_fault}
 use Rattle.t85_core.proofs.pieces.PieceDecoder.take_fault.Goals as goal
+
+pub returns-then-gives_below : goal.returns-then-gives_below
+returns-then-gives_below c = record {
+  leaves = leaves_fault c.args.self.now c.gives_below.new.self c.requires.late c.requires.waits c.min.result (c.gives_below.ensures.gives (search rules)) c.args.fault c.args.piece.now.rest.now c.requires.more c.requires.stops (let e = c.min.ensures in omega (arith, e)) (let e = c.min.ensures in omega (arith, e)) c.args.is_all c.requires.end;
+}
 
 pub returns : goal.returns
 returns c =

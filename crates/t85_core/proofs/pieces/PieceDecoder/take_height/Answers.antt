@@ -1,10 +1,14 @@
-use Rattle.std.proofs.Common.{◌≡◌, ◌≤◌, ◌<◌, ◌-◌, ◌∙◌, refl, sym, ap, subst, true, rules, arith}
-use Rattle.t85_core.specs.Options.{fields_of}
+use Rattle.std.proofs.Common.{◌≤◌, ◌<◌, ◌-◌, refl, sym, ap, subst, true, rules, arith}
 use Rattle.t85_core.specs.Steps.Pieces.{IsInCode}
 use Rattle.t85_core.specs.Steps.PieceSteps.{HeadEntered}
 use Rattle.t85_core.proofs.Decodings.PieceStood.{leaves_on, leaves_done}
 use Rattle.t85_core.proofs.Decodings.PieceLook.{late_whole, height_over, left_over, raised_on}
+use Rattle.t85_core.proofs.Decodings.PieceBelow.{leaves_height}
 use Rattle.t85_core.proofs.pieces.PieceDecoder.take_height.Goals as goal
+
+pub returns-then-gives_below-clause-leaves : goal.returns-then-gives_below-clause-leaves
+returns-then-gives_below-clause-leaves c = λ is_all.
+    leaves_height c.args.self.now c.gives_below.new.self c.requires.late c.requires.waits c.min.result (c.gives_below.ensures.gives (search rules)) c.args.height c.args.piece.now.rest.now c.args.rest.now c.requires.between c.requires.comes (let e = c.min.ensures in omega (arith, e)) is_all
 
 pub returns-then-ends_in_stripe-clause-leaves : goal.returns-then-ends_in_stripe-clause-leaves
 returns-then-ends_in_stripe-clause-leaves c = λ is_all.

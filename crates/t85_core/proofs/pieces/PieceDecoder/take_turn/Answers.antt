@@ -1,11 +1,11 @@
-use Rattle.std.proofs.Common.{[], Ok, Err, ap, refl}
+use Rattle.std.proofs.Common.{[], Ok, Err, ap, refl, sym, ◌∙◌, true≢false}
 use Rattle.t85_core.proofs.Decodings.PieceSteps.{over_done}
 use Rattle.t85_core.proofs.Decodings.PieceStood.{leaves_row, leaves_done, leaves_stop, turn_on, turn_whole, turn_broken}
 use Rattle.t85_core.proofs.pieces.PieceDecoder.take_turn.Goals as goal
 
 pub returns-in-Ok-true : goal.returns-in-Ok-true
 returns-in-Ok-true c = record {
-  leaves = leaves_row c.args.is_all c.args.self.now _ c.args.piece.now.rest.now c.next.new.piece.rest.now refl refl (turn_on c.args.self.now c.requires.known _ c.args.piece.now.rest.now c.next.new.piece.rest.now _ (record { header = refl; height = refl; is_open = refl; waits = refl; behind = refl; going = refl }) (c.in-Ok-true.ensures.step.row (ap Ok c.in-Ok-true.field-0-test)));
+  leaves = leaves_row c.args.is_all c.args.self.now _ c.args.piece.now.rest.now c.next.new.piece.rest.now refl refl (turn_on c.args.self.now c.requires.known _ c.args.piece.now.rest.now c.next.new.piece.rest.now _ (record { header = refl; height = refl; is_open = refl; waits = refl; behind = refl; going = refl }) (c.in-Ok-true.ensures.step.row (ap Ok c.in-Ok-true.field-0-test))) (λ late. absurd (true≢false (sym late ∙ c.requires.known)));
 }
 
 pub returns-in-Ok-false : goal.returns-in-Ok-false

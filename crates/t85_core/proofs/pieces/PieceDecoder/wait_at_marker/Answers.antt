@@ -1,8 +1,7 @@
-use Rattle.std.proofs.Common.{◌≡◌, ◌++◌, ◌∙◌, List, ℕ, [], drop, refl, sym, ap, subst, append-nil, inr}
+use Rattle.std.proofs.Common.{◌++◌, refl, sym, subst, append-nil, inr}
 use Rattle.t85_core.specs.Options.{fields_of}
 use Rattle.t85_core.specs.Grammar.{marker_bytes}
 use Rattle.t85_core.specs.Steps.Pieces.{WalkStands}
-use Rattle.t85_core.specs.declared.segments.Code.TheVariants as code
 use Rattle.t85_core.proofs.Decodings.Entities.{none_of}
 use Rattle.t85_core.proofs.Decodings.PieceStood.{code_of, put_waits, waits_first, walk_ahead, known_more, marker_split}
 use Rattle.t85_core.proofs.pieces.PieceDecoder.wait_at_marker.Goals as goal

@@ -1,6 +1,5 @@
 use Rattle.std.proofs.Common.{◌≡◌, ◌≤◌, ◌-◌, ◌++◌, List, ℕ, length, take, append-nil, refl, sym, ap, ◌∙◌, arith}
 use Rattle.std.proofs.lemmas.List.{length-take-le, take-append-drop}
-use Rattle.t85_core.specs.Options.{fields_of}
 use Rattle.t85_core.proofs.Decodings.PieceBehind.{behind_more, behind_ends}
 use Rattle.t85_core.proofs.Decodings.PieceSteps.{nil_of}
 use Rattle.t85_core.proofs.pieces.behind.Behind.leave_comment.Goals as goal

@@ -1,12 +1,7 @@
-use Rattle.std.proofs.Common.{◌≡◌, ◌++◌, None, refl, sym, ap, ◌∙◌, subst, arith}
+use Rattle.std.proofs.Common.{sym, ◌∙◌, arith}
 use Rattle.t85_core.specs.Options.{fields_of}
 use Rattle.t85_core.specs.Grammar.{Move, Comment, segment_bytes}
-use Rattle.t85_core.specs.Steps.Behind.{BehindOn, BreaksBehind, StopsBehind, move_came}
-use Rattle.t85_core.specs.Steps.Segments.{PieceFault}
-use Rattle.t85_core.specs.Failures.{Ends}
-use Rattle.t85_core.specs.declared.fault.Fault.TheVariants.{Truncated}
 use Rattle.t85_core.proofs.Decodings.PieceBehind.{behind_then, behind_move, behind_comment}
-use Rattle.t85_core.proofs.Decodings.PieceHead.{counted_of}
 use Rattle.t85_core.proofs.pieces.behind.Behind.pass.Goals as goal
 
 pub returns-in_err-leave_comment-clause-on : goal.returns-in_err-leave_comment-clause-on

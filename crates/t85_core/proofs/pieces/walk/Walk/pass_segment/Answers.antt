@@ -1,4 +1,4 @@
-use Rattle.std.proofs.Common.{◌≡◌, ◌++◌, Some, sym, ◌∙◌, subst, rules, arith, true}
+use Rattle.std.proofs.Common.{◌++◌, Some, sym, ◌∙◌, subst, arith, true}
 use Rattle.t85_core.specs.declared.fault.Fault.TheVariants.{Truncated}
 use Rattle.t85_core.specs.Options.{fields_of}
 use Rattle.t85_core.specs.Failures.{Ends}
