@@ -13,7 +13,7 @@ use pbm_core::{DeviceFailed, Output, WriteFault, write_bytes};
 /// How many bytes are held back of an image or of its stream.
 pub const IMAGE_HELD: usize = 4096;
 
-/// How many are where a call writes a row's alone: it is made anew at each of them.
+/// How many are where a call writes a row's alone, or a stream into memory: it is made anew at each of them.
 pub const ROW_HELD: usize = 64;
 
 /// Where the bytes of an image or of a stream go.
