@@ -7,7 +7,7 @@ use crate::coder::Room;
 use qm_core::{
     CodeBytes, CodeSink, CoderFault, Context, Decoder, Encoder, Learned, Pulled, SinkFault, Stop,
 };
-use raster_core::{Kept, Shape, Tally, Window, decode_row, encode_row, window_bytes};
+use raster_core::{Kept, Shape, Tally, Window, current_row, decode_row, encode_row, window_bytes};
 use std::alloc::{AllocError, Global};
 use std::process::Abort;
 use std::test::Fail;
@@ -167,8 +167,9 @@ pub fn shape(width: u32, two_line: bool, typical: bool) -> Shape {
 
 /// Writes the current row.
 fn write_row(rt: &impl Abort, window: &mut Window, row: &[u8]) {
-    assert!(rt; row.len() == window.current.len());
-    window.current.copy_from_slice(row);
+    let current = current_row(window.width(), window.place());
+    assert!(rt; row.len() == current.end - current.start);
+    window.rows[current].copy_from_slice(row);
 }
 
 /// Whether this is row k of a window.

@@ -9,6 +9,7 @@ ghost use Rattle.raster_core.specs.Window.{width_of};
 
 use pbm_core::ToWrite;
 use pbm_core::trial::Pieces;
+use qm_core::Learned;
 use raster_core::{Window, window_bytes};
 use std::alloc::Global;
 use std::io::{self, Read};
@@ -18,7 +19,8 @@ use t85_core::{Header, Outcome, PieceDecoder, decode};
 fn in_pieces(header: Header, body: &[u8], window: &mut Window<'_>, size: usize, rows: &mut Vec<u8>)
     requires { width_of window.old ≡ header.xd }
 {
-    let mut decoder = PieceDecoder::start(header, window);
+    let mut learned = Learned::new();
+    let mut decoder = PieceDecoder::start(header, window, &mut learned);
     let mut from = 0usize;
     let mut to = 0usize;
     'calls: for _ in 0..u64::MAX {

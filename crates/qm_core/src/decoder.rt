@@ -266,7 +266,7 @@ impl Decoder {
         }
         let part = part_of(self.code, lower, entry.span);
         self.narrow(part.code, part.span);
-        learned.set_of(cx, false, next_cell(!part.is_other, entry));
+        learned.set(cx, next_cell(!part.is_other, entry));
         pixel_of(cell, part.is_other)
     }
 

@@ -9,7 +9,7 @@ ghost use Rattle.qm_core.specs.Sink.{Writes};
 
 use crate::batch::{Batch, Tail};
 use crate::context::Context;
-use crate::entries::{cost_of, entry_of, next_cell};
+use crate::entries::{cost_of, entry_of, is_favoured, next_cell};
 use crate::learned::Learned;
 use crate::picking::pick;
 use crate::sink::{CodeSink, SinkFault};
@@ -302,8 +302,8 @@ impl Encoder {
             (record { place = p; learned = learned.old }) pushed
             cx.number pixel self.new learned.new result }
     {
-        let cell = learned.cell_of(cx, pixel);
-        let cost = cost_of(cell);
+        let cell = learned.cell(cx);
+        let cost = cost_of(cell, pixel);
         if is_quiet(cost, self.span, self.floor) {
             self.span -= cost;
             self.events += 1;
@@ -314,9 +314,9 @@ impl Encoder {
         }
         self.events += 1;
         let entry = entry_of(cell);
-        let is_favoured = cell % 2 == 0;
+        let is_favoured = is_favoured(cell, pixel);
         let lower = self.span - entry.span;
-        learned.set_of(cx, pixel, next_cell(is_favoured, entry));
+        learned.set(cx, next_cell(is_favoured, entry));
         let is_lower = is_lower(is_favoured, lower, entry.span);
         let low = self.low + pick(is_lower, 0, lower) as u64;
         let span = pick(is_lower, lower, entry.span);

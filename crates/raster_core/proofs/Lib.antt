@@ -33,3 +33,4 @@ pub mod HeldRuns
 pub mod RowsIn
 pub mod RunEnds
 pub mod RowPuts
+pub mod Places

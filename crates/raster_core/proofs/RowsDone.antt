@@ -352,16 +352,14 @@ carried {S} {pull} {from} {shape} {kept} {kept'} {s} {answers} {lines} {result} 
     (subst (λ x. RowGoesOn pull from to shape kept kept' s answers lines (record { width = width; current = current; above = above; second = second }) place x d' result) (sym e)
     (subst (λ x. RowGoesOn pull from to shape kept kept' s answers lines (record { width = width; current = current; above = above; second = second }) place learned x result) (sym f) h)))
 
--- the same for a window that holds the same
-pub moved : {S : Type 0} {pull : S → Pulled → S → Type 0} {from to : S} {shape : Shape} {kept kept' : Kept} {s : State} {learned : List Estimate} {answers : List Pulled} {lines : Lines}
-    {d : Decoder} {result : Result (Unit {0}) Stop} {place : RowPlace} (width width' : ℕ) (current above second above' second' : List ℕ) →
-    RowGoesOn pull from to shape kept kept' s answers lines (record { width = width; current = current; above = above; second = second }) place learned d result →
-    width' ≡ width → above' ≡ above → second' ≡ second →
-    RowGoesOn pull from to shape kept kept' s answers lines (record { width = width'; current = current; above = above'; second = second' }) place learned d result
-moved {S} {pull} {from} {to} {shape} {kept} {kept'} {s} {learned} {answers} {lines} {d} {result} {place} width width' current above second above' second' h w e f =
-    subst (λ n. RowGoesOn pull from to shape kept kept' s answers lines (record { width = n; current = current; above = above'; second = second' }) place learned d result) (sym w)
-    (subst (λ a. RowGoesOn pull from to shape kept kept' s answers lines (record { width = width; current = current; above = a; second = second' }) place learned d result) (sym e)
-    (subst (λ a. RowGoesOn pull from to shape kept kept' s answers lines (record { width = width; current = current; above = above; second = a }) place learned d result) (sym f) h))
+-- the same rows before, and the same after
+pub same_goes : {S : Type 0} {pull : S → Pulled → S → Type 0} {from to : S} {shape : Shape} {kept kept' : Kept} {place place' : RowPlace} {s : State} {answers : List Pulled} {lines : Lines}
+    {learned learned' : List Estimate} {d d' : Decoder} {result : Result (Unit {0}) Stop} {v v' : Held} (w w' : Held) → v ≡ w → v' ≡ w' →
+    (StandsInRow shape kept place s answers lines w learned d → RowGoesOn pull from to shape kept kept' s answers lines w' place' learned' d' result) →
+    StandsInRow shape kept place s answers lines v learned d → RowGoesOn pull from to shape kept kept' s answers lines v' place' learned' d' result
+same_goes {S} {pull} {from} {to} {shape} {kept} {kept'} {place} {place'} {s} {answers} {lines} {learned} {learned'} {d} {d'} {result} {v} {v'} w w' e f goes h =
+    subst (λ u. RowGoesOn pull from to shape kept kept' s answers lines u place' learned' d' result) (sym f)
+    (goes (subst (λ u. StandsInRow shape kept place s answers lines u learned d) e h))
 
 -- a row before which its source stood so
 pub fresh_row : (shape : Shape) (kept : Kept) (place : RowPlace) (p : Place) (learned : List Estimate) (answers : List Pulled) (lines : Lines) (w : Held) (d : Decoder) → IsRowStart place → DecoderIsAt d p answers → HasAbove w lines →
@@ -375,18 +373,6 @@ fresh_row shape kept place p learned answers lines w d start stands above =
 
 pub above_lines : (w : Held) (lines : Lines) → HasLines w lines → HasAbove w lines
 above_lines w lines h = record { above_is = h.above_is; second_is = h.second_is; above_wide = h.above_wide; second_wide = h.second_wide }
-
-pub same_above : (w v : Held) (lines : Lines) → w.width ≡ v.width → v.above ≡ w.above → v.second ≡ w.second → HasAbove w lines → HasAbove v lines
-same_above w v lines e a s h = record { above_is = a ∙ h.above_is; second_is = s ∙ h.second_is; above_wide = h.above_wide ∙ e; second_wide = h.second_wide ∙ e }
-
-pub same_stand : (shape : Shape) (kept : Kept) (place : RowPlace) (s : State) (answers : List Pulled) (lines : Lines) (w v : Held) (learned : List Estimate) (d : Decoder) → w.width ≡ v.width → v.current ≡ w.current → v.above ≡ w.above → v.second ≡ w.second →
-    StandsInRow shape kept place s answers lines w learned d → StandsInRow shape kept place s answers lines v learned d
-same_stand shape kept place s answers lines w v learned d e c a f h =
-    record {
-      above = same_above w v lines e a f h.above;
-      before_it = h.before_it;
-      in_it = λ b. let i = h.in_it b in record { done = i.done; held = subst (λ z. PixelsHeld kept.offset place z i.done) (sym c) i.held; stands = i.stands; taught = i.taught; enough = i.enough };
-    }
 
 -- the source is asked again
 pub waits_again : (shape : Shape) (kept : Kept) (place : RowPlace) (s : State) (answers : List Pulled) (lines : Lines) (w : Held) (learned : List Estimate) (d d' : Decoder) →

@@ -1,5 +1,5 @@
 -- Rows in bytes, and the rows that a window's bytes are.
-use Rattle.std.specs.Prelude.{ℕ, ◌*◌, ◌≡◌, ◌==◌, Bool, List, length, map, if◌then◌else◌}
+use Rattle.std.specs.Prelude.{ℕ, ◌+◌, ◌-◌, ◌*◌, ◌≡◌, ◌==◌, Bool, List, ◌++◌, length, take, drop, map, if◌then◌else◌}
 use Rattle.std.specs.Int.{div_ceil}
 use Rattle.raster_core.specs.Raster.{pixel_at, white_row}
 use Rattle.raster_core.specs.Lines.{Lines, numbers_from, binary}
@@ -17,6 +17,36 @@ pub record Held : Type 0 where
   pub current : List ℕ
   pub above : List ℕ
   pub second : List ℕ
+
+-- the row at a place of bytes that are rows of this length
+abbrev pub row_placed : ℕ → List ℕ → ℕ → List ℕ
+row_placed long bytes place = take long (drop (place * long) bytes)
+
+-- bytes with others in place of those from start to end
+abbrev pub with_part : ℕ → ℕ → List ℕ → List ℕ → List ℕ
+with_part start end bytes part = take start bytes ++ (part ++ drop (end - start) (drop start bytes))
+
+-- the next of three places in a ring
+abbrev pub next_place : ℕ → ℕ
+next_place place = if place == 2 then 0 else place + 1
+
+-- what a window holds whose current row is at this place of its bytes, the row above it at the next one, and the second above after that
+abbrev pub rows_at : ℕ → ℕ → List ℕ → Held
+rows_at place width bytes =
+    record {
+      width = width;
+      current = row_placed (row_bytes width) bytes place;
+      above = row_placed (row_bytes width) bytes (next_place place);
+      second = row_placed (row_bytes width) bytes (next_place (next_place place));
+    }
+
+-- the same of bytes that are cut round the current row
+abbrev pub rows_beside : ℕ → ℕ → List ℕ → List ℕ → List ℕ → Held
+rows_beside place width front row back = rows_at place width (front ++ (row ++ back))
+
+-- what it holds with another current row
+abbrev pub with_current : Held → List ℕ → Held
+with_current w row = record { width = w.width; current = row; above = w.above; second = w.second }
 
 -- it holds these lines, with white padding
 pub record HasLines (w : Held) (lines : Lines) : Type 0 where

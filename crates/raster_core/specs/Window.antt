@@ -1,6 +1,7 @@
 -- What a window holds, and how a shape codes.
 use Rattle.std.specs.Prelude.{ℕ}
-use Rattle.raster_core.specs.Packed.{Held}
+use Rattle.std.specs.Borrow.{GName}
+use Rattle.raster_core.specs.Packed.{Held, rows_at}
 use Rattle.raster_core.specs.declared.window.Window.{Window}
 use Rattle.raster_core.specs.Lines.{Mode}
 use Rattle.raster_core.specs.declared.shape.Shape.{Shape}
@@ -9,9 +10,17 @@ use Rattle.raster_core.specs.declared.shape.Shape.{Shape}
 abbrev pub width_of : Window → ℕ
 width_of w = w.width
 
+-- at which place of its memory the current row is
+abbrev pub current_place : Window → ℕ
+current_place w = w.place
+
+-- which lent slice its memory is
+abbrev pub memory_of : Window → GName
+memory_of w = w.rows.ghost_name
+
 -- its rows
 abbrev pub held : Window → Held
-held w = record { width = w.width; current = w.current.now; above = w.above.now; second = w.second.now }
+held w = rows_at w.place w.width w.rows.now
 
 -- a row down, the current row is above, and the row that was second above is to be written again
 abbrev pub turned : Held → Held

@@ -1,6 +1,6 @@
 //! Decoding a row.
 
-ghost use Rattle.std.specs.Prelude.{◌≡◌, ◌-◌, ◌*◌, ◌<◌, ◌≤◌, ◌↔◌, length, List, IsTrue, IsErr, OnOk, OnErr, IfOk, false, true};
+ghost use Rattle.std.specs.Prelude.{◌≡◌, ◌+◌, ◌*◌, ◌<◌, ◌≤◌, ◌↔◌, ◌++◌, ℕ, length, List, IsTrue, IsErr, OnOk, OnErr, IfOk, false, true};
 ghost use Rattle.std.specs.Int.{div_ceil};
 ghost use Rattle.qm_core.specs.Counts.{one_more};
 ghost use Rattle.qm_core.specs.Source.{Pulls};
@@ -8,8 +8,8 @@ ghost use Rattle.qm_core.specs.Place.{Place, State};
 ghost use Rattle.qm_core.specs.Decoder.{DecoderIsAt, has_stopped};
 ghost use Rattle.qm_core.specs.declared.source.Pulled.{Pulled};
 ghost use Rattle.raster_core.specs.Lines.{Lines};
-ghost use Rattle.raster_core.specs.Window.{shape_mode, held, width_of};
-ghost use Rattle.raster_core.specs.Packed.{Held, HasLines, SameAbove};
+ghost use Rattle.raster_core.specs.Window.{shape_mode, held, width_of, current_place, memory_of};
+ghost use Rattle.raster_core.specs.Packed.{Held, HasLines, SameAbove, row_placed, rows_at, rows_beside, next_place};
 ghost use Rattle.raster_core.specs.Row.{FirstDecoded, FirstStopped, RowDecoded, IsRowStart, StandsInRow, RowBegins, RowGoesOn, RowPasses, RowsSkipped, CanSkipRows};
 
 mod byte;
@@ -87,14 +87,14 @@ fn begin_row<S: CodeBytes>(
     }
 }
 
-/// Decodes the rest of a row below two others, which stay as they are.
+/// Decodes the rest of a row below two others.
 fn decode_below<S: CodeBytes>(
     shape: Shape,
     place: &mut RowPlace,
     kept: &mut Kept,
     current: &mut [u8],
-    above: &mut [u8],
-    second: &mut [u8],
+    above: &[u8],
+    second: &[u8],
     learned: &mut Learned,
     decoder: &mut Decoder,
     source: &mut S,
@@ -103,7 +103,7 @@ fn decode_below<S: CodeBytes>(
     requires within { place.old.done < shape.width }
     requires going { place.old.is_begun ≡ true → has_stopped decoder.old ≡ false }
     requires current { length current.old ≡ div_ceil shape.width 8 }
-    requires above { length above.old ≡ div_ceil shape.width 8 }
+    requires above { length above.now ≡ div_ceil shape.width 8 }
     ensures stopped { IsTrue (has_stopped decoder.old) → IsErr result ×
         (decoder.new ≡ decoder.old) × (source.new ≡ source.old) }
     ensures stops { IsTrue (has_stopped decoder.new) ↔ IsErr result }
@@ -113,21 +113,19 @@ fn decode_below<S: CodeBytes>(
     ensures offset { OnOk result (kept.new.offset ≡ kept.old.offset) }
     ensures kept { OnErr result (kept.new ≡ kept.old) }
     ensures within { OnErr result (place.new.done < shape.width) }
-    ensures above { above.new ≡ above.old }
-    ensures second { second.new ≡ second.old }
     ensures row { (s : State) (answers : List Pulled) (lines : Lines) →
         StandsInRow shape kept.old place.old s answers lines (record {
           width = shape.width;
           current = current.old;
-          above = above.old;
-          second = second.old;
+          above = above.now;
+          second = second.now;
         }) learned.old decoder.old →
         RowGoesOn (Pulls S.gives S.failed) source.old source.new shape kept.old kept.new
         s answers lines (record {
           width = shape.width;
           current = current.new;
-          above = above.old;
-          second = second.old;
+          above = above.now;
+          second = second.now;
         }) place.new learned.new decoder.new result }
 {
     // What the proof cites of the coder.
@@ -159,6 +157,114 @@ fn decode_below<S: CodeBytes>(
     Ok(())
 }
 
+/// The two rows above the one at a place, of the rows in front of that and behind it.
+#[inline(always)]
+fn rows_above<'a>(front: &'a [u8], back: &'a [u8], long: usize, place: u8) -> (&'a [u8], &'a [u8])
+    requires place { place < 3 }
+    requires front { length front.now ≡ place * long }
+    requires back { length front.now + length back.now ≡ 2 * long }
+    ensures long { length result.0.now ≡ long }
+    ensures above { (row : List ℕ) → length row ≡ long →
+        row_placed long (front.now ++ (row ++ back.now)) (next_place place) ≡ result.0.now }
+    ensures second { (row : List ℕ) → length row ≡ long →
+        row_placed long (front.now ++ (row ++ back.now)) (next_place (next_place place)) ≡
+        result.1.now }
+{
+    match place {
+        0 => back.split_at(long),
+        1 => (back, front),
+        _ => front.split_at(long),
+    }
+}
+
+/// Decodes the rest of the row at a place, between the bytes ahead of it and behind it, which are the two rows above it.
+#[inline(always)]
+fn decode_beside<S: CodeBytes>(
+    shape: Shape,
+    place: &mut RowPlace,
+    kept: &mut Kept,
+    head: &[u8],
+    row: &mut [u8],
+    tail: &[u8],
+    at: u8,
+    learned: &mut Learned,
+    decoder: &mut Decoder,
+    source: &mut S,
+) -> Result<(), Stop>
+    requires offset { kept.old.offset ≤ 127 }
+    requires within { place.old.done < shape.width }
+    requires going { place.old.is_begun ≡ true → has_stopped decoder.old ≡ false }
+    requires head { length head.now ≡ at * div_ceil shape.width 8 }
+    requires row { length row.old ≡ div_ceil shape.width 8 }
+    requires tail { length head.now + length tail.now ≡ 2 * div_ceil shape.width 8 }
+    requires at { at < 3 }
+    ensures stopped { IsTrue (has_stopped decoder.old) → IsErr result ×
+        (decoder.new ≡ decoder.old) × (source.new ≡ source.old) }
+    ensures stops { IsTrue (has_stopped decoder.new) ↔ IsErr result }
+    ensures same { OnOk result (S.failed source.new ≡ S.failed source.old) }
+    ensures counted { has_stopped decoder.old ≡ false →
+        OnErr result (S.failed source.new ≡ one_more (S.failed source.old)) }
+    ensures offset { OnOk result (kept.new.offset ≡ kept.old.offset) }
+    ensures kept { OnErr result (kept.new ≡ kept.old) }
+    ensures within { OnErr result (place.new.done < shape.width) }
+    ensures above { SameAbove (rows_beside at shape.width head.now row.old tail.now)
+        (rows_beside at shape.width head.now row.new tail.now) }
+    ensures row { (s : State) (answers : List Pulled) (lines : Lines) →
+        StandsInRow shape kept.old place.old s answers lines (rows_beside at shape.width head.now
+        row.old tail.now) learned.old decoder.old → RowGoesOn (Pulls S.gives S.failed) source.old
+        source.new shape kept.old kept.new s answers lines (rows_beside at shape.width head.now
+        row.new tail.now) place.new learned.new decoder.new result }
+{
+    let long = shape.width.div_ceil(8) as usize;
+    let (above, second) = rows_above(head, tail, long, at);
+    decode_below(
+        shape, place, kept, row, above, second, learned, decoder, source,
+    )
+}
+
+/// Decodes the rest of the row at a place of bytes that hold it and the two above it, which stay as
+/// they are.
+fn decode_at<S: CodeBytes>(
+    shape: Shape,
+    place: &mut RowPlace,
+    kept: &mut Kept,
+    rows: &mut [u8],
+    current: u8,
+    learned: &mut Learned,
+    decoder: &mut Decoder,
+    source: &mut S,
+) -> Result<(), Stop>
+    requires offset { kept.old.offset ≤ 127 }
+    requires within { place.old.done < shape.width }
+    requires going { place.old.is_begun ≡ true → has_stopped decoder.old ≡ false }
+    requires long { length rows.old ≡ 3 * div_ceil shape.width 8 }
+    requires current { current < 3 }
+    ensures stopped { IsTrue (has_stopped decoder.old) → IsErr result ×
+        (decoder.new ≡ decoder.old) × (source.new ≡ source.old) }
+    ensures stops { IsTrue (has_stopped decoder.new) ↔ IsErr result }
+    ensures same { OnOk result (S.failed source.new ≡ S.failed source.old) }
+    ensures counted { has_stopped decoder.old ≡ false →
+        OnErr result (S.failed source.new ≡ one_more (S.failed source.old)) }
+    ensures offset { OnOk result (kept.new.offset ≡ kept.old.offset) }
+    ensures kept { OnErr result (kept.new ≡ kept.old) }
+    ensures within { OnErr result (place.new.done < shape.width) }
+    ensures above { SameAbove (rows_at current shape.width rows.old)
+        (rows_at current shape.width rows.new) }
+    ensures row { (s : State) (answers : List Pulled) (lines : Lines) →
+        StandsInRow shape kept.old place.old s answers lines
+        (rows_at current shape.width rows.old) learned.old decoder.old →
+        RowGoesOn (Pulls S.gives S.failed) source.old source.new shape kept.old kept.new
+        s answers lines (rows_at current shape.width rows.new) place.new learned.new decoder.new
+        result }
+{
+    let long = shape.width.div_ceil(8) as usize;
+    let (front, rest) = rows.split_at_mut(current as usize * long);
+    let (row, back) = rest.split_at_mut(long);
+    decode_beside(
+        shape, place, kept, front, row, back, current, learned, decoder, source,
+    )
+}
+
 /// Decodes the current row of a window, below the two above it.
 ///
 /// After `Stop` the current row, `kept` and what was learned are unspecified, and the decoder stays
@@ -182,6 +288,8 @@ pub fn decode_row<S: CodeBytes>(
         OnErr result (S.failed source.new ≡ one_more (S.failed source.old)) }
     ensures offset { OnOk result (kept.new.offset ≡ kept.old.offset) }
     ensures above { SameAbove (held window.old) (held window.new) }
+    ensures same_place { current_place window.new ≡ current_place window.old }
+    ensures same_memory { memory_of window.new ≡ memory_of window.old }
 
     ensures row { (p : Place) (answers : List Pulled) (lines : Lines) →
         DecoderIsAt decoder.old p answers → HasLines (held window.old) lines →
@@ -190,13 +298,12 @@ pub fn decode_row<S: CodeBytes>(
         decoder.new result }
 {
     let mut place = RowPlace::start();
-    decode_below(
+    decode_at(
         shape,
         &mut place,
         kept,
-        window.current,
-        window.above,
-        window.second,
+        window.rows,
+        window.place,
         learned,
         decoder,
         source,
@@ -255,6 +362,8 @@ pub fn go_on_row<S: CodeBytes>(
     ensures offset { kept.new.offset ≡ kept.old.offset }
     ensures kept { OnErr result (kept.new ≡ kept.old) }
     ensures above { SameAbove (held window.old) (held window.new) }
+    ensures same_place { current_place window.new ≡ current_place window.old }
+    ensures same_memory { memory_of window.new ≡ memory_of window.old }
     ensures within { place.new.done < shape.width }
     ensures start { OnOk result (IsRowStart place.new) }
     ensures row { (s : State) (answers : List Pulled) (lines : Lines) →
@@ -262,13 +371,12 @@ pub fn go_on_row<S: CodeBytes>(
         decoder.old → RowPasses (Pulls S.gives S.failed) source.old source.new shape kept.old
         kept.new s answers lines (held window.new) place.new learned.new decoder.new result }
 {
-    let outcome = decode_below(
+    let outcome = decode_at(
         shape,
         place,
         kept,
-        window.current,
-        window.above,
-        window.second,
+        window.rows,
+        window.place,
         learned,
         decoder,
         source,

@@ -24,4 +24,4 @@ pub use encode::encode_row;
 pub use place::RowPlace;
 pub use shape::{Kept, Shape};
 pub use tally::Tally;
-pub use window::{Window, window_bytes};
+pub use window::{Window, current_row, window_bytes};

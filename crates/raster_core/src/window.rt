@@ -1,9 +1,11 @@
 //! Three rows of pixels in one lent slice.
 
-ghost use Rattle.std.specs.Prelude.{◌≡◌, ℕ, ◌*◌, ◌≤◌, length};
+ghost use Rattle.std.specs.Prelude.{◌≡◌, ℕ, ◌+◌, ◌*◌, ◌<◌, ◌≤◌, List, length, slice_range};
 ghost use Rattle.std.specs.Int.{div_ceil};
+ghost use Rattle.raster_core.specs.Packed.{row_placed, row_bytes, with_part, rows_at, with_current, next_place};
 
 use crate::rows::Rows;
+use std::ops::Range;
 
 /// How many bytes the three rows of a window take.
 pub fn window_bytes(width: u32) -> usize
@@ -12,31 +14,58 @@ pub fn window_bytes(width: u32) -> usize
     3 * width.div_ceil(8) as usize
 }
 
-/// A row and the two above it, a pixel a bit, the first highest.
-#[derive(Drop)]
-pub struct Window<'a> {
-    /// Who writes here leaves padding 0.
-    pub current: &'a mut [u8],
-    pub(crate) above: &'a mut [u8],
-    pub(crate) second: &'a mut [u8],
-    width: u32,
-    ghost current_length: { length current.now ≡ div_ceil width 8 },
-    ghost above_length: { length above.now ≡ div_ceil width 8 },
-    ghost second_length: { length second.now ≡ div_ceil width 8 },
+/// Where the current row is in the bytes of a window, which has it at this place.
+#[inline(always)]
+pub fn current_row(width: u32, place: u8) -> Range<usize>
+    requires { place < 3 }
+    ensures start { result.start ≡ place * div_ceil width 8 }
+    ensures end { result.end ≡ place * div_ceil width 8 + div_ceil width 8 }
+    ensures inside { result.end ≤ 3 * div_ceil width 8 }
+    ensures row { (bytes : List ℕ) → length bytes ≡ 3 * div_ceil width 8 →
+        slice_range bytes result.start result.end ≡ (rows_at place width bytes).current }
+    ensures put { (bytes row : List ℕ) → length bytes ≡ 3 * div_ceil width 8 →
+        length row ≡ div_ceil width 8 →
+        rows_at place width (with_part result.start result.end bytes row)
+        ≡ with_current (rows_at place width bytes) row }
+{
+    let long = width.div_ceil(8) as usize;
+    let start = place as usize * long;
+    start..start + long
 }
 
-/// Copies a row, which stays as it is, over another.
-fn copy_over(row: &mut [u8], other: &mut [u8])
-    requires { length other.old ≡ length row.old }
-    ensures row { row.new ≡ row.old }
-    ensures other { other.new ≡ row.old }
+/// A row and the two above it, a pixel a bit, the first highest, at three places of one lent slice.
+#[derive(Drop)]
+pub struct Window<'a> {
+    /// The three rows. Who writes here leaves padding 0.
+    pub rows: &'a mut [u8],
+    /// Where the current row is. The row above it is at the next place and the second above after
+    /// that, in a ring.
+    pub(crate) place: u8,
+    width: u32,
+    ghost long: { length rows.now ≡ 3 * div_ceil width 8 },
+    ghost within: { place < 3 },
+}
+
+/// The next of the three places.
+fn next_place(place: u8) -> u8
+    requires { place < 3 }
+    ensures { result ≡ next_place place }
 {
-    other.copy_from_slice(row);
+    if place == 2 { 0 } else { place + 1 }
+}
+
+/// The row at a place.
+fn row_placed(rows: &[u8], width: u32, place: u8) -> &[u8]
+    requires long { length rows.now ≡ 3 * div_ceil width 8 }
+    requires place { place < 3 }
+    ensures { result.now ≡ row_placed (row_bytes width) rows.now place }
+{
+    &rows[current_row(width, place)]
 }
 
 impl<'a> Window<'a> {
     ghost use Rattle.raster_core.specs.Packed.{HasLines, row_of, white_lines};
-    ghost use Rattle.raster_core.specs.Window.{held, width_of, turned, repeated};
+    ghost use Rattle.raster_core.specs.Window.{held, width_of, current_place, memory_of, turned, repeated};
     ghost use Rattle.raster_core.specs.Machine.Rows.{held_in};
 
     /// A window with all three rows white, over `window_bytes` of the width.
@@ -44,18 +73,30 @@ impl<'a> Window<'a> {
         requires { length bytes.old ≡ 3 * div_ceil width 8 }
         ensures width { width_of result ≡ width }
         ensures white { HasLines (held result) (white_lines width) }
+        ensures same_reference { memory_of result ≡ bytes.entry.ghost_name }
+        ensures first { current_place result ≡ 0 }
     {
-        let n = width.div_ceil(8) as usize;
-        let (current, rest) = bytes.split_at_mut(n);
-        let (above, second) = rest.split_at_mut(n);
         let mut window = Window {
-            current,
-            above,
-            second,
+            rows: bytes,
+            place: 0,
             width,
         };
         window.clear();
         window
+    }
+
+    /// A window over rows that an earlier one of this width left, with the current one at this
+    /// place.
+    pub fn resume(bytes: &'a mut [u8], width: u32, place: u8) -> Window<'a>
+        requires long { length bytes.old ≡ 3 * div_ceil width 8 }
+        requires place { place < 3 }
+        ensures held { held result ≡ rows_at place width bytes.old }
+        ensures width { width_of result ≡ width }
+        ensures place { current_place result ≡ place }
+        ensures same_reference { memory_of result ≡ bytes.entry.ghost_name }
+    {
+        let rows = bytes;
+        Window { rows, place, width }
     }
 
     /// How many pixels a row has.
@@ -65,16 +106,26 @@ impl<'a> Window<'a> {
         self.width
     }
 
+    /// At which of the three places the current row is.
+    pub fn place(&self) -> u8
+        ensures place { result ≡ current_place self.now }
+        ensures within { result < 3 }
+    {
+        self.place
+    }
+
     /// Row 0 is the current one, 1 the one above it, 2 the one above that.
     pub fn row(&self, k: u8) -> &[u8]
         requires { k ≤ 2 }
         ensures { result.now ≡ row_of (held self.now) k }
     {
-        match k {
-            0 => &*self.current,
-            1 => &*self.above,
-            _ => &*self.second,
-        }
+        let above = next_place(self.place);
+        let place = match k {
+            0 => self.place,
+            1 => above,
+            _ => next_place(above),
+        };
+        row_placed(&*self.rows, self.width, place)
     }
 
     /// The row that was written last, and the two above it.
@@ -82,10 +133,12 @@ impl<'a> Window<'a> {
     pub(crate) fn rows(&self) -> Rows<'_>
         ensures { held_in result ≡ held self.now }
     {
+        let above = next_place(self.place);
+        let second = next_place(above);
         Rows {
-            current: &*self.current,
-            above: &*self.above,
-            second: &*self.second,
+            current: row_placed(&*self.rows, self.width, self.place),
+            above: row_placed(&*self.rows, self.width, above),
+            second: row_placed(&*self.rows, self.width, second),
             width: self.width,
         }
     }
@@ -93,27 +146,32 @@ impl<'a> Window<'a> {
     /// Goes a row down: the new rows 0, 1, 2 are the old rows 2, 0, 1. So the current row has to be
     /// written again.
     pub fn turn(&mut self)
-        ensures { held self.new ≡ turned (held self.old) }
+        ensures turned { held self.new ≡ turned (held self.old) }
+        ensures place { current_place self.new ≡ next_place (next_place (current_place self.old)) }
+        ensures same_memory { memory_of self.new ≡ memory_of self.old }
     {
-        std::mem::swap(&mut self.above, &mut self.second);
-        std::mem::swap(&mut self.current, &mut self.above);
+        self.place = if self.place == 0 { 2 } else { self.place - 1 };
     }
 
     /// Goes a row down to one that equals the current one.
     pub fn repeat(&mut self)
-        ensures { held self.new ≡ repeated (held self.old) }
+        ensures repeated { held self.new ≡ repeated (held self.old) }
+        ensures place { current_place self.new ≡ next_place (next_place (current_place self.old)) }
+        ensures same_memory { memory_of self.new ≡ memory_of self.old }
     {
-        std::mem::swap(&mut self.above, &mut self.second);
-        copy_over(self.current, self.above);
+        let above = current_row(self.width, self.place);
+        self.turn();
+        let current = current_row(self.width, self.place);
+        self.rows.copy_within(above, current.start);
     }
 
     /// Makes all three rows white.
     pub fn clear(&mut self)
         ensures width { width_of self.new ≡ width_of self.old }
         ensures white { HasLines (held self.new) (white_lines (width_of self.old)) }
+        ensures same_place { current_place self.new ≡ current_place self.old }
+        ensures same_memory { memory_of self.new ≡ memory_of self.old }
     {
-        self.current.fill(0);
-        self.above.fill(0);
-        self.second.fill(0);
+        self.rows.fill(0);
     }
 }

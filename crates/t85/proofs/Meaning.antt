@@ -17,9 +17,8 @@ use Rattle.t85_core.specs.Laws.{OneRasterOfStream, HasOutcome}
 use Rattle.t85_core.specs.Outcome.{IsOutcome, pbm_rows}
 use Rattle.t85.specs.Decoded.{Opens}
 use Rattle.t85.specs.DecodedRows.{DeliversRows}
-use Rattle.t85.specs.Delivered.{fault_status, lined}
-use Rattle.t85.specs.Encoded.{DeliversCode, DeliversAll, or_else, status_if, refusal_told, settings_chosen}
-use Rattle.t85.specs.declared.options.T85Options.{T85Options}
+use Rattle.t85.specs.Delivered.{fault_status, lined, lending}
+use Rattle.t85.specs.Encoded.{DeliversCode, DeliversAll, or_else, status_if, settings_chosen, Asked, EncodingCall, asked, refusal}
 use Rattle.t85.specs.Laws.{IsOnly, IsStreamOf, DecodedIsImage, DecodedAreRows, EncodedIsStream}
 use Rattle.t85.proofs.Rowed.{length_rows}
 
@@ -83,7 +82,7 @@ decoded_image one stream limit window old new written d = elim d [
 ]
 
 -- rows that give the same bytes are as many
-rows_same : (one : OneRasterOfStream) (stream : List ℕ) (o : Opens stream) (stride : ℕ) (old new : List ℕ) (written : ℕ) (w : DeliversRows o.header o.height (drop 20 stream) stride old new written 0) →
+rows_same : (one : OneRasterOfStream) (stream : List ℕ) (o : Opens stream) (stride : ℕ) (old new : List ℕ) (written : ℕ) (w : DeliversRows o.header o.height (drop 20 stream) stride (lending old new written 0)) →
     written ≡ length w.rows → lined (length w.rows) (div_ceil o.header.xd 8) stride new ≡ flat_map packed_row w.rows → 0 ≡ fault_status w.outcome.fault →
     (raster : Raster) × IsOnly stream raster × (written ≡ height raster) × (lined (height raster) (div_ceil raster.width 8) stride new ≡ flat_map packed_row raster.rows)
 rows_same one stream o stride old new written w count stood is =
@@ -133,8 +132,8 @@ zero_fault None e = (let bot : ⊥ = cc in bot)
 zero_fault (Some f) e = some_status f (let same : 0 ≡ fault_number f = cc in same)
 
 -- no refusal is told as 0
-none_zero : (choice : T85Options) (comment : List ℕ) (width height' stride window : ℕ) → refusal_told choice comment width height' stride window ≡ Some 0 → ⊥
-none_zero choice comment width height' stride window =
+none_zero : (call : EncodingCall) → refusal call ≡ Some 0 → ⊥
+none_zero call =
     zero_else _ _ (zero_if _ 50 (omega arith))
     (zero_else _ _ (zero_fault _)
     (zero_else _ _ (zero_if _ 33 (omega arith))
@@ -142,14 +141,17 @@ none_zero choice comment width height' stride window =
     (zero_else _ _ (zero_if _ 51 (omega arith))
     (zero_else _ _ (zero_if _ 23 (omega arith)) (zero_if _ 19 (omega arith)))))))
 
-module _ (one : OneRasterOfStream) (choice : T85Options) (comment : List ℕ) (width height' stride : ℕ) (rows new : List ℕ) (written : ℕ) where
+module _ (one : OneRasterOfStream) (call : EncodingCall) (rows new : List ℕ) (written : ℕ) where
   abbrev body : List ℕ
-  body = lined height' (div_ceil width 8) stride rows
+  body = lined call.height (div_ceil call.width 8) call.stride rows
 
-  all_written : DeliversAll (settings_chosen choice comment) width height' body new written 0 → IsStreamOf choice comment width height' stride rows (take written new)
+  abbrev asked_for : Asked
+  asked_for = asked (settings_chosen call.choice call.comment) call.width call.height
+
+  all_written : DeliversAll asked_for body new written 0 → IsStreamOf call rows (take written new)
   all_written w = elim w.delivers [
     | inl fits ↦
-        let raster : Raster = raster_of width w.rows in
+        let raster : Raster = raster_of call.width w.rows in
         let denotes : Denotes (take written new) raster = subst (λ l. Denotes l raster) (sym fits.stands) w.denotes in
         record {
           raster = raster;
@@ -163,12 +165,12 @@ module _ (one : OneRasterOfStream) (choice : T85Options) (comment : List ℕ) (w
     | inr full ↦ absurd (omega (arith, full.answer_is))
   ]
 
-  code_written : DeliversCode (settings_chosen choice comment) width height' body new written 0 → IsStreamOf choice comment width height' stride rows (take written new)
+  code_written : DeliversCode asked_for body new written 0 → IsStreamOf call rows (take written new)
   code_written (inl w) = all_written w
   code_written (inr w) = elim w.writes [ inl begun ↦ absurd (omega (arith, begun.fits.answer_is)) | inr full ↦ absurd (omega (arith, full.answer_is)) ]
 
 pub encoded_stream : OneRasterOfStream → EncodedIsStream
-encoded_stream one choice comment width height' stride window rows old new written e = elim e [
-  | inl refused ↦ absurd (none_zero choice comment width height' stride window (refused.is ∙ ap Some (sym refused.refuses.answer_is)))
-  | inr w ↦ code_written one choice comment width height' stride rows new written w.writes
+encoded_stream one call rows old new written e = elim e [
+  | inl refused ↦ absurd (none_zero call (refused.is ∙ ap Some (sym refused.refuses.answer_is)))
+  | inr w ↦ code_written one call rows new written w.writes
 ]

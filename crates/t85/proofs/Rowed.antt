@@ -18,8 +18,9 @@ use Rattle.t85_core.specs.Header.{Fields}
 use Rattle.t85_core.specs.Laws.{HasOutcome}
 use Rattle.t85_core.specs.Outcome.{IsOutcome, pbm_rows}
 use Rattle.t85.specs.DecodedRows.{HaveRoom, FitsRows, IsFullOfRows, DeliversRows}
-use Rattle.t85.specs.Delivered.{fault_status, answer_status, lined, outside}
+use Rattle.t85.specs.Delivered.{fault_status, answer_status, lined, outside, lending}
 use Rattle.t85.specs.LinedOutput.{taken, taken_rows}
+use Rattle.t85.proofs.Taken.{state_with}
 use Rattle.t85.proofs.Delivery.{held, begins, none_failed}
 use Rattle.t85.proofs.Placed.{length_outside, first_of}
 use Rattle.t85.proofs.RawRows.{same_front}
@@ -138,22 +139,22 @@ module _ (width height row stride fit skip at y x : ℕ) (bytes head : List ℕ)
       (same_front (take at head) (header_text width height) rest packed same (long ∙ all ∙ skip_is)).1
 
   -- nothing but a part of the head has come, so the text has not
-  head_only : at < skip → spilled ≡ None → taken_rows row stride fit bytes head at y x spilled ≡ pbm_rows width height rows → ⊥
+  head_only : at < skip → spilled ≡ None → taken_rows (state_with row stride fit skip bytes head at y x spilled) ≡ pbm_rows width height rows → ⊥
   head_only short none same =
       let zero_rows : y * row + x ≡ 0 = ap (λ n. n * row + x) (k.head_first_rows short) ∙ omega (arith, k.head_first_bytes short) in
-      let nothing : taken_rows row stride fit bytes head at y x spilled ≡ take at head =
+      let nothing : taken_rows (state_with row stride fit skip bytes head at y x spilled) ≡ take at head =
       ap (λ n. take at head ++ (take n all_rows ++ option_to_list spilled)) zero_rows ∙ ap (λ s. take at head ++ option_to_list s) none ∙ append-nil (take at head) in
       let long : length (take at head) ≡ at = length-take-le at head (omega (arith, k.head_within, k.head_fits)) in
       let text : length (take at head) ≡ length (header_text width height) + length packed = ap length (sym nothing ∙ same) ∙ length-append (header_text width height) packed in
       omega (arith, text, long, skip_is, short)
 
-  whole_head : spilled ≡ None → taken_rows row stride fit bytes head at y x spilled ≡ pbm_rows width height rows → at ≡ skip
+  whole_head : spilled ≡ None → taken_rows (state_with row stride fit skip bytes head at y x spilled) ≡ pbm_rows width height rows → at ≡ skip
   whole_head none same = went (nat_lt at skip) refl where
     went : (test : Bool) → nat_lt at skip ≡ test → at ≡ skip
     went true less = (let short : at < skip = grind (arith, nat_tests) in absurd (head_only short none same))
     went false enough = (let past : skip ≤ at = grind (arith, nat_tests) in omega (arith, k.head_within))
 
-  pub fits_rows : (status answer : ℕ) → answer ≡ status → spilled ≡ None → taken_rows row stride fit bytes head at y x spilled ≡ pbm_rows width height rows → FitsRows rows status fit row stride bytes y answer
+  pub fits_rows : (status answer : ℕ) → answer ≡ status → spilled ≡ None → taken_rows (state_with row stride fit skip bytes head at y x spilled) ≡ pbm_rows width height rows → FitsRows rows status (record { fit = fit; row = row; stride = stride }) bytes y answer
   fits_rows status answer told none same =
       let came = behind_head (take (y * row + x) all_rows ++ option_to_list spilled) (whole_head none same) same in
       let stood : take (y * row + x) all_rows ≡ packed = sym (append-nil (take (y * row + x) all_rows)) ∙ ap (λ s. take (y * row + x) all_rows ++ option_to_list s) (sym none) ∙ came in
@@ -168,7 +169,7 @@ module _ (width height row stride fit skip at y x : ℕ) (bytes head : List ℕ)
         answer_is = told;
       }
 
-  pub full_of_rows : (b : ℕ) (rest : List ℕ) → spilled ≡ Some b → taken_rows row stride fit bytes head at y x spilled ++ rest ≡ pbm_rows width height rows → IsFullOfRows rows fit row stride bytes y 18
+  pub full_of_rows : (b : ℕ) (rest : List ℕ) → spilled ≡ Some b → taken_rows (state_with row stride fit skip bytes head at y x spilled) ++ rest ≡ pbm_rows width height rows → IsFullOfRows rows (record { fit = fit; row = row; stride = stride }) bytes y 18
   full_of_rows b rest some same =
       let is : is_some spilled ≡ true = ap is_some some in
       let last : y ≡ fit = k.spilled_last is in
@@ -209,9 +210,9 @@ module _ (h : Fields) (height : ℕ) (body : List ℕ) (in_new : Option (List �
   out = outside fit row stride bytes
 
   abbrev old : List ℕ
-  old = taken row stride fit skip bytes head at y x spilled
+  old = taken (state_with row stride fit skip bytes head at y x spilled)
 
-  begun : taken_rows row stride fit bytes head at y x spilled ≡ []
+  begun : taken_rows (state_with row stride fit skip bytes head at y x spilled) ≡ []
   begun =
       let rows = lined fit row stride bytes in
       let nothing : y * row + x ≡ 0 = ap (λ n. n * row + x) no_row ∙ omega (arith, no_byte) in
@@ -220,15 +221,15 @@ module _ (h : Fields) (height : ℕ) (body : List ℕ) (in_new : Option (List �
   module _ (bytes' head' : List ℕ) (at' y' x' : ℕ) (spilled' : Option ℕ) where
     -- what was taken is what came, and the rest stays
     came : (front : List ℕ) → Kept row stride fit skip at' y' x' bytes' head' spilled' → length bytes' ≡ length bytes →
-        outside fit row stride bytes' ++ taken_rows row stride fit bytes' head' at' y' x' spilled' ≡ (out ++ taken_rows row stride fit bytes head at y x spilled) ++ front →
-        (outside fit row stride bytes' ≡ out) × (taken_rows row stride fit bytes' head' at' y' x' spilled' ≡ front)
+        outside fit row stride bytes' ++ taken_rows (state_with row stride fit skip bytes' head' at' y' x' spilled') ≡ (out ++ taken_rows (state_with row stride fit skip bytes head at y x spilled)) ++ front →
+        (outside fit row stride bytes' ≡ out) × (taken_rows (state_with row stride fit skip bytes' head' at' y' x' spilled') ≡ front)
     came front k long same =
-        same_front (outside fit row stride bytes') out (taken_rows row stride fit bytes' head' at' y' x' spilled') front
-        (same ∙ append_assoc out (taken_rows row stride fit bytes head at y x spilled) front ∙ ap (λ l. out ++ (l ++ front)) begun)
+        same_front (outside fit row stride bytes') out (taken_rows (state_with row stride fit skip bytes' head' at' y' x' spilled')) front
+        (same ∙ append_assoc out (taken_rows (state_with row stride fit skip bytes head at y x spilled)) front ∙ ap (λ l. out ++ (l ++ front)) begun)
         (length_outside row stride k.apart fit bytes' bytes long)
 
     rows_put : (rows : List (List Bool)) (answer : ℕ) → o.text ≡ pbm_rows h.xd height rows → AllByRecursion (λ r. length r ≡ h.xd) rows → outside fit row stride bytes' ≡ out →
-        FitsRows rows (fault_status o.fault) fit row stride bytes' y' answer ⊎ IsFullOfRows rows fit row stride bytes' y' answer → DeliversRows h height body stride bytes bytes' y' answer
+        FitsRows rows (fault_status o.fault) (record { fit = fit; row = row; stride = stride }) bytes' y' answer ⊎ IsFullOfRows rows (record { fit = fit; row = row; stride = stride }) bytes' y' answer → DeliversRows h height body stride (lending bytes bytes' y' answer)
     rows_put rows answer are wide kept delivers = record {
       outcome = o;
       rows = rows;
@@ -237,30 +238,30 @@ module _ (h : Fields) (height : ℕ) (body : List ℕ) (in_new : Option (List �
       fit = fit;
       room = subst (λ r. HaveRoom height r stride (length bytes) fit) row_is room;
       kept = subst (λ r. outside fit r stride bytes' ≡ outside fit r stride bytes) row_is kept;
-      delivers = subst (λ r. FitsRows rows (fault_status o.fault) fit r stride bytes' y' answer ⊎ IsFullOfRows rows fit r stride bytes' y' answer) row_is delivers;
+      delivers = subst (λ r. FitsRows rows (fault_status o.fault) (record { fit = fit; row = r; stride = stride }) bytes' y' answer ⊎ IsFullOfRows rows (record { fit = fit; row = r; stride = stride }) bytes' y' answer) row_is delivers;
     }
 
     module _ (row' stride' fit' skip' : ℕ) (k : Kept row' stride' fit' skip' at' y' x' bytes' head' spilled') where
       abbrev new : List ℕ
-      new = taken row' stride' fit' skip' bytes' head' at' y' x' spilled'
+      new = taken (state_with row' stride' fit' skip' bytes' head' at' y' x' spilled')
 
       -- the output is the one that it was
       record Same (front : List ℕ) : Type 0 where
         kept : Kept row stride fit skip at' y' x' bytes' head' spilled'
         stays : outside fit row stride bytes' ≡ out
-        is : taken_rows row stride fit bytes' head' at' y' x' spilled' ≡ front
+        is : taken_rows (state_with row stride fit skip bytes' head' at' y' x' spilled') ≡ front
 
       same_output : (front : List ℕ) → new ≡ old ++ front → Same front
       same_output front e =
-          let f = same_fixed (length bytes') row' stride' fit' skip' (length bytes) row stride fit skip (outside fit' row' stride' bytes' ++ taken_rows row' stride' fit' bytes' head' at' y' x' spilled') ((out ++ taken_rows row stride fit bytes head at y x spilled) ++ front) e in
+          let f = same_fixed (length bytes') row' stride' fit' skip' (length bytes) row stride fit skip (outside fit' row' stride' bytes' ++ taken_rows (state_with row' stride' fit' skip' bytes' head' at' y' x' spilled')) ((out ++ taken_rows (state_with row stride fit skip bytes head at y x spilled)) ++ front) e in
           let now : Kept row stride fit skip at' y' x' bytes' head' spilled' =
           moved (λ a b c d. Kept a b c d at' y' x' bytes' head' spilled') row stride fit skip row' stride' fit' skip' f.second f.third f.fourth f.fifth k in
-          let same = moved (λ a b c d. outside c a b bytes' ++ taken_rows a b c bytes' head' at' y' x' spilled' ≡ (out ++ taken_rows row stride fit bytes head at y x spilled) ++ front) row stride fit skip row' stride' fit' skip' f.second f.third f.fourth f.fifth f.rest in
+          let same = moved (λ a b c d. outside c a b bytes' ++ taken_rows (state_with a b c d bytes' head' at' y' x' spilled') ≡ (out ++ taken_rows (state_with row stride fit skip bytes head at y x spilled)) ++ front) row stride fit skip row' stride' fit' skip' f.second f.third f.fourth f.fifth f.rest in
           let both = came front now f.first same in
           record { kept = now; stays = both.0; is = both.1 }
 
       pub rows_fit : (before failures : ℕ) (answer : Result (Unit {0}) Fault) → before ≡ 0 → is_some spilled' ≡ false → (0 < failures → is_some spilled' ≡ true) →
-          Decode h height (between (Some body) in_new 0 0) (between (Some old) (Some new) before failures) answer → DeliversRows h height body stride bytes bytes' y' (answer_status answer)
+          Decode h height (between (Some body) in_new 0 0) (between (Some old) (Some new) before failures) answer → DeliversRows h height body stride (lending bytes bytes' y' (answer_status answer))
       rows_fit before failures answer fresh none full d =
           let D : ℕ → ℕ → Type 0 = λ m n. Decode h height (between (Some body) in_new 0 0) (between (Some old) (Some new) m n) answer in
           let f : D 0 failures = subst (λ m. D m failures) fresh d in
@@ -271,7 +272,7 @@ module _ (h : Fields) (height : ℕ) (body : List ℕ) (in_new : Option (List �
           (inl (fits_rows h.xd height row stride fit skip at' y' x' bytes' head' spilled' s.kept row_is skip_is rows.rows rows.wide (fault_status o.fault) (answer_status answer) stood.1 (unsome spilled' none) (s.is ∙ rows.text_is)))
 
       pub rows_fill : (before failures : ℕ) (answer : Result (Unit {0}) Fault) (b : ℕ) → spilled' ≡ Some b →
-          Decode h height (between (Some body) in_new 0 0) (between (Some old) (Some new) before failures) answer → DeliversRows h height body stride bytes bytes' y' 18
+          Decode h height (between (Some body) in_new 0 0) (between (Some old) (Some new) before failures) answer → DeliversRows h height body stride (lending bytes bytes' y' 18)
       rows_fill before failures answer b some d =
           let w = begins h height body in_new o old new d.front in
           let rows = rows_in h height body o.fault o.text o.is in

@@ -19,7 +19,7 @@ use Rattle.t85_core.specs.Jbg.{Settings, AreSettings, IsAnnounced, is_low, jbg}
 use Rattle.t85_core.specs.Laws.{CodeDenotes}
 use Rattle.t85_core.specs.Options.{settings_of}
 use Rattle.t85.specs.Delivered.{answer_status, IsFull}
-use Rattle.t85.specs.Encoded.{DeliversCode}
+use Rattle.t85.specs.Encoded.{DeliversCode, asked}
 use Rattle.t85.proofs.Delivery.{none_failed, fits_in, full_of}
 use Rattle.t85.proofs.RawRows.{RowsOf, rows_of, ends_within, first_rows}
 
@@ -49,7 +49,7 @@ not_low a b e = grind (arith, nat_tests)
 
 module _ (s : Settings) (width height' : ℕ) (body memory : List ℕ) (len : ℕ) (low : is_low s height' ≡ false) where
   by_fault : (in_new : Option (List ℕ)) (f : Fault) → len ≤ length memory →
-      Encode s Raw width height' (between (Some body) in_new 0 0) (between (Some []) (Some (take len memory ++ [])) 0 0) (Err f) → DeliversCode s width height' body memory len (answer_status (Err f))
+      Encode s Raw width height' (between (Some body) in_new 0 0) (between (Some []) (Some (take len memory ++ [])) 0 0) (Err f) → DeliversCode (asked s width height') body memory len (answer_status (Err f))
   by_fault in_new (Pbm Truncated) within d =
       let w = d.short Truncated (λ e. absurd (let bot : ⊥ = cc in bot)) refl in
       inr (record {
@@ -70,7 +70,7 @@ module _ (s : Settings) (width height' : ℕ) (body memory : List ℕ) (len : �
   by_fault in_new f within d = absurd (d.among (λ e. absurd (let bot : ⊥ = cc in bot)))
 
   by_answer : (in_new : Option (List ℕ)) (answer : Result (Unit {0}) Fault) → len ≤ length memory →
-      Encode s Raw width height' (between (Some body) in_new 0 0) (between (Some []) (Some (take len memory ++ [])) 0 0) answer → DeliversCode s width height' body memory len (answer_status answer)
+      Encode s Raw width height' (between (Some body) in_new 0 0) (between (Some []) (Some (take len memory ++ [])) 0 0) answer → DeliversCode (asked s width height') body memory len (answer_status answer)
   by_answer in_new (Ok u) within d =
       let w = d.whole in
       inl (record {
@@ -86,7 +86,7 @@ module _ (s : Settings) (width height' : ℕ) (body memory : List ℕ) (len : �
   pub stored : (old : List ℕ) (in_new : Option (List ℕ)) (answer : Result (Unit {0}) Fault) (spilled : Option ℕ) (before failures : ℕ) → old ≡ [] → before ≡ 0 → is_some spilled ≡ false →
       (0 < failures → is_some spilled ≡ true) → len ≤ length memory →
       Encode s Raw width height' (between (Some body) in_new 0 0) (between (Some old) (Some (take len memory ++ option_to_list spilled)) before failures) answer →
-      DeliversCode s width height' body memory len (answer_status answer)
+      DeliversCode (asked s width height') body memory len (answer_status answer)
   stored old in_new answer (Some b) before failures empty fresh none full within d = absurd (true≢false none)
   stored old in_new answer None before failures empty fresh none full within d =
       let D : List ℕ → ℕ → ℕ → Type 0 = λ start m n. Encode s Raw width height' (between (Some body) in_new 0 0) (between (Some start) (Some (take len memory ++ [])) m n) answer in
@@ -116,7 +116,7 @@ module _ (s : Settings) (width height' : ℕ) (body memory : List ℕ) (len : �
     is_raster held many = record { width_from = width_from; width_to = width_to; height_from = omega arith; height_to = omega arith; rows = held.wide }
 
     filled : (given left : List ℕ) → body ≡ given ++ left → WritesCodeFront s Raw width height' given (Some []) (Some (take len memory ++ b ∷ [])) → (held : RowsOf width height' body) →
-        DeliversCode s width height' body memory len 18
+        DeliversCode (asked s width height') body memory len 18
     filled given left taken w held = elim held.ends [
       | inl many ↦
           let raster : Raster = raster_of width held.rows in
@@ -147,13 +147,13 @@ module _ (s : Settings) (width height' : ℕ) (body memory : List ℕ) (len : �
     ]
 
     begun : (in_new : Option (List ℕ)) (given : List ℕ) → Consumes (Some body) in_new given → WritesCodeFront s Raw width height' given (Some []) (Some (take len memory ++ b ∷ [])) →
-        DeliversCode s width height' body memory len 18
+        DeliversCode (asked s width height') body memory len 18
     begun None given taken w = absurd taken
     begun (Some left) given taken w = filled given left taken w (rows_of width height' body)
 
   pub overfull : (law : CodeDenotes) (proper : AreSettings s) → 1 ≤ width → width ≤ 2 ^ 20 → 1 ≤ height' → height' < 2 ^ 32 → (old : List ℕ) (in_new : Option (List ℕ)) (answer : Result (Unit {0}) Fault) (spilled : Option ℕ) (before failures : ℕ) →
       old ≡ [] → is_some spilled ≡ true → (is_some spilled ≡ true → len ≡ length memory) →
-      Encode s Raw width height' (between (Some body) in_new 0 0) (between (Some old) (Some (take len memory ++ option_to_list spilled)) before failures) answer → DeliversCode s width height' body memory len 18
+      Encode s Raw width height' (between (Some body) in_new 0 0) (between (Some old) (Some (take len memory ++ option_to_list spilled)) before failures) answer → DeliversCode (asked s width height') body memory len 18
   overfull law proper wf wt hf ht old in_new answer None before failures empty some last d = absurd (true≢false (sym some))
   overfull law proper wf wt hf ht old in_new answer (Some b) before failures empty some last d =
       begun law proper wf wt hf ht (last some) b in_new d.front.0 d.front.1

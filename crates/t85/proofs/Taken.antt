@@ -5,7 +5,7 @@ use Rattle.std.proofs.lemmas.List.{drop-drop}
 use Rattle.std.proofs.lemmas.Slice.{take-put_mid}
 use borrow.Rule.Slice.PartMut.{put_mid}
 use Rattle.t85.specs.Delivered.{lined, outside}
-use Rattle.t85.specs.LinedOutput.{taken}
+use Rattle.t85.specs.LinedOutput.{LinedState, taken}
 use Rattle.t85.proofs.Placed.{place, placed_outside, placed_lined, length_placed}
 
 pub not_spilled : (spilled : Option ℕ) → (is_some spilled ≡ true → ⊥) → spilled ≡ None
@@ -21,8 +21,12 @@ before_nothing out front chunk last none =
     ap (λ l. out ++ ((front ++ chunk) ++ l)) none ∙ ap (λ l. out ++ l) (append-nil (front ++ chunk)) ∙ sym (append_assoc out front chunk)
     ∙ ap (λ l. (out ++ l) ++ chunk) (sym (append-nil front)) ∙ ap (λ l. (out ++ (front ++ l)) ++ chunk) (sym none)
 
+-- an output of these parts
+abbrev pub state_with : ℕ → ℕ → ℕ → ℕ → List ℕ → List ℕ → ℕ → ℕ → ℕ → Option ℕ → LinedState
+state_with row stride fit skip bytes head at y x spilled = record { row = row; stride = stride; fit = fit; skip = skip; bytes = bytes; head = head; at = at; y = y; x = x; spilled = spilled }
+
 pub head_taken : (row stride fit skip : ℕ) (bytes head : List ℕ) (at y x : ℕ) (spilled : Option ℕ) (count k : ℕ) (chunk : List ℕ) → y ≡ 0 → x ≡ 0 → spilled ≡ None → length chunk ≡ count → at ≤ length head →
-    taken row stride fit skip bytes (put_mid at k head chunk) (at + count) y x spilled ≡ taken row stride fit skip bytes head at y x spilled ++ chunk
+    taken (state_with row stride fit skip bytes (put_mid at k head chunk) (at + count) y x spilled) ≡ taken (state_with row stride fit skip bytes head at y x spilled) ++ chunk
 head_taken row stride fit skip bytes head at y x spilled count k chunk top left none long within =
     let out = outside fit row stride bytes in
     let rows = lined fit row stride bytes in
@@ -35,7 +39,7 @@ head_taken row stride fit skip bytes head at y x spilled count k chunk top left 
 
 pub row_taken : (row stride fit skip : ℕ) (bytes head : List ℕ) (at y x y' x' : ℕ) (spilled : Option ℕ) (k : ℕ) (chunk : List ℕ) → row ≤ stride → spilled ≡ None → k ≡ length chunk → y < fit → x + length chunk ≤ row →
     y * stride + x + length chunk ≤ length bytes → y' * row + x' ≡ y * row + x + length chunk →
-    taken row stride fit skip (put_mid (y * stride + x) k bytes chunk) head at y' x' spilled ≡ taken row stride fit skip bytes head at y x spilled ++ chunk
+    taken (state_with row stride fit skip (put_mid (y * stride + x) k bytes chunk) head at y' x' spilled) ≡ taken (state_with row stride fit skip bytes head at y x spilled) ++ chunk
 row_taken row stride fit skip bytes head at y x y' x' spilled k chunk apart none long few inside within more =
     let out = outside fit row stride bytes in
     let front = take at head in

@@ -6,7 +6,7 @@ use Rattle.t85_core.specs.Fault.{fault_number}
 use Rattle.t85_core.specs.Header.{Fields, HeaderOf, header_fault}
 use Rattle.t85_core.specs.Height.{IsHeight}
 use Rattle.t85_core.specs.Laws.{HasOutcome}
-use Rattle.t85.specs.Delivered.{fault_status, Delivers, Refuses}
+use Rattle.t85.specs.Delivered.{Lending, RefusesLending, fault_status, Delivers}
 
 -- a stream whose header is accepted, and its height
 pub record Opens (stream : List ℕ) : Type 0 where
@@ -20,23 +20,23 @@ abbrev pub window_bytes : ℕ → ℕ
 window_bytes width = 3 * div_ceil width 8
 
 -- the header is refused, by this fault
-pub record RefusesByHeader (stream : List ℕ) (old new : List ℕ) (written answer : ℕ) : Type 0 where
+pub record RefusesByHeader (stream : List ℕ) (l : Lending) : Type 0 where
   pub fault : Fault
   pub is : header_fault stream ≡ Some fault
-  pub refuses : Refuses (fault_number fault) old new written answer
+  pub refuses : RefusesLending (fault_number fault) l
 
 -- the image has more rows than the caller takes
-pub record RefusesHeight (stream : List ℕ) (limit : ℕ) (old new : List ℕ) (written answer : ℕ) : Type 0 where
+pub record RefusesHeight (stream : List ℕ) (limit : ℕ) (l : Lending) : Type 0 where
   pub opens : Opens stream
   pub higher : limit < opens.height
-  pub refuses : Refuses 24 old new written answer
+  pub refuses : RefusesLending 24 l
 
 -- the window is shorter than three rows
-pub record RefusesWindow (stream : List ℕ) (limit window : ℕ) (old new : List ℕ) (written answer : ℕ) : Type 0 where
+pub record RefusesWindow (stream : List ℕ) (limit window : ℕ) (l : Lending) : Type 0 where
   pub opens : Opens stream
   pub within : opens.height ≤ limit
   pub short : window < window_bytes opens.header.xd
-  pub refuses : Refuses 19 old new written answer
+  pub refuses : RefusesLending 19 l
 
 -- The outcome of a body is written: the image that it denotes, or its fault, and the rows that it fixes.
 pub record DeliversText (h : Fields) (height : ℕ) (body memory : List ℕ) (written answer : ℕ) : Type 0 where
@@ -44,16 +44,12 @@ pub record DeliversText (h : Fields) (height : ℕ) (body memory : List ℕ) (wr
   pub delivers : Delivers outcome.text (fault_status outcome.fault) memory written answer
 
 -- so it is of a stream that is not refused
-pub record DeliversOutcome (stream : List ℕ) (limit window : ℕ) (image : List ℕ) (written answer : ℕ) : Type 0 where
+pub record DeliversOutcome (stream : List ℕ) (limit window : ℕ) (l : Lending) : Type 0 where
   pub opens : Opens stream
   pub within : opens.height ≤ limit
   pub enough : window_bytes opens.header.xd ≤ window
-  pub writes : DeliversText opens.header opens.height (drop 20 stream) image written answer
+  pub writes : DeliversText opens.header opens.height (drop 20 stream) l.new l.written l.answer
 
 -- what `t85_decode` leaves
-abbrev pub DecodesImage : List ℕ → ℕ → ℕ → List ℕ → List ℕ → ℕ → ℕ → Type 0
-DecodesImage stream limit window old new written answer =
-    RefusesByHeader stream old new written answer
-    ⊎ RefusesHeight stream limit old new written answer
-    ⊎ RefusesWindow stream limit window old new written answer
-    ⊎ DeliversOutcome stream limit window new written answer
+abbrev pub DecodesImage : List ℕ → ℕ → ℕ → Lending → Type 0
+DecodesImage stream limit window l = RefusesByHeader stream l ⊎ RefusesHeight stream limit l ⊎ RefusesWindow stream limit window l ⊎ DeliversOutcome stream limit window l

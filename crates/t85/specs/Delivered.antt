@@ -46,3 +46,17 @@ pub record Refuses (status : ℕ) (old new : List ℕ) (written answer : ℕ) : 
   pub answer_is : answer ≡ status
   pub nothing : written ≡ 0
   pub kept : new ≡ old
+
+-- what a call makes of memory that it is lent: what stands there before and after it, how much of that it wrote, and its answer
+pub record Lending : Type 0 where
+  pub old : List ℕ
+  pub new : List ℕ
+  pub written : ℕ
+  pub answer : ℕ
+
+abbrev pub lending : List ℕ → List ℕ → ℕ → ℕ → Lending
+lending old new written answer = record { old = old; new = new; written = written; answer = answer }
+
+-- so a call was refused
+abbrev pub RefusesLending : ℕ → Lending → Type 0
+RefusesLending status l = Refuses status l.old l.new l.written l.answer

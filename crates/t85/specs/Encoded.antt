@@ -12,7 +12,7 @@ use Rattle.t85_core.specs.Jbg.{Settings, is_low, jbg}
 use Rattle.t85_core.specs.Options.{refusal_of}
 use Rattle.t85.specs.declared.options.T85Options.{T85Options}
 use Rattle.t85.specs.Decoded.{window_bytes}
-use Rattle.t85.specs.Delivered.{Delivers, Fits, Refuses, lined}
+use Rattle.t85.specs.Delivered.{Lending, RefusesLending, Delivers, Fits, lined}
 
 -- what a caller asks for
 abbrev pub comment_chosen : T85Options → List ℕ → Option (List ℕ)
@@ -48,54 +48,76 @@ refusal_told choice comment width height stride window =
     (or_else (status_if (is_low (settings_chosen choice comment) height) 23)
     (status_if (nat_lt window (window_bytes width)) 19))))))
 
+-- what is to be coded so: an image of this size
+pub record Asked : Type 0 where
+  pub settings : Settings
+  pub width : ℕ
+  pub height : ℕ
+
+abbrev pub asked : Settings → ℕ → ℕ → Asked
+asked s width height = record { settings = s; width = width; height = height }
+
 -- All rows were there: the code of their raster is written, and it denotes them.
-pub record DeliversAll (s : Settings) (width height : ℕ) (body memory : List ℕ) (written answer : ℕ) : Type 0 where
+pub record DeliversAll (a : Asked) (body memory : List ℕ) (written answer : ℕ) : Type 0 where
   pub rows : List (List Bool)
   pub rest : List ℕ
-  pub holds : HoldsRows Raw body width rows rest
-  pub many : length rows ≡ height
-  pub denotes : Denotes (jbg s (raster_of width rows)) (raster_of width rows)
-  pub delivers : Delivers (jbg s (raster_of width rows)) 0 memory written answer
+  pub holds : HoldsRows Raw body a.width rows rest
+  pub many : length rows ≡ a.height
+  pub denotes : Denotes (jbg a.settings (raster_of a.width rows)) (raster_of a.width rows)
+  pub delivers : Delivers (jbg a.settings (raster_of a.width rows)) 0 memory written answer
 
 -- A beginning of the code of each raster that begins with these rows is written, with each stripe whose rows all came.
-pub record FitsBegun (s : Settings) (width height : ℕ) (rows : List (List Bool)) (memory : List ℕ) (written answer : ℕ) : Type 0 where
+pub record FitsBegun (a : Asked) (rows : List (List Bool)) (memory : List ℕ) (written answer : ℕ) : Type 0 where
   pub text : List ℕ
-  pub begun : (raster : Raster) → BeginsWith width height rows raster → HoldsStripes s raster (length rows) text
+  pub begun : (raster : Raster) → BeginsWith a.width a.height rows raster → HoldsStripes a.settings raster (length rows) text
   pub fits : Fits text 36 memory written answer
 
 -- The memory is full of a beginning of the code of each raster that begins with these rows, and shorter than each.
-pub record IsFullOfEach (s : Settings) (width height : ℕ) (rows : List (List Bool)) (memory : List ℕ) (written answer : ℕ) : Type 0 where
-  pub longer : (raster : Raster) → BeginsWith width height rows raster → length memory < length (jbg s raster)
-  pub stands : (raster : Raster) → BeginsWith width height rows raster → memory ≡ take (length memory) (jbg s raster)
+pub record IsFullOfEach (a : Asked) (rows : List (List Bool)) (memory : List ℕ) (written answer : ℕ) : Type 0 where
+  pub longer : (raster : Raster) → BeginsWith a.width a.height rows raster → length memory < length (jbg a.settings raster)
+  pub stands : (raster : Raster) → BeginsWith a.width a.height rows raster → memory ≡ take (length memory) (jbg a.settings raster)
   pub written_is : written ≡ length memory
   pub answer_is : answer ≡ 18
 
 -- Rows were missing.
-pub record DeliversSome (s : Settings) (width height : ℕ) (body memory : List ℕ) (written answer : ℕ) : Type 0 where
+pub record DeliversSome (a : Asked) (body memory : List ℕ) (written answer : ℕ) : Type 0 where
   pub rows : List (List Bool)
   pub rest : List ℕ
-  pub holds : HoldsRows Raw body width rows rest
-  pub few : length rows < height
-  pub part : HasRowFault Raw width rest Truncated
-  pub writes : FitsBegun s width height rows memory written answer ⊎ IsFullOfEach s width height rows memory written answer
+  pub holds : HoldsRows Raw body a.width rows rest
+  pub few : length rows < a.height
+  pub part : HasRowFault Raw a.width rest Truncated
+  pub writes : FitsBegun a rows memory written answer ⊎ IsFullOfEach a rows memory written answer
 
 -- so it is of rows that follow one another
-abbrev pub DeliversCode : Settings → ℕ → ℕ → List ℕ → List ℕ → ℕ → ℕ → Type 0
-DeliversCode s width height body memory written answer = DeliversAll s width height body memory written answer ⊎ DeliversSome s width height body memory written answer
+abbrev pub DeliversCode : Asked → List ℕ → List ℕ → ℕ → ℕ → Type 0
+DeliversCode a body memory written answer = DeliversAll a body memory written answer ⊎ DeliversSome a body memory written answer
+
+-- a call, but for its rows, and how much memory it is lent for the window
+pub record EncodingCall : Type 0 where
+  pub choice : T85Options
+  pub comment : List ℕ
+  pub width : ℕ
+  pub height : ℕ
+  pub stride : ℕ
+  pub window : ℕ
+
+abbrev pub encoding_call : T85Options → List ℕ → ℕ → ℕ → ℕ → ℕ → EncodingCall
+encoding_call choice comment width height stride window = record { choice = choice; comment = comment; width = width; height = height; stride = stride; window = window }
+
+abbrev pub refusal : EncodingCall → Option ℕ
+refusal call = refusal_told call.choice call.comment call.width call.height call.stride call.window
 
 -- what a refused call leaves
-pub record RefusesJob (choice : T85Options) (comment : List ℕ) (width height stride window : ℕ) (old new : List ℕ) (written answer : ℕ) : Type 0 where
+pub record RefusesJob (call : EncodingCall) (l : Lending) : Type 0 where
   pub status : ℕ
-  pub is : refusal_told choice comment width height stride window ≡ Some status
-  pub refuses : Refuses status old new written answer
+  pub is : refusal call ≡ Some status
+  pub refuses : RefusesLending status l
 
 -- and one that is not refused
-pub record DeliversStream (choice : T85Options) (comment : List ℕ) (width height stride window : ℕ) (rows memory : List ℕ) (written answer : ℕ) : Type 0 where
-  pub accepted : refusal_told choice comment width height stride window ≡ None
-  pub writes : DeliversCode (settings_chosen choice comment) width height (lined height (div_ceil width 8) stride rows) memory written answer
+pub record DeliversStream (call : EncodingCall) (rows : List ℕ) (l : Lending) : Type 0 where
+  pub accepted : refusal call ≡ None
+  pub writes : DeliversCode (asked (settings_chosen call.choice call.comment) call.width call.height) (lined call.height (div_ceil call.width 8) call.stride rows) l.new l.written l.answer
 
 -- what `t85_encode` leaves
-abbrev pub EncodesImage : T85Options → List ℕ → ℕ → ℕ → ℕ → ℕ → List ℕ → List ℕ → List ℕ → ℕ → ℕ → Type 0
-EncodesImage choice comment width height stride window rows old new written answer =
-    RefusesJob choice comment width height stride window old new written answer
-    ⊎ DeliversStream choice comment width height stride window rows new written answer
+abbrev pub EncodesImage : EncodingCall → List ℕ → Lending → Type 0
+EncodesImage call rows l = RefusesJob call l ⊎ DeliversStream call rows l

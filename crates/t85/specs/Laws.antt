@@ -8,11 +8,10 @@ use Rattle.raster_core.specs.Raster.{Raster, height}
 use Rattle.t85_core.specs.Denotes.{Denotes}
 use Rattle.t85_core.specs.Jbg.{jbg}
 use Rattle.t85_core.specs.Outcome.{pbm_text}
-use Rattle.t85.specs.declared.options.T85Options.{T85Options}
 use Rattle.t85.specs.Decoded.{DecodesImage}
 use Rattle.t85.specs.DecodedRows.{DecodesRows}
-use Rattle.t85.specs.Encoded.{EncodesImage, settings_chosen}
-use Rattle.t85.specs.Delivered.{lined}
+use Rattle.t85.specs.Encoded.{EncodingCall, EncodesImage, settings_chosen}
+use Rattle.t85.specs.Delivered.{lending, lined}
 
 -- the one raster that a stream denotes
 pub record IsOnly (stream : List ℕ) (raster : Raster) : Type 0 where
@@ -22,28 +21,28 @@ pub record IsOnly (stream : List ℕ) (raster : Raster) : Type 0 where
 -- the image of the one raster that the stream denotes is written
 abbrev pub DecodedIsImage : Type 0
 DecodedIsImage =
-    (stream : List ℕ) (limit window : ℕ) (old new : List ℕ) (written : ℕ) → DecodesImage stream limit window old new written 0
+    (stream : List ℕ) (limit window : ℕ) (old new : List ℕ) (written : ℕ) → DecodesImage stream limit window (lending old new written 0)
     → (raster : Raster) × IsOnly stream raster × (take written new ≡ pbm_text raster)
 
 -- its rows are
 abbrev pub DecodedAreRows : Type 0
 DecodedAreRows =
-    (stream : List ℕ) (limit stride window : ℕ) (old new : List ℕ) (written : ℕ) → DecodesRows stream limit stride window old new written 0
+    (stream : List ℕ) (limit stride window : ℕ) (old new : List ℕ) (written : ℕ) → DecodesRows stream limit stride window (lending old new written 0)
     → (raster : Raster) × IsOnly stream raster × (written ≡ height raster)
     × (lined (height raster) (div_ceil raster.width 8) stride new ≡ flat_map packed_row raster.rows)
 
 -- The stream is the code of the rows that were lent, and these are the one raster that it denotes: so it is decoded as them
 -- again, whatever the limit, the window and the room are that let it.
-pub record IsStreamOf (choice : T85Options) (comment : List ℕ) (width height' stride : ℕ) (rows stream : List ℕ) : Type 0 where
+pub record IsStreamOf (call : EncodingCall) (rows stream : List ℕ) : Type 0 where
   pub raster : Raster
   pub rest : List ℕ
-  pub holds : HoldsRows Raw (lined height' (div_ceil width 8) stride rows) width raster.rows rest
-  pub width_is : raster.width ≡ width
-  pub height_is : height raster ≡ height'
-  pub stream_is : stream ≡ jbg (settings_chosen choice comment) raster
+  pub holds : HoldsRows Raw (lined call.height (div_ceil call.width 8) call.stride rows) call.width raster.rows rest
+  pub width_is : raster.width ≡ call.width
+  pub height_is : height raster ≡ call.height
+  pub stream_is : stream ≡ jbg (settings_chosen call.choice call.comment) raster
   pub is_only : IsOnly stream raster
 
 abbrev pub EncodedIsStream : Type 0
 EncodedIsStream =
-    (choice : T85Options) (comment : List ℕ) (width height' stride window : ℕ) (rows old new : List ℕ) (written : ℕ) → EncodesImage choice comment width height' stride window rows old new written 0
-    → IsStreamOf choice comment width height' stride rows (take written new)
+    (call : EncodingCall) (rows old new : List ℕ) (written : ℕ) → EncodesImage call rows (lending old new written 0)
+    → IsStreamOf call rows (take written new)

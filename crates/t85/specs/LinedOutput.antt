@@ -1,13 +1,40 @@
 -- What an output of rows has taken.
 use Rattle.std.specs.Prelude.{ℕ, ◌+◌, ◌*◌, List, ◌∷◌, ◌++◌, length, take, Option, option_to_list}
+use Rattle.t85.specs.declared.lined_output.LinedOutput.{LinedOutput}
 use Rattle.t85.specs.Delivered.{lined, outside}
 
+-- an output of rows: where they lie in its memory, its head, and how far both have come
+pub record LinedState : Type 0 where
+  pub row : ℕ
+  pub stride : ℕ
+  pub fit : ℕ
+  pub skip : ℕ
+  pub bytes : List ℕ
+  pub head : List ℕ
+  pub at : ℕ
+  pub y : ℕ
+  pub x : ℕ
+  pub spilled : Option ℕ
+
+abbrev pub lined_state : LinedOutput → LinedState
+lined_state s = record {
+  row = s.row;
+  stride = s.stride;
+  fit = s.fit;
+  skip = s.skip;
+  bytes = s.bytes.now;
+  head = s.head;
+  at = s.at;
+  y = s.y;
+  x = s.x;
+  spilled = s.spilled;
+}
+
 -- a head, and then rows
-abbrev pub taken_rows : (row stride fit : ℕ) (bytes head : List ℕ) (at y x : ℕ) → Option ℕ → List ℕ
-taken_rows row stride fit bytes head at y x spilled = take at head ++ (take (y * row + x) (lined fit row stride bytes) ++ option_to_list spilled)
+abbrev pub taken_rows : LinedState → List ℕ
+taken_rows s = take s.at s.head ++ (take (s.y * s.row + s.x) (lined s.fit s.row s.stride s.bytes) ++ option_to_list s.spilled)
 
 -- Before them comes what the output leaves as it is, so that who knows how this grows knows that, too: the length of the
 -- memory, the layout of the rows, how long the head is, and the bytes that no row takes.
-abbrev pub taken : (row stride fit skip : ℕ) (bytes head : List ℕ) (at y x : ℕ) → Option ℕ → List ℕ
-taken row stride fit skip bytes head at y x spilled =
-    length bytes ∷ row ∷ stride ∷ fit ∷ skip ∷ (outside fit row stride bytes ++ taken_rows row stride fit bytes head at y x spilled)
+abbrev pub taken : LinedState → List ℕ
+taken s = length s.bytes ∷ s.row ∷ s.stride ∷ s.fit ∷ s.skip ∷ (outside s.fit s.row s.stride s.bytes ++ taken_rows s)

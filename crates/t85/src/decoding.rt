@@ -3,7 +3,7 @@
 ghost use Rattle.std.specs.Prelude.{◌≡◌, ◌≤◌, None, length};
 ghost use Rattle.t85_core.specs.Options.{fields_of};
 ghost use Rattle.t85.specs.Decoded.{DecodesImage, DeliversText, window_bytes as window_of};
-ghost use Rattle.t85.specs.Delivered.{answer_status};
+ghost use Rattle.t85.specs.Delivered.{answer_status, lending};
 
 use crate::devices::{Room, Whole};
 use crate::opened::open;
@@ -40,8 +40,8 @@ pub extern "C" fn t85_decode(
     image: &mut [u8],
     written: &mut usize,
 ) -> u8
-    ensures { DecodesImage stream.now max_rows (length window.old) image.old image.new written.new
-        result }
+    ensures { DecodesImage stream.now max_rows (length window.old)
+        (lending image.old image.new written.new result) }
 {
     *written = 0;
     let opened = match open(stream) {

@@ -6,7 +6,8 @@ ghost use Rattle.std.specs.Int.{div_ceil};
 ghost use Rattle.pbm_core.specs.Pbm.{header_text};
 ghost use Rattle.t85_core.specs.Options.{fields_of};
 ghost use Rattle.t85.specs.Decoded.{window_bytes as window_of};
-ghost use Rattle.t85.specs.DecodedRows.{DecodesRows, HaveRoom, DeliversRows};
+ghost use Rattle.t85.specs.Delivered.{lending};
+ghost use Rattle.t85.specs.DecodedRows.{DecodesRows, HasTakenNothing, HaveRoom, DeliversRows};
 
 use crate::decoding::{FULL, answer_status};
 use crate::devices::Whole;
@@ -35,8 +36,8 @@ pub extern "C" fn t85_decode_rows(
     rows: &mut [u8],
     rows_written: &mut u32,
 ) -> u8
-    ensures { DecodesRows stream.now max_rows stride (length window.old) rows.old rows.new
-        rows_written.new result }
+    ensures { DecodesRows stream.now max_rows stride (length window.old)
+        (lending rows.old rows.new rows_written.new result) }
 {
     *rows_written = 0;
     let opened = match open(stream) {
@@ -79,8 +80,8 @@ fn fill_rows(
     requires window { length window.old ≡ window_of header.now.xd }
     requires from { 1 ≤ height }
     requires to { height ≤ header.now.yd }
-    ensures { DeliversRows (fields_of header.now) height body.now stride rows.old rows.new
-        rows_written.new result }
+    ensures { DeliversRows (fields_of header.now) height body.now stride
+        (lending rows.old rows.new rows_written.new result) }
 {
     let row = row_bytes(header.xd);
     let skip = head_length(header.xd, height);
@@ -136,17 +137,9 @@ fn write_rows(
     requires window { length window.old ≡ window_of header.now.xd }
     requires from { 1 ≤ height }
     requires to { height ≤ header.now.yd }
-    requires row { output.old.row ≡ div_ceil header.now.xd 8 }
-    requires head { output.old.skip ≡ length (header_text header.now.xd height) }
-    requires empty { output.old.at ≡ 0 }
-    requires no_row { output.old.y ≡ 0 }
-    requires no_byte { output.old.x ≡ 0 }
-    requires fresh { output.old.failures ≡ 0 }
-    requires unspilled { output.old.spilled ≡ None }
-    requires room { HaveRoom height output.old.row output.old.stride (length output.old.bytes.now)
-        output.old.fit }
+    requires output { HasTakenNothing (fields_of header.now) height output.old }
     ensures writes { DeliversRows (fields_of header.now) height body.now output.old.stride
-        output.old.bytes.now output.new.bytes.now output.new.y result }
+        (lending output.old.bytes.now output.new.bytes.now output.new.y result) }
     ensures same_reference { output.new.bytes.ghost_name ≡ output.old.bytes.ghost_name }
 {
     // What the proof cites of streams.

@@ -6,8 +6,8 @@ ghost use Rattle.t85_core.specs.Options.{settings_of};
 ghost use Rattle.t85_core.specs.Jbg.{is_low};
 ghost use Rattle.t85.specs.Bound.{IsBound, bound_told, comment_length};
 ghost use Rattle.t85.specs.Decoded.{window_bytes as window_of};
-ghost use Rattle.t85.specs.Encoded.{EncodesImage, DeliversCode, refusal_told, settings_chosen};
-ghost use Rattle.t85.specs.Delivered.{lined};
+ghost use Rattle.t85.specs.Encoded.{EncodesImage, DeliversCode, asked, encoding_call, refusal_told, settings_chosen};
+ghost use Rattle.t85.specs.Delivered.{lending, lined};
 
 use crate::decoding::{FULL, answer_status};
 use crate::devices::Room;
@@ -54,8 +54,8 @@ pub extern "C" fn t85_encode(
     stream: &mut [u8],
     written: &mut usize,
 ) -> u8
-    ensures { EncodesImage choice.now comment.now width height stride (length window.old) rows.now
-        stream.old stream.new written.new result }
+    ensures { EncodesImage (encoding_call choice.now comment.now width height stride
+        (length window.old)) rows.now (lending stream.old stream.new written.new result) }
 {
     *written = 0;
     let room = window.len();
@@ -161,7 +161,7 @@ fn fill_stream(
     requires window { length window.old ≡ window_of size.width }
     requires apart { div_ceil size.width 8 ≤ stride }
     requires not_low { is_low (settings_of options.now) size.height ≡ false }
-    ensures { DeliversCode (settings_of options.now) size.width size.height
+    ensures { DeliversCode (asked (settings_of options.now) size.width size.height)
         (lined size.height (div_ceil size.width 8) stride rows.now) stream.new written.new
         result }
 {
@@ -186,7 +186,7 @@ fn write_stream(
     requires fresh { room.old.failures ≡ 0 }
     requires empty { room.old.len ≡ 0 }
     requires unspilled { room.old.spilled ≡ None }
-    ensures writes { DeliversCode (settings_of options.now) size.width size.height
+    ensures writes { DeliversCode (asked (settings_of options.now) size.width size.height)
         (lined size.height (div_ceil size.width 8) stride rows.now) room.new.bytes.now
         room.new.len result }
     ensures same_reference { room.new.bytes.ghost_name ≡ room.old.bytes.ghost_name }

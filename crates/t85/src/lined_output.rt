@@ -43,7 +43,7 @@ pub struct LinedOutput<'a> {
 }
 
 impl<'a> LinedOutput<'a> {
-    ghost use Rattle.t85.specs.LinedOutput.{taken};
+    ghost use Rattle.t85.specs.LinedOutput.{lined_state, taken};
 
     /// An empty output over this memory.
     pub fn new(
@@ -91,10 +91,8 @@ impl<'a> LinedOutput<'a> {
         requires some { 0 < length buf.now }
         ensures some { 0 < result }
         ensures bound { result ≤ length buf.now }
-        ensures taken { let old = self.old in let new = self.new in taken new.row new.stride new.fit
-            new.skip new.bytes.now new.head new.at new.y new.x new.spilled ≡
-            taken old.row old.stride old.fit old.skip old.bytes.now old.head old.at old.y old.x
-            old.spilled ++ take result buf.now }
+        ensures taken { taken (lined_state self.new) ≡
+            taken (lined_state self.old) ++ take result buf.now }
         ensures same_target { self.new.bytes.ghost_name ≡ self.old.bytes.ghost_name }
         ensures same_failures { self.new.failures ≡ self.old.failures }
         ensures unflushed { self.new.flushed ≡ false }
@@ -115,10 +113,8 @@ impl<'a> LinedOutput<'a> {
         requires some { 0 < length buf.now }
         ensures some { 0 < result }
         ensures bound { result ≤ length buf.now }
-        ensures taken { let old = self.old in let new = self.new in taken new.row new.stride new.fit
-            new.skip new.bytes.now new.head new.at new.y new.x new.spilled ≡
-            taken old.row old.stride old.fit old.skip old.bytes.now old.head old.at old.y old.x
-            old.spilled ++ take result buf.now }
+        ensures taken { taken (lined_state self.new) ≡
+            taken (lined_state self.old) ++ take result buf.now }
         ensures same_target { self.new.bytes.ghost_name ≡ self.old.bytes.ghost_name }
         ensures same_failures { self.new.failures ≡ self.old.failures }
         ensures unflushed { self.new.flushed ≡ false }
@@ -141,10 +137,7 @@ impl<'a> LinedOutput<'a> {
         requires behind { self.old.at ≡ self.old.skip }
         requires full { self.old.y ≡ self.old.fit }
         requires none { self.old.spilled ≡ None }
-        ensures taken { let old = self.old in let new = self.new in taken new.row new.stride new.fit
-            new.skip new.bytes.now new.head new.at new.y new.x new.spilled ≡
-            taken old.row old.stride old.fit old.skip old.bytes.now old.head old.at old.y old.x
-            old.spilled ++ byte ∷ [] }
+        ensures taken { taken (lined_state self.new) ≡ taken (lined_state self.old) ++ byte ∷ [] }
         ensures same_target { self.new.bytes.ghost_name ≡ self.old.bytes.ghost_name }
         ensures same_failures { self.new.failures ≡ self.old.failures }
         ensures unflushed { self.new.flushed ≡ false }
@@ -156,10 +149,10 @@ impl<'a> LinedOutput<'a> {
 }
 
 impl Output for LinedOutput<'_> {
-    ghost use Rattle.t85.specs.LinedOutput.{taken};
+    ghost use Rattle.t85.specs.LinedOutput.{lined_state, taken};
 
     ghost view = { λ s. record {
-      contents = Some (taken s.row s.stride s.fit s.skip s.bytes.now s.head s.at s.y s.x s.spilled);
+      contents = Some (taken (lined_state s));
       flushed = s.flushed;
       target = s.bytes.ghost_name;
       flushes = s.flushes;

@@ -28,6 +28,7 @@ use crate::output_buffer::{ByteTarget, IMAGE_HELD, OutputBuffer};
 use crate::segments::{Move, Place, read_head};
 use crate::state::CodingState;
 use pbm_core::{Input, Output, Size, WriteFault, write_header};
+use qm_core::Learned;
 use raster_core::{Shape, Window};
 
 /// Writes the image that a stream denotes. The input is just after the header.
@@ -104,8 +105,8 @@ fn decode_by<R: Input, W: Output, const AHEAD: usize, const HELD: usize>(
         width: header.xd,
         height,
     };
-    // Made here, it is not filled with zeros before.
-    let mut carried = CodingState::first(window);
+    let mut learned = Learned::new();
+    let mut carried = CodingState::first(window, &mut learned);
     match write_header(output, size) {
         Ok(()) => {}
         Err(WriteFault) => return Err(Fault::Write),

@@ -28,7 +28,7 @@ use crate::laws::{code_denotes, fronts};
 use crate::options::Options;
 use crate::output_buffer::{ByteTarget, IMAGE_HELD, OutputBuffer, ROW_HELD};
 use pbm_core::{Form, Input, Output, Size, read_row};
-use raster_core::Window;
+use raster_core::{Window, current_row};
 
 /// Writes the stream of an image of this size. The input is just after the header of the image.
 ///
@@ -197,7 +197,8 @@ fn read_next_row<R: Input>(
     ensures same_input { SameInput (R.view source.old) (R.view source.new) }
 {
     window.turn();
-    match read_row(source, size, form, window.current) {
+    let current = current_row(window.width(), window.place());
+    match read_row(source, size, form, &mut window.rows[current]) {
         Ok(()) => Ok(()),
         Err(fault) => Err(Fault::Pbm(fault)),
     }

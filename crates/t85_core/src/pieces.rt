@@ -17,6 +17,7 @@ use crate::header::Header;
 use crate::pieces::behind::Behind;
 use crate::pieces::piece::Piece;
 use crate::pieces::walk::Walk;
+use qm_core::Learned;
 use raster_core::Window;
 
 /// What a piece gave.
@@ -74,17 +75,22 @@ impl<'a, 'b> PieceDecoder<'a, 'b> {
     ghost use Rattle.t85_core.specs.Options.{fields_of};
     ghost use Rattle.t85_core.specs.Pieces.{HasDecoded, stream_of};
 
-    /// Before the first byte after the header. The window is made white.
-    pub fn start(header: Header, window: &'a mut Window<'b>) -> PieceDecoder<'a, 'b>
+    /// Before the first byte after the header. The window is made white, and the contexts forget.
+    pub fn start(
+        header: Header,
+        window: &'a mut Window<'b>,
+        learned: &'a mut Learned,
+    ) -> PieceDecoder<'a, 'b>
         requires width { width_of window.old ≡ header.xd }
         ensures stream { stream_of result ≡ fields_of header }
         ensures none { HasDecoded result [] [] }
     {
         let is_open = header.is_variable();
+        *learned = Learned::new();
         PieceDecoder {
             header,
             height: header.yd,
-            walk: Walk::start(&header, header.yd, window),
+            walk: Walk::start(&header, header.yd, window, learned),
             is_open,
             waits: is_open,
             behind: Behind::start(),

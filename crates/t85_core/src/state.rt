@@ -1,6 +1,7 @@
 //! What both directions carry from row to row and from stripe to stripe.
 
 ghost use Rattle.std.specs.Prelude.{◌≡◌, ◌<◌, ◌-◌, if◌then◌else◌};
+ghost use Rattle.qm_core.specs.Place.{fresh};
 ghost use Rattle.raster_core.specs.Window.{width_of};
 ghost use Rattle.t85_core.specs.Steps.State.{RowStart, first_row_start, next_stripe_start};
 ghost use Rattle.t85_core.specs.Steps.DecodeRows.{IsCarried, IsFirst};
@@ -13,7 +14,7 @@ use raster_core::{Kept, Window};
 pub struct CodingState<'a, 'b> {
     pub window: &'a mut Window<'b>,
     pub kept: Kept,
-    pub learned: Learned,
+    pub learned: &'a mut Learned,
 }
 
 const START: Kept = Kept {
@@ -23,7 +24,8 @@ const START: Kept = Kept {
 
 impl<'a, 'b> CodingState<'a, 'b> {
     /// At the top of an image. The window is made white.
-    pub fn first(window: &'a mut Window<'b>) -> CodingState<'a, 'b>
+    pub fn first(window: &'a mut Window<'b>, learned: &'a mut Learned) -> CodingState<'a, 'b>
+        requires { learned.old ≡ fresh }
         ensures first { IsFirst result }
         ensures width { width_of result.window.now ≡ width_of window.old }
         ensures offset { result.kept.offset ≡ 0 }
@@ -31,7 +33,7 @@ impl<'a, 'b> CodingState<'a, 'b> {
         let mut first = CodingState {
             window,
             kept: START,
-            learned: Learned::new(),
+            learned,
         };
         first.window.clear();
         first
@@ -50,7 +52,7 @@ impl CodingState<'_, '_> {
         if reset {
             self.window.clear();
             self.kept = START;
-            self.learned = Learned::new();
+            *self.learned = Learned::new();
         }
     }
 }

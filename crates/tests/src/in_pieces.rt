@@ -7,6 +7,7 @@ use crate::random::{HEADER, Heights, Random, add};
 use crate::trial::Bytes::Hex;
 use pbm_core::trial::Pieces;
 use pbm_core::{ToWrite, row_bytes};
+use qm_core::Learned;
 use raster_core::{Window, window_bytes};
 use std::alloc::Global;
 use std::process::Abort;
@@ -152,7 +153,8 @@ fn take_pieces(
 ) -> Result<Option<Given>, Fail> {
     let mut lent = Vec::from_elem(alloc, 0u8, window_bytes(header.xd))?;
     let mut window = Window::over(lent.as_mut_slice(), header.xd);
-    let mut decoder = PieceDecoder::start(header, &mut window);
+    let mut learned = Learned::new();
+    let mut decoder = PieceDecoder::start(header, &mut window, &mut learned);
     let mut feed = Feed::new(body);
     let mut rows = Vec::new(alloc);
     let by_itself = cuts.ends_by_itself();
@@ -306,7 +308,8 @@ fn rows_wait_for_a_height(rt: HostRuntime) -> Result<(), Fail> {
     let header = Header::read(&mut input)?;
     let mut lent = Vec::from_elem(rt.alloc(), 0u8, window_bytes(header.xd))?;
     let mut window = Window::over(lent.as_mut_slice(), header.xd);
-    let mut decoder = PieceDecoder::start(header, &mut window);
+    let mut learned = Learned::new();
+    let mut decoder = PieceDecoder::start(header, &mut window, &mut learned);
     let mut feed = Feed::new(input.rest);
     'calls: for &(count, answer, certain) in &ANSWERS {
         feed.come(count);

@@ -7,6 +7,7 @@ ghost use Rattle.t85_core.specs.Pieces.{IsDecoding, GivesRow, RowsWait, WantsMor
 ghost use Rattle.t85_core.specs.declared.pieces.Outcome.TheVariants as outcome;
 ghost use Rattle.uses.specs.Pieces.{BodyRead, PieceRead, TextRead, SomeRead};
 
+use qm_core::Learned;
 use raster_core::Window;
 use std::alloc::{AllocError, Global};
 use t85_core::{Header, Outcome, PieceDecoder, Progress};
@@ -24,7 +25,8 @@ pub fn rows_of_body(
     ensures { IfOk result (λ answer. BodyRead (fields_of header)
         (first.now ++ second.now) answer rows.old.items rows.new.items) }
 {
-    let mut decoder = PieceDecoder::start(header, window);
+    let mut learned = Learned::new();
+    let mut decoder = PieceDecoder::start(header, window, &mut learned);
     rows_of_two(alloc, &mut decoder, first, second, usize::MAX, rows)
 }
 

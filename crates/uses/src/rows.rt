@@ -1,10 +1,12 @@
 //! Rows that are handed one by one.
 
-ghost use Rattle.std.specs.Prelude.{◌≡◌, ◌≢◌, ◌<◌, ◌∷◌, ◌⊎◌, [], length, false, true, Err, Ok, OnOk, OnErr, IfErr};
+ghost use Rattle.std.specs.Prelude.{◌≡◌, ◌≢◌, ◌<◌, ◌*◌, ◌∷◌, ◌⊎◌, [], length, false, true, Err, Ok, OnOk, OnErr, IfErr};
 ghost use Rattle.std.specs.Io.KnownBytes.{Appends};
 ghost use Rattle.pbm_core.specs.Pbm.{bytes_of_row};
 ghost use Rattle.pbm_core.specs.Image.{pixels_of};
-ghost use Rattle.raster_core.specs.Window.{held, width_of};
+ghost use Rattle.std.specs.Int.{div_ceil};
+ghost use Rattle.raster_core.specs.Packed.{rows_at, with_current};
+ghost use Rattle.raster_core.specs.Window.{held, turned, width_of, current_place, memory_of};
 ghost use Rattle.t85_core.specs.Encode.{raster_of};
 ghost use Rattle.t85_core.specs.Jbg.{jbg, is_low};
 ghost use Rattle.t85_core.specs.Failures.{OnlyWrites};
@@ -13,7 +15,7 @@ ghost use Rattle.t85_core.specs.Steps.ByRow.{view_of, MayGoOn, IsLined, EndsImag
 ghost use Rattle.t85_core.specs.declared.fault.Fault.TheVariants.{AnnouncedLow, Write};
 
 use pbm_core::{Output, Size};
-use raster_core::Window;
+use raster_core::{Window, current_row};
 use t85_core::{Fault, Options, RowEncoder};
 
 /// Writes the stream of an image of two rows. What is written is the stream of the whole image.
@@ -82,4 +84,32 @@ pub fn end_where_allowed<W: Output>(
     }
     encoder.finish(window, output)?;
     Ok(true)
+}
+
+/// Writes a row below the two that memory holds from an earlier call, at the place that was told then. The answer is the
+/// new row's place.
+pub fn row_below(memory: &mut [u8], width: u32, place: u8, row: &[u8]) -> u8
+    requires memory { length memory.old ≡ 3 * div_ceil width 8 }
+    requires place { place < 3 }
+    requires row { length row.now ≡ div_ceil width 8 }
+    ensures place { result < 3 }
+    ensures rows { rows_at result width memory.new ≡
+        with_current (turned (rows_at place width memory.old)) row.now }
+{
+    let mut window = Window::resume(memory, width, place);
+    window.turn();
+    write_current(&mut window, row);
+    window.place()
+}
+
+/// Writes the current row.
+fn write_current(window: &mut Window<'_>, row: &[u8])
+    requires row { length row.now ≡ div_ceil (width_of window.old) 8 }
+    ensures row { held window.new ≡ with_current (held window.old) row.now }
+    ensures width { width_of window.new ≡ width_of window.old }
+    ensures same_place { current_place window.new ≡ current_place window.old }
+    ensures same_memory { memory_of window.new ≡ memory_of window.old }
+{
+    let current = current_row(window.width(), window.place());
+    window.rows[current].copy_from_slice(row);
 }

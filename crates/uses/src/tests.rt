@@ -6,6 +6,7 @@ use crate::image::round_trip;
 use crate::line::line_of_encoded;
 use crate::pieces::rows_of_body;
 use crate::room::{Room, put_where_room};
+use crate::rows::row_below;
 use pbm_core::Size;
 use pbm_core::trial::{Drip, Pieces};
 use qm_core::{Context, Learned};
@@ -142,4 +143,16 @@ fn pixels_come_back(rt: HostRuntime) {
     let mut copy = Learned::new();
     let again = pixels_again(rt.alloc(), &contexts, &pixels, &mut learned, &mut copy);
     assert!(rt; again.is_ok_and(|again| again.as_slice() == pixels.as_slice()));
+}
+
+#[test]
+fn rows_stay_in_memory(rt: HostRuntime) {
+    // Of three rows the second is the current one: the third is above it, and the first above that.
+    let mut memory = [3, 0, 2];
+    let place = row_below(&mut memory, 8, 1, &[5]);
+    assert!(rt; place == 0);
+    assert!(rt; memory == [5, 0, 2]);
+    let place = row_below(&mut memory, 8, place, &[6]);
+    assert!(rt; place == 2);
+    assert!(rt; memory == [5, 0, 6]);
 }

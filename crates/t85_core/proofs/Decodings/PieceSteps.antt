@@ -18,7 +18,7 @@ use Rattle.t85_core.specs.Steps.State.{image_start, first_row_start}
 use Rattle.t85_core.specs.Steps.DecodeRows.{IsCarried}
 use Rattle.t85_core.specs.declared.segments.Code.TheVariants as code
 use Rattle.t85_core.specs.Steps.PieceCode.{EndsInNoEscape}
-use Rattle.t85_core.specs.Steps.Pieces.{CutOff, HeadStands, WalkStands, StageStands, StepsOn, StepsOff, Step, RowStep, RowLeaves, KeepsPlace, HasMarker, Turn, IsOver, CodeStands, rows_in}
+use Rattle.t85_core.specs.Steps.Pieces.{CutOff, HeadStands, WalkStands, StageStands, StepsOn, StepsOff, Step, RowStep, RowLeaves, KeepsPlace, HasMarker, Turn, IsOver, CodeStands, IsInCode, rows_in}
 use Rattle.t85_core.proofs.Walks.Passed.{passed_none}
 use Rattle.t85_core.proofs.Decodings.ImagePut.{stripes_start}
 
@@ -91,6 +91,13 @@ last_stripe height l e some lt le = went (cases_lt (e + 1) (div_ceil height l)) 
       absurd (omega (arith, k, t.1, s, le))
 
 -- where rows are left a stripe is
+-- so many stripes have so many rows at least
+pub few_before : (height l e : ℕ) → 1 ≤ l → e < div_ceil height l → e < height
+few_before height l e some lt =
+    let row = some_row height l e some lt in
+    let many : 1 * e ≤ l * e = mul-le-mul_right e some in
+    omega (arith, row, many)
+
 pub next_stripe : (height l e : ℕ) → 1 ≤ l → (e + 1) * l < height → e + 1 < div_ceil height l
 next_stripe height l e some lt = went (cases_lt (e + 1) (div_ceil height l)) where
   went : (e + 1 < div_ceil height l) ⊎ (div_ceil height l ≤ e + 1) → e + 1 < div_ceil height l
@@ -242,3 +249,8 @@ first_row {h} {height} {w} {text} {out} some is zero s =
     let k : CodeStands h height w.entities w.given w.at w.row w.first w.marker w.carried w.decoder text out = at_stage is s in
     let r = some_row height h.l0 w.entities some k.head.fewer in
     omega (arith, zero, r)
+
+-- a walk in the code of a stripe has fewer stripes behind it than rows
+pub walk_few : (h : Fields) (height : ℕ) (w : Walk) (text out : List ℕ) → 1 ≤ h.l0 → IsInCode w.stage → WalkStands h height w text out → w.entities < height
+walk_few h height w text out some (inl code) s = few_before height h.l0 w.entities some (at_stage code s).head.fewer
+walk_few h height w text out some (inr row) s = few_before height h.l0 w.entities some (at_stage row s).head.fewer

@@ -11,7 +11,7 @@ use Rattle.t85_core.proofs.Decodings.PieceHeights.{head_behind}
 use Rattle.t85_core.specs.Grammar.{ESC, COMMENT}
 use Rattle.t85_core.specs.declared.segments.Code.TheVariants as code
 use Rattle.t85_core.specs.Grammar.{marker_bytes}
-use Rattle.t85_core.proofs.Decodings.PieceSteps.{at_stage, put_stage}
+use Rattle.t85_core.proofs.Decodings.PieceSteps.{at_stage, put_stage, walk_few}
 use Rattle.t85_core.proofs.Decodings.PieceWalk.{code_ahead, row_ahead}
 use Rattle.t85_core.specs.declared.segments.Place.{Place}
 use Rattle.t85_core.specs.Steps.DecodeStripes.{StripesRead}
@@ -715,3 +715,10 @@ call_decodes d e d' p p' row r header height is_open waits walk behind ended on_
   went : (r ≡ outcome.Row) ⊎ (r ≡ outcome.More) → (text : List ℕ) × (out : List ℕ) × HasDecoded d' text out
   went (inl is) = let s = some going in (s.0 ++ take (length p - length p') p, s.1 ++ row, call_on d e d' p p' row (length p - length p') refl header height is_open waits walk behind still (on_row is) s.0 s.1 s.2)
   went (inr is) = let s = some going in (s.0 ++ take (length p - length p') p, s.1 ++ [], call_on d e d' p p' [] (length p - length p') refl header height is_open waits walk behind still (on_more is) s.0 s.1 s.2)
+
+-- while a height may come, there are fewer stripes behind than the header has rows
+pub entities_few : (d : PieceDecoder) (text out : List ℕ) → d.is_open ≡ true → IsInCode d.walk.stage → DecoderStands d text out → d.walk.entities < d.header.yd
+entities_few d text out late in_code s = go d.waits refl where
+  go : (b : Bool) → d.waits ≡ b → d.walk.entities < d.header.yd
+  go false going = walk_few (fields_of d.header) d.header.yd d.walk text out d.header.some_rows in_code (code_of d text out late going s).walk
+  go true waits = let w = waits_of d text out late waits s in walk_few (fields_of d.header) d.header.yd d.walk w.done out d.header.some_rows in_code w.walk

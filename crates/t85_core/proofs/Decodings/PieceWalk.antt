@@ -238,12 +238,12 @@ module _ {h : Fields} {height entities : ℕ} {given : Bool} {at : Option move.M
   code_here : row < count → CodeText first marker s.read.answers [] s.code
   code_here lt = subst (λ z. CodeText first marker s.read.answers z s.code) (s.rows_first lt) s.code_is
 
-  module _ (lt : row < count) (carried' : CodingState) (in_row : RowPlace) (start : IsRowStart in_row) (learned_is : carried'.learned ≡ carried.learned) (turned_is : held carried'.window.now ≡ turned (held carried.window.now))
+  module _ (lt : row < count) (carried' : CodingState) (in_row : RowPlace) (start : IsRowStart in_row) (learned_is : carried'.learned.now ≡ carried.learned.now) (turned_is : held carried'.window.now ≡ turned (held carried.window.now))
       (offset_is : carried'.kept.offset ≡ offset_at (option_map pair_of at) row carried.kept.offset) (previous_is : carried'.kept.previous_typical ≡ carried.kept.previous_typical) where
     abbrev answers : List Pulled
     answers = s.read.answers ++ []
 
-    stands_here : StandsInRow s.shape carried'.kept in_row s.read.last.state answers (record { row = s.read.is_carried.third; above = s.read.last.above; second = s.read.last.second }) (held carried'.window.now) carried'.learned d
+    stands_here : StandsInRow s.shape carried'.kept in_row s.read.last.state answers (record { row = s.read.is_carried.third; above = s.read.last.above; second = s.read.last.second }) (held carried'.window.now) carried'.learned.now d
     stands_here =
         let l = s.read.is_carried.lines_are in
         record {

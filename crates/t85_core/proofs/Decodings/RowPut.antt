@@ -68,27 +68,27 @@ module _ {S F : Type 0} (pull : S → Pulled → S → Type 0) (joined : F → P
   Join = (more : List Pulled) → Gives pull old more new → Gives joined from (r.answers ++ more) to
 
   -- it was decoded
-  pub row_done : Join → (text' : Option (List ℕ)) → RowDecoded pull old new shape kept carried'.kept r.last.state r.answers below (held carried'.window.now) carried'.learned d' (Ok tt) →
+  pub row_done : Join → (text' : Option (List ℕ)) → RowDecoded pull old new shape kept carried'.kept r.last.state r.answers below (held carried'.window.now) carried'.learned.now d' (Ok tt) →
       Appends text text' (held carried'.window.now).current → RowsRead joined from to h shape c segments (row + 1) carried' d' began text'
   row_done join text' done' put =
-      let k : RowIs shape kept carried'.kept r.last.state (r.answers ++ done'.more) below (held carried'.window.now) carried'.learned d' = done'.ok in
+      let k : RowIs shape kept carried'.kept r.last.state (r.answers ++ done'.more) below (held carried'.window.now) carried'.learned.now d' = done'.ok in
       let after : RowStart = after_row (mode_of h.options) (move_of segments) (length r.rows) r.last k.row k.flag in
-      let kept_is = kept_step h c segments r.answers r.rows r.flags r.last r.so_far shape kept carried'.kept below (held carried'.window.now) carried'.learned d' done'.more ready k in
+      let kept_is = kept_step h c segments r.answers r.rows r.flags r.last r.so_far shape kept carried'.kept below (held carried'.window.now) carried'.learned.now d' done'.more ready k in
       record {
         answers = r.answers ++ done'.more;
         gives = join done'.more done'.gives;
         rows = r.rows ++ k.row ∷ [];
         flags = r.flags ++ k.flag ∷ [];
         last = after;
-        so_far = rows_step h c segments r.answers r.rows r.flags r.last r.so_far shape kept carried'.kept below (held carried'.window.now) carried'.learned d' done'.more ready k;
+        so_far = rows_step h c segments r.answers r.rows r.flags r.last r.so_far shape kept carried'.kept below (held carried'.window.now) carried'.learned.now d' done'.more ready k;
         many = (let long = length-append r.rows (k.row ∷ []) in omega (arith, long, r.many));
-        stands = row_stands shape kept r.last.state below (mode_of h.options) (move_of segments) (length r.rows) r.last ready.mode_is ready.offset_is ready.previous_is refl refl refl carried'.kept (r.answers ++ done'.more) (held carried'.window.now) carried'.learned d' k;
+        stands = row_stands shape kept r.last.state below (mode_of h.options) (move_of segments) (length r.rows) r.last ready.mode_is ready.offset_is ready.previous_is refl refl refl carried'.kept (r.answers ++ done'.more) (held carried'.window.now) carried'.learned.now d' k;
         unstopped = λ s. not_err tt (done'.stop.1 s);
         shape_is = r.shape_is;
         is_carried = record {
           offset_is = kept_is.0;
           previous_is = kept_is.1;
-          learned_is = row_taught shape kept r.last.state below (mode_of h.options) (move_of segments) (length r.rows) r.last ready.mode_is ready.offset_is ready.previous_is refl refl refl carried'.kept (r.answers ++ done'.more) (held carried'.window.now) carried'.learned d' k;
+          learned_is = row_taught shape kept r.last.state below (mode_of h.options) (move_of segments) (length r.rows) r.last ready.mode_is ready.offset_is ready.previous_is refl refl refl carried'.kept (r.answers ++ done'.more) (held carried'.window.now) carried'.learned.now d' k;
           third = r.last.second;
           lines_are = k.lines_are;
         };
@@ -96,7 +96,7 @@ module _ {S F : Type 0} (pull : S → Pulled → S → Type 0) (joined : F → P
       }
 
   -- the answers up to its end
-  pub row_done_answers : (join : Join) (text' : Option (List ℕ)) (done' : RowDecoded pull old new shape kept carried'.kept r.last.state r.answers below (held carried'.window.now) carried'.learned d' (Ok tt)) (put : Appends text text' (held carried'.window.now).current) →
+  pub row_done_answers : (join : Join) (text' : Option (List ℕ)) (done' : RowDecoded pull old new shape kept carried'.kept r.last.state r.answers below (held carried'.window.now) carried'.learned.now d' (Ok tt)) (put : Appends text text' (held carried'.window.now).current) →
       (row_done join text' done' put).answers ≡ r.answers ++ done'.more
   unfolding row_done
   row_done_answers join text' done' put = refl
@@ -112,18 +112,18 @@ module _ {S F : Type 0} (pull : S → Pulled → S → Type 0) (joined : F → P
       second_wide = l.above_wide;
     })
 
-    module _ (result : Result (Unit {0}) Stop) (gave : Gave pull old new shape kept carried'.kept carried.learned carried'.learned (held window) (held carried'.window.now) d d' result) where
-      done : RowDecoded pull old new shape kept carried'.kept r.last.state r.answers below (held carried'.window.now) carried'.learned d' result
+    module _ (result : Result (Unit {0}) Stop) (gave : Gave pull old new shape kept carried'.kept carried.learned.now carried'.learned.now (held window) (held carried'.window.now) d d' result) where
+      done : RowDecoded pull old new shape kept carried'.kept r.last.state r.answers below (held carried'.window.now) carried'.learned.now d' result
       done =
-          subst (λ l. RowDecoded pull old new shape kept carried'.kept (record { place = r.last.state.place; learned = l }) r.answers below (held carried'.window.now) carried'.learned d' result) r.is_carried.learned_is
+          subst (λ l. RowDecoded pull old new shape kept carried'.kept (record { place = r.last.state.place; learned = l }) r.answers below (held carried'.window.now) carried'.learned.now d' result) r.is_carried.learned_is
           (gave r.last.state.place r.answers below r.stands below_are)
 
-    pub row_more : Join → (text' : Option (List ℕ)) → Gave pull old new shape kept carried'.kept carried.learned carried'.learned (held window) (held carried'.window.now) d d' (Ok tt) →
+    pub row_more : Join → (text' : Option (List ℕ)) → Gave pull old new shape kept carried'.kept carried.learned.now carried'.learned.now (held window) (held carried'.window.now) d d' (Ok tt) →
         Appends text text' (held carried'.window.now).current → RowsRead joined from to h shape c segments (row + 1) carried' d' began text'
     row_more join text' gave put = row_done join text' (done (Ok tt) gave) put
 
     -- it was decoded, but the target didn't take it
-    pub row_unset : Join → (text' : Option (List ℕ)) → (count : ℕ) → row + 1 ≤ count → Gave pull old new shape kept carried'.kept carried.learned carried'.learned (held window) (held carried'.window.now) d d' (Ok tt) →
+    pub row_unset : Join → (text' : Option (List ℕ)) → (count : ℕ) → row + 1 ≤ count → Gave pull old new shape kept carried'.kept carried.learned.now carried'.learned.now (held window) (held carried'.window.now) d d' (Ok tt) →
         AppendsBeginning text text' (held carried'.window.now).current → RowsUnwritten joined from to h c segments count began text'
     unfolding row_more row_done
     row_unset join text' count few gave put =
@@ -146,7 +146,7 @@ module _ {S F : Type 0} (pull : S → Pulled → S → Type 0) (joined : F → P
         }
 
     -- the source stopped
-    pub row_cut : CoderLaws → Join → (count : ℕ) → row ≤ count → (e : Stop) → Gave pull old new shape kept carried'.kept carried.learned carried'.learned (held window) (held carried'.window.now) d d' (Err e) →
+    pub row_cut : CoderLaws → Join → (count : ℕ) → row ≤ count → (e : Stop) → Gave pull old new shape kept carried'.kept carried.learned.now carried'.learned.now (held window) (held carried'.window.now) d d' (Err e) →
         RowsCut joined from to h c segments count began text
     row_cut q join count few e gave =
         let done' = done (Err e) gave in
@@ -160,7 +160,7 @@ module _ {S F : Type 0} (pull : S → Pulled → S → Type 0) (joined : F → P
           stopped = stopped;
           rows = r.rows;
           flags = r.flags;
-          begun = rows_stop h c segments r.answers r.rows r.flags r.last r.so_far shape kept carried'.kept below (held carried'.window.now) carried'.learned d' done'.more ready q count d (omega (arith, few, r.many)) r.stands stopped stays.1.bytes done'.undecided r.unstopped;
+          begun = rows_stop h c segments r.answers r.rows r.flags r.last r.so_far shape kept carried'.kept below (held carried'.window.now) carried'.learned.now d' done'.more ready q count d (omega (arith, few, r.many)) r.stands stopped stays.1.bytes done'.undecided r.unstopped;
           appended = r.appended;
         }
 

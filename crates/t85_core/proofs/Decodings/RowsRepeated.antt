@@ -33,9 +33,9 @@ use Rattle.t85_core.proofs.Decodings.TypicalRows.{run_append, run_enough_append,
 
 module _ (shape : Shape) (move : Option (ℕ × ℕ)) (row count : ℕ) (carried carried' : CodingState) (d d' : Decoder)
     (some : 1 ≤ count) (wide : width_of carried.window.now ≡ shape.width)
-    (skipped : (p : Place) (answers : List Pulled) → DecoderIsAt d p answers → RowsSkipped shape carried.kept (record { place = p; learned = carried.learned }) answers count d')
+    (skipped : (p : Place) (answers : List Pulled) → DecoderIsAt d p answers → RowsSkipped shape carried.kept (record { place = p; learned = carried.learned.now }) answers count d')
     (settled : (k o : ℕ) → row ≤ k → offset_at move k o ≡ o)
-    (kept_is : carried'.kept ≡ carried.kept) (learned_is : carried'.learned ≡ carried.learned) (window_is : held carried'.window.now ≡ repeated (held carried.window.now)) where
+    (kept_is : carried'.kept ≡ carried.kept) (learned_is : carried'.learned.now ≡ carried.learned.now) (window_is : held carried'.window.now ≡ repeated (held carried.window.now)) where
   module _ (h : Fields) (c : StripeStart) (segments : List Segment) (answers : List Pulled) (rows : List (List Bool)) (flags : List Bool) (last : RowStart) (move_is : move ≡ move_of segments) (shape_is : IsShapeOf h shape)
       (so_far : RowsSoFar h c segments answers rows flags last) (many : length rows ≡ row) (stands : DecoderIsAt d last.state.place answers) (is : IsCarried last carried) where
     previous : carried.kept.previous_typical ≡ true

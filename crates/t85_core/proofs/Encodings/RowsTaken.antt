@@ -1,6 +1,7 @@
 -- A row that an encoder takes.
-use Rattle.std.proofs.Common.{◌≡◌, ◌+◌, ℕ, zero, suc, Bool, List, [], length, Option, refl, sym, ap, ◌∙◌, append-nil}
+use Rattle.std.proofs.Common.{◌≡◌, ◌+◌, ◌*◌, ℕ, zero, suc, Bool, List, [], length, Option, refl, sym, ap, subst, ◌∙◌, append-nil}
 use Rattle.std.specs.Prelude.{◌==◌}
+use Rattle.std.specs.Int.{div_ceil}
 use Rattle.std.specs.Io.KnownBytes.{Consumes}
 use Rattle.std.proofs.lemmas.List.{length-map}
 use Rattle.pbm_core.specs.declared.form.Form.{Form}
@@ -8,9 +9,18 @@ use Rattle.pbm_core.specs.declared.form.Form.TheVariants.{Raw, Plain}
 use Rattle.pbm_core.specs.Pbm.{pixel}
 use Rattle.pbm_core.specs.Image.{IsRow, IsRowOf, pixels_of}
 use Rattle.pbm_core.specs.Image as pbm
-use Rattle.raster_core.specs.Packed.{Held, packed_row}
+use Rattle.raster_core.specs.Packed.{Held, packed_row, rows_at, with_current, with_part}
 use Rattle.raster_core.specs.Window.{turned}
 use Rattle.t85_core.specs.Steps.EncodeRows.{RowTaken}
+
+-- The current row of a window is written, whose place and width are told.
+pub put_current : (told place told_width width start end : ℕ) (bytes row : List ℕ) → told ≡ place → told_width ≡ width → length bytes ≡ 3 * div_ceil width 8 → length row ≡ div_ceil width 8 →
+    ((bytes row : List ℕ) → length bytes ≡ 3 * div_ceil told_width 8 → length row ≡ div_ceil told_width 8 → rows_at told told_width (with_part start end bytes row) ≡ with_current (rows_at told told_width bytes) row) →
+    rows_at place width (with_part start end bytes row) ≡ with_current (rows_at place width bytes) row
+put_current told place told_width width start end bytes row place_is width_is long wide put =
+    subst (λ p. rows_at p width (with_part start end bytes row) ≡ with_current (rows_at p width bytes) row) place_is
+    (subst (λ w. rows_at told w (with_part start end bytes row) ≡ with_current (rows_at told w bytes) row) width_is
+    (put bytes row (long ∙ ap (λ w. 3 * div_ceil w 8) (sym width_is)) (wide ∙ ap (λ w. div_ceil w 8) (sym width_is))))
 
 -- a row in bytes is the same to both readers and writers
 pub same_row : (row : List Bool) → pbm.packed_row row ≡ packed_row row

@@ -41,7 +41,7 @@ pub record IsShapeOf (h : Fields) (shape : Shape) : Type 0 where
 pub record IsCarried (b : RowStart) (carried : CodingState) : Type 0 where
   pub offset_is : carried.kept.offset ≡ b.offset
   pub previous_is : carried.kept.previous_typical ≡ b.previous
-  pub learned_is : carried.learned ≡ b.state.learned
+  pub learned_is : carried.learned.now ≡ b.state.learned
   pub third : List Bool
   pub lines_are : HasLines (held carried.window.now) (record { row = b.above; above = b.second; second = third })
 

@@ -88,7 +88,7 @@ pub record RowBegun (h : Fields) (shape : Shape) (c : StripeStart) (segments : L
   pub offset_is : carried.kept.offset ≡ offset_at (move_of segments) row start.kept.offset
   pub previous_is : carried.kept.previous_typical ≡ start.kept.previous_typical
   pub stands : StandsInRow shape carried.kept place read.last.state (read.answers ++ since) (record { row = read.is_carried.third; above = read.last.above; second = read.last.second })
-      (held carried.window.now) carried.learned d
+      (held carried.window.now) carried.learned.now d
 
 -- A row breaks, or its piece ends: the rows before it are all that the bytes fix.
 pub record RowBroken (h : Fields) (c : StripeStart) (segments : List Segment) (count : ℕ) (began out text piece : List ℕ) (fault : Fault) : Type 0 where

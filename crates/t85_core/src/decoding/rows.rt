@@ -151,7 +151,8 @@ fn skip_same(
     if !is_settled(at, row) {
         return 0;
     }
-    let count = skip_many(shape, carried.kept, &carried.learned, decoder, left);
+    let learned = &*carried.learned;
+    let count = skip_many(shape, carried.kept, learned, decoder, left);
     if count == 0 {
         return 0;
     }

@@ -20,7 +20,7 @@ use crate::options::Options;
 use crate::output_buffer::{OutputBuffer, ROW_HELD};
 use pbm_core::laws::masks;
 use pbm_core::{Output, Size};
-use raster_core::Window;
+use raster_core::{Window, current_row};
 
 /// Goes a row down in the window, and takes that row. What is after its last pixel is not looked at.
 pub fn take_row(row: &[u8], size: Size, window: &mut Window<'_>)
@@ -32,7 +32,8 @@ pub fn take_row(row: &[u8], size: Size, window: &mut Window<'_>)
     // What the proof cites of rows.
     masks();
     window.turn();
-    copy_row(row, size, window.current);
+    let current = current_row(window.width(), window.place());
+    copy_row(row, size, &mut window.rows[current]);
 }
 
 /// Copies a row, and makes the bits after its last pixel 0.

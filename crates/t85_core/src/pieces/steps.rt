@@ -102,7 +102,8 @@ impl PieceDecoder<'_, '_> {
         ensures lowers { result ≡ None → steps_left self.new piece.new.rest.now < steps_left
             self.old piece.old.rest.now }
     {
-        match self.walk.find_end(&self.header, self.header.yd, piece) {
+        let header = self.header;
+        match self.walk.find_end(&header, header.yd, piece) {
             Ok(()) => {
                 self.waits = true;
                 self.behind = Behind::start();
@@ -128,7 +129,8 @@ impl PieceDecoder<'_, '_> {
         let bytes = piece.rest;
         let (front, behind) = bytes.split_at(code_len(bytes));
         let mut part = Piece { rest: front };
-        match self.walk.give_row(&self.header, self.header.yd, &mut part) {
+        let header = self.header;
+        match self.walk.give_row(&header, header.yd, &mut part) {
             Ok(()) => {
                 let (_, rest) = bytes.split_at(front.len() - part.rest.len());
                 piece.rest = rest;

@@ -160,10 +160,8 @@ impl PieceDecoder<'_, '_> {
             return false;
         }
         let mut none = Piece { rest: &[] };
-        let _given = self
-            .walk
-            .give_row(&self.header, self.header.yd, &mut none)
-            .is_ok();
+        let header = self.header;
+        let _given = self.walk.give_row(&header, header.yd, &mut none).is_ok();
         true
     }
 
@@ -210,9 +208,10 @@ impl PieceDecoder<'_, '_> {
         ensures ends { StripeLeft self.old self.new }
     {
         let mut none = Piece { rest: &[] };
+        let header = self.header;
         let _ended = self
             .walk
-            .finish_stripe(&self.header, self.header.yd, &mut none)
+            .finish_stripe(&header, header.yd, &mut none)
             .is_ok();
     }
 

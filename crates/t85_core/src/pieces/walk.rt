@@ -1,6 +1,7 @@
 //! How far a stream has been decoded that comes in pieces.
 
 ghost use Rattle.std.specs.Prelude.{◌≡◌, ◌≢◌, false, ◌≤◌, ◌<◌, ◌+◌, ◌-◌, ◌⊎◌, ◌∷◌, [], ℕ, List, None, true, length, min, IsOk, IfErr, OnOk};
+ghost use Rattle.qm_core.specs.Place.{fresh};
 ghost use Rattle.raster_core.specs.Window.{width_of};
 ghost use Rattle.t85_core.specs.declared.fault.Fault.TheVariants.{Truncated, Changed};
 ghost use Rattle.t85_core.specs.declared.pieces.walk.Stage.TheVariants as stage;
@@ -17,7 +18,7 @@ use crate::pieces::piece::Piece;
 use crate::pieces::rows::go_on_in_row;
 use crate::segments::{self, COMMENT, Code, Move, Place, next_piece, number};
 use crate::state::CodingState;
-use qm_core::Decoder;
+use qm_core::{Decoder, Learned};
 use raster_core::{RowPlace, Window};
 
 /// What comes next in a stream.
@@ -63,16 +64,22 @@ pub struct Walk<'a, 'b> {
 
 impl<'a, 'b> Walk<'a, 'b> {
     /// Before the first byte after the header. The window is made white.
-    pub fn start(header: &Header, height: u32, window: &'a mut Window<'b>) -> Walk<'a, 'b>
+    pub fn start(
+        header: &Header,
+        height: u32,
+        window: &'a mut Window<'b>,
+        learned: &'a mut Learned,
+    ) -> Walk<'a, 'b>
         requires width { width_of window.old ≡ header.now.xd }
         requires from { 1 ≤ height }
+        requires learned { learned.old ≡ fresh }
         ensures stands { WalkStands (fields_of header.now) height result [] [] }
         ensures first { IsFirstWalk result }
     {
         // The proof reads from this value that a stripe has rows.
         let _rows = header.l0;
         Walk {
-            carried: CodingState::first(window),
+            carried: CodingState::first(window, learned),
             decoder: Decoder::start(),
             stage: Stage::Head,
             entities: 0,

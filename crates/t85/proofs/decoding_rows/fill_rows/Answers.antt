@@ -1,5 +1,6 @@
 use Rattle.std.proofs.Common.{subst, rules, ap}
 use Rattle.t85_core.specs.Options.{fields_of}
+use Rattle.t85.specs.Delivered.{lending}
 use Rattle.t85.specs.DecodedRows.{DeliversRows}
 use Rattle.t85.proofs.decoding_rows.fill_rows.Goals as goal
 
@@ -11,6 +12,6 @@ returns c =
     let made = c.new-output in
     let status = c.write_rows-status in
     let same = status.ensures.same_reference in
-    let a = subst (λ stride. DeliversRows h height body stride made.result.bytes.now status.new.output.bytes.now status.new.output.y status.result) made.ensures.stride status.ensures.writes in
-    let b = subst (λ memory. DeliversRows h height body c.args.stride memory status.new.output.bytes.now status.new.output.y status.result) (ap (λ m. m.now) made.ensures.room) a in
-    subst (λ memory. DeliversRows h height body c.args.stride c.args.rows.now memory status.new.output.y status.result) (search (rules, same)) b
+    let a = subst (λ stride. DeliversRows h height body stride (lending made.result.bytes.now status.new.output.bytes.now status.new.output.y status.result)) made.ensures.stride status.ensures.writes in
+    let b = subst (λ memory. DeliversRows h height body c.args.stride (lending memory status.new.output.bytes.now status.new.output.y status.result)) (ap (λ m. m.now) made.ensures.room) a in
+    subst (λ memory. DeliversRows h height body c.args.stride (lending c.args.rows.now memory status.new.output.y status.result)) (search (rules, same)) b

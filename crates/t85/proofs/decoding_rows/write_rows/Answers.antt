@@ -1,6 +1,7 @@
 use Rattle.std.proofs.Common.{◌≡◌, ℕ, Option, Some, None, true, refl, sym, subst, ◌∙◌, arith, true≢false}
 use Rattle.std.specs.Prelude.{is_some}
 use Rattle.t85_core.specs.Options.{fields_of}
+use Rattle.t85.specs.Delivered.{lending}
 use Rattle.t85.specs.DecodedRows.{DeliversRows}
 use Rattle.t85.specs.declared.lined_output.LinedOutput.{LinedOutput}
 use Rattle.t85.proofs.Bytes.{bytes_each, in_use}
@@ -32,9 +33,9 @@ returns-clause-writes c =
     let old = c.args.output.now in
     let new = c.decode_in_memory-answer.new.output in
     let o = c.outcomes.ensures.one_outcome (fields_of h) c.args.height c.args.body.now (in_use h c.args.height c.requires.from c.requires.to) (bytes_each c.args.body.now (λ i. omega (arith, c.type_inv.body i))) in
-    subst (λ answer. DeliversRows (fields_of h) c.args.height c.args.body.now old.stride old.bytes.now new.bytes.now new.y answer) (sym c.answer_status.ensures)
-    (rows_fit (fields_of h) c.args.height c.args.body.now (Some c.decode_in_memory-answer.new.input.rest.now) o old.row old.stride old.fit old.skip old.bytes.now old.head old.at old.y old.x old.spilled c.requires.row c.requires.head c.requires.room c.requires.empty c.requires.no_row c.requires.no_byte c.requires.unspilled
-    new.bytes.now new.head new.at new.y new.x new.spilled new.row new.stride new.fit new.skip (kept_of new) old.failures new.failures c.decode_in_memory-answer.result c.requires.fresh (sym c.is_some.ensures ∙ c.if-is_some.false) new.full c.decode_in_memory-answer.ensures.outcome)
+    subst (λ answer. DeliversRows (fields_of h) c.args.height c.args.body.now old.stride (lending old.bytes.now new.bytes.now new.y answer)) (sym c.answer_status.ensures)
+    (rows_fit (fields_of h) c.args.height c.args.body.now (Some c.decode_in_memory-answer.new.input.rest.now) o old.row old.stride old.fit old.skip old.bytes.now old.head old.at old.y old.x old.spilled c.requires.output.row c.requires.output.head c.requires.output.room c.requires.output.empty c.requires.output.no_row c.requires.output.no_byte c.requires.output.unspilled
+    new.bytes.now new.head new.at new.y new.x new.spilled new.row new.stride new.fit new.skip (kept_of new) old.failures new.failures c.decode_in_memory-answer.result c.requires.output.fresh (sym c.is_some.ensures ∙ c.if-is_some.false) new.full c.decode_in_memory-answer.ensures.outcome)
 
 pub returns-then-is_some-clause-writes : goal.returns-then-is_some-clause-writes
 returns-then-is_some-clause-writes c =
@@ -43,5 +44,5 @@ returns-then-is_some-clause-writes c =
     let new = c.decode_in_memory-answer.new.output in
     let o = c.outcomes.ensures.one_outcome (fields_of h) c.args.height c.args.body.now (in_use h c.args.height c.requires.from c.requires.to) (bytes_each c.args.body.now (λ i. omega (arith, c.type_inv.body i))) in
     let spill = spill_of new.spilled (sym c.is_some.ensures ∙ c.if-is_some.true) in
-    rows_fill (fields_of h) c.args.height c.args.body.now (Some c.decode_in_memory-answer.new.input.rest.now) o old.row old.stride old.fit old.skip old.bytes.now old.head old.at old.y old.x old.spilled c.requires.row c.requires.head c.requires.room c.requires.empty c.requires.no_row c.requires.no_byte c.requires.unspilled
+    rows_fill (fields_of h) c.args.height c.args.body.now (Some c.decode_in_memory-answer.new.input.rest.now) o old.row old.stride old.fit old.skip old.bytes.now old.head old.at old.y old.x old.spilled c.requires.output.row c.requires.output.head c.requires.output.room c.requires.output.empty c.requires.output.no_row c.requires.output.no_byte c.requires.output.unspilled
     new.bytes.now new.head new.at new.y new.x new.spilled new.row new.stride new.fit new.skip (kept_of new) old.failures new.failures c.decode_in_memory-answer.result spill.0 spill.1 c.decode_in_memory-answer.ensures.outcome

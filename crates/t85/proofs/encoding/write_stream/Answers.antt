@@ -2,7 +2,7 @@ use Rattle.std.proofs.Common.{◌<◌, ◌^◌, ap, sym, subst, ◌∙◌, arith
 use Rattle.std.specs.Int.{div_ceil}
 use Rattle.t85_core.specs.Options.{settings_of}
 use Rattle.t85.specs.Delivered.{answer_status, lined}
-use Rattle.t85.specs.Encoded.{DeliversCode}
+use Rattle.t85.specs.Encoded.{DeliversCode, asked}
 use Rattle.t85.proofs.Delivery.{emptied}
 use Rattle.t85.proofs.Stored.{stored, overfull, are_settings}
 use Rattle.t85.proofs.encoding.write_stream.Goals as goal
@@ -15,8 +15,8 @@ returns-clause-writes c =
     let s = settings_of c.args.options.now in
     let body = input.current.now ++ lined input.rows input.row input.stride input.rest.now in
     let given = c.new-input.ensures ∙ ap (λ row. lined c.args.size.height row c.args.stride c.args.rows.now) c.row_bytes.ensures in
-    subst (λ answer. DeliversCode s c.args.size.width c.args.size.height (lined c.args.size.height (div_ceil c.args.size.width 8) c.args.stride c.args.rows.now) out.bytes.now out.len answer) (sym c.answer_status.ensures)
-    (subst (λ held. DeliversCode s c.args.size.width c.args.size.height held out.bytes.now out.len (answer_status c.encode_in_memory-answer.result)) given
+    subst (λ answer. DeliversCode (asked s c.args.size.width c.args.size.height) (lined c.args.size.height (div_ceil c.args.size.width 8) c.args.stride c.args.rows.now) out.bytes.now out.len answer) (sym c.answer_status.ensures)
+    (subst (λ held. DeliversCode (asked s c.args.size.width c.args.size.height) held out.bytes.now out.len (answer_status c.encode_in_memory-answer.result)) given
     (stored s c.args.size.width c.args.size.height body out.bytes.now out.len c.requires.not_low _ _ c.encode_in_memory-answer.result out.spilled room.failures out.failures
     (emptied room.len room.bytes.now room.spilled c.requires.empty c.requires.unspilled) c.requires.fresh (sym c.is_some.ensures ∙ c.if-is_some.false) out.full out.within c.encode_in_memory-answer.ensures.outcome))
 
@@ -29,7 +29,7 @@ returns-then-is_some-clause-writes c =
     let body = input.current.now ++ lined input.rows input.row input.stride input.rest.now in
     let given = c.new-input.ensures ∙ ap (λ row. lined c.args.size.height row c.args.stride c.args.rows.now) c.row_bytes.ensures in
     let tall : c.args.size.height < 2 ^ 32 = omega arith in
-    subst (λ held. DeliversCode s c.args.size.width c.args.size.height held out.bytes.now out.len 18) given
+    subst (λ held. DeliversCode (asked s c.args.size.width c.args.size.height) held out.bytes.now out.len 18) given
     (overfull s c.args.size.width c.args.size.height body out.bytes.now out.len c.requires.not_low c.code_denotes.ensures (are_settings c.args.options.now) c.args.size.some_width c.args.size.not_too_wide c.args.size.some_height tall
     _ _ c.encode_in_memory-answer.result out.spilled room.failures out.failures
     (emptied room.len room.bytes.now room.spilled c.requires.empty c.requires.unspilled) (sym c.is_some.ensures ∙ c.if-is_some.true) out.spilled_last c.encode_in_memory-answer.ensures.outcome)

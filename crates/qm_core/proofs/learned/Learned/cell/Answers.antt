@@ -1,10 +1,9 @@
 use Rattle.std.proofs.Common.{false, arith, ap, get_or, sym, ◌∙◌}
-use Rattle.qm_core.proofs.Cells.{seen, white_sees}
+use Rattle.std.proofs.lemmas.List.{get_or-map}
+use Rattle.qm_core.specs.Machine.{estimate}
 use Rattle.qm_core.proofs.learned.Learned.cell.Goals as goal
 
 pub returns : goal.returns
 returns c =
-    let p = c.place_of.ensures in
-    sym (white_sees _)
-    ∙ (seen false c.self.inside.cells c.args.cx.number c.place_of.result (record { row = 0; pixel = false }) (omega arith) (omega arith) c.self.inside.paired p.white p.black
-    ∙ ap (λ v. get_or v c.args.cx.number (record { row = 0; pixel = false })) c.self.view_is)
+    sym (get_or-map estimate c.self.inside.cells c.args.cx.number 0 (record { row = 0; pixel = false }) (omega arith))
+    ∙ ap (λ v. get_or v c.args.cx.number (record { row = 0; pixel = false })) c.self.view_is

@@ -1,11 +1,6 @@
-use Rattle.std.proofs.Common.{◌≡◌, rules, replicate}
-use Rattle.raster_core.specs.Packed.{row_bytes}
-use Rattle.raster_core.proofs.White.{white_held}
+use Rattle.std.proofs.Common.{rules}
+use Rattle.raster_core.proofs.Places.{zeros_held}
 use Rattle.raster_core.proofs.window.Window.clear.Goals as goal
 
 pub returns-clause-white : goal.returns-clause-white
-returns-clause-white c =
-    let current : c.fill.new.self ≡ replicate (row_bytes c.args.self.now.width) 0 = search rules in
-    let above : c.fill-2.new.self ≡ replicate (row_bytes c.args.self.now.width) 0 = search rules in
-    let second : c.fill-3.new.self ≡ replicate (row_bytes c.args.self.now.width) 0 = search rules in
-    white_held c.args.self.now.width c.fill.new.self c.fill-2.new.self c.fill-3.new.self current above second
+returns-clause-white c = zeros_held c.args.self.now.place c.args.self.now.width c.fill.new.self c.args.self.now.within (search rules)

@@ -1,6 +1,6 @@
 use Rattle.std.proofs.Common.{◌++◌, ap, ◌∙◌, arith, length}
 use Rattle.std.proofs.lemmas.List.{length-take-le}
-use Rattle.t85.specs.LinedOutput.{taken}
+use Rattle.t85.specs.LinedOutput.{lined_state, taken}
 use Rattle.t85.proofs.Taken.{head_taken, not_spilled}
 use Rattle.t85.proofs.lined_output.LinedOutput.put_head.Goals as goal
 
@@ -13,4 +13,4 @@ returns-clause-taken c =
     let long = length-take-le count c.args.buf.now (omega arith) in
     let after = c.copy_from_slice.ensures.after in
     head_taken s.row s.stride s.fit s.skip s.bytes.now s.head s.at s.y s.x s.spilled count _ c.copy_from_slice.new.self (s.head_first_rows c.requires.head) (s.head_first_bytes c.requires.head) none (ap length after ∙ long) (omega (arith, s.head_long, s.head_within, s.head_fits))
-    ∙ ap (λ l. taken s.row s.stride s.fit s.skip s.bytes.now s.head s.at s.y s.x s.spilled ++ l) after
+    ∙ ap (λ l. taken (lined_state s) ++ l) after

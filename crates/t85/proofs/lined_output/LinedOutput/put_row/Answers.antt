@@ -1,6 +1,6 @@
 use Rattle.std.proofs.Common.{◌≡◌, ◌≤◌, ◌+◌, ◌++◌, ap, ◌∙◌, arith, length}
 use Rattle.std.proofs.lemmas.List.{length-take-le}
-use Rattle.t85.specs.LinedOutput.{taken}
+use Rattle.t85.specs.LinedOutput.{lined_state, taken}
 use Rattle.t85.proofs.Taken.{row_taken, not_spilled}
 use Rattle.t85.proofs.lined_output.LinedOutput.put_row.Goals as goal
 
@@ -15,7 +15,7 @@ returns-then-self-clause-taken c =
     let whole : s.x + count ≡ s.row = c.if-self.true in
     let room = s.rows_within s.y c.requires.room in
     row_taken s.row s.stride s.fit s.skip s.bytes.now s.head s.at s.y s.x (s.y + 1) 0 s.spilled _ c.copy_from_slice.new.self s.apart none (omega (arith, long)) c.requires.room (omega (arith, long, whole)) (omega (arith, long, whole, room)) (omega (arith, long, whole))
-    ∙ ap (λ l. taken s.row s.stride s.fit s.skip s.bytes.now s.head s.at s.y s.x s.spilled ++ l) after
+    ∙ ap (λ l. taken (lined_state s) ++ l) after
 
 pub returns-else-self-clause-taken : goal.returns-else-self-clause-taken
 returns-else-self-clause-taken c =
@@ -28,4 +28,4 @@ returns-else-self-clause-taken c =
     let inside : s.x + count ≤ s.row = omega (arith, s.within_row) in
     let room = s.rows_within s.y c.requires.room in
     row_taken s.row s.stride s.fit s.skip s.bytes.now s.head s.at s.y s.x s.y (s.x + count) s.spilled _ c.copy_from_slice.new.self s.apart none (omega (arith, long)) c.requires.room (omega (arith, long, inside)) (omega (arith, long, inside, room)) (omega (arith, long))
-    ∙ ap (λ l. taken s.row s.stride s.fit s.skip s.bytes.now s.head s.at s.y s.x s.spilled ++ l) after
+    ∙ ap (λ l. taken (lined_state s) ++ l) after

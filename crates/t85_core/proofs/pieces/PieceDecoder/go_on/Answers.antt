@@ -1,6 +1,6 @@
-use Rattle.std.proofs.Common.{[], Some, ◌∙◌}
+use Rattle.std.proofs.Common.{[], Some, refl, ◌∙◌}
 use Rattle.t85_core.proofs.Decodings.Entities.{none_of}
-use Rattle.t85_core.proofs.Decodings.PieceStood.{leaves_after, on_compose}
+use Rattle.t85_core.proofs.Decodings.PieceStood.{leaves_after, on_compose, on_none}
 use Rattle.t85_core.proofs.pieces.PieceDecoder.go_on.Goals as goal
 
 pub returns-in-Some : goal.returns-in-Some
@@ -18,3 +18,11 @@ steps-preserved c =
       stands = (_, _, k.2);
       so_far = on_compose c.args.self.now c.steps.self c.step.new.self c.args.piece.now.rest.now c.steps.piece.rest.now c.step.new.piece.rest.now [] c.steps.invariant.so_far on;
     }
+
+pub steps-init : goal.steps-init
+steps-init c = record {
+  header = refl;
+  going = refl;
+  stands = c.requires.stands;
+  so_far = on_none c.args.self.now c.args.self.now c.args.piece.now.rest.now (λ text out s. s);
+}

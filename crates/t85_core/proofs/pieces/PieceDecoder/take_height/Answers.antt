@@ -4,6 +4,7 @@ use Rattle.t85_core.specs.Steps.PieceSteps.{HeadEntered}
 use Rattle.t85_core.proofs.Decodings.PieceStood.{leaves_on, leaves_done}
 use Rattle.t85_core.proofs.Decodings.PieceLook.{late_whole, height_over, left_over, raised_on}
 use Rattle.t85_core.proofs.Decodings.PieceBelow.{leaves_height}
+use Rattle.t85_core.proofs.Decodings.PieceCertain.{left_before}
 use Rattle.t85_core.proofs.pieces.PieceDecoder.take_height.Goals as goal
 
 pub returns-then-gives_below-clause-leaves : goal.returns-then-gives_below-clause-leaves
@@ -31,3 +32,6 @@ returns-clause-leaves c = λ is_all.
     leaves_on is_all c.args.self.now _ c.args.piece.now.rest.now c.args.rest.now h.keeps.header h.keeps.going
     (raised_on c.args.self.now c.enter_head.new.self _ c.args.height c.args.piece.now.rest.now c.args.rest.now c.requires.late c.requires.waits h c.requires.between c.requires.comes (height_over c.args.self.now c.enter_head.new.self c.args.height c.args.piece.now.rest.now c.args.rest.now c.requires.late c.requires.waits c.requires.stands (subst (λ z. HeadEntered z c.enter_head.new.self) (c.gives_below.ensures.stays (search rules)).same c.enter_head.ensures.head) c.requires.comes (λ code. subst (λ z. z.header.l0 < c.args.self.now.walk.left - (c.args.self.now.header.yd - c.args.height)) (c.gives_below.ensures.stays (search rules)).same (c.ends_in_stripe.ensures.no (search rules) (subst (λ z. IsInCode z.walk.stage) (sym (c.gives_below.ensures.stays (search rules)).same) code)))) refl refl refl
     (ap (λ z. record c.enter_head.new.self.walk { left = c.enter_head.new.self.walk.left - (z.yd - c.args.height); given = true }) h.keeps.header))
+
+pub overflow_sub-left-2 : goal.overflow_sub-left-2
+overflow_sub-left-2 c = left_before c.args.self.now c.args.height c.args.piece.now.rest.now c.args.rest.now c.requires.late c.requires.waits c.requires.stands c.requires.comes

@@ -8,13 +8,13 @@ returns-clause-enters c = λ text out s.
     let k = at_stage c.requires.stage s in
     record {
       left_is = s.left_is;
-      width_is = ap (λ w. w.width) c.turn.ensures ∙ s.width_is;
+      width_is = ap (λ w. w.width) c.turn.ensures.turned ∙ s.width_is;
       offset_is = c.offset_in-self.ensures.bound;
       at_is = s.at_is;
       code_is = s.code_is;
       behind = s.behind;
       within = omega (arith, c.start-self.ensures.done, c.args.header.now.some_width);
-      stands = row_entered k c.requires.row _ _ (record { is_begun = c.start-self.ensures.none; done = c.start-self.ensures.done; past = c.start-self.ensures.past }) refl c.turn.ensures c.offset_in-self.ensures.is refl;
+      stands = row_entered k c.requires.row _ _ (record { is_begun = c.start-self.ensures.none; done = c.start-self.ensures.done; past = c.start-self.ensures.past }) refl c.turn.ensures.turned c.offset_in-self.ensures.is refl;
     }
 
 pub returns-clause-place : goal.returns-clause-place

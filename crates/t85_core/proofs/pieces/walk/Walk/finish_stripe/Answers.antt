@@ -1,9 +1,9 @@
-use Rattle.std.proofs.Common.{◌≡◌, ◌+◌, ◌-◌, ◌*◌, ◌++◌, Err, ap, ◌∙◌, arith}
+use Rattle.std.proofs.Common.{◌≡◌, ◌+◌, ◌-◌, ◌*◌, ◌++◌, Err, inl, ap, ◌∙◌, arith}
 use Rattle.raster_core.specs.Window.{width_of}
 use Rattle.t85_core.specs.Options.{fields_of}
 use Rattle.t85_core.proofs.Decodings.ImagePut.{in_use}
 use Rattle.t85_core.proofs.Decodings.CodePut.{kept_wide}
-use Rattle.t85_core.proofs.Decodings.PieceSteps.{on_same, at_stage, put_stage, step_exit, last_stripe, next_stripe, offset_low}
+use Rattle.t85_core.proofs.Decodings.PieceSteps.{on_same, at_stage, put_stage, step_exit, last_stripe, next_stripe, offset_low, walk_few}
 use Rattle.t85_core.proofs.Decodings.PieceWalk.{ahead_is, behind_is, marker_off, code_kept, whole, stripe_last, stripe_on}
 use Rattle.t85_core.proofs.pieces.walk.Walk.finish_stripe.Goals as goal
 
@@ -93,3 +93,8 @@ returns-clause-read c = λ text out s.
     let m = c.in_ok-reset.ensures.ok k.read.answers k.extra k.code k.code_is in
     let next = kept_wide (width_of c.args.self.now.carried.window.now) (fields_of c.args.header.now).xd c.in_ok-reset.reset c.args.self.now.carried c.end_stripe.new.self s.width_is c.end_stripe.ensures.next k.read.last k.read.is_carried in
     (m.given, m.taken, whole k c.coder_laws.ensures (in_use c.args.header.now c.args.height c.requires.from c.requires.to) c.requires.row c.args.piece.now.rest.now c.find_marker.new.piece.rest.now c.in_ok-reset.reset m c.end_stripe.new.self next)
+
+pub overflow_add-self : goal.overflow_add-self
+overflow_add-self c =
+    let few = walk_few (fields_of c.args.header.now) c.args.height c.args.self.now c.requires.stands.0 c.requires.stands.1 c.args.header.now.some_rows (inl c.requires.stage) c.requires.stands.2 in
+    omega (arith, few)

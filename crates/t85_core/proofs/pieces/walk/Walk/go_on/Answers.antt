@@ -1,3 +1,4 @@
+use Rattle.std.proofs.Common.{inl, inr}
 use Rattle.t85_core.specs.Options.{fields_of}
 use Rattle.t85_core.proofs.Decodings.PieceSteps.{turn_then}
 use Rattle.t85_core.proofs.pieces.walk.Walk.go_on.Goals as goal
@@ -5,4 +6,15 @@ use Rattle.t85_core.proofs.pieces.walk.Walk.go_on.Goals as goal
 pub returns : goal.returns
 returns c = record {
   step = turn_then (fields_of c.args.header.now) c.args.height c.args.self.now c.finish_stripe.new.self c.begin_stripe.new.self c.args.piece.now.rest.now c.finish_stripe.new.piece.rest.now c.begin_stripe.new.piece.rest.now c.in_ok-finish_stripe.ensures.step.ok c.begin_stripe.result c.begin_stripe.ensures.step;
+}
+
+pub begin_stripe-requires : goal.begin_stripe-requires
+begin_stripe-requires c = record {
+  from = c.requires.from;
+  to = c.requires.to;
+  stage = elim c.in_ok-finish_stripe.ensures.stage [
+    | inl done ↦ absurd (c.in_default.not-Done done)
+    | inr head ↦ inl head
+  ];
+  stands = let k = c.in_ok-finish_stripe.ensures.step.ok c.requires.stands.0 c.requires.stands.1 c.requires.stands.2 in (_, _, k.2);
 }
