@@ -128,6 +128,7 @@ documents:
 	tools/references
 	tools/model --check
 	tools/clauses
+	tools/weights --check
 	tools/names
 	tools/prose
 	tools/interface

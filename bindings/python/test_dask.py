@@ -2,11 +2,13 @@
 
     T85_LIBRARY=bin/libt85.so.1 python3 -m unittest discover bindings/python
 
-Where the interpreter has no `distributed`, or no fsspec, the tests are skipped.
+Where the interpreter has no `distributed`, no fsspec or no pyftpdlib, the tests are skipped.
 """
+import logging
 import os
 import signal
 import tempfile
+import threading
 import unittest
 import warnings
 
@@ -20,10 +22,16 @@ try:
     import fsspec
 except ImportError:
     fsspec = None
+try:
+    from pyftpdlib import authorizers, handlers, servers
+except ImportError:
+    servers = None
 
 HERE = os.path.dirname(os.path.abspath(__file__))
 EXAMPLES = os.path.join(HERE, "../../examples")
 COUNT = 300
+# Of a server that runs for a test.
+USER, WORD = "user", "word"
 
 
 def read(path):
@@ -125,6 +133,62 @@ class Objects(unittest.TestCase):
         self.assertEqual(back("memory://streams/a.jbg").state, many.DONE)
         self.assertEqual(back("memory://streams/a.jbg").state, many.SKIPPED)
         self.assertEqual(store.cat_file("/back/a.pbm"), PBM)
+
+
+@unittest.skipUnless(fsspec and servers, "fsspec or pyftpdlib is not installed")
+class Server(unittest.TestCase):
+    """Files of another machine, which a server of FTP on this one stands for."""
+
+    def setUp(self):
+        folder = tempfile.TemporaryDirectory()
+        self.addCleanup(folder.cleanup)
+        self.folder = folder.name
+        users = authorizers.DummyAuthorizer()
+        users.add_user(USER, WORD, self.folder, perm="elradfmwT")
+        handler = type("Handler", (handlers.FTPHandler,), {"authorizer": users})
+        logging.disable(logging.CRITICAL)
+        self.addCleanup(logging.disable, logging.NOTSET)
+        self.server = servers.FTPServer(("127.0.0.1", 0), handler)
+        host, port = self.server.address[:2]
+        self.store = f"ftp://{USER}:{WORD}@{host}:{port}"
+        self.stopped = threading.Event()
+        thread = threading.Thread(target=self.serve)
+        thread.start()
+        self.addCleanup(thread.join)
+        self.addCleanup(self.stopped.set)
+        self.addCleanup(fsspec.get_filesystem_class("ftp").clear_instance_cache)
+
+    def serve(self):
+        while not self.stopped.is_set():
+            self.server.serve_forever(timeout=0.05, blocking=False, handle_exit=False)
+        self.server.close_all()
+
+    def path(self, name):
+        return os.path.join(self.folder, name)
+
+    def test_there_and_back(self):
+        warnings.simplefilter("ignore", ResourceWarning)
+        for name in "streams", "back":
+            os.mkdir(self.path(name))
+        for name, data in ("a.pbm", PBM), ("b.pbm", PBM[:100]):
+            with open(self.path(name), "wb") as file:
+                file.write(data)
+            os.utime(self.path(name), (1_000_000_000, 1_000_000_000))
+        job = many.Job("encode", folder=f"{self.store}/streams", options={"most_offset": 127})
+        names = [f"{self.store}/{name}" for name in ("a.pbm", "b.pbm", "none.pbm")]
+        states = [(outcome.state, outcome.number) for outcome in many.run(job, names, 1)]
+        self.assertEqual(states, [("done", 0), ("failed", 36), ("failed", 0)])
+        self.assertEqual(read(self.path("streams/a.jbg")), STREAM)
+        self.assertEqual(os.listdir(self.path("streams")), ["a.jbg"])
+        self.assertEqual(job(names[0]).state, many.SKIPPED)
+        # What a worker that was lost has left of a file is made again.
+        with open(self.path("streams/a.jbg"), "wb") as file:
+            file.write(STREAM[:100])
+        self.assertEqual(job(names[0]).state, many.DONE)
+        self.assertEqual(read(self.path("streams/a.jbg")), STREAM)
+        back = many.Job("decode", folder=f"{self.store}/back")
+        self.assertEqual(back(f"{self.store}/streams/a.jbg").state, many.DONE)
+        self.assertEqual(read(self.path("back/a.pbm")), PBM)
 
 
 if __name__ == "__main__":
