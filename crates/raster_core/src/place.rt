@@ -54,6 +54,13 @@ impl RowPlace {
         }
     }
 
+    /// How many pixels of the row are decoded.
+    pub fn done(&self) -> u32
+        ensures { result ≡ self.now.done }
+    {
+        self.done
+    }
+
     /// Behind so many pixels of a row, of which `past` has the last.
     pub(crate) fn behind(done: u32, past: u128) -> RowPlace
         ensures begun { result.is_begun ≡ true }

@@ -34,10 +34,6 @@ pub record HasDecoded (d : PieceDecoder) (text out : List ℕ) : Type 0 where
   pub going : d.end ≡ None
   pub stands : DecoderStands d text out
 
--- it has, of some, unless the stream has ended
-abbrev pub IsDecoding : PieceDecoder → Type 0
-IsDecoding d = d.end ≡ None → (text : List ℕ) × (out : List ℕ) × HasDecoded d text out
-
 -- Each height of a body is this one; a body of bytes has one.
 abbrev pub HasHeight : Fields → List ℕ → ℕ → Type 0
 HasHeight h body height = (n : ℕ) → IsHeight h body n → n ≡ height

@@ -101,11 +101,10 @@ impl<'a, 'b> PieceDecoder<'a, 'b> {
 
 impl PieceDecoder<'_, '_> {
     ghost use Rattle.t85_core.specs.declared.pieces.Outcome.TheVariants as outcome;
-    ghost use Rattle.t85_core.specs.Pieces.{IsDecoding, GivesRow, RowsWait, WantsMore, IsWhole, IsBroken, EndsAgain, AreCertain, row_held, stream_of, height_in_use};
+    ghost use Rattle.t85_core.specs.Pieces.{GivesRow, RowsWait, WantsMore, IsWhole, IsBroken, EndsAgain, AreCertain, row_held, stream_of, height_in_use};
 
     /// Goes on with these bytes up to the end of the next row, or as far as they go.
     pub fn next_row(&mut self, piece: &[u8]) -> Progress
-        requires { IsDecoding self.old }
         ensures same { stream_of self.new ≡ stream_of self.old }
         ensures bound { result.taken ≤ length piece.now }
         ensures row { GivesRow self.old self.new piece.now result.taken result.outcome }
@@ -114,7 +113,6 @@ impl PieceDecoder<'_, '_> {
         ensures done { IsWhole false self.old self.new piece.now result.outcome }
         ensures broken { IsBroken false self.old self.new piece.now result.outcome }
         ensures again { EndsAgain self.old self.new result.taken result.outcome }
-        ensures decoding { IsDecoding self.new }
     {
         self.take(piece, false)
     }
@@ -122,7 +120,6 @@ impl PieceDecoder<'_, '_> {
     /// Goes on with these bytes, which are the last, up to the end of the next row, or to the end of the stream. Call it
     /// again with what was not taken as long as it gives rows.
     pub fn next_of_last(&mut self, piece: &[u8]) -> Progress
-        requires { IsDecoding self.old }
         ensures same { stream_of self.new ≡ stream_of self.old }
         ensures bound { result.taken ≤ length piece.now }
         ensures row { GivesRow self.old self.new piece.now result.taken result.outcome }
@@ -131,14 +128,12 @@ impl PieceDecoder<'_, '_> {
         ensures done { IsWhole true self.old self.new piece.now result.outcome }
         ensures broken { IsBroken true self.old self.new piece.now result.outcome }
         ensures again { EndsAgain self.old self.new result.taken result.outcome }
-        ensures decoding { IsDecoding self.new }
     {
         self.take(piece, true)
     }
 
     /// Goes on with these bytes; whether they are the last is `is_all`.
     fn take(&mut self, piece: &[u8], is_all: bool) -> Progress
-        requires { IsDecoding self.old }
         ensures same { stream_of self.new ≡ stream_of self.old }
         ensures bound { result.taken ≤ length piece.now }
         ensures row { GivesRow self.old self.new piece.now result.taken result.outcome }
@@ -148,7 +143,6 @@ impl PieceDecoder<'_, '_> {
         ensures done { IsWhole is_all self.old self.new piece.now result.outcome }
         ensures broken { IsBroken is_all self.old self.new piece.now result.outcome }
         ensures again { EndsAgain self.old self.new result.taken result.outcome }
-        ensures decoding { IsDecoding self.new }
     {
         if let Some(end) = self.end {
             return Progress {

@@ -1,7 +1,6 @@
 //! Streams that come in pieces, beside `decode` of the whole stream.
 
 ghost use Rattle.std.specs.Prelude.{◌≤◌, length};
-ghost use Rattle.t85_core.specs.Pieces.{IsDecoding};
 
 use crate::random::{HEADER, Heights, Random, add};
 use crate::trial::Bytes::Hex;
@@ -122,8 +121,6 @@ fn decoded(alloc: Global, header: &Header, height: u32, body: &[u8]) -> Result<G
 
 /// Shows a decoder what has come and was not taken, and whether the end was told.
 fn call(decoder: &mut PieceDecoder<'_, '_>, feed: &mut Feed<'_>, told: bool) -> Outcome
-    requires { IsDecoding decoder.old }
-    ensures { IsDecoding decoder.new }
 {
     let progress = if told {
         decoder.next_of_last(feed.shown())
@@ -136,7 +133,6 @@ fn call(decoder: &mut PieceDecoder<'_, '_>, feed: &mut Feed<'_>, told: bool) -> 
 
 /// Whether later calls answer the same as the end: on what was not taken, and on other bytes.
 fn answers_again(decoder: &mut PieceDecoder<'_, '_>, end: Outcome, rest: &[u8]) -> bool
-    requires { IsDecoding decoder.old }
 {
     let other = [0xFF, 2, 0xFF, 5, 0];
     decoder.next_row(rest).outcome == end && decoder.next_of_last(&other).outcome == end

@@ -10,7 +10,7 @@ use Rattle.t85_core.specs.declared.pieces.PieceDecoder.{PieceDecoder}
 use Rattle.t85_core.specs.declared.pieces.Outcome.{Outcome}
 use Rattle.t85_core.specs.declared.pieces.Outcome.TheVariants as outcome
 use Rattle.t85_core.specs.Header.{Fields}
-use Rattle.t85_core.specs.Pieces.{stream_of, row_held, HasDecoded, IsDecoding, HandsOut, HoldsImage, MayFollow, StreamGoesOn, Call, IsCall, bytes_taken, given_with, row_given, decoder_after}
+use Rattle.t85_core.specs.Pieces.{stream_of, row_held, HasDecoded, HandsOut, HoldsImage, MayFollow, StreamGoesOn, Call, IsCall, bytes_taken, given_with, row_given, decoder_after}
 use Rattle.uses.specs.Pieces.{rows_told, rows_counted, WereMade, SaysOfRows, PieceRead, TextRead, SomeRead}
 
 pub on_err : {T E : Type 0} (r : Result T E) {P : Type 0} → P → OnErr r P
@@ -58,11 +58,10 @@ pub record RowsSoFar (old now : PieceDecoder) (piece : List ℕ) (taken : ℕ) (
   pub many : rows_counted calls ≡ count
   pub within : taken ≤ length piece
   pub same : stream_of now ≡ stream_of old
-  pub decoding : IsDecoding now
   pub goes_on : (text out : List ℕ) → HasDecoded old text out → HasDecoded now (text ++ take taken piece) (out ++ flat_map row_given calls)
 
-pub none_so_far : (d : PieceDecoder) (piece held : List ℕ) → IsDecoding d → RowsSoFar d d piece 0 held held 0
-none_so_far d piece held decoding = record {
+pub none_so_far : (d : PieceDecoder) (piece held : List ℕ) → RowsSoFar d d piece 0 held held 0
+none_so_far d piece held = record {
   calls = [];
   made = tt;
   after = refl;
@@ -70,7 +69,6 @@ none_so_far d piece held decoding = record {
   many = refl;
   within = omega arith;
   same = refl;
-  decoding = decoding;
   goes_on = λ text out has. subst (λ z. HasDecoded d z (out ++ [])) (sym (append-nil text)) (subst (HasDecoded d text) (sym (append-nil out)) has);
 }
 
@@ -123,8 +121,8 @@ module _ (old now : PieceDecoder) (piece : List ℕ) (taken : ℕ) (held held' :
         ap (λ z. (front ++ flat_map row_given so_far.calls) ++ z) (sym (append-nil (row_given call) ∙ e))
         ∙ rows_append front so_far.calls (call ∷ [])
 
-    pub row_more : call.answer ≡ outcome.Row → IsDecoding call.new → RowsSoFar old call.new piece (taken + call.taken) held (held' ++ row_held call.new) (count + 1)
-    row_more e decoding = record {
+    pub row_more : call.answer ≡ outcome.Row → RowsSoFar old call.new piece (taken + call.taken) held (held' ++ row_held call.new) (count + 1)
+    row_more e = record {
       calls = longer;
       made = made;
       after = after;
@@ -137,7 +135,6 @@ module _ (old now : PieceDecoder) (piece : List ℕ) (taken : ℕ) (held held' :
           );
       within = within;
       same = is.same ∙ so_far.same;
-      decoding = decoding;
       goes_on = λ text out has.
           subst (λ z. HasDecoded call.new z (out ++ flat_map row_given longer)) (taken_more text)
           (subst (HasDecoded call.new ((text ++ take taken piece) ++ bytes_taken call)) (rows out)

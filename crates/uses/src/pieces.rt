@@ -3,7 +3,7 @@
 ghost use Rattle.std.specs.Prelude.{◌≡◌, ◌≢◌, ◌≤◌, ◌++◌, length, true, IfOk, OnErr};
 ghost use Rattle.raster_core.specs.Window.{width_of};
 ghost use Rattle.t85_core.specs.Options.{fields_of};
-ghost use Rattle.t85_core.specs.Pieces.{IsDecoding, GivesRow, RowsWait, WantsMore, IsWhole, IsBroken, stream_of};
+ghost use Rattle.t85_core.specs.Pieces.{GivesRow, RowsWait, WantsMore, IsWhole, IsBroken, stream_of};
 ghost use Rattle.t85_core.specs.declared.pieces.Outcome.TheVariants as outcome;
 ghost use Rattle.uses.specs.Pieces.{BodyRead, PieceRead, TextRead, SomeRead};
 
@@ -42,7 +42,6 @@ pub fn rows_of_two(
     limit: usize,
     rows: &mut Vec<u8>,
 ) -> Result<Outcome, AllocError>
-    requires { IsDecoding decoder.old }
     ensures read { IfOk result (λ answer. TextRead decoder.old decoder.new
         (first.now ++ second.now) limit answer rows.old.items rows.new.items) }
     ensures short { OnErr result (SomeRead decoder.old rows.old.items rows.new.items) }
@@ -68,9 +67,7 @@ pub fn rows_of_piece(
     limit: usize,
     rows: &mut Vec<u8>,
 ) -> Result<Progress, AllocError>
-    requires { IsDecoding decoder.old }
     ensures same { stream_of decoder.new ≡ stream_of decoder.old }
-    ensures decoding { IsDecoding decoder.new }
     ensures read { IfOk result (λ progress. PieceRead is_all decoder.old decoder.new piece.now
         limit progress.outcome progress.taken rows.old.items rows.new.items) }
     ensures short { OnErr result (SomeRead decoder.old rows.old.items rows.new.items) }
@@ -92,7 +89,6 @@ pub fn rows_of_piece(
 
 /// Goes on with a piece, which may be the last.
 fn next_row(decoder: &mut PieceDecoder<'_, '_>, piece: &[u8], is_all: bool) -> Progress
-    requires { IsDecoding decoder.old }
     ensures same { stream_of decoder.new ≡ stream_of decoder.old }
     ensures bound { result.taken ≤ length piece.now }
     ensures row { GivesRow decoder.old decoder.new piece.now result.taken result.outcome }
@@ -101,7 +97,6 @@ fn next_row(decoder: &mut PieceDecoder<'_, '_>, piece: &[u8], is_all: bool) -> P
     ensures ends { is_all ≡ true → result.outcome ≢ outcome.More }
     ensures done { IsWhole is_all decoder.old decoder.new piece.now result.outcome }
     ensures broken { IsBroken is_all decoder.old decoder.new piece.now result.outcome }
-    ensures decoding { IsDecoding decoder.new }
 {
     if is_all {
         decoder.next_of_last(piece)

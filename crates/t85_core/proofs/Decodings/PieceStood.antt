@@ -1,5 +1,5 @@
 -- Where a decoder stands, before a step and after it.
-use Rattle.std.proofs.Common.{cond, ◌≡◌, ◌≢◌, ◌<◌, ◌≤◌, ◌+◌, ◌-◌, ◌*◌, ◌⊎◌, inl, inr, ℕ, Bool, true, false, List, [], ◌∷◌, ◌++◌, length, take, drop, slice_index, nat_le, Option, None, Some, Result, Ok, Err, refl, sym, ap, ◌∙◌, subst, append_assoc, append-nil, length-append, arith, true≢false}
+use Rattle.std.proofs.Common.{cond, ◌≡◌, ◌≢◌, ◌<◌, ◌≤◌, ◌+◌, ◌-◌, ◌*◌, ◌⊎◌, inl, inr, ℕ, Bool, true, false, List, [], ◌∷◌, ◌++◌, length, min, take, drop, slice_index, nat_le, Option, None, Some, Result, Ok, Err, refl, sym, ap, ◌∙◌, subst, append_assoc, append-nil, length-append, arith, true≢false}
 use Rattle.std.specs.Prelude.{IsOk, OnOk, IfSome, is_some}
 use Rattle.std.proofs.lemmas.Bool.Decides.{nat_tests}
 use Rattle.std.proofs.Math.Seq.{drop-append_seam, take-append_seam}
@@ -36,11 +36,11 @@ use Rattle.t85_core.specs.Header.{Fields, is_variable}
 use Rattle.t85_core.specs.Options.{fields_of}
 use Rattle.t85_core.specs.Height.{GivesHeight, IsHeight}
 use Rattle.t85_core.specs.Laws.{IsInUse}
-use Rattle.t85_core.specs.Pieces.{IsDecoding, HasDecoded, HasHeight, HandsOut, HoldsImage, row_held}
+use Rattle.t85_core.specs.Pieces.{HasDecoded, HasHeight, HandsOut, HoldsImage, row_held}
 use Rattle.t85_core.specs.Steps.Behind.{BehindStands, BreaksBehind, StopsBehind}
-use Rattle.t85_core.specs.Steps.Pieces.{HeadStands, CommentStands, IsFirstWalk, WalkStands, CutOff, StepsOn, StepsOff, Step, RowStep, RowLeaves, StripesOn, StageStands, KeepsPlace, HasMarker, IsInCode}
+use Rattle.t85_core.specs.Steps.Pieces.{HeadStands, CommentStands, InRowStands, IsFirstWalk, WalkStands, CutOff, SomeStands, StepsOn, StepsOff, Step, RowStep, RowLeaves, StripesOn, StageStands, KeepsPlace, HasMarker, IsInCode}
 use Rattle.t85_core.specs.Steps.PieceStands.{DecoderStands, HeightKnown, StandsAs, CodeWalks, WalkWaits, IsAtMarker, entities_behind, is_last, place_behind, last_behind}
-use Rattle.t85_core.specs.Steps.PieceSteps.{SomeStand, DecoderOn, EndsWhole, EndsBroken, NoHeightBelow, StepLeaves, KeepsDecoder, StripeLeft, StripeClosed, HeadEntered, head_stage, steps_left}
+use Rattle.t85_core.specs.Steps.PieceSteps.{SomeStand, DecoderOn, EndsWhole, EndsBroken, NoHeightBelow, StepLeaves, KeepsDecoder, StripeLeft, StripeClosed, HeadEntered, RowsAreGiven, head_stage, steps_left}
 use Rattle.t85_core.proofs.Decodings.ImagePut.{in_use}
 use Rattle.t85_core.proofs.Decodings.PieceBehind.{behind_first, front_is, part_of}
 use Rattle.t85_core.proofs.Decodings.PieceGiven.{cut_hands, cut_hands_first, piece_other, height_known, read_holds}
@@ -164,10 +164,10 @@ leaves_stop is_all d d' p p' fault r c header going on broken = record {
 }
 
 -- a fault in the code, where no height came
-pub code_broken : (d : PieceDecoder) (p : List ℕ) (fault : Fault) → d.is_open ≡ true → d.waits ≡ false → StepsOff (fields_of d.header) d.header.yd d.walk p fault → fault ≢ Changed → (is_all : Bool) → (fault ≡ Truncated → is_all ≡ true) → EndsBroken is_all d p d.height fault
+pub code_broken : (d : PieceDecoder) (p : List ℕ) (fault : Fault) → d.is_open ≡ true → d.waits ≡ false → StepsOff (fields_of d.header) d.header.yd d.walk p fault → (SomeStand d → fault ≢ Changed) → (is_all : Bool) → (fault ≡ Truncated → is_all ≡ true) → EndsBroken is_all d p d.height fault
 code_broken d p fault late going off other is_all all text out rest s follows =
     subst (λ n. HandsOut (fields_of d.header) ((text ++ p) ++ rest) n fault out) (sym (s.height.first late))
-    (cut_hands_first (fields_of d.header) (text ++ p) out rest fault (own_height d.header) other (λ t. follows (all t)) (off text out (code_of d text out late going s).walk))
+    (cut_hands_first (fields_of d.header) (text ++ p) out rest fault (own_height d.header) (other (text, out, s)) (λ t. follows (all t)) (off text out (code_of d text out late going s).walk))
 
 -- ---- behind an end marker
 
@@ -263,22 +263,25 @@ row_after d w late waits some code p' r leaves = (on_ok r _ (leaves.whole (marke
 -- a stripe ended
 pub stripe_ended : (d d' : PieceDecoder) → d.is_open ≡ true → d.waits ≡ true → SomeStand d → IsInCode d.walk.stage → KeepsDecoder d d' → (p' : List ℕ) (r : Result (Unit {0}) Fault) → Step (fields_of d.header) d.header.yd d.walk d'.walk [] p' r → (HasMarker d.walk → IsOk r) →
     OnOk r (StripesOn (fields_of d.header) d.header.yd d.walk d'.walk [] p') → OnOk r (d.header.l0 < d.walk.left → d'.walk.stage ≡ stage.Head) →
-    OnOk r ((d'.walk.entities ≡ d.walk.entities + 1) × (d'.walk.left ≡ d.walk.left - d.header.l0) × (d'.walk.given ≡ d.walk.given) × (d'.walk.at ≡ None)) → StripeLeft d d'
-stripe_ended d d' late waits some code keeps p' r step whole read left next = record {
+    OnOk r ((d'.walk.left ≡ d.walk.left - d.header.l0) × (d'.walk.given ≡ d.walk.given) × (d'.walk.at ≡ None)) → (SomeStands (fields_of d.header) d.header.yd d.walk → OnOk r (d'.walk.entities ≡ d.walk.entities + 1)) → StripeLeft d d'
+stripe_ended d d' late waits some code keeps p' r step whole read left next entities = record {
   keeps = keeps;
-  entities = there.0;
-  given = there.2;
-  at = there.3;
+  entities = on_ok r _ ok (entities (here.done, some.1, here.walk));
+  given = there.1;
+  at = there.2;
   stage = on_ok r _ ok left;
   stands = λ text out s. subst (WalkStands (fields_of d.header) d.header.yd d'.walk text) (append-nil out) (step_none (fields_of d.header) d.header.yd d.walk d'.walk p' [] (on_ok r _ ok step.ok) text out s);
   read = λ text out s.
       let k = on_ok r _ ok read text out s in
       subst (λ z. StripesRead (fields_of d.header) d.header.yd (Some z) (Some []) (d.walk.entities + 1) (cond d.walk.given 1 0) d'.walk.carried (Some []) (Some out)) (ap (λ z. text ++ z) (no_bytes k.0 p' k.1) ∙ append-nil text) k.2;
 } where
-  ok : IsOk r
-  ok = whole (marker_of d.walk (waits_of d some.0 some.1 late waits some.2).at code)
+  here : WalkWaits (fields_of d.header) d.walk d.behind some.0 some.1
+  here = waits_of d some.0 some.1 late waits some.2
 
-  there : (d'.walk.entities ≡ d.walk.entities + 1) × (d'.walk.left ≡ d.walk.left - d.header.l0) × (d'.walk.given ≡ d.walk.given) × (d'.walk.at ≡ None)
+  ok : IsOk r
+  ok = whole (marker_of d.walk here.at code)
+
+  there : (d'.walk.left ≡ d.walk.left - d.header.l0) × (d'.walk.given ≡ d.walk.given) × (d'.walk.at ≡ None)
   there = on_ok r _ ok next
 
 -- ---- steps one after another
@@ -356,19 +359,20 @@ leaves_done is_all d d' p p' n header going height whole = record {
 -- ---- in the code
 
 -- a part of a piece was taken
-pub code_on : (d d' : PieceDecoder) (p front behind part' p' row : List ℕ) → d.is_open ≡ true → d.waits ≡ false → KeepsDecoder d d' → p ≡ front ++ behind → ((g : List ℕ) → front ≡ g ++ part' → p' ≡ part' ++ behind) →
-    StepsOn (fields_of d.header) d.header.yd d.walk d'.walk front part' row → IsInCode d'.walk.stage → d'.walk.given ≡ d.walk.given → DecoderOn d d' p p' row
-code_on d d' p front behind part' p' row late going keeps p_is rest on code given text out s =
+pub code_on : (d d' : PieceDecoder) (p front behind part' p' row : List ℕ) → d.is_open ≡ true → d.waits ≡ false → KeepsDecoder d d' → p ≡ front ++ behind → (SomeStand d → (g : List ℕ) → front ≡ g ++ part' → p' ≡ part' ++ behind) →
+    StepsOn (fields_of d.header) d.header.yd d.walk d'.walk front part' row → (SomeStand d → IsInCode d'.walk.stage × (d'.walk.given ≡ d.walk.given)) → DecoderOn d d' p p' row
+code_on d d' p front behind part' p' row late going keeps p_is rest on code text out s =
     let w = code_of d text out late going s in
+    let c = code (text, out, s) in
     let k = on text out w.walk in (
       k.0,
-      p_is ∙ ap (λ z. z ++ behind) k.1 ∙ append_assoc k.0 part' behind ∙ ap (λ z. k.0 ++ z) (sym (rest k.0 k.1)),
+      p_is ∙ ap (λ z. z ++ behind) k.1 ∙ append_assoc k.0 part' behind ∙ ap (λ z. k.0 ++ z) (sym (rest (text, out, s) k.0 k.1)),
       put_code d' (text ++ k.0) (out ++ row) (keeps.is_open ∙ late) (keeps.waits ∙ going) (keep_known d d' (text ++ k.0) keeps (known_more (fields_of d.header) d.height d.is_open text k.0 s.height))
-          (subst (λ z. CodeWalks (fields_of z) d'.walk (text ++ k.0) (out ++ row)) (sym keeps.header) (record { walk = k.2; in_code = code; ungiven = given ∙ w.ungiven })),
+          (subst (λ z. CodeWalks (fields_of z) d'.walk (text ++ k.0) (out ++ row)) (sym keeps.header) (record { walk = k.2; in_code = c.0; ungiven = c.1 ∙ w.ungiven })),
     )
 
 -- a fault in a part of the piece
-pub part_broken : (d : PieceDecoder) (p front behind : List ℕ) (fault : Fault) → d.is_open ≡ true → d.waits ≡ false → p ≡ front ++ behind → StepsOff (fields_of d.header) d.header.yd d.walk front fault → fault ≢ Changed → fault ≢ Truncated → (is_all : Bool) →
+pub part_broken : (d : PieceDecoder) (p front behind : List ℕ) (fault : Fault) → d.is_open ≡ true → d.waits ≡ false → p ≡ front ++ behind → StepsOff (fields_of d.header) d.header.yd d.walk front fault → (SomeStand d → fault ≢ Changed) → fault ≢ Truncated → (is_all : Bool) →
     EndsBroken is_all d p d.height fault
 part_broken d p front behind fault late going p_is off other not_end is_all text out rest s follows =
     subst (λ z. HandsOut (fields_of d.header) z d.height fault out) (sym (append_assoc (text ++ front) behind rest) ∙ ap (λ z. z ++ rest) (append_assoc text front behind ∙ ap (λ z. text ++ z) (sym p_is)))
@@ -702,23 +706,72 @@ call_on d e d' p p' row taken count header height is_open waits walk behind goin
     let k = on text out s.stands in
     record { going = going; stands = subst (λ z. DecoderStands d' (text ++ z) (out ++ row)) (sym (taken_is p p' k.0 k.1) ∙ ap (λ n. take n p) (sym count)) (stands_same e d' (text ++ k.0) (out ++ row) header height is_open waits walk behind k.2) }
 
-pub goes_on : (r : Outcome) → end_in r ≡ None → (r ≡ outcome.Row) ⊎ (r ≡ outcome.More)
-goes_on outcome.Row e = inl refl
-goes_on outcome.More e = inr refl
-goes_on (outcome.Done n) e = absurd (none_some (sym e))
-goes_on (outcome.Broken f) e = absurd (none_some (sym e))
-
--- it has taken some bytes still, unless it ends
-pub call_decodes : (d e d' : PieceDecoder) (p p' row : List ℕ) (r : Outcome) → d'.header ≡ e.header → d'.height ≡ e.height → d'.is_open ≡ e.is_open → d'.waits ≡ e.waits → d'.walk ≡ e.walk → d'.behind ≡ e.behind → d'.end ≡ end_in r →
-    (r ≡ outcome.Row → DecoderOn d e p p' row) → (r ≡ outcome.More → DecoderOn d e p p' []) → IsDecoding d → d.end ≡ None → IsDecoding d'
-call_decodes d e d' p p' row r header height is_open waits walk behind ended on_row on_more some going still = went (goes_on r (sym ended ∙ still)) where
-  went : (r ≡ outcome.Row) ⊎ (r ≡ outcome.More) → (text : List ℕ) × (out : List ℕ) × HasDecoded d' text out
-  went (inl is) = let s = some going in (s.0 ++ take (length p - length p') p, s.1 ++ row, call_on d e d' p p' row (length p - length p') refl header height is_open waits walk behind still (on_row is) s.0 s.1 s.2)
-  went (inr is) = let s = some going in (s.0 ++ take (length p - length p') p, s.1 ++ [], call_on d e d' p p' [] (length p - length p') refl header height is_open waits walk behind still (on_more is) s.0 s.1 s.2)
-
 -- while a height may come, there are fewer stripes behind than the header has rows
 pub entities_few : (d : PieceDecoder) (text out : List ℕ) → d.is_open ≡ true → IsInCode d.walk.stage → DecoderStands d text out → d.walk.entities < d.header.yd
 entities_few d text out late in_code s = go d.waits refl where
   go : (b : Bool) → d.waits ≡ b → d.walk.entities < d.header.yd
   go false going = walk_few (fields_of d.header) d.header.yd d.walk text out d.header.some_rows in_code (code_of d text out late going s).walk
   go true waits = let w = waits_of d text out late waits s in walk_few (fields_of d.header) d.header.yd d.walk w.done out d.header.some_rows in_code w.walk
+
+-- ---- of a decoder that stands somewhere
+
+-- its walk does
+pub some_code : (d : PieceDecoder) → d.is_open ≡ true → d.waits ≡ false → SomeStand d → SomeStands (fields_of d.header) d.header.yd d.walk
+some_code d late going some = (some.0, some.1, (code_of d some.0 some.1 late going some.2).walk)
+
+pub some_waits : (d : PieceDecoder) → d.is_open ≡ true → d.waits ≡ true → SomeStand d → SomeStands (fields_of d.header) d.header.yd d.walk
+some_waits d late waits some = let w = waits_of d some.0 some.1 late waits some.2 in (w.done, some.1, w.walk)
+
+-- what a step leaves is told of such a decoder alone
+module _ (is_all : Bool) (d d' : PieceDecoder) (p p' : List ℕ) (header : d'.header ≡ d.header) (going : d'.end ≡ d.end) where
+  leaves_where : (r : Option Outcome) → (r ≡ Some outcome.More → is_all ≡ false) → ((n : ℕ) → r ≡ Some (outcome.Done n) → d'.height ≡ n) → (SomeStand d → StepLeaves is_all d d' p p' r) → StepLeaves is_all d d' p p' r
+  leaves_where r cut done there = record {
+    header = header;
+    going = going;
+    on = λ e text out s. (there (text, out, s)).on e text out s;
+    row = λ e text out s. (there (text, out, s)).row e text out s;
+    waits = λ e late marked text out rest n s. (there (text, out, s)).waits e late marked text out rest n s;
+    more = λ e. (cut e, (λ text out s. ((there (text, out, s)).more e).1 text out s), (λ w text out rest s. ((there (text, out, s)).more e).2 w text out rest s));
+    done = λ n e. (done n e, (λ text out rest s. ((there (text, out, s)).done n e).1 text out rest s));
+    broken = λ f e text out rest s. (there (text, out, s)).broken f e text out rest s;
+  }
+
+  pub on_where : (SomeStand d → StepLeaves is_all d d' p p' None) → StepLeaves is_all d d' p p' None
+  on_where = leaves_where None (λ e. absurd (none_some e)) (λ n e. absurd (none_some e))
+
+  pub row_where : (SomeStand d → StepLeaves is_all d d' p p' (Some outcome.Row)) → StepLeaves is_all d d' p p' (Some outcome.Row)
+  row_where = leaves_where (Some outcome.Row) (λ e. absurd (let bot : ⊥ = cc in bot)) (λ n e. absurd (let bot : ⊥ = cc in bot))
+
+  pub done_where : (n : ℕ) → d'.height ≡ n → (SomeStand d → StepLeaves is_all d d' p p' (Some (outcome.Done n))) → StepLeaves is_all d d' p p' (Some (outcome.Done n))
+  done_where n is = leaves_where (Some (outcome.Done n)) (λ e. absurd (let bot : ⊥ = cc in bot)) (λ m e. is ∙ (let k : n ≡ m = cc in k))
+
+  pub broken_where : (f : Fault) → (SomeStand d → StepLeaves is_all d d' p p' (Some (outcome.Broken f))) → StepLeaves is_all d d' p p' (Some (outcome.Broken f))
+  broken_where f = leaves_where (Some (outcome.Broken f)) (λ e. absurd (let bot : ⊥ = cc in bot)) (λ n e. absurd (let bot : ⊥ = cc in bot))
+
+  -- no decoder that stands somewhere comes here
+  pub leaves_nowhere : (f : Fault) → (SomeStand d → ⊥) → StepLeaves is_all d d' p p' (Some (outcome.Broken f))
+  leaves_nowhere f never = broken_where f (λ some. absurd (never some))
+
+-- where all rows of the stripe before are given none has begun
+pub no_row_left : (d : PieceDecoder) → d.is_open ≡ true → d.waits ≡ true → RowsAreGiven d → IsInCode d.walk.stage → (d.walk.stage ≡ stage.Code → ⊥) → SomeStand d → ⊥
+no_row_left d late waits all (inl code) not_code some = not_code code
+no_row_left d late waits all (inr row) not_code some =
+    let w = waits_of d some.0 some.1 late waits some.2 in
+    let k : InRowStands (fields_of d.header) d.header.yd d.walk.entities d.walk.given d.walk.at d.walk.row d.walk.first d.walk.marker d.walk.carried d.walk.decoder d.walk.place w.done some.1 = at_stage row w.walk in
+    let few : d.walk.row < min d.walk.left d.header.l0 = subst (λ z. d.walk.row < min z d.header.l0) (sym w.walk.left_is) k.few in
+    let given = all (inr row) in
+    omega (arith, few, given)
+
+-- there are fewer stripes behind than a height has rows
+pub waits_few : (d : PieceDecoder) → d.is_open ≡ true → d.waits ≡ true → SomeStand d → d.walk.entities < d.header.yd
+waits_few d late waits some = by (waits_of d some.0 some.1 late waits some.2).at where
+  by : IsAtMarker d.walk → d.walk.entities < d.header.yd
+  by (inl head) = let none = head.2 in omega (arith, none, d.header.some_height)
+  by (inr k) = entities_few d some.0 some.1 late k.0 some.2
+
+-- a stripe with more rows behind it is not the last
+pub not_last : (d : PieceDecoder) → d.is_open ≡ true → d.waits ≡ true → SomeStand d → (IsInCode d.walk.stage → d.header.l0 < d.walk.left) → last_behind (fields_of d.header) d.walk ≡ false
+not_last d late waits some more = by (waits_of d some.0 some.1 late waits some.2).at where
+  by : IsAtMarker d.walk → last_behind (fields_of d.header) d.walk ≡ false
+  by (inl head) = ap (λ z. is_last z (nat_le d.walk.left d.header.l0)) head.0
+  by (inr k) = in_code_last d.walk.stage (nat_le d.walk.left d.header.l0) k.0 ∙ (let over = more k.0 in grind (arith, nat_tests))

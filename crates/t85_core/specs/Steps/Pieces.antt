@@ -140,6 +140,15 @@ pub record IsFirstWalk (w : Walk) : Type 0 where
 abbrev pub HasMarker : Walk → Type 0
 HasMarker w = (reset : Bool) × ((w.marker ≡ Some reset) ⊎ (w.first ≡ Some (code.Marker reset)))
 
+-- The numbers of a walk are such that a row of this width can be decoded. Any that a walk has left are.
+pub record RowFits (width : ℕ) (w : Walk) : Type 0 where
+  pub width_is : width_of w.carried.window.now ≡ width
+  pub within : w.place.done < width
+  pub offset_is : w.carried.kept.offset ≤ 127
+  pub at_is : IfSome w.at (λ to. to.offset ≤ 127)
+  pub code_is : IfSome w.first IsByteOrMarker
+  pub behind : IfSome w.marker (λ _. w.first ≡ None)
+
 -- the stripe stays the same
 pub record KeepsPlace (w w' : Walk) : Type 0 where
   pub entities : w'.entities ≡ w.entities
@@ -152,9 +161,6 @@ abbrev pub IsInCode : Stage → Type 0
 IsInCode s = (s ≡ stage.Code) ⊎ (s ≡ stage.Row)
 
 -- a row has begun, or is still to come
-abbrev pub WantsRow : Fields → ℕ → Walk → Type 0
-WantsRow h height w = (w.stage ≡ stage.Row) ⊎ ((w.stage ≡ stage.Code) × (w.row < rows_in h height w.entities))
-
 abbrev pub RowIsLeft : ℕ → Walk → Type 0
 RowIsLeft l0 w = (w.stage ≡ stage.Row) ⊎ ((w.stage ≡ stage.Code) × (w.row < min w.left l0))
 

@@ -61,6 +61,7 @@ impl Behind {
             coming.rest.now) }
         ensures err { IfErr result (StopsBehind (fields_of header.now) place is_last self.new
             piece.new.rest.now) }
+        ensures no_more { length piece.new.rest.now ≤ length piece.old.rest.now }
     {
         'segments: loop {
             self.leave_comment(header, place, is_last, piece)?;
@@ -137,6 +138,7 @@ impl Behind {
         ensures err { IfErr result (StopsBehind (fields_of header.now) place is_last self.new
             piece.new.rest.now) }
         ensures lowers { OnOk result (length piece.new.rest.now < length piece.old.rest.now) }
+        ensures no_more { length piece.new.rest.now ≤ length piece.old.rest.now }
     {
         let bytes = piece.rest;
         let (_, rest) = bytes.split_at(2);

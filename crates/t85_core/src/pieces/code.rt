@@ -1,6 +1,6 @@
 //! What is left of a code after the last row of its stripe.
 
-ghost use Rattle.std.specs.Prelude.{◌≡◌, ◌⊎◌, Bool, None, IfErr, IfOk, IsErrOf, IsOk, Some};
+ghost use Rattle.std.specs.Prelude.{◌≡◌, ◌≤◌, ◌⊎◌, Bool, length, None, IfErr, IfOk, IsErrOf, IsOk, Some};
 ghost use Rattle.t85_core.specs.declared.segments.Code.TheVariants as code;
 ghost use Rattle.t85_core.specs.declared.fault.Fault.TheVariants.{Truncated};
 ghost use Rattle.t85_core.specs.Steps.PieceCode.{FindsMarker, MissesMarker, KeepsCode, SkipsSome, SkipBreaks};
@@ -20,6 +20,7 @@ pub fn find_marker(
     ensures err { IfErr result (MissesMarker first.old marker piece.old.rest.now) }
     ensures more { IsErrOf result Truncated → KeepsCode first.old first.new marker
         piece.old.rest.now piece.new.rest.now }
+    ensures no_more { length piece.new.rest.now ≤ length piece.old.rest.now }
     ensures whole { (reset : Bool) → (marker ≡ Some reset) ⊎ (first.old ≡ Some (code.Marker reset))
         → IsOk result }
 {
@@ -37,6 +38,7 @@ pub fn find_marker(
 fn skip_some(piece: &mut Piece<'_>) -> Result<bool, Fault>
     ensures ok { IfOk result (SkipsSome piece.old.rest.now piece.new.rest.now) }
     ensures err { IfErr result (SkipBreaks piece.old.rest.now piece.new.rest.now) }
+    ensures no_more { length piece.new.rest.now ≤ length piece.old.rest.now }
 {
     'code: loop {
         piece.skip_plain();

@@ -20,11 +20,10 @@ const AHEAD: usize = 256;
 impl PieceDecoder<'_, '_> {
     ghost use Rattle.t85_core.specs.declared.pieces.walk.Stage.TheVariants as stage;
     ghost use Rattle.t85_core.specs.Steps.Pieces.{HasMarker, IsInCode, RowIsLeft};
-    ghost use Rattle.t85_core.specs.Steps.PieceSteps.{SomeStand, DecoderOn, StepLeaves, steps_left};
+    ghost use Rattle.t85_core.specs.Steps.PieceSteps.{DecoderOn, StepLeaves, steps_left};
 
     /// Goes on up to the next row, to an end, or as far as the bytes go.
     pub(super) fn go_on(&mut self, piece: &mut Piece<'_>, is_all: bool) -> Outcome
-        requires stands { SomeStand self.old }
         ensures leaves { StepLeaves is_all self.old self.new piece.old.rest.now piece.new.rest.now
             (Some result) }
     {
@@ -37,7 +36,6 @@ impl PieceDecoder<'_, '_> {
 
     /// Takes a step: to a row, to an end, to where more is wanted, or to where another step may be taken.
     fn step(&mut self, piece: &mut Piece<'_>, is_all: bool) -> Option<Outcome>
-        requires stands { SomeStand self.old }
         ensures leaves { StepLeaves is_all self.old self.new piece.old.rest.now piece.new.rest.now
             result }
         ensures lowers { result ≡ None → steps_left self.new piece.new.rest.now < steps_left
@@ -56,7 +54,6 @@ impl PieceDecoder<'_, '_> {
     /// Goes on where the height is known.
     fn take_turn(&mut self, piece: &mut Piece<'_>, is_all: bool) -> Outcome
         requires known { self.old.is_open ≡ false }
-        requires stands { SomeStand self.old }
         ensures leaves { StepLeaves is_all self.old self.new piece.old.rest.now piece.new.rest.now
             (Some result) }
     {
@@ -71,12 +68,14 @@ impl PieceDecoder<'_, '_> {
     fn step_in_code(&mut self, piece: &mut Piece<'_>, is_all: bool) -> Option<Outcome>
         requires late { self.old.is_open ≡ true }
         requires going { self.old.waits ≡ false }
-        requires stands { SomeStand self.old }
         ensures leaves { StepLeaves is_all self.old self.new piece.old.rest.now piece.new.rest.now
             result }
         ensures lowers { result ≡ None → steps_left self.new piece.new.rest.now < steps_left
             self.old piece.old.rest.now }
     {
+        if !self.is_in_code() {
+            return Some(Outcome::Broken(Fault::Truncated));
+        }
         if self.walk.has_marker() {
             self.waits = true;
             self.behind = Behind::start();
@@ -96,7 +95,6 @@ impl PieceDecoder<'_, '_> {
         requires unmarked { self.old.walk.marker ≡ None }
         requires stage { self.old.walk.stage ≡ stage.Code }
         requires all { min self.old.walk.left self.old.header.l0 ≤ self.old.walk.row }
-        requires stands { SomeStand self.old }
         ensures leaves { StepLeaves is_all self.old self.new piece.old.rest.now piece.new.rest.now
             result }
         ensures lowers { result ≡ None → steps_left self.new piece.new.rest.now < steps_left
@@ -120,7 +118,6 @@ impl PieceDecoder<'_, '_> {
         requires unmarked { self.old.walk.marker ≡ None }
         requires ahead { HasMarker self.old.walk → ⊥ }
         requires wants { RowIsLeft self.old.header.l0 self.old.walk }
-        requires stands { SomeStand self.old }
         ensures leaves { StepLeaves is_all self.old self.new piece.old.rest.now piece.new.rest.now
             result }
         ensures lowers { result ≡ None → steps_left self.new piece.new.rest.now < steps_left
@@ -132,7 +129,7 @@ impl PieceDecoder<'_, '_> {
         let header = self.header;
         match self.walk.give_row(&header, header.yd, &mut part) {
             Ok(()) => {
-                let (_, rest) = bytes.split_at(front.len() - part.rest.len());
+                let (_, rest) = bytes.split_at(front.len().saturating_sub(part.rest.len()));
                 piece.rest = rest;
                 Some(Outcome::Row)
             }
@@ -157,13 +154,11 @@ impl PieceDecoder<'_, '_> {
     fn wait_at_marker(&mut self, piece: &mut Piece<'_>)
         requires late { self.old.is_open ≡ true }
         requires going { self.old.waits ≡ false }
-        requires ahead { self.old.walk.first ≡ None }
-        requires unmarked { self.old.walk.marker ≡ None }
-        requires stage { IsInCode self.old.walk.stage }
-        requires stands { SomeStand self.old }
         ensures header { self.new.header ≡ self.old.header }
         ensures end { self.new.end ≡ self.old.end }
-        ensures on { DecoderOn self.old self.new piece.old.rest.now piece.new.rest.now [] }
+        ensures on { self.old.walk.first ≡ None → self.old.walk.marker ≡ None →
+            IsInCode self.old.walk.stage →
+            DecoderOn self.old self.new piece.old.rest.now piece.new.rest.now [] }
         ensures stays { ((reset : Bool) (rest : List ℕ) →
             piece.old.rest.now ≡ marker_bytes reset ++ rest → ⊥) → self.new.waits ≡ false }
         ensures no_more { length piece.new.rest.now ≤ length piece.old.rest.now }

@@ -1,7 +1,7 @@
 //! The steps of a decoder that waits for what comes behind an end marker.
 
 ghost use Rattle.t85_core.specs.declared.fault.Fault.TheVariants.{Truncated};
-ghost use Rattle.std.specs.Prelude.{◌≡◌, ◌≢◌, ◌≤◌, ◌<◌, ◌+◌, ◌*◌, ◌++◌, ◌⊎◌, [], ℕ, Bool, None, Some, length, min, true, false};
+ghost use Rattle.std.specs.Prelude.{◌≡◌, ◌≢◌, ◌≤◌, ◌<◌, ◌+◌, ◌-◌, ◌*◌, ◌^◌, ◌++◌, ◌⊎◌, [], ℕ, Bool, None, Some, length, min, true, false};
 
 use crate::fault::Fault;
 use crate::laws::coder_laws;
@@ -20,18 +20,20 @@ impl PieceDecoder<'_, '_> {
     ghost use Rattle.t85_core.specs.Steps.Segments.{IsByteOrMarker, code_bytes};
     ghost use Rattle.t85_core.specs.Steps.Pieces.{IsInCode};
     ghost use Rattle.t85_core.specs.Steps.PieceStands.{place_behind, last_behind};
-    ghost use Rattle.t85_core.specs.Steps.PieceSteps.{SomeStand, StepLeaves, steps_left, GivesBelow, StaysAbove, RowsAreGiven, HeadEntered, StripeLeft, StripeClosed, HeightComes, LookIsOver};
+    ghost use Rattle.t85_core.specs.Steps.PieceSteps.{SomeStand, StepLeaves, KeepsDecoder, steps_left, GivesBelow, StaysAbove, RowsAreGiven, HeadEntered, StripeLeft, StripeClosed, HeightComes, LookIsOver};
 
     /// Goes on behind an end marker, or before the first stripe, where a height may still come.
     pub(super) fn step_behind(&mut self, piece: &mut Piece<'_>, is_all: bool) -> Option<Outcome>
         requires late { self.old.is_open ≡ true }
         requires waits { self.old.waits ≡ true }
-        requires stands { SomeStand self.old }
         ensures leaves { StepLeaves is_all self.old self.new piece.old.rest.now piece.new.rest.now
             result }
         ensures lowers { result ≡ None → steps_left self.new piece.new.rest.now < steps_left
             self.old piece.old.rest.now }
     {
+        if self.walk.entities == u32::MAX {
+            return Some(Outcome::Broken(Fault::Truncated));
+        }
         let place = self.place_behind();
         let is_last = self.is_last();
         match self.behind.pass(&self.header, place, is_last, piece) {
@@ -55,7 +57,6 @@ impl PieceDecoder<'_, '_> {
     ) -> Option<Outcome>
         requires late { self.old.is_open ≡ true }
         requires waits { self.old.waits ≡ true }
-        requires stands { SomeStand self.old }
         requires between { self.old.behind.comment ≡ None }
         requires last { is_last ≡ last_behind (fields_of self.old.header) self.old.walk }
         requires comes { ComesBehind (fields_of self.old.header) (place_behind (fields_of
@@ -86,7 +87,6 @@ impl PieceDecoder<'_, '_> {
     ) -> Outcome
         requires late { self.old.is_open ≡ true }
         requires waits { self.old.waits ≡ true }
-        requires stands { SomeStand self.old }
         requires last { is_last ≡ last_behind (fields_of self.old.header) self.old.walk }
         requires end { fault ≡ Truncated → is_all ≡ true }
         requires stops { StopsBehind (fields_of self.old.header) (place_behind (fields_of
@@ -102,8 +102,7 @@ impl PieceDecoder<'_, '_> {
 
     /// Where what comes behind stands: how many data entities are before it.
     fn place_behind(&self) -> Place
-        requires stands { SomeStand self.now }
-        requires late { self.now.is_open ≡ true }
+        requires few { self.now.walk.entities < 2 ^ 32 - 1 }
         ensures { result ≡ place_behind (fields_of self.now.header) self.now.walk }
     {
         let entities = match self.walk.stage {
@@ -129,7 +128,7 @@ impl PieceDecoder<'_, '_> {
     }
 
     /// Whether a stripe is before what comes.
-    fn is_in_code(&self) -> bool
+    pub(super) fn is_in_code(&self) -> bool
         ensures yes { result ≡ true → IsInCode self.now.walk.stage }
         ensures no { result ≡ false → IsInCode self.now.walk.stage → ⊥ }
     {
@@ -151,9 +150,9 @@ impl PieceDecoder<'_, '_> {
     fn gives_below(&mut self, limit: u32) -> bool
         requires late { self.old.is_open ≡ true }
         requires waits { self.old.waits ≡ true }
-        requires stands { SomeStand self.old }
         requires limit { limit ≤ min self.old.walk.left self.old.header.l0 }
-        ensures gives { result ≡ true → GivesBelow self.old self.new limit }
+        ensures keeps { KeepsDecoder self.old self.new }
+        ensures gives { result ≡ true → SomeStand self.old → GivesBelow self.old self.new limit }
         ensures stays { result ≡ false → StaysAbove self.old self.new limit }
     {
         if !self.is_in_code() || self.walk.row >= limit {
@@ -169,10 +168,10 @@ impl PieceDecoder<'_, '_> {
     fn enter_head(&mut self)
         requires late { self.old.is_open ≡ true }
         requires waits { self.old.waits ≡ true }
-        requires stands { SomeStand self.old }
-        requires more { last_behind (fields_of self.old.header) self.old.walk ≡ false }
         requires all { RowsAreGiven self.old }
-        ensures head { HeadEntered self.old self.new }
+        ensures keeps { KeepsDecoder self.old self.new }
+        ensures head { last_behind (fields_of self.old.header) self.old.walk ≡ false →
+            SomeStand self.old → HeadEntered self.old self.new }
     {
         self.close_stripe();
         self.walk.at = self.behind.at;
@@ -187,10 +186,10 @@ impl PieceDecoder<'_, '_> {
     fn close_stripe(&mut self)
         requires late { self.old.is_open ≡ true }
         requires waits { self.old.waits ≡ true }
-        requires stands { SomeStand self.old }
-        requires more { last_behind (fields_of self.old.header) self.old.walk ≡ false }
         requires all { RowsAreGiven self.old }
-        ensures closes { StripeClosed self.old self.new }
+        ensures keeps { KeepsDecoder self.old self.new }
+        ensures closes { last_behind (fields_of self.old.header) self.old.walk ≡ false →
+            SomeStand self.old → StripeClosed self.old self.new }
     {
         if !self.is_in_code() {
             return;
@@ -202,11 +201,14 @@ impl PieceDecoder<'_, '_> {
     fn end_stripe(&mut self)
         requires late { self.old.is_open ≡ true }
         requires waits { self.old.waits ≡ true }
-        requires stands { SomeStand self.old }
-        requires stage { IsInCode self.old.walk.stage }
         requires all { RowsAreGiven self.old }
-        ensures ends { StripeLeft self.old self.new }
+        ensures keeps { KeepsDecoder self.old self.new }
+        ensures ends { IsInCode self.old.walk.stage → SomeStand self.old →
+            StripeLeft self.old self.new }
     {
+        let Stage::Code = self.walk.stage else {
+            return;
+        };
         let mut none = Piece { rest: &[] };
         let header = self.header;
         let _ended = self
@@ -224,7 +226,6 @@ impl PieceDecoder<'_, '_> {
     ) -> Option<Outcome>
         requires late { self.old.is_open ≡ true }
         requires waits { self.old.waits ≡ true }
-        requires stands { SomeStand self.old }
         requires between { self.old.behind.comment ≡ None }
         requires comes { HeightComes (fields_of self.old.header) self.old.walk height
             piece.old.rest.now rest.now }
@@ -235,7 +236,8 @@ impl PieceDecoder<'_, '_> {
     {
         // What the proof cites of the coder.
         coder_laws();
-        let left = self.walk.left - (self.header.yd - height);
+        let fewer = self.header.yd - height;
+        let left = self.walk.left.saturating_sub(fewer);
         if self.gives_below(left.min(self.header.l0)) {
             return Some(Outcome::Row);
         }
@@ -246,7 +248,7 @@ impl PieceDecoder<'_, '_> {
         self.enter_head();
         piece.rest = rest;
         self.walk.given = true;
-        self.walk.left -= self.header.yd - height;
+        self.walk.left = self.walk.left.saturating_sub(fewer);
         self.height = height;
         self.is_open = false;
         self.waits = false;
@@ -262,7 +264,6 @@ impl PieceDecoder<'_, '_> {
     ) -> Option<Outcome>
         requires late { self.old.is_open ≡ true }
         requires waits { self.old.waits ≡ true }
-        requires stands { SomeStand self.old }
         requires between { self.old.behind.comment ≡ None }
         requires more { last_behind (fields_of self.old.header) self.old.walk ≡ false }
         requires code { IsByteOrMarker code }
@@ -290,7 +291,6 @@ impl PieceDecoder<'_, '_> {
     fn take_fault(&mut self, fault: Fault, is_all: bool, piece: &Piece<'_>) -> Outcome
         requires late { self.old.is_open ≡ true }
         requires waits { self.old.waits ≡ true }
-        requires stands { SomeStand self.old }
         requires more { last_behind (fields_of self.old.header) self.old.walk ≡ false }
         requires end { fault ≡ Truncated → is_all ≡ true }
         requires stops { StopsBehind (fields_of self.old.header) (place_behind (fields_of
@@ -311,9 +311,8 @@ impl PieceDecoder<'_, '_> {
     fn end_look(&mut self, is_all: bool, piece: &Piece<'_>) -> Outcome
         requires late { self.old.is_open ≡ true }
         requires waits { self.old.waits ≡ true }
-        requires stands { SomeStand self.old }
         requires last { last_behind (fields_of self.old.header) self.old.walk ≡ true }
-        requires over { LookIsOver is_all self.old piece.now.rest.now }
+        requires over { SomeStand self.old → LookIsOver is_all self.old piece.now.rest.now }
         ensures leaves { StepLeaves is_all self.old self.new piece.now.rest.now piece.now.rest.now
             (Some result) }
     {
@@ -323,7 +322,7 @@ impl PieceDecoder<'_, '_> {
             return Outcome::Row;
         }
         self.end_stripe();
-        Outcome::Done(self.header.yd)
+        Outcome::Done(self.height)
     }
 }
 

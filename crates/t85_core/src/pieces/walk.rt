@@ -1,12 +1,13 @@
 //! How far a stream has been decoded that comes in pieces.
 
-ghost use Rattle.std.specs.Prelude.{◌≡◌, ◌≢◌, false, ◌≤◌, ◌<◌, ◌+◌, ◌-◌, ◌⊎◌, ◌∷◌, [], ℕ, List, None, true, length, min, IsOk, IfErr, OnOk};
+ghost use Rattle.std.specs.Prelude.{◌≡◌, ◌≢◌, false, ◌≤◌, ◌<◌, ◌+◌, ◌-◌, ◌⊎◌, ◌∷◌, [], ℕ, List, None, true, length, min, IsOk, IfErr, IfSome, OnOk};
 ghost use Rattle.qm_core.specs.Place.{fresh};
 ghost use Rattle.raster_core.specs.Window.{width_of};
 ghost use Rattle.t85_core.specs.declared.fault.Fault.TheVariants.{Truncated, Changed};
 ghost use Rattle.t85_core.specs.declared.pieces.walk.Stage.TheVariants as stage;
 ghost use Rattle.t85_core.specs.Options.{fields_of};
-ghost use Rattle.t85_core.specs.Steps.Pieces.{WalkStands, SomeStands, IsOver, Step, RowStep, RowLeaves, KeepsPlace, HasMarker, WantsRow, RowIsLeft, StripesOn, IsFirstWalk, Turn, rows_in};
+ghost use Rattle.t85_core.specs.Steps.Segments.{IsByteOrMarker};
+ghost use Rattle.t85_core.specs.Steps.Pieces.{WalkStands, SomeStands, RowFits, IsOver, Step, RowStep, RowLeaves, KeepsPlace, HasMarker, RowIsLeft, StripesOn, IsFirstWalk, Turn};
 
 use crate::decoding::rows::offset_in;
 use crate::fault::Fault;
@@ -20,6 +21,9 @@ use crate::segments::{self, COMMENT, Code, Move, Place, next_piece, number};
 use crate::state::CodingState;
 use qm_core::{Decoder, Learned};
 use raster_core::{RowPlace, Window};
+
+/// The greatest offset of the adaptive template pixel (T.82, 6.2.2).
+const MOST_OFFSET: u8 = 127;
 
 /// What comes next in a stream.
 #[derive(Clone, Copy)]
@@ -303,11 +307,12 @@ impl Walk<'_, '_> {
     /// Goes down to the next row of a stripe, and makes its move.
     fn enter_row(&mut self, header: &Header, height: u32)
         requires stage { self.old.stage ≡ stage.Code }
-        requires row { self.old.row < rows_in (fields_of header.now) height self.old.entities }
-        requires stands { SomeStands (fields_of header.now) height self.old }
+        requires row { self.old.row < min self.old.left header.now.l0 }
+        requires fits { RowFits header.now.xd self.old }
         ensures enters { (text out : List ℕ) →
             WalkStands (fields_of header.now) height self.old text out →
             WalkStands (fields_of header.now) height self.new text out }
+        ensures fits { RowFits header.now.xd self.new }
         ensures stage { self.new.stage ≡ stage.Row }
         ensures place { KeepsPlace self.old self.new }
         ensures same { (self.new.row ≡ self.old.row) × (self.new.first ≡ self.old.first) ×
@@ -331,13 +336,15 @@ impl Walk<'_, '_> {
         requires from { 1 ≤ height }
         requires to { height ≤ header.now.yd }
         requires stage { self.old.stage ≡ stage.Row }
-        requires stands { SomeStands (fields_of header.now) height self.old }
+        requires fits { RowFits header.now.xd self.old }
         ensures step { RowStep (fields_of header.now) height self.old self.new piece.old.rest.now
             piece.new.rest.now result }
-        ensures leaves { RowLeaves self.old self.new piece.old.rest.now piece.new.rest.now result }
+        ensures leaves { SomeStands (fields_of header.now) height self.old →
+            RowLeaves self.old self.new piece.old.rest.now piece.new.rest.now result }
     {
         // What the proof cites of the coder.
         coder_laws();
+        self.decoder.resume();
         go_on_in_row(
             header.shape(),
             &mut self.carried,
@@ -347,7 +354,7 @@ impl Walk<'_, '_> {
             &mut self.marker,
             piece,
         )?;
-        self.row += 1;
+        self.row = self.row.saturating_add(1);
         self.stage = Stage::Code;
         Ok(())
     }
@@ -357,17 +364,19 @@ impl Walk<'_, '_> {
         requires from { 1 ≤ height }
         requires to { height ≤ header.now.yd }
         requires stage { self.old.stage ≡ stage.Code }
-        requires row { self.old.row < rows_in (fields_of header.now) height self.old.entities }
-        requires stands { SomeStands (fields_of header.now) height self.old }
+        requires row { self.old.row < min self.old.left header.now.l0 }
+        requires fits { RowFits header.now.xd self.old }
         ensures step { RowStep (fields_of header.now) height self.old self.new piece.old.rest.now
             piece.new.rest.now result }
-        ensures leaves { RowLeaves self.old self.new piece.old.rest.now piece.new.rest.now result }
+        ensures leaves { SomeStands (fields_of header.now) height self.old →
+            RowLeaves self.old self.new piece.old.rest.now piece.new.rest.now result }
     {
         self.enter_row(header, height);
         self.finish_row(header, height, piece)
     }
 
-    /// Goes on to the end of the next row, where one is wanted.
+    /// Goes on to the end of the next row, where one is wanted. Numbers that no decoder leaves are answered by the end of
+    /// the piece.
     pub fn give_row(
         &mut self,
         header: &Header,
@@ -376,15 +385,62 @@ impl Walk<'_, '_> {
     ) -> Result<(), Fault>
         requires from { 1 ≤ height }
         requires to { height ≤ header.now.yd }
-        requires wants { WantsRow (fields_of header.now) height self.old }
-        requires stands { SomeStands (fields_of header.now) height self.old }
+        requires wants { RowIsLeft header.now.l0 self.old }
         ensures step { RowStep (fields_of header.now) height self.old self.new piece.old.rest.now
             piece.new.rest.now result }
-        ensures leaves { RowLeaves self.old self.new piece.old.rest.now piece.new.rest.now result }
+        ensures leaves { SomeStands (fields_of header.now) height self.old →
+            RowLeaves self.old self.new piece.old.rest.now piece.new.rest.now result }
     {
+        if !self.has_row_that_fits(header) {
+            return Err(Fault::Truncated);
+        }
         match self.stage {
             Stage::Row => self.finish_row(header, height, piece),
             _ => self.read_row(header, height, piece),
+        }
+    }
+
+    /// Whether the numbers of the walk are such that a row of this image can be decoded.
+    fn has_row_that_fits(&self, header: &Header) -> bool
+        ensures yes { result ≡ true → RowFits header.now.xd self.now }
+        ensures no { result ≡ false → RowFits header.now.xd self.now → ⊥ }
+    {
+        if self.carried.window.width() != header.xd {
+            return false;
+        }
+        if self.place.done() >= header.xd || self.carried.kept.offset > MOST_OFFSET {
+            return false;
+        }
+        if !self.has_low_move() {
+            return false;
+        }
+        if self.is_ahead() {
+            return self.marker.is_none();
+        }
+        true
+    }
+
+    /// Whether the move of the stripe, if there is one, is one to an offset that can be.
+    fn has_low_move(&self) -> bool
+        ensures yes { result ≡ true → IfSome self.now.at (λ to. to.offset ≤ 127) }
+        ensures no { result ≡ false → IfSome self.now.at (λ to. to.offset ≤ 127) → ⊥ }
+    {
+        match self.at {
+            Some(to) => to.offset <= MOST_OFFSET,
+            None => true,
+        }
+    }
+
+    /// Whether a byte of the code, or its end marker, was read ahead.
+    fn is_ahead(&self) -> bool
+        ensures code { IfSome self.now.first IsByteOrMarker }
+        ensures yes { result ≡ true → self.now.first ≢ None }
+        ensures no { result ≡ false → self.now.first ≡ None }
+    {
+        match self.first {
+            Some(Code::Byte(_byte)) => true,
+            Some(Code::Marker(_reset)) => true,
+            None => false,
         }
     }
 
@@ -420,15 +476,16 @@ impl Walk<'_, '_> {
         requires from { 1 ≤ height }
         requires to { height ≤ header.now.yd }
         requires stage { self.old.stage ≡ stage.Code }
-        requires row { self.old.row ≡ rows_in (fields_of header.now) height self.old.entities }
+        requires row { min self.old.left header.now.l0 ≤ self.old.row }
         requires unmarked { self.old.marker ≡ None }
-        requires stands { SomeStands (fields_of header.now) height self.old }
         ensures step { Step (fields_of header.now) height self.old self.new piece.old.rest.now
             piece.new.rest.now result }
         ensures place { KeepsPlace self.old self.new }
         ensures stage { self.new.stage ≡ stage.Code }
         ensures marked { OnOk result (HasMarker self.new) }
-        ensures other { IfErr result (λ f. f ≢ Changed) }
+        ensures no_more { length piece.new.rest.now ≤ length piece.old.rest.now }
+        ensures other { SomeStands (fields_of header.now) height self.old →
+            IfErr result (λ f. f ≢ Changed) }
     {
         // What the proof cites of the coder.
         coder_laws();
@@ -447,8 +504,7 @@ impl Walk<'_, '_> {
         requires from { 1 ≤ height }
         requires to { height ≤ header.now.yd }
         requires stage { self.old.stage ≡ stage.Code }
-        requires row { self.old.row ≡ rows_in (fields_of header.now) height self.old.entities }
-        requires stands { SomeStands (fields_of header.now) height self.old }
+        requires row { min self.old.left header.now.l0 ≤ self.old.row }
         ensures step { Step (fields_of header.now) height self.old self.new piece.old.rest.now
             piece.new.rest.now result }
         ensures stage { OnOk result ((self.new.stage ≡ stage.Done)
@@ -457,15 +513,16 @@ impl Walk<'_, '_> {
         ensures read { OnOk result (StripesOn (fields_of header.now) height self.old self.new
             piece.old.rest.now piece.new.rest.now) }
         ensures left { OnOk result (header.now.l0 < self.old.left → self.new.stage ≡ stage.Head) }
-        ensures next { OnOk result ((self.new.entities ≡ self.old.entities + 1)
-            × (self.new.left ≡ self.old.left - header.now.l0)
+        ensures next { OnOk result ((self.new.left ≡ self.old.left - header.now.l0)
             × (self.new.given ≡ self.old.given) × (self.new.at ≡ None)) }
+        ensures entities { SomeStands (fields_of header.now) height self.old →
+            OnOk result (self.new.entities ≡ self.old.entities + 1) }
     {
         // What the proof cites of the coder.
         coder_laws();
         let reset = find_marker(&mut self.first, self.marker, piece)?;
         self.carried.end_stripe(reset);
-        self.entities += 1;
+        self.entities = self.entities.saturating_add(1);
         self.left -= self.left.min(header.l0);
         self.at = None;
         self.first = None;
@@ -490,7 +547,6 @@ impl Walk<'_, '_> {
         requires from { 1 ≤ height }
         requires to { height ≤ header.now.yd }
         requires stage { (self.old.stage ≡ stage.Head) ⊎ (self.old.stage ≡ stage.Comment) }
-        requires stands { SomeStands (fields_of header.now) height self.old }
         ensures step { Turn (fields_of header.now) height self.old self.new piece.old.rest.now
             piece.new.rest.now result }
     {
@@ -498,7 +554,10 @@ impl Walk<'_, '_> {
         let _rows = header.l0;
         self.read_head(header, height, piece)?;
         if let Stage::Code = self.stage {
-            self.read_row(header, height, piece)?;
+            if !self.wants_row(header) {
+                return Err(Fault::Truncated);
+            }
+            self.give_row(header, height, piece)?;
             return Ok(true);
         }
         Ok(false)
@@ -509,8 +568,7 @@ impl Walk<'_, '_> {
         requires from { 1 ≤ height }
         requires to { height ≤ header.now.yd }
         requires stage { self.old.stage ≡ stage.Code }
-        requires row { self.old.row ≡ rows_in (fields_of header.now) height self.old.entities }
-        requires stands { SomeStands (fields_of header.now) height self.old }
+        requires row { min self.old.left header.now.l0 ≤ self.old.row }
         ensures step { Turn (fields_of header.now) height self.old self.new piece.old.rest.now
             piece.new.rest.now result }
     {
@@ -530,19 +588,14 @@ impl Walk<'_, '_> {
     ) -> Result<bool, Fault>
         requires from { 1 ≤ height }
         requires to { height ≤ header.now.yd }
-        requires stands { SomeStands (fields_of header.now) height self.old }
         ensures step { Turn (fields_of header.now) height self.old self.new piece.old.rest.now
             piece.new.rest.now result }
     {
         match self.stage {
             Stage::Head | Stage::Comment => self.begin_stripe(header, height, piece),
-            Stage::Row => {
-                self.finish_row(header, height, piece)?;
-                Ok(true)
-            }
-            Stage::Code => {
-                if self.row < self.left.min(header.l0) {
-                    self.read_row(header, height, piece)?;
+            Stage::Code | Stage::Row => {
+                if self.wants_row(header) {
+                    self.give_row(header, height, piece)?;
                     Ok(true)
                 } else {
                     self.go_on(header, height, piece)

@@ -6,7 +6,7 @@ use Rattle.uses.proofs.PieceRows.{RowsSoFar, none_so_far, all_came, some_came, r
 use Rattle.uses.proofs.pieces.rows_of_piece.Goals as goal
 
 pub calls-init : goal.calls-init
-calls-init c = none_so_far c.args.decoder.now c.args.piece.now c.args.rows.now.items c.requires
+calls-init c = none_so_far c.args.decoder.now c.args.piece.now c.args.rows.now.items
 
 pub calls-preserved : goal.calls-preserved
 calls-preserved c =
@@ -15,7 +15,7 @@ calls-preserved c =
     (row_more c.args.decoder.now c.calls.decoder c.args.piece.now c.calls.taken c.args.rows.now.items c.calls.rows.items c.calls.counter c.calls.invariant
     (record { piece = take (length c.args.piece.now - c.calls.taken) (drop c.calls.taken c.args.piece.now); taken = c.next_row-step.result.taken; answer = c.next_row-step.result.outcome; is_all = c.args.is_all; new = c.next_row-step.new.decoder })
     (record { same = c.next_row-step.ensures.same; row = c.next_row-step.ensures.row; waits = c.next_row-step.ensures.waits; more = c.next_row-step.ensures.more; done = c.next_row-step.ensures.done; broken = c.next_row-step.ensures.broken })
-    (take_rest c.args.piece.now c.calls.taken) c.next_row-step.ensures.bound c.in-Row.is c.next_row-step.ensures.decoding)
+    (take_rest c.args.piece.now c.calls.taken) c.next_row-step.ensures.bound c.in-Row.is)
 
 pub returns-in_err-extend_from_slice-in-Row-clause-short : goal.returns-in_err-extend_from_slice-in-Row-clause-short
 returns-in_err-extend_from_slice-in-Row-clause-short c =

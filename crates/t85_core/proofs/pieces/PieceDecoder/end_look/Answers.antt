@@ -1,20 +1,29 @@
-use Rattle.std.proofs.Common.{◌∙◌, sym, ap, subst, rules, arith}
-use Rattle.t85_core.specs.Steps.PieceSteps.{StripeLeft}
-use Rattle.t85_core.proofs.Decodings.PieceStood.{leaves_done}
-use Rattle.t85_core.proofs.Decodings.PieceLook.{look_whole, own_first, own_whole}
+use Rattle.std.proofs.Common.{◌∙◌, sym, ap, subst, refl, rules, arith}
+use Rattle.t85_core.specs.Options.{fields_of}
+use Rattle.t85_core.specs.Steps.Pieces.{IsInCode}
+use Rattle.t85_core.specs.Steps.PieceSteps.{SomeStand, StripeLeft, EndsWhole}
+use Rattle.t85_core.proofs.Decodings.PieceStood.{leaves_done, row_where, done_where, waits_of}
+use Rattle.t85_core.proofs.Decodings.PieceLook.{in_last, look_whole, own_first}
 use Rattle.t85_core.proofs.Decodings.PieceBelow.{leaves_look}
 use Rattle.t85_core.proofs.pieces.PieceDecoder.end_look.Goals as goal
 
 pub returns-then-gives_below : goal.returns-then-gives_below
 returns-then-gives_below c = record {
-  leaves = leaves_look c.args.self.now c.gives_below.new.self c.requires.late c.requires.waits c.min.result (c.gives_below.ensures.gives (search rules)) c.args.piece.now.rest.now c.args.is_all c.requires.last c.requires.over (let e = c.min.ensures in omega (arith, e));
+  leaves = row_where c.args.is_all c.args.self.now c.gives_below.new.self c.args.piece.now.rest.now c.args.piece.now.rest.now c.gives_below.ensures.keeps.header c.gives_below.ensures.keeps.going
+      (λ some. leaves_look c.args.self.now c.gives_below.new.self c.requires.late c.requires.waits c.min.result (c.gives_below.ensures.gives (search rules) some) c.args.piece.now.rest.now c.args.is_all c.requires.last (c.requires.over some) (let e = c.min.ensures in omega (arith, e)));
 }
 
 pub returns : goal.returns
 returns c =
     let above = c.gives_below.ensures.stays (search rules) in
-    let e = subst (λ z. StripeLeft z c.end_stripe.new.self) above.same c.end_stripe.ensures.ends in
+    let keeps = c.end_stripe.ensures.keeps in
     record {
-      leaves = leaves_done c.args.is_all c.args.self.now c.end_stripe.new.self c.args.piece.now.rest.now c.args.piece.now.rest.now _ e.keeps.header e.keeps.going (e.keeps.height ∙ own_first c.args.self.now c.requires.late c.requires.stands ∙ ap (λ z. z.yd) (sym e.keeps.header))
-          (own_whole c.args.self.now c.end_stripe.new.self c.args.piece.now.rest.now c.args.is_all (ap (λ z. z.yd) (sym e.keeps.header)) (look_whole c.args.self.now c.end_stripe.new.self c.args.piece.now.rest.now c.args.is_all c.coder_laws.ensures c.requires.late c.requires.waits c.requires.last c.requires.over e));
+      leaves = done_where c.args.is_all c.args.self.now c.end_stripe.new.self c.args.piece.now.rest.now c.args.piece.now.rest.now (keeps.header ∙ ap (λ z. z.header) above.same) (keeps.going ∙ ap (λ z. z.end) above.same) c.end_stripe.new.self.height refl
+          (λ some.
+          let w = waits_of c.args.self.now some.0 some.1 c.requires.late c.requires.waits some.2 in
+          let code = in_last (fields_of c.args.self.now.header) c.args.self.now.walk w.at c.requires.last in
+          let e = subst (λ z. StripeLeft z c.end_stripe.new.self) above.same (c.end_stripe.ensures.ends (subst (λ z. IsInCode z.walk.stage) (sym above.same) code) (subst SomeStand (sym above.same) some)) in
+          leaves_done c.args.is_all c.args.self.now c.end_stripe.new.self c.args.piece.now.rest.now c.args.piece.now.rest.now _ e.keeps.header e.keeps.going refl
+          (subst (EndsWhole c.args.is_all c.args.self.now c.args.piece.now.rest.now) (sym (e.keeps.height ∙ own_first c.args.self.now c.requires.late some))
+          (look_whole c.args.self.now c.end_stripe.new.self c.args.piece.now.rest.now c.args.is_all c.coder_laws.ensures c.requires.late c.requires.waits c.requires.last (c.requires.over some) e)));
     }

@@ -6,12 +6,14 @@ use Rattle.t85_core.proofs.pieces.PieceDecoder.enter_head.Goals as goal
 
 pub returns-in_default : goal.returns-in_default
 returns-in_default c = record {
-  head = entered_none c.args.self.now c.close_stripe.new.self _ c.close_stripe.ensures.closes (record { header = refl; height = refl; is_open = refl; waits = refl; behind = refl; going = refl }) c.requires.more (ap (λ b. b.comment) (sym c.close_stripe.ensures.closes.keeps.behind) ∙ none_of _ c.in_default.not-Some)
-      (ap (λ b. record c.close_stripe.new.self.walk { at = b.at }) c.close_stripe.ensures.closes.keeps.behind);
+  keeps = (let k = c.close_stripe.ensures.keeps in record { header = k.header; height = k.height; is_open = k.is_open; waits = k.waits; behind = k.behind; going = k.going });
+  head = λ more some. entered_none c.args.self.now c.close_stripe.new.self _ (c.close_stripe.ensures.closes more some) (record { header = refl; height = refl; is_open = refl; waits = refl; behind = refl; going = refl }) more (ap (λ b. b.comment) (sym c.close_stripe.ensures.keeps.behind) ∙ none_of _ c.in_default.not-Some)
+      (ap (λ b. record c.close_stripe.new.self.walk { at = b.at }) c.close_stripe.ensures.keeps.behind);
 }
 
 pub returns : goal.returns
 returns c = record {
-  head = entered_some c.args.self.now c.close_stripe.new.self _ c.close_stripe.ensures.closes (record { header = refl; height = refl; is_open = refl; waits = refl; behind = refl; going = refl }) c.requires.more c.in-Some.left (ap (λ b. b.comment) (sym c.close_stripe.ensures.closes.keeps.behind) ∙ c.in-Some.is)
-      (ap (λ b. record c.close_stripe.new.self.walk { at = b.at; comment = c.in-Some.left; stage = stage.Comment }) c.close_stripe.ensures.closes.keeps.behind);
+  keeps = (let k = c.close_stripe.ensures.keeps in record { header = k.header; height = k.height; is_open = k.is_open; waits = k.waits; behind = k.behind; going = k.going });
+  head = λ more some. entered_some c.args.self.now c.close_stripe.new.self _ (c.close_stripe.ensures.closes more some) (record { header = refl; height = refl; is_open = refl; waits = refl; behind = refl; going = refl }) more c.in-Some.left (ap (λ b. b.comment) (sym c.close_stripe.ensures.keeps.behind) ∙ c.in-Some.is)
+      (ap (λ b. record c.close_stripe.new.self.walk { at = b.at; comment = c.in-Some.left; stage = stage.Comment }) c.close_stripe.ensures.keeps.behind);
 }

@@ -11,11 +11,9 @@ returns-in-Some c = record {
 pub steps-preserved : goal.steps-preserved
 steps-preserved c =
     let on = c.step.ensures.leaves.on (none_of _ c.in_default.not-Some) in
-    let k = on c.steps.invariant.stands.0 c.steps.invariant.stands.1 c.steps.invariant.stands.2 in
     record {
       header = c.step.ensures.leaves.header ∙ c.steps.invariant.header;
       going = c.step.ensures.leaves.going ∙ c.steps.invariant.going;
-      stands = (_, _, k.2);
       so_far = on_compose c.args.self.now c.steps.self c.step.new.self c.args.piece.now.rest.now c.steps.piece.rest.now c.step.new.piece.rest.now [] c.steps.invariant.so_far on;
     }
 
@@ -23,6 +21,5 @@ pub steps-init : goal.steps-init
 steps-init c = record {
   header = refl;
   going = refl;
-  stands = c.requires.stands;
   so_far = on_none c.args.self.now c.args.self.now c.args.piece.now.rest.now (λ text out s. s);
 }

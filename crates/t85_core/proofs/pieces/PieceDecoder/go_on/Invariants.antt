@@ -1,12 +1,11 @@
 use Rattle.std.proofs.Common.{◌≡◌, []}
-use Rattle.t85_core.specs.Steps.PieceSteps.{DecoderOn, SomeStand, steps_left}
+use Rattle.t85_core.specs.Steps.PieceSteps.{DecoderOn, steps_left}
 use Rattle.t85_core.proofs.pieces.PieceDecoder.go_on.Given as goal
 
 abbrev pub invariant-steps : goal.invariant-steps
 invariant-steps l = record {
   header : l.self.header ≡ l.fn.self.header;
   going : l.self.end ≡ l.fn.self.end;
-  stands : SomeStand l.self;
   so_far : DecoderOn l.fn.self l.self l.fn.piece.rest.now l.piece.rest.now [];
 }
 

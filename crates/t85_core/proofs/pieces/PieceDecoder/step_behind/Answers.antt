@@ -1,27 +1,26 @@
-use Rattle.std.proofs.Common.{Some, refl, subst, rules}
+use Rattle.std.proofs.Common.{Some, refl, subst, rules, arith}
 use Rattle.t85_core.specs.Options.{fields_of}
 use Rattle.t85_core.specs.Steps.Behind.{BehindOn}
 use Rattle.t85_core.specs.Steps.PieceStands.{last_behind}
-use Rattle.t85_core.proofs.Decodings.PieceStood.{leaves_after, leaves_more, fewer_after, taken_less}
+use Rattle.t85_core.proofs.Decodings.PieceStood.{leaves_after, leaves_more, fewer_after, leaves_nowhere, waits_few}
+use Rattle.t85_core.specs.declared.fault.Fault.TheVariants.{Truncated}
 use Rattle.t85_core.proofs.Decodings.PieceLook.{passed_on}
 use Rattle.t85_core.proofs.pieces.PieceDecoder.step_behind.Goals as goal
-
-pub take_coming-requires-clause-stands : goal.take_coming-requires-clause-stands
-take_coming-requires-clause-stands c = let k = (passed_on c.args.self.now _ c.pass.new.self c.args.piece.now.rest.now c.pass.new.piece.rest.now c.requires.late c.requires.waits refl refl refl refl refl refl (subst (λ z. BehindOn (fields_of c.args.self.now.header) z (last_behind (fields_of c.args.self.now.header) c.args.self.now.walk) c.args.self.now.behind c.pass.new.self c.args.piece.now.rest.now c.pass.new.piece.rest.now) c.place_behind-place.ensures (subst (λ l. BehindOn (fields_of c.args.self.now.header) c.place_behind-place.result l c.args.self.now.behind c.pass.new.self c.args.piece.now.rest.now c.pass.new.piece.rest.now) c.is_last-is_last.ensures c.pass.ensures.on))) c.requires.stands.0 c.requires.stands.1 c.requires.stands.2 in (_, _, k.2)
-
-pub stop_behind-requires-clause-stands : goal.stop_behind-requires-clause-stands
-stop_behind-requires-clause-stands c = let k = (passed_on c.args.self.now _ c.pass.new.self c.args.piece.now.rest.now c.pass.new.piece.rest.now c.requires.late c.requires.waits refl refl refl refl refl refl (subst (λ z. BehindOn (fields_of c.args.self.now.header) z (last_behind (fields_of c.args.self.now.header) c.args.self.now.walk) c.args.self.now.behind c.pass.new.self c.args.piece.now.rest.now c.pass.new.piece.rest.now) c.place_behind-place.ensures (subst (λ l. BehindOn (fields_of c.args.self.now.header) c.place_behind-place.result l c.args.self.now.behind c.pass.new.self c.args.piece.now.rest.now c.pass.new.piece.rest.now) c.is_last-is_last.ensures c.pass.ensures.on))) c.requires.stands.0 c.requires.stands.1 c.requires.stands.2 in (_, _, k.2)
 
 pub returns-in-Ok-clause-leaves : goal.returns-in-Ok-clause-leaves
 returns-in-Ok-clause-leaves c = leaves_after c.args.is_all c.args.self.now _ c.take_coming.new.self c.args.piece.now.rest.now c.pass.new.piece.rest.now c.take_coming.new.piece.rest.now refl refl (passed_on c.args.self.now _ c.pass.new.self c.args.piece.now.rest.now c.pass.new.piece.rest.now c.requires.late c.requires.waits refl refl refl refl refl refl (subst (λ z. BehindOn (fields_of c.args.self.now.header) z (last_behind (fields_of c.args.self.now.header) c.args.self.now.walk) c.args.self.now.behind c.pass.new.self c.args.piece.now.rest.now c.pass.new.piece.rest.now) c.place_behind-place.ensures (subst (λ l. BehindOn (fields_of c.args.self.now.header) c.place_behind-place.result l c.args.self.now.behind c.pass.new.self c.args.piece.now.rest.now c.pass.new.piece.rest.now) c.is_last-is_last.ensures c.pass.ensures.on))) c.take_coming.result c.take_coming.ensures.leaves
 
 pub returns-in-Ok-clause-lowers : goal.returns-in-Ok-clause-lowers
-returns-in-Ok-clause-lowers c = λ is.
-    let k = (passed_on c.args.self.now (record c.args.self.now { behind = c.pass.new.self }) c.pass.new.self c.args.piece.now.rest.now c.pass.new.piece.rest.now c.requires.late c.requires.waits refl refl refl refl refl refl (subst (λ z. BehindOn (fields_of c.args.self.now.header) z (last_behind (fields_of c.args.self.now.header) c.args.self.now.walk) c.args.self.now.behind c.pass.new.self c.args.piece.now.rest.now c.pass.new.piece.rest.now) c.place_behind-place.ensures (subst (λ l. BehindOn (fields_of c.args.self.now.header) c.place_behind-place.result l c.args.self.now.behind c.pass.new.self c.args.piece.now.rest.now c.pass.new.piece.rest.now) c.is_last-is_last.ensures c.pass.ensures.on))) c.requires.stands.0 c.requires.stands.1 c.requires.stands.2 in
-    fewer_after c.args.self.now (record c.args.self.now { behind = c.pass.new.self }) c.take_coming.new.self c.args.piece.now.rest.now c.pass.new.piece.rest.now c.take_coming.new.piece.rest.now refl (taken_less _ k.0 _ k.1) (c.take_coming.ensures.lowers is)
+returns-in-Ok-clause-lowers c = λ is. fewer_after c.args.self.now (record c.args.self.now { behind = c.pass.new.self }) c.take_coming.new.self c.args.piece.now.rest.now c.pass.new.piece.rest.now c.take_coming.new.piece.rest.now refl c.pass.ensures.no_more (c.take_coming.ensures.lowers is)
 
 pub returns-then-is_open_end-clause-leaves : goal.returns-then-is_open_end-clause-leaves
 returns-then-is_open_end-clause-leaves c = leaves_more c.args.is_all c.args.self.now _ c.args.piece.now.rest.now c.pass.new.piece.rest.now refl refl (c.is_open_end.ensures.yes (search rules)).1 c.requires.waits (passed_on c.args.self.now _ c.pass.new.self c.args.piece.now.rest.now c.pass.new.piece.rest.now c.requires.late c.requires.waits refl refl refl refl refl refl (subst (λ z. BehindOn (fields_of c.args.self.now.header) z (last_behind (fields_of c.args.self.now.header) c.args.self.now.walk) c.args.self.now.behind c.pass.new.self c.args.piece.now.rest.now c.pass.new.piece.rest.now) c.place_behind-place.ensures (subst (λ l. BehindOn (fields_of c.args.self.now.header) c.place_behind-place.result l c.args.self.now.behind c.pass.new.self c.args.piece.now.rest.now c.pass.new.piece.rest.now) c.is_last-is_last.ensures c.pass.ensures.on)))
 
 pub returns-else-is_open_end-clause-leaves : goal.returns-else-is_open_end-clause-leaves
 returns-else-is_open_end-clause-leaves c = leaves_after c.args.is_all c.args.self.now _ c.stop_behind.new.self c.args.piece.now.rest.now c.pass.new.piece.rest.now c.pass.new.piece.rest.now refl refl (passed_on c.args.self.now _ c.pass.new.self c.args.piece.now.rest.now c.pass.new.piece.rest.now c.requires.late c.requires.waits refl refl refl refl refl refl (subst (λ z. BehindOn (fields_of c.args.self.now.header) z (last_behind (fields_of c.args.self.now.header) c.args.self.now.walk) c.args.self.now.behind c.pass.new.self c.args.piece.now.rest.now c.pass.new.piece.rest.now) c.place_behind-place.ensures (subst (λ l. BehindOn (fields_of c.args.self.now.header) c.place_behind-place.result l c.args.self.now.behind c.pass.new.self c.args.piece.now.rest.now c.pass.new.piece.rest.now) c.is_last-is_last.ensures c.pass.ensures.on))) (Some c.stop_behind.result) c.stop_behind.ensures.leaves
+
+pub returns-then-self : goal.returns-then-self
+returns-then-self c = record {
+  leaves = leaves_nowhere c.args.is_all c.args.self.now c.args.self.now c.args.piece.now.rest.now c.args.piece.now.rest.now refl refl Truncated (λ some. let few = waits_few c.args.self.now c.requires.late c.requires.waits some in omega (arith, few, c.if-self.true));
+  lowers = λ e. absurd (let bot : ⊥ = cc in bot);
+}

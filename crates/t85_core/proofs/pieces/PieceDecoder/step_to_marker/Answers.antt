@@ -1,6 +1,6 @@
 use Rattle.std.proofs.Common.{◌∙◌, true, Err, ap, refl, inl, inr}
 use Rattle.t85_core.specs.Options.{fields_of}
-use Rattle.t85_core.proofs.Decodings.PieceStood.{code_of, put_code, put_waits, waits_first, known_more, taken_less, begins_to_wait, leaves_on, leaves_stop, code_broken}
+use Rattle.t85_core.proofs.Decodings.PieceStood.{code_of, put_code, put_waits, waits_first, known_more, some_code, begins_to_wait, leaves_on, leaves_stop, code_broken}
 use Rattle.t85_core.proofs.pieces.PieceDecoder.step_to_marker.Goals as goal
 
 pub returns-in-Ok-clause-leaves : goal.returns-in-Ok-clause-leaves
@@ -14,11 +14,7 @@ returns-in-Ok-clause-leaves c = leaves_on c.args.is_all c.args.self.now _ c.args
     ))
 
 pub returns-in-Ok-clause-lowers : goal.returns-in-Ok-clause-lowers
-returns-in-Ok-clause-lowers c = λ _.
-    let s = c.requires.stands in
-    let w = code_of c.args.self.now s.0 s.1 c.requires.late c.requires.going s.2 in
-    let k = c.in-Ok.ensures.step.ok s.0 s.1 w.walk in
-    begins_to_wait c.args.self.now (record c.args.self.now { waits = true }) c.args.piece.now.rest.now c.find_end.new.piece.rest.now c.requires.going refl (taken_less _ k.0 _ k.1)
+returns-in-Ok-clause-lowers c = λ _. begins_to_wait c.args.self.now (record c.args.self.now { waits = true }) c.args.piece.now.rest.now c.find_end.new.piece.rest.now c.requires.going refl c.in-Ok.ensures.no_more
 
 pub returns-in-Err-clause-leaves : goal.returns-in-Err-clause-leaves
 returns-in-Err-clause-leaves c = leaves_stop c.args.is_all c.args.self.now _ c.args.piece.now.rest.now c.find_end.new.piece.rest.now c.in-Err.fault c.outcome_of.result
@@ -31,4 +27,4 @@ returns-in-Err-clause-leaves c = leaves_stop c.args.is_all c.args.self.now _ c.a
       put_code _ _ _ c.requires.late c.requires.going (known_more (fields_of c.args.self.now.header) c.args.self.now.height c.args.self.now.is_open text k.0 s.height)
           (record { walk = k.2; in_code = inl c.in-Err.ensures.stage; ungiven = c.in-Err.ensures.place.given ∙ w.ungiven }),
     ))
-    (code_broken c.args.self.now c.args.piece.now.rest.now c.in-Err.fault c.requires.late c.requires.going c.in-Err.ensures.step.err c.in-Err.ensures.other)
+    (code_broken c.args.self.now c.args.piece.now.rest.now c.in-Err.fault c.requires.late c.requires.going c.in-Err.ensures.step.err (λ some. c.in-Err.ensures.other (some_code c.args.self.now c.requires.late c.requires.going some)))

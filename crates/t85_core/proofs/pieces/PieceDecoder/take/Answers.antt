@@ -2,7 +2,7 @@ use Rattle.std.proofs.Common.{◌++◌, ◌∙◌, [], Some, ap, append-nil, ref
 use Rattle.t85_core.specs.Outcomes.{end_in}
 use Rattle.t85_core.specs.Pieces.{HasDecoded, HandsOut, stream_of, row_held}
 use Rattle.t85_core.specs.declared.fault.Fault.TheVariants.{Truncated}
-use Rattle.t85_core.proofs.Decodings.PieceStood.{call_on, call_decodes}
+use Rattle.t85_core.proofs.Decodings.PieceStood.{call_on}
 use Rattle.t85_core.proofs.pieces.PieceDecoder.take.Goals as goal
 
 pub returns-clause-row : goal.returns-clause-row
@@ -24,6 +24,3 @@ returns-clause-done c = λ n is.
 
 pub returns-clause-broken : goal.returns-clause-broken
 returns-clause-broken c = λ f is text out rest s follows. c.go_on-outcome.ensures.leaves.broken f (ap Some is) text out rest s.stands follows
-
-pub returns-clause-decoding : goal.returns-clause-decoding
-returns-clause-decoding c = call_decodes c.args.self.now c.go_on-outcome.new.self _ c.args.piece.now c.go_on-outcome.new.piece.rest.now (row_held c.go_on-outcome.new.self) c.go_on-outcome.result refl refl refl refl refl refl c.end_of-self.ensures (λ is. c.go_on-outcome.ensures.leaves.row (ap Some is)) (λ is. (c.go_on-outcome.ensures.leaves.more (ap Some is)).1) c.requires c.in_default.is

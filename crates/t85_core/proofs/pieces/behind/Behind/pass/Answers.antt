@@ -2,6 +2,7 @@ use Rattle.std.proofs.Common.{sym, ◌∙◌, arith}
 use Rattle.t85_core.specs.Options.{fields_of}
 use Rattle.t85_core.specs.Grammar.{Move, Comment, segment_bytes}
 use Rattle.t85_core.proofs.Decodings.PieceBehind.{behind_then, behind_move, behind_comment}
+use Rattle.t85_core.proofs.Decodings.PieceStood.{taken_less}
 use Rattle.t85_core.proofs.pieces.behind.Behind.pass.Goals as goal
 
 pub returns-in_err-leave_comment-clause-on : goal.returns-in_err-leave_comment-clause-on
@@ -13,6 +14,7 @@ segments-preserved-in-Continue-branch-2 c = record {
   so_far = behind_then (fields_of c.args.header.now) c.args.place c.args.is_last c.args.self.now c.leave_comment.new.self c.enter_comment.new.self c.args.piece.now.rest.now c.leave_comment.new.piece.rest.now c.enter_comment.new.piece.rest.now
       (behind_then (fields_of c.args.header.now) c.args.place c.args.is_last c.args.self.now c.segments.self c.leave_comment.new.self c.args.piece.now.rest.now c.segments.piece.rest.now c.leave_comment.new.piece.rest.now c.segments.invariant.so_far c.leave_comment.ensures.on)
       c.enter_comment.ensures.on;
+  no_more = omega (arith, c.segments.invariant.no_more, c.leave_comment.ensures.no_more, c.enter_comment.ensures.no_more);
 }
 
 pub returns-in_err-enter_comment-clause-on : goal.returns-in_err-enter_comment-clause-on
@@ -36,6 +38,7 @@ segments-preserved-in-Move c =
             h.1.taken,
             behind_move s c.in_ok-leave_comment.ensures.ok c.in-Move.to (sym c.is_moved.ensures ∙ h.0) h.1.legal (let low = h.1.legal.1 in let most = c.args.header.now.in_range in omega (arith, low, most)),
           ));
+      no_more = (let less = taken_less c.leave_comment.new.piece.rest.now (segment_bytes (Move c.in-Move.to.row c.in-Move.to.offset)) c.next_piece.new.stream.rest.now h.1.taken in omega (arith, c.segments.invariant.no_more, c.leave_comment.ensures.no_more, less));
     }
 
 pub segments-preserved : goal.segments-preserved
@@ -45,6 +48,7 @@ segments-preserved c =
       so_far = behind_then (fields_of c.args.header.now) c.args.place c.args.is_last c.args.self.now c.leave_comment.new.self c.leave_comment.new.self c.args.piece.now.rest.now c.leave_comment.new.piece.rest.now c.next_piece.new.stream.rest.now
           (behind_then (fields_of c.args.header.now) c.args.place c.args.is_last c.args.self.now c.segments.self c.leave_comment.new.self c.args.piece.now.rest.now c.segments.piece.rest.now c.leave_comment.new.piece.rest.now c.segments.invariant.so_far c.leave_comment.ensures.on)
           (λ back s. (segment_bytes (Comment h.0), h.1.taken, behind_comment s c.in_ok-leave_comment.ensures.ok h.0 h.1.legal));
+      no_more = (let less = taken_less c.leave_comment.new.piece.rest.now (segment_bytes (Comment h.0)) c.next_piece.new.stream.rest.now h.1.taken in omega (arith, c.segments.invariant.no_more, c.leave_comment.ensures.no_more, less));
     }
 
 pub returns-in-NewLength-clause-on : goal.returns-in-NewLength-clause-on

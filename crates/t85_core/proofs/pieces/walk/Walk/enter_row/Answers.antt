@@ -1,5 +1,6 @@
 use Rattle.std.proofs.Common.{refl, ◌∙◌, ap, arith}
 use Rattle.t85_core.proofs.Decodings.PieceSteps.{at_stage}
+use Rattle.t85_core.proofs.Decodings.PieceFits.{row_in_stripe}
 use Rattle.t85_core.proofs.Decodings.PieceWalk.{row_entered}
 use Rattle.t85_core.proofs.pieces.walk.Walk.enter_row.Goals as goal
 
@@ -14,8 +15,18 @@ returns-clause-enters c = λ text out s.
       code_is = s.code_is;
       behind = s.behind;
       within = omega (arith, c.start-self.ensures.done, c.args.header.now.some_width);
-      stands = row_entered k c.requires.row _ _ (record { is_begun = c.start-self.ensures.none; done = c.start-self.ensures.done; past = c.start-self.ensures.past }) refl c.turn.ensures.turned c.offset_in-self.ensures.is refl;
+      stands = row_entered k (row_in_stripe s c.requires.row) _ _ (record { is_begun = c.start-self.ensures.none; done = c.start-self.ensures.done; past = c.start-self.ensures.past }) refl c.turn.ensures.turned c.offset_in-self.ensures.is refl;
     }
 
 pub returns-clause-place : goal.returns-clause-place
 returns-clause-place c = record { entities = refl; left = refl; given = refl; at = refl }
+
+pub returns-clause-fits : goal.returns-clause-fits
+returns-clause-fits c = record {
+  width_is = ap (λ w. w.width) c.turn.ensures.turned ∙ c.requires.fits.width_is;
+  within = omega (arith, c.start-self.ensures.done, c.args.header.now.some_width);
+  offset_is = c.offset_in-self.ensures.bound;
+  at_is = c.requires.fits.at_is;
+  code_is = c.requires.fits.code_is;
+  behind = c.requires.fits.behind;
+}

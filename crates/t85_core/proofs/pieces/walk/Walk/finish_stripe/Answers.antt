@@ -1,4 +1,7 @@
-use Rattle.std.proofs.Common.{◌≡◌, ◌+◌, ◌-◌, ◌*◌, ◌++◌, Err, inl, ap, ◌∙◌, arith}
+use Rattle.std.proofs.Common.{◌≡◌, ◌+◌, ◌-◌, ◌*◌, ◌++◌, Err, None, inl, ap, sym, subst, ◌∙◌, arith}
+use Rattle.t85_core.specs.declared.pieces.walk.Stage.TheVariants as stage
+use Rattle.t85_core.specs.Steps.Pieces.{WalkStands}
+use Rattle.t85_core.proofs.Decodings.PieceFits.{rows_all}
 use Rattle.raster_core.specs.Window.{width_of}
 use Rattle.t85_core.specs.Options.{fields_of}
 use Rattle.t85_core.proofs.Decodings.ImagePut.{in_use}
@@ -12,7 +15,7 @@ returns-in_err-reset-clause-step c =
     step_exit (fields_of c.args.header.now) c.args.height c.args.self.now (record c.args.self.now { first = c.find_marker.new.first }) c.args.piece.now.rest.now c.find_marker.new.piece.rest.now c.from_residual.result c.in_err-reset.field-0.0 c.from_residual.ensures.1
     (λ text out s.
     let k = at_stage c.requires.stage s in
-    marker_off k c.coder_laws.ensures (in_use c.args.header.now c.args.height c.requires.from c.requires.to) c.requires.row c.args.piece.now.rest.now c.in_err-reset.field-0.0 (c.in_err-reset.ensures.err k.read.answers k.extra k.code k.code_is))
+    marker_off k c.coder_laws.ensures (in_use c.args.header.now c.args.height c.requires.from c.requires.to) (rows_all c.requires.stage s c.requires.row) c.args.piece.now.rest.now c.in_err-reset.field-0.0 (c.in_err-reset.ensures.err k.read.answers k.extra k.code k.code_is))
     (λ e text out s.
     let k = at_stage c.requires.stage s in
     let m = c.in_err-reset.ensures.more (ap Err e) k.read.answers k.extra k.code k.code_is in
@@ -24,7 +27,7 @@ returns-in_err-reset-clause-step c =
       code_is = ahead_is c.find_marker.new.first c.args.self.now.marker k.read.answers m.extra _ m.code_is;
       behind = behind_is c.find_marker.new.first c.args.self.now.marker k.read.answers m.extra _ m.code_is;
       within = s.within;
-      stands = put_stage (fields_of c.args.header.now) c.args.height (record c.args.self.now { first = c.find_marker.new.first }) (text ++ m.given) out _ c.requires.stage (code_kept k c.requires.row c.args.piece.now.rest.now c.find_marker.new.piece.rest.now m);
+      stands = put_stage (fields_of c.args.header.now) c.args.height (record c.args.self.now { first = c.find_marker.new.first }) (text ++ m.given) out _ c.requires.stage (code_kept k (rows_all c.requires.stage s c.requires.row) c.args.piece.now.rest.now c.find_marker.new.piece.rest.now m);
     }))
 
 pub returns-then-self-eq0-clause-step : goal.returns-then-self-eq0-clause-step
@@ -38,7 +41,9 @@ returns-then-self-eq0-clause-step c = record {
       let none : c.args.self.now.left - c.min.result ≡ 0 = c.if-self-eq0.true in
       let min_is = c.min.ensures in
       let last = last_stripe c.args.height c.args.header.now.l0 c.args.self.now.entities c.args.header.now.some_rows k.head.fewer (omega (arith, left, times, none, min_is)) in
-      on_same (fields_of c.args.header.now) c.args.height _ text out c.args.piece.now.rest.now c.find_marker.new.piece.rest.now m.given m.taken (record {
+      let few = walk_few (fields_of c.args.header.now) c.args.height c.args.self.now text out c.args.header.now.some_rows (inl c.requires.stage) s in
+      let one : c.saturating_add-self.result ≡ c.args.self.now.entities + 1 = (let most = c.ranges.height.fits in let sum = c.saturating_add-self.ensures in omega (arith, few, most, sum)) in
+      on_same (fields_of c.args.header.now) c.args.height _ text out c.args.piece.now.rest.now c.find_marker.new.piece.rest.now m.given m.taken (subst (λ z. WalkStands (fields_of c.args.header.now) c.args.height (record c.args.self.now { carried = c.end_stripe.new.self; entities = z; left = c.args.self.now.left - c.min.result; at = None; first = None; marker = None; stage = stage.Done }) (text ++ m.given) out) (sym one) (record {
         left_is = omega (arith, left, times, min_is);
         width_is = c.end_stripe.ensures.width ∙ s.width_is;
         offset_is = offset_low c.in_ok-reset.reset _ _ s.offset_is c.end_stripe.ensures.offset;
@@ -46,8 +51,8 @@ returns-then-self-eq0-clause-step c = record {
         code_is = tt;
         behind = tt;
         within = s.within;
-        stands = stripe_last k c.coder_laws.ensures (in_use c.args.header.now c.args.height c.requires.from c.requires.to) c.requires.row c.args.piece.now.rest.now c.find_marker.new.piece.rest.now c.in_ok-reset.reset m c.end_stripe.new.self next last;
-      });
+        stands = stripe_last k c.coder_laws.ensures (in_use c.args.header.now c.args.height c.requires.from c.requires.to) (rows_all c.requires.stage s c.requires.row) c.args.piece.now.rest.now c.find_marker.new.piece.rest.now c.in_ok-reset.reset m c.end_stripe.new.self next last;
+      }));
   err = tt;
   more = λ e. absurd (let bot : ⊥ = cc in bot);
 }
@@ -63,7 +68,9 @@ returns-clause-step c = record {
       let min_is = c.min.ensures in
       let some = c.if-self-eq0.false in
       let on = next_stripe c.args.height c.args.header.now.l0 c.args.self.now.entities c.args.header.now.some_rows (omega (arith, left, times, some, min_is)) in
-      on_same (fields_of c.args.header.now) c.args.height _ text out c.args.piece.now.rest.now c.find_marker.new.piece.rest.now m.given m.taken (record {
+      let few = walk_few (fields_of c.args.header.now) c.args.height c.args.self.now text out c.args.header.now.some_rows (inl c.requires.stage) s in
+      let one : c.saturating_add-self.result ≡ c.args.self.now.entities + 1 = (let most = c.ranges.height.fits in let sum = c.saturating_add-self.ensures in omega (arith, few, most, sum)) in
+      on_same (fields_of c.args.header.now) c.args.height _ text out c.args.piece.now.rest.now c.find_marker.new.piece.rest.now m.given m.taken (subst (λ z. WalkStands (fields_of c.args.header.now) c.args.height (record c.args.self.now { carried = c.end_stripe.new.self; entities = z; left = c.args.self.now.left - c.min.result; at = None; first = None; marker = None; stage = stage.Head }) (text ++ m.given) out) (sym one) (record {
         left_is = omega (arith, left, times, min_is);
         width_is = c.end_stripe.ensures.width ∙ s.width_is;
         offset_is = offset_low c.in_ok-reset.reset _ _ s.offset_is c.end_stripe.ensures.offset;
@@ -71,8 +78,8 @@ returns-clause-step c = record {
         code_is = tt;
         behind = tt;
         within = s.within;
-        stands = stripe_on k c.coder_laws.ensures (in_use c.args.header.now c.args.height c.requires.from c.requires.to) c.requires.row c.args.piece.now.rest.now c.find_marker.new.piece.rest.now c.in_ok-reset.reset m c.end_stripe.new.self next on;
-      });
+        stands = stripe_on k c.coder_laws.ensures (in_use c.args.header.now c.args.height c.requires.from c.requires.to) (rows_all c.requires.stage s c.requires.row) c.args.piece.now.rest.now c.find_marker.new.piece.rest.now c.in_ok-reset.reset m c.end_stripe.new.self next on;
+      }));
   err = tt;
   more = λ e. absurd (let bot : ⊥ = cc in bot);
 }
@@ -85,16 +92,25 @@ returns-then-self-eq0-clause-read c = λ text out s.
     let k = at_stage c.requires.stage s in
     let m = c.in_ok-reset.ensures.ok k.read.answers k.extra k.code k.code_is in
     let next = kept_wide (width_of c.args.self.now.carried.window.now) (fields_of c.args.header.now).xd c.in_ok-reset.reset c.args.self.now.carried c.end_stripe.new.self s.width_is c.end_stripe.ensures.next k.read.last k.read.is_carried in
-    (m.given, m.taken, whole k c.coder_laws.ensures (in_use c.args.header.now c.args.height c.requires.from c.requires.to) c.requires.row c.args.piece.now.rest.now c.find_marker.new.piece.rest.now c.in_ok-reset.reset m c.end_stripe.new.self next)
+    (m.given, m.taken, whole k c.coder_laws.ensures (in_use c.args.header.now c.args.height c.requires.from c.requires.to) (rows_all c.requires.stage s c.requires.row) c.args.piece.now.rest.now c.find_marker.new.piece.rest.now c.in_ok-reset.reset m c.end_stripe.new.self next)
 
 pub returns-clause-read : goal.returns-clause-read
 returns-clause-read c = λ text out s.
     let k = at_stage c.requires.stage s in
     let m = c.in_ok-reset.ensures.ok k.read.answers k.extra k.code k.code_is in
     let next = kept_wide (width_of c.args.self.now.carried.window.now) (fields_of c.args.header.now).xd c.in_ok-reset.reset c.args.self.now.carried c.end_stripe.new.self s.width_is c.end_stripe.ensures.next k.read.last k.read.is_carried in
-    (m.given, m.taken, whole k c.coder_laws.ensures (in_use c.args.header.now c.args.height c.requires.from c.requires.to) c.requires.row c.args.piece.now.rest.now c.find_marker.new.piece.rest.now c.in_ok-reset.reset m c.end_stripe.new.self next)
+    (m.given, m.taken, whole k c.coder_laws.ensures (in_use c.args.header.now c.args.height c.requires.from c.requires.to) (rows_all c.requires.stage s c.requires.row) c.args.piece.now.rest.now c.find_marker.new.piece.rest.now c.in_ok-reset.reset m c.end_stripe.new.self next)
 
-pub overflow_add-self : goal.overflow_add-self
-overflow_add-self c =
-    let few = walk_few (fields_of c.args.header.now) c.args.height c.args.self.now c.requires.stands.0 c.requires.stands.1 c.args.header.now.some_rows (inl c.requires.stage) c.requires.stands.2 in
-    omega (arith, few)
+pub returns-then-self-eq0-clause-entities : goal.returns-then-self-eq0-clause-entities
+returns-then-self-eq0-clause-entities c = λ some.
+    let few = walk_few (fields_of c.args.header.now) c.args.height c.args.self.now some.0 some.1 c.args.header.now.some_rows (inl c.requires.stage) some.2 in
+    let most = c.ranges.height.fits in
+    let sum = c.saturating_add-self.ensures in
+    omega (arith, few, most, sum)
+
+pub returns-clause-entities : goal.returns-clause-entities
+returns-clause-entities c = λ some.
+    let few = walk_few (fields_of c.args.header.now) c.args.height c.args.self.now some.0 some.1 c.args.header.now.some_rows (inl c.requires.stage) some.2 in
+    let most = c.ranges.height.fits in
+    let sum = c.saturating_add-self.ensures in
+    omega (arith, few, most, sum)

@@ -16,5 +16,4 @@ begin_stripe-requires c = record {
     | inl done ↦ absurd (c.in_default.not-Done done)
     | inr head ↦ inl head
   ];
-  stands = let k = c.in_ok-finish_stripe.ensures.step.ok c.requires.stands.0 c.requires.stands.1 c.requires.stands.2 in (_, _, k.2);
 }

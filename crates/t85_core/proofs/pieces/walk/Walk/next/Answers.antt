@@ -8,14 +8,8 @@ returns-in-Done c = record {
   step = turn_done (fields_of c.args.header.now) c.args.height c.args.self.now c.args.self.now c.args.piece.now.rest.now c.args.piece.now.rest.now (stays (fields_of c.args.header.now) c.args.height c.args.self.now c.args.piece.now.rest.now) (is_over _ c.in-Done.is);
 }
 
-pub returns-in_err-finish_row-in-Row : goal.returns-in_err-finish_row-in-Row
-returns-in_err-finish_row-in-Row c = record {
-  step = turn_exit (fields_of c.args.header.now) c.args.height c.args.self.now c.finish_row.new.self c.args.piece.now.rest.now c.finish_row.new.piece.rest.now c.from_residual.result c.in_err-finish_row-in-Row.field-0.0 c.from_residual.ensures.1 c.in_err-finish_row-in-Row.ensures.step.err
-      (λ e. c.in_err-finish_row-in-Row.ensures.step.more (ap Err e));
-}
-
-pub returns-in_err-read_row-in-Code : goal.returns-in_err-read_row-in-Code
-returns-in_err-read_row-in-Code c = record {
-  step = turn_exit (fields_of c.args.header.now) c.args.height c.args.self.now c.read_row.new.self c.args.piece.now.rest.now c.read_row.new.piece.rest.now c.from_residual-in_err-read_row-in-Code.result c.in_err-read_row-in-Code.field-0.0 c.from_residual-in_err-read_row-in-Code.ensures.1
-      c.in_err-read_row-in-Code.ensures.step.err (λ e. c.in_err-read_row-in-Code.ensures.step.more (ap Err e));
+pub returns-in_err-give_row-in-Code : goal.returns-in_err-give_row-in-Code
+returns-in_err-give_row-in-Code c = record {
+  step = turn_exit (fields_of c.args.header.now) c.args.height c.args.self.now c.give_row.new.self c.args.piece.now.rest.now c.give_row.new.piece.rest.now c.from_residual.result c.in_err-give_row-in-Code.field-0.0 c.from_residual.ensures.1
+      c.in_err-give_row-in-Code.ensures.step.err (λ e. c.in_err-give_row-in-Code.ensures.step.more (ap Err e));
 }
