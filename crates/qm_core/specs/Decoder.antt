@@ -2,16 +2,21 @@
 use Rattle.std.specs.Prelude.{ℕ, ◌≡◌, ◌≢◌, ◌≤◌, ◌↔◌, Bool, List, ◌++◌, length, replicate, Result, IfOk, OnErr, IsErr}
 use Rattle.qm_core.specs.Place.{Place, State, Estimate, step}
 use Rattle.qm_core.specs.Code.{IsBytes, Lies, wanted_bytes}
-use Rattle.qm_core.specs.Source.{bytes_of, heard_of, is_stopped, IsClosed, Agrees, HasAsked, Gives}
+use Rattle.qm_core.specs.Source.{bytes_of, heard_of, is_stopped, is_ended, IsClosed, Agrees, HasAsked, Gives}
 use Rattle.qm_core.specs.Machine.{Registers}
 use Rattle.qm_core.specs.declared.source.Pulled.{Pulled}
 use Rattle.qm_core.specs.declared.source.Heard.TheVariants.{Ended, Stopped}
 use Rattle.qm_core.specs.declared.decoder.Decoder.{Decoder}
 use Rattle.qm_core.specs.declared.decoder.Stop.{Stop}
+use Rattle.qm_core.specs.declared.registers.DecoderRegisters.{DecoderRegisters}
 
 -- whether the source of a decoder has failed
 abbrev pub has_stopped : Decoder → Bool
 has_stopped d = is_stopped d.heard
+
+-- the numbers of a decoder
+abbrev pub decoder_registers : Decoder → DecoderRegisters
+decoder_registers d = record { code = d.code; span = d.span; bits = d.bits; has_ended = is_ended d.heard }
 
 -- the decoder is at the place, and its source has answered so
 pub record DecoderIsAt (d : Decoder) (p : Place) (answers : List Pulled) : Type 0 where

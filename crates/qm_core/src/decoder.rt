@@ -9,6 +9,7 @@ use crate::context::Context;
 use crate::entries::{entry_of, next_cell};
 use crate::learned::Learned;
 use crate::picking::pick;
+use crate::registers::DecoderRegisters;
 use crate::skipping::left_of;
 use crate::source::{CodeBytes, Heard, Pulled};
 
@@ -68,12 +69,12 @@ fn pixel_of(cell: u8, is_other: bool) -> u8
 }
 
 impl Decoder {
-    ghost use Rattle.std.specs.Prelude.{ℕ, List, [], ◌∷◌, ◌++◌, length, replicate};
+    ghost use Rattle.std.specs.Prelude.{ℕ, List, [], ◌∷◌, ◌++◌, length, replicate, Some, IfSome};
     ghost use Rattle.qm_core.specs.Code.{wanted_bytes};
     ghost use Rattle.qm_core.specs.Place.{Place, State, start, renormalised, step, after};
     ghost use Rattle.qm_core.specs.Machine.{Registers};
     ghost use Rattle.qm_core.specs.Source.{Pulls, bytes_of, heard_of, before_fault};
-    ghost use Rattle.qm_core.specs.Decoder.{has_stopped, DecoderIsAt, Fills, Next};
+    ghost use Rattle.qm_core.specs.Decoder.{has_stopped, decoder_registers, DecoderIsAt, Fills, Next};
     ghost use Rattle.qm_core.specs.Skipping.{IsRun, CanSkip};
     ghost use Rattle.qm_core.specs.declared.source.Heard.TheVariants.{More};
     ghost use Rattle.qm_core.specs.declared.source.Pulled.{Pulled};
@@ -89,6 +90,47 @@ impl Decoder {
             bits: 0,
             heard: Heard::More,
         }
+    }
+
+    /// The decoder as numbers. Whether it has stopped is not among them.
+    pub fn registers(&self) -> DecoderRegisters
+        ensures { result ≡ decoder_registers self.now }
+    {
+        DecoderRegisters {
+            code: self.code,
+            span: self.span,
+            bits: self.bits,
+            has_ended: matches!(self.heard, Heard::Ended),
+        }
+    }
+
+    /// The decoder that has these numbers and has not stopped, if there is one.
+    pub fn from_registers(registers: DecoderRegisters) -> Option<Decoder>
+        ensures same { (d : Decoder) → has_stopped d ≡ false → registers ≡ decoder_registers d →
+            result ≡ Some d }
+        ensures is { IfSome result (λ d. (has_stopped d ≡ false)
+            × (decoder_registers d ≡ registers)) }
+    {
+        let DecoderRegisters {
+            code,
+            span,
+            bits,
+            has_ended,
+        } = registers;
+        if span < 0x40_0000 || span > 0x80_0000 || span % 128 != 0 || bits > 23 {
+            return None;
+        }
+        let unit = 1u32 << (23 - bits);
+        if code % unit != 0 || u64::from(code) + u64::from(unit) > u64::from(span) {
+            return None;
+        }
+        let heard = if has_ended { Heard::Ended } else { Heard::More };
+        Some(Decoder {
+            code,
+            span,
+            bits,
+            heard,
+        })
     }
 
     /// Goes on after `Stop`: the source is asked again for the byte that it did not give.
