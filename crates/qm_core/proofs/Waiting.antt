@@ -67,7 +67,7 @@ few_pushed e e' s events pushed more at at' =
     omega (arith, short, long, split, a, b, doubled, at.digits.count, at'.digits.count)
 
 -- an encoder's place
-is_place : (e : Encoder) (p : Place) (pushed : List ℕ) → EncoderIsAt e p pushed → IsPlace p
+pub is_place : (e : Encoder) (p : Place) (pushed : List ℕ) → EncoderIsAt e p pushed → IsPlace p
 is_place e p pushed at =
     let size = at.digits.size in
     let large : 0x40_0000 ≤ e.span = e.large in

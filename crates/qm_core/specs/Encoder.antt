@@ -1,11 +1,13 @@
 -- What an encoder stands for.
-use Rattle.std.specs.Prelude.{ℕ, ◌+◌, ◌/◌, ◌≡◌, Bool, List, ◌++◌, length, Result, Option}
-use Rattle.qm_core.specs.Place.{Place, State, Estimate, step}
+use Rattle.std.specs.Prelude.{ℕ, ◌+◌, ◌/◌, ◌≡◌, Bool, List, ◌++◌, length, Result, Option, is_some}
+use Rattle.std.specs.Option.{unwrap_or}
+use Rattle.qm_core.specs.Place.{Place, IsPlace, State, Estimate, step}
 use Rattle.qm_core.specs.Code.{IsBytes, IsTrimmed, IsFront, IsCode, stuffed}
 use Rattle.qm_core.specs.Sink.{Writes}
 use Rattle.qm_core.specs.Machine.{run_bytes, Digits}
 use Rattle.qm_core.specs.declared.encoder.Encoder.{Encoder}
 use Rattle.qm_core.specs.declared.encoder.CoderFault.{CoderFault}
+use Rattle.qm_core.specs.declared.registers.EncoderRegisters.{EncoderRegisters}
 
 -- how many events were put to an encoder
 abbrev pub event_count : Encoder → ℕ
@@ -20,6 +22,20 @@ has_failed e = e.failed
 abbrev pub waiting_bytes : Encoder → ℕ
 waiting_bytes e = length (run_bytes e.tail.zeros e.tail.held e.tail.ones) + (e.bits + 7) / 8
 
+-- the numbers of an encoder
+abbrev pub encoder_registers : Encoder → EncoderRegisters
+encoder_registers e = record {
+  low = e.low;
+  span = e.span;
+  bits = e.bits;
+  zeros = e.tail.zeros;
+  has_held = is_some e.tail.held;
+  held = unwrap_or e.tail.held 0;
+  ones = e.tail.ones;
+  events = e.events;
+  has_failed = e.failed;
+}
+
 -- the registers and the tail are those of the place, and these bytes were handed to the sink
 pub record RegistersAreAt (low span bits zeros : ℕ) (held : Option ℕ) (ones : ℕ) (p : Place) (pushed : List ℕ) : Type 0 where
   pub front : List ℕ
@@ -31,6 +47,13 @@ pub record RegistersAreAt (low span bits zeros : ℕ) (held : Option ℕ) (ones 
 -- the encoder is at the place, and these bytes were handed to the sink
 abbrev pub EncoderIsAt : Encoder → Place → List ℕ → Type 0
 EncoderIsAt e p pushed = RegistersAreAt e.low e.span e.bits e.tail.zeros e.tail.held e.tail.ones p pushed
+
+-- the encoder is at some place, whatever was handed to the sink
+pub record EncoderStands (e : Encoder) : Type 0 where
+  pub place : Place
+  pub is_place : IsPlace place
+  pub pushed : List ℕ
+  pub codes : EncoderIsAt e place pushed
 
 -- these bytes are the stuffed front of a place
 pub record IsStuffedFront (bytes : List ℕ) (p : Place) : Type 0 where

@@ -12,6 +12,7 @@ use crate::context::Context;
 use crate::entries::{cost_of, entry_of, is_favoured, next_cell};
 use crate::learned::Learned;
 use crate::picking::pick;
+use crate::registers::EncoderRegisters;
 use crate::sink::{CodeSink, SinkFault};
 use crate::skipping::left_of;
 
@@ -229,10 +230,10 @@ fn is_lower(is_favoured: bool, lower: u32, upper: u32) -> bool
 }
 
 impl Encoder {
-    ghost use Rattle.std.specs.Prelude.{replicate};
+    ghost use Rattle.std.specs.Prelude.{replicate, Some, IfSome};
     ghost use Rattle.qm_core.specs.Counts.{one_more};
     ghost use Rattle.qm_core.specs.Place.{after};
-    ghost use Rattle.qm_core.specs.Encoder.{event_count, has_failed, waiting_bytes, RegistersAreAt, EncoderIsAt, Goes, Put, Finish};
+    ghost use Rattle.qm_core.specs.Encoder.{event_count, has_failed, waiting_bytes, encoder_registers, RegistersAreAt, EncoderIsAt, EncoderStands, Goes, Put, Finish};
     ghost use Rattle.qm_core.specs.Skipping.{IsRun, has_room};
 
     /// An encoder at the beginning of a code, of which nothing was pushed.
@@ -254,6 +255,67 @@ impl Encoder {
             failed: false,
             floor: 0x40_0000,
         }
+    }
+
+    /// The encoder as numbers.
+    pub fn registers(&self) -> EncoderRegisters
+        ensures { result ≡ encoder_registers self.now }
+    {
+        EncoderRegisters {
+            low: self.low,
+            span: self.span,
+            bits: self.bits,
+            zeros: self.tail.zeros,
+            has_held: self.tail.held.is_some(),
+            held: self.tail.held.unwrap_or(0),
+            ones: self.tail.ones,
+            events: self.events,
+            has_failed: self.failed,
+        }
+    }
+
+    /// The encoder that has these numbers and has not failed, if there is one.
+    pub fn from_registers(registers: EncoderRegisters) -> Option<Encoder>
+        ensures same { (e : Encoder) (p : Place) (pushed : List ℕ) → EncoderIsAt e p pushed →
+            has_failed e ≡ false → registers ≡ encoder_registers e → result ≡ Some e }
+        ensures is { IfSome result (λ e. (has_failed e ≡ false)
+            × (encoder_registers e ≡ registers)) }
+        ensures stands { IfSome result EncoderStands }
+    {
+        let low = registers.low;
+        let span = registers.span;
+        let bits = registers.bits;
+        if registers.has_failed || span < 0x40_0000 || span > 0x80_0000 || span % 128 != 0 {
+            return None;
+        }
+        if bits < 16 || bits > 39 || low % 128 != 0 {
+            return None;
+        }
+        let end = 1u64 << (bits + 7 + u32::from(registers.has_held));
+        if low > end || u64::from(span) > end - low {
+            return None;
+        }
+        let held_back = u128::from(registers.zeros) + u128::from(registers.ones);
+        let most = 16 * u128::from(registers.events) + 16;
+        if registers.events > MAX_EVENTS || 8 * held_back + u128::from(bits) > most {
+            return None;
+        }
+        if registers.held > 254 * u8::from(registers.has_held) {
+            return None;
+        }
+        Some(Encoder {
+            low,
+            span,
+            bits,
+            tail: Tail {
+                zeros: registers.zeros,
+                held: registers.has_held.then_some(registers.held),
+                ones: registers.ones,
+            },
+            events: registers.events,
+            failed: registers.has_failed,
+            floor: floor_of(registers.has_failed),
+        })
     }
 
     /// How many pixels were put.
