@@ -1,5 +1,5 @@
 -- What a row leaves that was encoded or decoded.
-use Rattle.std.specs.Prelude.{ℕ, ◌≡◌, List, ◌++◌, Result, OnOk, OnErr, ◌↔◌, Bool, true, false, [], ◌∷◌, length, replicate, ◌≤◌, IsErr, IsTrue, if◌then◌else◌}
+use Rattle.std.specs.Prelude.{ℕ, ◌≡◌, ◌/◌, ◌%◌, ◌^◌, List, ◌++◌, Result, OnOk, OnErr, ◌↔◌, Bool, true, false, [], ◌∷◌, length, replicate, ◌≤◌, IsErr, IsTrue, if◌then◌else◌}
 use Rattle.qm_core.specs.Place.{State, Event, Estimate, Place, IsPlace, after}
 use Rattle.qm_core.specs.declared.encoder.Encoder.{Encoder}
 use Rattle.qm_core.specs.declared.encoder.CoderFault.{CoderFault}
@@ -21,6 +21,7 @@ use Rattle.raster_core.specs.Packed.{Held, HasLines, packed_row}
 use Rattle.raster_core.specs.Enough.{AreEnough}
 use Rattle.raster_core.specs.Machine.Decoded.{with_row, PixelsSoFar, PixelsHeld}
 use Rattle.raster_core.specs.declared.place.RowPlace.{RowPlace}
+use Rattle.raster_core.specs.declared.place.RowPlaceNumbers.{RowPlaceNumbers}
 
 -- a row is typical wherever it may be
 abbrev pub canonical_events : Shape → Kept → Lines → List Event
@@ -125,6 +126,15 @@ pub record IsRowStart (place : RowPlace) : Type 0 where
   pub is_begun : place.is_begun ≡ false
   pub done : place.done ≡ 0
   pub past : place.past ≡ 0
+
+-- the numbers of a place in a row
+abbrev pub row_place_numbers : RowPlace → RowPlaceNumbers
+row_place_numbers place = record {
+  is_begun = place.is_begun;
+  done = place.done;
+  past_high = place.past / 2 ^ 64;
+  past_low = place.past % 2 ^ 64;
+}
 
 -- a window holds the two rows above a row
 pub record HasAbove (w : Held) (lines : Lines) : Type 0 where

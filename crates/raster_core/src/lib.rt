@@ -21,7 +21,7 @@ mod words;
 
 pub use decode::{decode_row, go_on_row, skip_rows};
 pub use encode::encode_row;
-pub use place::RowPlace;
+pub use place::{RowPlace, RowPlaceNumbers};
 pub use shape::{Kept, Shape};
 pub use tally::Tally;
 pub use window::{Window, current_row, window_bytes};

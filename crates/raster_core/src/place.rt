@@ -40,7 +40,22 @@ pub struct RowPlace {
     pub(crate) past: u128,
 }
 
+/// How far a row is decoded, as numbers that anyone may keep.
+#[derive(Clone, Copy, PartialEq, Eq, Debug)]
+pub struct RowPlaceNumbers {
+    /// Whether its pixels have begun: what comes before them is decoded.
+    pub is_begun: bool,
+    /// How many of them are decoded.
+    pub done: u32,
+    /// The last 128 of those, a bit each, the nearest lowest: the upper 64.
+    pub past_high: u64,
+    /// The lower 64.
+    pub past_low: u64,
+}
+
 impl RowPlace {
+    ghost use Rattle.raster_core.specs.Row.{row_place_numbers};
+
     /// Before a row.
     pub fn start() -> RowPlace
         ensures none { result.is_begun ≡ false }
@@ -59,6 +74,31 @@ impl RowPlace {
         ensures { result ≡ self.now.done }
     {
         self.done
+    }
+
+    /// The place as numbers.
+    pub fn numbers(&self) -> RowPlaceNumbers
+        ensures { result ≡ row_place_numbers self.now }
+    {
+        RowPlaceNumbers {
+            is_begun: self.is_begun,
+            done: self.done,
+            past_high: (self.past >> 64) as u64,
+            past_low: (self.past % 0x1_0000_0000_0000_0000) as u64,
+        }
+    }
+
+    /// The place that has these numbers. Any numbers are those of one place.
+    pub fn from_numbers(numbers: RowPlaceNumbers) -> RowPlace
+        ensures same { (place : RowPlace) → numbers ≡ row_place_numbers place → result ≡ place }
+        ensures is { row_place_numbers result ≡ numbers }
+    {
+        let high = u128::from(numbers.past_high);
+        RowPlace {
+            is_begun: numbers.is_begun,
+            done: numbers.done,
+            past: high * 0x1_0000_0000_0000_0000 + u128::from(numbers.past_low),
+        }
     }
 
     /// Behind so many pixels of a row, of which `past` has the last.
