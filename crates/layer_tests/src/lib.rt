@@ -8,6 +8,8 @@ mod coder;
 #[cfg(test)]
 mod devices;
 #[cfg(test)]
+mod numbers;
+#[cfg(test)]
 mod pbm;
 #[cfg(test)]
 mod pulls;

@@ -1,0 +1,412 @@
+//! Coders that are taken apart into numbers between any two pixels, and put together again.
+
+use crate::coder::{
+    DECODED, Room, STANDARD_ANSWERS, STANDARD_CODE, Script, finish, next, put, standard_events,
+};
+use qm_core::{
+    Context, Decoder, DecoderRegisters, Encoder, EncoderRegisters, Learned, MAX_EVENTS, Pulled,
+    Stop,
+};
+
+/// What the next pixel in context n gives, for the decoder of these numbers, and its numbers then.
+fn next_of(
+    numbers: DecoderRegisters,
+    learned: &mut Learned,
+    n: u16,
+    source: &mut Script,
+) -> Option<(Result<bool, Stop>, DecoderRegisters)> {
+    let mut decoder = Decoder::from_registers(numbers)?;
+    let answer = next(&mut decoder, learned, n, source);
+    Some((answer, decoder.registers()))
+}
+
+/// Whether the decoders of numbers give these pixels in these contexts, and how often the source is then asked.
+fn decodes(answers: &[Pulled], events: &[(u16, bool)]) -> (bool, u64) {
+    let mut source = Script::new(answers);
+    let mut learned = Learned::new();
+    let mut numbers = Decoder::start().registers();
+    for &(n, pixel) in events {
+        match next_of(numbers, &mut learned, n, &mut source) {
+            Some((answer, then)) if answer == Ok(pixel) => numbers = then,
+            _ => return (false, source.asked),
+        }
+    }
+    (true, source.asked)
+}
+
+#[test]
+fn decoders_go_on_from_their_numbers(rt: HostRuntime) {
+    for &(name, answers, events, asked) in &DECODED {
+        assert!(rt; decodes(answers, events) == (true, asked), "{name}");
+    }
+    assert!(rt; decodes(&STANDARD_ANSWERS, &standard_events()).0);
+}
+
+/// The numbers of the encoder after a pixel in context n, for the encoder of these numbers.
+fn put_of(
+    numbers: EncoderRegisters,
+    learned: &mut Learned,
+    n: u16,
+    pixel: bool,
+    out: &mut Room,
+) -> Option<EncoderRegisters> {
+    let mut encoder = Encoder::from_registers(numbers)?;
+    put(&mut encoder, learned, n, pixel, out).ok()?;
+    Some(encoder.registers())
+}
+
+/// Whether the encoders of numbers code these events, and end the code.
+fn codes(events: &[(u16, bool)], out: &mut Room) -> bool {
+    let mut learned = Learned::new();
+    let mut numbers = Encoder::start().registers();
+    for &(n, pixel) in events {
+        match put_of(numbers, &mut learned, n, pixel, out) {
+            Some(then) => numbers = then,
+            None => return false,
+        }
+    }
+    match Encoder::from_registers(numbers) {
+        Some(encoder) => finish(encoder, out).is_ok(),
+        None => false,
+    }
+}
+
+#[test]
+fn encoders_go_on_from_their_numbers(rt: HostRuntime) {
+    let mut out = Room::new(512);
+    assert!(rt; codes(&standard_events(), &mut out));
+    assert!(rt; out.bytes() == STANDARD_CODE.as_slice());
+}
+
+/// A decoder after a black pixel in a new context, of a code that begins with F0 00: the interval began at 0 with a size
+/// of 0x1_0000, of which the upper 0x5A1D are for black, and was doubled once.
+const DECODER: DecoderRegisters = DecoderRegisters {
+    code: 2 * (128 * 0xF000 - 128 * (0x1_0000 - 0x5A1D)),
+    span: 2 * 128 * 0x5A1D,
+    bits: 15,
+    has_ended: false,
+};
+
+/// An encoder after the same pixel.
+const ENCODER: EncoderRegisters = EncoderRegisters {
+    low: 2 * 128 * (0x1_0000 - 0x5A1D),
+    span: 2 * 128 * 0x5A1D,
+    bits: 17,
+    zeros: 0,
+    has_held: false,
+    held: 0,
+    ones: 0,
+    events: 1,
+    has_failed: false,
+};
+
+/// The numbers of a decoder, and of an encoder, before a pixel and after a black one.
+fn first_numbers() -> ([DecoderRegisters; 2], [EncoderRegisters; 2]) {
+    let answers = [Pulled::Byte(0xF0), Pulled::Byte(0x00)];
+    let mut source = Script::new(&answers);
+    let mut decoder = Decoder::start();
+    let before = decoder.registers();
+    next(&mut decoder, &mut Learned::new(), 0, &mut source).ok();
+    let mut out = Room::new(0);
+    let mut encoder = Encoder::start();
+    let empty = encoder.registers();
+    put(&mut encoder, &mut Learned::new(), 0, true, &mut out).ok();
+    ([before, decoder.registers()], [empty, encoder.registers()])
+}
+
+#[test]
+fn first_numbers_by_hand(rt: HostRuntime) {
+    let before = DecoderRegisters {
+        code: 0,
+        span: 0x80_0000,
+        bits: 0,
+        has_ended: false,
+    };
+    let empty = EncoderRegisters {
+        low: 0,
+        span: 0x80_0000,
+        bits: 16,
+        events: 0,
+        ..ENCODER
+    };
+    assert!(rt; first_numbers() == ([before, DECODER], [empty, ENCODER]));
+}
+
+/// Whether numbers are those of a decoder, which then has them.
+fn is_decoder(numbers: DecoderRegisters) -> bool {
+    match Decoder::from_registers(numbers) {
+        Some(decoder) => decoder.registers() == numbers,
+        None => false,
+    }
+}
+
+/// Numbers, and whether a decoder has them.
+static DECODERS: [(&str, DecoderRegisters, bool); 11] = [
+    ("as they were", DECODER, true),
+    (
+        "at the end",
+        DecoderRegisters {
+            has_ended: true,
+            ..DECODER
+        },
+        true,
+    ),
+    ("no size", DecoderRegisters { span: 0, ..DECODER }, false),
+    (
+        "too small",
+        DecoderRegisters {
+            code: 0,
+            span: 0x3F_FF80,
+            ..DECODER
+        },
+        false,
+    ),
+    (
+        "too large",
+        DecoderRegisters {
+            span: 0x80_0080,
+            ..DECODER
+        },
+        false,
+    ),
+    (
+        "a size and a half",
+        DecoderRegisters {
+            span: 0x5A_1D40,
+            ..DECODER
+        },
+        false,
+    ),
+    (
+        "too many bits",
+        DecoderRegisters {
+            bits: 24,
+            ..DECODER
+        },
+        false,
+    ),
+    (
+        "the last code of the interval",
+        DecoderRegisters {
+            code: 0x5A_1C00,
+            ..DECODER
+        },
+        true,
+    ),
+    (
+        "a code above it",
+        DecoderRegisters {
+            code: 0x5A_1D00,
+            ..DECODER
+        },
+        false,
+    ),
+    (
+        "a code with bits that were not pulled",
+        DecoderRegisters {
+            code: 0x4A_1D80,
+            ..DECODER
+        },
+        false,
+    ),
+    (
+        "the greatest numbers",
+        DecoderRegisters {
+            code: u32::MAX,
+            span: u32::MAX,
+            bits: u32::MAX,
+            has_ended: true,
+        },
+        false,
+    ),
+];
+
+#[test]
+fn decoders_of_any_numbers(rt: HostRuntime) {
+    for &(name, numbers, is) in &DECODERS {
+        assert!(rt; is_decoder(numbers) == is, "{name}");
+    }
+}
+
+/// Whether numbers are those of an encoder, which then has them.
+fn is_encoder(numbers: EncoderRegisters) -> bool {
+    match Encoder::from_registers(numbers) {
+        Some(encoder) => encoder.registers() == numbers,
+        None => false,
+    }
+}
+
+/// An encoder that holds back a byte and others around it.
+const HOLDS: EncoderRegisters = EncoderRegisters {
+    zeros: 1,
+    has_held: true,
+    held: 254,
+    ones: 2,
+    events: 3,
+    ..ENCODER
+};
+
+/// Numbers, and whether an encoder has them.
+static ENCODERS: [(&str, EncoderRegisters, bool); 19] = [
+    ("as they were", ENCODER, true),
+    ("with bytes held back", HOLDS, true),
+    (
+        "failed",
+        EncoderRegisters {
+            has_failed: true,
+            ..ENCODER
+        },
+        false,
+    ),
+    ("no size", EncoderRegisters { span: 0, ..ENCODER }, false),
+    (
+        "too small",
+        EncoderRegisters {
+            span: 0x3F_FF80,
+            ..ENCODER
+        },
+        false,
+    ),
+    (
+        "too large",
+        EncoderRegisters {
+            low: 0,
+            span: 0x80_0080,
+            ..ENCODER
+        },
+        false,
+    ),
+    (
+        "a size and a half",
+        EncoderRegisters {
+            low: 0,
+            span: 0x5A_1D40,
+            ..ENCODER
+        },
+        false,
+    ),
+    (
+        "a low end and a half",
+        EncoderRegisters { low: 64, ..ENCODER },
+        false,
+    ),
+    (
+        "too few bits",
+        EncoderRegisters {
+            low: 0,
+            bits: 15,
+            ..ENCODER
+        },
+        false,
+    ),
+    (
+        "the most bits",
+        EncoderRegisters {
+            bits: 39,
+            events: 2,
+            ..ENCODER
+        },
+        true,
+    ),
+    (
+        "too many bits",
+        EncoderRegisters {
+            bits: 40,
+            events: 2,
+            ..ENCODER
+        },
+        false,
+    ),
+    (
+        "a carry into nothing",
+        EncoderRegisters {
+            low: 0xA5_E380,
+            ..ENCODER
+        },
+        false,
+    ),
+    (
+        "a carry into a byte",
+        EncoderRegisters {
+            low: 0x1A5_E300,
+            ..HOLDS
+        },
+        true,
+    ),
+    (
+        "two carries into it",
+        EncoderRegisters {
+            low: 0x1A5_E380,
+            ..HOLDS
+        },
+        false,
+    ),
+    (
+        "a byte that takes no carry",
+        EncoderRegisters { held: 255, ..HOLDS },
+        false,
+    ),
+    (
+        "a byte that is not held",
+        EncoderRegisters { held: 1, ..ENCODER },
+        false,
+    ),
+    (
+        "more bytes than pixels fill",
+        EncoderRegisters { zeros: 4, ..HOLDS },
+        false,
+    ),
+    (
+        "too many pixels",
+        EncoderRegisters {
+            events: MAX_EVENTS + 1,
+            ..ENCODER
+        },
+        false,
+    ),
+    (
+        "the greatest numbers",
+        EncoderRegisters {
+            low: 0xFFFF_FFFF_FFFF_FF80,
+            zeros: u64::MAX,
+            ones: u64::MAX,
+            events: MAX_EVENTS,
+            ..HOLDS
+        },
+        false,
+    ),
+];
+
+#[test]
+fn encoders_of_any_numbers(rt: HostRuntime) {
+    for &(name, numbers, is) in &ENCODERS {
+        assert!(rt; is_encoder(numbers) == is, "{name}");
+    }
+}
+
+/// What the first two pixels of a code give where the second asks a source that fails, and what the second gives when
+/// the decoder is made anew of the numbers that it then has.
+fn decodes_after_a_stop() -> [Option<Result<bool, Stop>>; 3] {
+    let answers = [
+        Pulled::Byte(0xF0),
+        Pulled::Byte(0),
+        Pulled::Fault,
+        Pulled::Byte(0),
+    ];
+    let mut source = Script::new(&answers);
+    let mut learned = Learned::new();
+    let mut numbers = Decoder::start().registers();
+    let mut given = [None; 3];
+    for (i, n) in [0, 1, 1].into_iter().enumerate() {
+        if let Some((answer, then)) = next_of(numbers, &mut learned, n, &mut source) {
+            given[i] = Some(answer);
+            numbers = then;
+        }
+    }
+    given
+}
+
+#[test]
+fn a_stop_is_no_number(rt: HostRuntime) {
+    assert!(rt; decodes_after_a_stop() == [Some(Ok(true)), Some(Err(Stop)), Some(Ok(true))]);
+}
