@@ -30,6 +30,7 @@ pub mod PieceBehind
 pub mod PieceAhead
 pub mod PieceLate
 pub mod PieceStood
+pub mod PieceNumbers
 pub mod PieceLook
 pub mod PieceCertain
 pub mod PieceBelow

@@ -17,6 +17,7 @@ pub mod Info
 pub mod Decode
 pub mod Outcomes
 pub mod Pieces
+pub mod Numbers
 pub mod ToPbm
 pub mod Encode
 pub mod ToJbg

@@ -24,5 +24,6 @@ pub use fault::Fault;
 pub use header::Header;
 pub use height::find_height;
 pub use options::Options;
+pub use pieces::numbers::{MoveNumbers, PieceNumbers};
 pub use pieces::{Outcome, PieceDecoder, Progress};
 pub use summary::{Summary, info, summarize};

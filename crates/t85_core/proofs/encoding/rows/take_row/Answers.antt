@@ -1,4 +1,4 @@
-use Rattle.std.proofs.Common.{◌≡◌, length, subst, sym, rules, ◌∙◌, ap}
+use Rattle.std.proofs.Common.{◌≡◌, length, subst, sym, rules}
 use Rattle.std.specs.Int.{div_ceil}
 use Rattle.pbm_core.specs.Image.{pixels_of}
 use Rattle.raster_core.specs.Window.{held}

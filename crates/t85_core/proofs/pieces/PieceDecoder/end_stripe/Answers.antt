@@ -1,4 +1,4 @@
-use Rattle.std.proofs.Common.{refl, inl}
+use Rattle.std.proofs.Common.{refl}
 use Rattle.t85_core.proofs.Decodings.PieceStood.{stripe_ended, no_row_left}
 use Rattle.t85_core.proofs.pieces.PieceDecoder.end_stripe.Goals as goal
 

@@ -1,4 +1,4 @@
-use Rattle.std.proofs.Common.{◌++◌, ◌+◌, [], ap, Err, subst, refl, ◌∙◌, arith}
+use Rattle.std.proofs.Common.{◌++◌, [], ap, Err, subst, refl, ◌∙◌, arith}
 use Rattle.t85_core.specs.declared.pieces.walk.Stage.TheVariants as stage
 use Rattle.t85_core.specs.Options.{fields_of}
 use Rattle.t85_core.specs.Steps.DecodeRows.{IsShapeOf}
@@ -9,7 +9,7 @@ use Rattle.t85_core.proofs.Decodings.ImagePut.{in_use}
 use Rattle.t85_core.proofs.Decodings.PieceSteps.{on_same, at_stage, put_stage, row_exit, leaves_exit}
 use Rattle.t85_core.proofs.Decodings.PieceEnds.{whole_text, never_breaks, never_changed, stays_marked, before_all}
 use Rattle.t85_core.specs.Steps.Segments.{RestFault}
-use Rattle.t85_core.proofs.Decodings.PieceWalk.{ahead_is, behind_is, in_row_going, in_row_shape, row_on, row_off, row_kept}
+use Rattle.t85_core.proofs.Decodings.PieceWalk.{ahead_is, behind_is, in_row_shape, row_on, row_off, row_kept}
 use Rattle.t85_core.proofs.Decodings.PieceFits.{resumed}
 use Rattle.t85_core.proofs.pieces.walk.Walk.finish_row.Goals as goal
 

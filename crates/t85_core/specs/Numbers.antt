@@ -1,0 +1,79 @@
+-- A decoder in pieces, as plain numbers.
+use Rattle.std.specs.Prelude.{ℕ, ◌+◌, ◌≡◌, Bool, true, false, Option, Some, None, is_some}
+use Rattle.std.specs.Option.{unwrap_or}
+use Rattle.qm_core.specs.Decoder.{decoder_registers, has_stopped}
+use Rattle.raster_core.specs.Row.{row_place_numbers}
+use Rattle.raster_core.specs.Window.{held, width_of}
+use Rattle.raster_core.specs.declared.window.Window.{Window}
+use Rattle.t85_core.specs.declared.pieces.PieceDecoder.{PieceDecoder}
+use Rattle.t85_core.specs.declared.pieces.numbers.MoveNumbers.{MoveNumbers}
+use Rattle.t85_core.specs.declared.pieces.numbers.PieceNumbers.{PieceNumbers}
+use Rattle.t85_core.specs.declared.pieces.walk.Stage.{Stage}
+use Rattle.t85_core.specs.declared.pieces.walk.Walk.{Walk}
+use Rattle.t85_core.specs.declared.pieces.walk.Stage.TheVariants as stage
+use Rattle.t85_core.specs.declared.segments.Code.{Code}
+use Rattle.t85_core.specs.declared.segments.Code.TheVariants as code
+use Rattle.t85_core.specs.declared.segments.Move.{Move}
+
+abbrev pub stage_number : Stage → ℕ
+stage_number stage.Head = 0
+stage_number stage.Comment = 1
+stage_number stage.Code = 2
+stage_number stage.Row = 3
+stage_number stage.Done = 4
+
+-- the number of an end marker, by whether it resets
+abbrev pub reset_number : Bool → ℕ
+reset_number false = 1
+reset_number true = 2
+
+abbrev pub marker_number : Option Bool → ℕ
+marker_number None = 0
+marker_number (Some reset) = reset_number reset
+
+-- that of what was read ahead of a code
+abbrev pub code_number : Option Code → ℕ
+code_number None = 0
+code_number (Some (code.Marker reset)) = reset_number reset
+code_number (Some (code.Byte b)) = 256 + b
+
+abbrev pub move_numbers : Option Move → MoveNumbers
+move_numbers None = record { is_there = false; row = 0; offset = 0 }
+move_numbers (Some to) = record { is_there = true; row = to.row; offset = to.offset }
+
+-- the numbers of a decoder, but for how it has ended
+abbrev pub piece_numbers : PieceDecoder → PieceNumbers
+piece_numbers d = record {
+  height = d.height;
+  is_open = d.is_open;
+  waits = d.waits;
+  move_behind = move_numbers d.behind.at;
+  has_comment_behind = is_some d.behind.comment;
+  comment_behind = unwrap_or d.behind.comment 0;
+  stage = stage_number d.walk.stage;
+  entities = d.walk.entities;
+  left = d.walk.left;
+  is_given = d.walk.given;
+  move_here = move_numbers d.walk.at;
+  comment = d.walk.comment;
+  row = d.walk.row;
+  place = row_place_numbers d.walk.place;
+  ahead = code_number d.walk.first;
+  marker = marker_number d.walk.marker;
+  offset = d.walk.carried.kept.offset;
+  is_previous_typical = d.walk.carried.kept.previous_typical;
+  decoder = decoder_registers d.walk.decoder;
+}
+
+-- a window that holds what that of a walk does
+pub record HasWindow (w : Walk) (window : Window) : Type 0 where
+  pub width_is : width_of window ≡ width_of w.carried.window.now
+  pub held_is : held window ≡ held w.carried.window.now
+
+-- A walk that stands where this one does. Its decoder is the same if that one goes on.
+pub record IsWalkAs (w w' : Walk) : Type 0 where
+  pub window_is : HasWindow w w'.carried.window.now
+  pub kept_is : w'.carried.kept ≡ w.carried.kept
+  pub learned_is : w'.carried.learned.now ≡ w.carried.learned.now
+  pub decoder_is : has_stopped w.decoder ≡ false → w'.decoder ≡ w.decoder
+  pub same : w' ≡ record w { carried = w'.carried; decoder = w'.decoder }

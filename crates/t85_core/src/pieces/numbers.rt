@@ -1,0 +1,280 @@
+//! A decoder in pieces, as plain numbers.
+
+ghost use Rattle.std.specs.Prelude.{◌≡◌, ◌≤◌, Bool, List, Option, ℕ, IfSome};
+ghost use Rattle.raster_core.specs.Window.{held, width_of};
+ghost use Rattle.t85_core.specs.Options.{fields_of};
+ghost use Rattle.t85_core.specs.Steps.Segments.{IsByteOrMarker};
+ghost use Rattle.t85_core.specs.Numbers.{stage_number, code_number, marker_number, move_numbers, piece_numbers};
+ghost use Rattle.t85_core.specs.declared.pieces.walk.Stage.{Stage};
+ghost use Rattle.t85_core.specs.declared.segments.Code.{Code};
+ghost use Rattle.t85_core.specs.declared.segments.Move.{Move};
+
+use crate::header::Header;
+use crate::pieces::PieceDecoder;
+use crate::pieces::behind::Behind;
+use crate::pieces::walk::{Stage, Walk};
+use crate::segments::{Code, Move};
+use crate::state::CodingState;
+use qm_core::{Decoder, DecoderRegisters, Learned};
+use raster_core::{Kept, RowPlace, RowPlaceNumbers, Window};
+
+/// A move of the adaptive template pixel (ATMOVE), or none.
+#[derive(Clone, Copy, PartialEq, Eq, Debug)]
+pub struct MoveNumbers {
+    /// Whether there is one.
+    pub is_there: bool,
+    /// The row of the stripe in which it is made, or 0.
+    pub row: u32,
+    /// The offset that it makes, or 0.
+    pub offset: u8,
+}
+
+/// How far a decoder in pieces has come that has not ended, as numbers that anyone may keep. Beside them it wants its header,
+/// the window's memory and place, and the contexts.
+#[derive(Clone, Copy, PartialEq, Eq, Debug)]
+pub struct PieceNumbers {
+    /// The height in use.
+    pub height: u32,
+    /// Whether a height may still come.
+    pub is_open: bool,
+    /// Whether it waits behind an end marker for what comes there.
+    pub waits: bool,
+    /// What came there: a move,
+    pub move_behind: MoveNumbers,
+    /// whether a comment has begun,
+    pub has_comment_behind: bool,
+    /// and how many bytes of that are to come, or 0.
+    pub comment_behind: u32,
+    /// What comes next: 0 a segment of a stripe or its code, 1 the rest of a comment, 2 a row or the end of a code, 3 the rest
+    /// of a row, 4 nothing.
+    pub stage: u8,
+    /// How many data entities are whole.
+    pub entities: u32,
+    /// How many rows come after those.
+    pub left: u32,
+    /// Whether a height was given.
+    pub is_given: bool,
+    /// The move of the stripe.
+    pub move_here: MoveNumbers,
+    /// How many bytes of a comment are to come.
+    pub comment: u32,
+    /// How many rows of the stripe are decoded.
+    pub row: u32,
+    /// How far the next one has come.
+    pub place: RowPlaceNumbers,
+    /// What was read ahead of the code: 0 nothing, 1 SDNORM, 2 SDRST, 256 and more a byte.
+    pub ahead: u16,
+    /// The end marker that was read: 0 none, 1 SDNORM, 2 SDRST.
+    pub marker: u8,
+    /// The offset of the adaptive template pixel.
+    pub offset: u8,
+    /// Whether the row before was typical.
+    pub is_previous_typical: bool,
+    pub decoder: DecoderRegisters,
+}
+
+fn number_of_stage(stage: Stage) -> u8
+    ensures { result ≡ stage_number stage }
+{
+    match stage {
+        Stage::Head => 0,
+        Stage::Comment => 1,
+        Stage::Code => 2,
+        Stage::Row => 3,
+        Stage::Done => 4,
+    }
+}
+
+fn stage_of(number: u8) -> Stage
+    ensures { (stage : Stage) → number ≡ stage_number stage → result ≡ stage }
+{
+    match number {
+        0 => Stage::Head,
+        1 => Stage::Comment,
+        2 => Stage::Code,
+        3 => Stage::Row,
+        _ => Stage::Done,
+    }
+}
+
+fn number_of_code(code: Option<Code>) -> u16
+    ensures { result ≡ code_number code }
+{
+    match code {
+        None => 0,
+        Some(Code::Marker(reset)) => {
+            if reset {
+                2
+            } else {
+                1
+            }
+        }
+        Some(Code::Byte(byte)) => 256 + u16::from(byte),
+    }
+}
+
+fn code_of(number: u16) -> Option<Code>
+    ensures { (code : Option Code) → IfSome code IsByteOrMarker → number ≡ code_number code →
+        result ≡ code }
+{
+    match number {
+        0 => None,
+        1 => Some(Code::Marker(false)),
+        2 => Some(Code::Marker(true)),
+        _ => Some(Code::Byte((number % 256) as u8)),
+    }
+}
+
+fn number_of_marker(marker: Option<bool>) -> u8
+    ensures { result ≡ marker_number marker }
+{
+    match marker {
+        None => 0,
+        Some(false) => 1,
+        Some(true) => 2,
+    }
+}
+
+fn marker_of(number: u8) -> Option<bool>
+    ensures { (marker : Option Bool) → number ≡ marker_number marker → result ≡ marker }
+{
+    match number {
+        0 => None,
+        1 => Some(false),
+        _ => Some(true),
+    }
+}
+
+fn numbers_of_move(at: Option<Move>) -> MoveNumbers
+    ensures { result ≡ move_numbers at }
+{
+    match at {
+        None => MoveNumbers {
+            is_there: false,
+            row: 0,
+            offset: 0,
+        },
+        Some(to) => MoveNumbers {
+            is_there: true,
+            row: to.row,
+            offset: to.offset,
+        },
+    }
+}
+
+fn move_of(numbers: MoveNumbers) -> Option<Move>
+    ensures { (at : Option Move) → numbers ≡ move_numbers at → result ≡ at }
+{
+    if numbers.is_there {
+        Some(Move {
+            row: numbers.row,
+            offset: numbers.offset,
+        })
+    } else {
+        None
+    }
+}
+
+impl PieceDecoder<'_, '_> {
+    /// How far it has come, as numbers. How the stream has ended is not among them.
+    pub fn numbers(&self) -> PieceNumbers
+        ensures { result ≡ piece_numbers self.now }
+    {
+        let walk = &self.walk;
+        PieceNumbers {
+            height: self.height,
+            is_open: self.is_open,
+            waits: self.waits,
+            move_behind: numbers_of_move(self.behind.at),
+            has_comment_behind: self.behind.comment.is_some(),
+            comment_behind: self.behind.comment.unwrap_or(0),
+            stage: number_of_stage(walk.stage),
+            entities: walk.entities,
+            left: walk.left,
+            is_given: walk.given,
+            move_here: numbers_of_move(walk.at),
+            comment: walk.comment,
+            row: walk.row,
+            place: walk.place.numbers(),
+            ahead: number_of_code(walk.first),
+            marker: number_of_marker(walk.marker),
+            offset: walk.carried.kept.offset,
+            is_previous_typical: walk.carried.kept.previous_typical,
+            decoder: walk.decoder.registers(),
+        }
+    }
+}
+
+impl PieceNumbers {
+    ghost use Rattle.t85_core.specs.Numbers.{HasWindow, IsWalkAs};
+    ghost use Rattle.t85_core.specs.declared.pieces.PieceDecoder.{PieceDecoder};
+
+    /// Where the stream has come to.
+    fn walk<'a, 'b>(&self, window: &'a mut Window<'b>, learned: &'a mut Learned) -> Walk<'a, 'b>
+        ensures { (d : PieceDecoder) → self.now ≡ piece_numbers d →
+            IfSome d.walk.first IsByteOrMarker → HasWindow d.walk window.old →
+            learned.old ≡ d.walk.carried.learned.now → IsWalkAs d.walk result }
+    {
+        Walk {
+            carried: CodingState {
+                window,
+                kept: Kept {
+                    offset: self.offset,
+                    previous_typical: self.is_previous_typical,
+                },
+                learned,
+            },
+            decoder: Decoder::from_registers(self.decoder).unwrap_or(Decoder::start()),
+            stage: stage_of(self.stage),
+            entities: self.entities,
+            left: self.left,
+            given: self.is_given,
+            at: move_of(self.move_here),
+            comment: self.comment,
+            row: self.row,
+            place: RowPlace::from_numbers(self.place),
+            first: code_of(self.ahead),
+            marker: marker_of(self.marker),
+        }
+    }
+
+    /// What came behind an end marker.
+    fn behind(&self) -> Behind
+        ensures { (d : PieceDecoder) → self.now ≡ piece_numbers d → result ≡ d.behind }
+    {
+        Behind {
+            at: move_of(self.move_behind),
+            comment: self.has_comment_behind.then_some(self.comment_behind),
+        }
+    }
+}
+
+impl<'a, 'b> PieceDecoder<'a, 'b> {
+    ghost use Rattle.t85_core.specs.Pieces.{HasDecoded, stream_of};
+    ghost use Rattle.t85_core.specs.Numbers.{HasWindow};
+    ghost use Rattle.t85_core.specs.declared.pieces.PieceDecoder.{PieceDecoder};
+
+    /// The decoder of this header that has these numbers, and has not ended, over a window and contexts as it left them.
+    /// Numbers that no decoder has left give one of which nothing is promised.
+    pub fn resume(
+        header: Header,
+        numbers: &PieceNumbers,
+        window: &'a mut Window<'b>,
+        learned: &'a mut Learned,
+    ) -> PieceDecoder<'a, 'b>
+        ensures stream { stream_of result ≡ fields_of header }
+        ensures resumes { (d : PieceDecoder) (text out : List ℕ) → HasDecoded d text out →
+            d.header ≡ header → numbers.now ≡ piece_numbers d → HasWindow d.walk window.old →
+            learned.old ≡ d.walk.carried.learned.now → HasDecoded result text out }
+    {
+        PieceDecoder {
+            header,
+            height: numbers.height.clamp(1, header.yd),
+            walk: numbers.walk(window, learned),
+            is_open: numbers.is_open,
+            waits: numbers.waits,
+            behind: numbers.behind(),
+            end: None,
+        }
+    }
+}
