@@ -11,6 +11,8 @@
 # make interop       exchanges streams with JBIG-KIT's programs, and compares the images
 # make charts        has programs and library code the test charts of the CCITT, beside JBIG-KIT's programs; `apt-get`
 #                    fetches them
+# make libtiff       builds Debian's libtiff with the library in the place of JBIG-KIT's, and exchanges TIFFs with Debian's
+#                    tools; `apt-get` fetches its source
 # make fuzz          calls the library with random streams for FUZZ_SECONDS, beside JBIG-KIT's library
 # make bench         measures beside JBIG-KIT and netpbm; no test is timed
 # make pictures      draws the pictures of README.md and docs/ that come from streams
@@ -50,8 +52,8 @@ MODULE = $(patsubst bindings/python/%,%,$(wildcard bindings/python/t85/*.py bind
 BUILT = $(PROGRAMS:%=bin/%)
 LIBRARY = bin/libt85.a bin/$(SHARED) bin/$(SONAME) bin/libt85.so
 # The targets that build the programs first, and those that build the library first.
-OF_PROGRAMS = show static test turns library-test interop charts against bench pictures
-OF_LIBRARY = test library-test charts fuzz bench wheel pictures
+OF_PROGRAMS = show static test turns library-test interop charts libtiff against bench pictures
+OF_LIBRARY = test library-test charts libtiff fuzz bench wheel pictures
 
 # quoted TEXT: one word of a shell, with its blanks
 quoted = '$(subst ','\'',$(1))'
@@ -188,6 +190,9 @@ charts: bin/charts
 	tests/python bin bin/charts/*.pbm
 	tests/interop bin bin/charts/*.pbm
 
+libtiff:
+	tests/libtiff bin
+
 fuzz:
 	tests/fuzz bin $(FUZZ_SECONDS)
 
@@ -271,4 +276,4 @@ clean:
 	rm -rf bin dist crates/*/out
 
 .PHONY: show build library static processor documents test turns library-test wheel pictures manuals debian interop \
-	charts fuzz against bench install install-programs install-library uninstall clean
+	charts libtiff fuzz against bench install install-programs install-library uninstall clean
