@@ -1,6 +1,7 @@
 //! Streams that come in pieces, beside `decode` of the whole stream.
 
-ghost use Rattle.std.specs.Prelude.{◌≤◌, length};
+ghost use Rattle.std.specs.Prelude.{◌≡◌, ◌≤◌, ◌<◌, ◌*◌, length};
+ghost use Rattle.std.specs.Int.{div_ceil};
 
 use crate::random::{HEADER, Heights, Random, add};
 use crate::trial::Bytes::Hex;
@@ -11,7 +12,7 @@ use raster_core::{Window, window_bytes};
 use std::alloc::Global;
 use std::process::Abort;
 use std::test::Fail;
-use t85_core::{Fault, Header, Outcome, PieceDecoder, decode, find_height};
+use t85_core::{Fault, Header, Outcome, PieceDecoder, PieceNumbers, decode, find_height};
 
 /// How a stream is cut into pieces.
 #[derive(Drop)]
@@ -120,8 +121,7 @@ fn decoded(alloc: Global, header: &Header, height: u32, body: &[u8]) -> Result<G
 }
 
 /// Shows a decoder what has come and was not taken, and whether the end was told.
-fn call(decoder: &mut PieceDecoder<'_, '_>, feed: &mut Feed<'_>, told: bool) -> Outcome
-{
+fn call(decoder: &mut PieceDecoder<'_, '_>, feed: &mut Feed<'_>, told: bool) -> Outcome {
     let progress = if told {
         decoder.next_of_last(feed.shown())
     } else {
@@ -132,8 +132,7 @@ fn call(decoder: &mut PieceDecoder<'_, '_>, feed: &mut Feed<'_>, told: bool) -> 
 }
 
 /// Whether later calls answer the same as the end: on what was not taken, and on other bytes.
-fn answers_again(decoder: &mut PieceDecoder<'_, '_>, end: Outcome, rest: &[u8]) -> bool
-{
+fn answers_again(decoder: &mut PieceDecoder<'_, '_>, end: Outcome, rest: &[u8]) -> bool {
     let other = [0xFF, 2, 0xFF, 5, 0];
     decoder.next_row(rest).outcome == end && decoder.next_of_last(&other).outcome == end
 }
@@ -184,6 +183,95 @@ fn take_pieces(
         }
     }
     Ok(None)
+}
+
+/// What is kept of a decoder from call to call, beside its contexts and the memory of its window.
+#[derive(Drop)]
+struct Kept {
+    numbers: PieceNumbers,
+    place: u8,
+    ghost within: { place < 3 },
+}
+
+/// Makes the decoder again that was kept, shows it what has come and was not taken, and keeps it. A row that it gives is
+/// appended.
+fn call_kept(
+    header: Header,
+    kept: &mut Kept,
+    lent: &mut [u8],
+    learned: &mut Learned,
+    feed: &mut Feed<'_>,
+    told: bool,
+    rows: &mut Vec<u8>,
+) -> Result<Outcome, Fail> {
+    if lent.len() != window_bytes(header.xd) {
+        return Err("memory of another size")?;
+    }
+    let mut window = Window::resume(lent, header.xd, kept.place);
+    let mut decoder = PieceDecoder::resume(header, &kept.numbers, &mut window, learned);
+    let outcome = call(&mut decoder, feed, told);
+    if outcome == Outcome::Row {
+        rows.extend_from_slice(decoder.row())?;
+    }
+    let numbers = decoder.numbers();
+    let place = window.place();
+    *kept = Kept { numbers, place };
+    Ok(outcome)
+}
+
+/// What a stream gives that comes in pieces, where of the decoder nothing but numbers is kept from call to call.
+fn take_pieces_kept(
+    alloc: Global,
+    header: Header,
+    body: &[u8],
+    cuts: &mut Cuts<'_>,
+) -> Result<Option<Given>, Fail> {
+    let mut lent = Vec::from_elem(alloc, 0u8, window_bytes(header.xd))?;
+    let mut learned = Learned::new();
+    let mut kept = first_kept(header, lent.as_mut_slice(), &mut learned);
+    let mut feed = Feed::new(body);
+    let mut rows = Vec::new(alloc);
+    let mut told = false;
+    let calls = (body.len() as u64)
+        .saturating_add(u64::from(header.yd))
+        .saturating_add(3);
+    'calls: for _ in 0..calls {
+        let lent = lent.as_mut_slice();
+        match call_kept(
+            header,
+            &mut kept,
+            lent,
+            &mut learned,
+            &mut feed,
+            told,
+            &mut rows,
+        )? {
+            Outcome::Row => {}
+            Outcome::More if told => return Ok(None),
+            Outcome::More => {
+                feed.come(cuts.next());
+                told = feed.is_all();
+            }
+            end => {
+                if let Outcome::Done(height) = end {
+                    rows.truncate(row_bytes(header.xd).saturating_mul(height as usize));
+                }
+                return Ok(Some(Given { rows, end }));
+            }
+        }
+    }
+    Ok(None)
+}
+
+/// A decoder before the first byte, as it is kept.
+fn first_kept(header: Header, lent: &mut [u8], learned: &mut Learned) -> Kept
+    requires { length lent.old ≡ 3 * div_ceil header.xd 8 }
+{
+    let mut window = Window::over(lent, header.xd);
+    let decoder = PieceDecoder::start(header, &mut window, learned);
+    let numbers = decoder.numbers();
+    let place = window.place();
+    Kept { numbers, place }
 }
 
 /// How many cuts of streams end how.
@@ -254,6 +342,12 @@ impl<'a> Case<'a> {
         let given = take_pieces(alloc, self.header, self.body, cuts)?;
         Ok(given.as_ref() == Some(&self.whole))
     }
+
+    /// Whether it does where nothing but numbers is kept of the decoder.
+    fn is_given_again(&self, alloc: Global, cuts: &mut Cuts<'_>) -> Result<bool, Fail> {
+        let given = take_pieces_kept(alloc, self.header, self.body, cuts)?;
+        Ok(given.as_ref() == Some(&self.whole))
+    }
 }
 
 /// Asserts that a stream gives the same however it is cut at random, ten times.
@@ -275,6 +369,12 @@ fn check(
             case.whole
         );
     }
+    let mut cuts = Cuts::Random(random);
+    assert!(rt;
+        case.is_given_again(alloc, &mut cuts)?,
+        "{stream:?} from numbers: {:?}",
+        case.whole
+    );
     Ok(())
 }
 

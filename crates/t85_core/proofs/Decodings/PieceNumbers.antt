@@ -1,8 +1,8 @@
 -- A decoder that is made of another one's numbers.
-use Rattle.std.proofs.Common.{◌≡◌, ◌≢◌, ◌+◌, ◌++◌, ◌%◌, ◌≤◌, ℕ, Bool, true, false, List, Option, Some, None, refl, sym, ap, ◌∙◌, subst, arith}
+use Rattle.std.proofs.Common.{◌≡◌, ◌≢◌, ◌++◌, ◌%◌, ◌≤◌, ℕ, Bool, true, false, List, Option, Some, None, refl, sym, ap, ◌∙◌, subst, arith}
 use Rattle.std.specs.Prelude.{IfSome}
 use Rattle.qm_core.specs.Source.{is_stopped}
-use Rattle.qm_core.specs.Decoder.{DecoderIsAt, has_stopped}
+use Rattle.qm_core.specs.Decoder.{DecoderIsAt}
 use Rattle.qm_core.specs.declared.source.Heard.{Heard}
 use Rattle.qm_core.specs.declared.source.Heard.TheVariants.{More, Ended, Stopped}
 use Rattle.qm_core.specs.declared.source.Pulled.{Pulled}
@@ -26,11 +26,9 @@ use Rattle.t85_core.specs.Numbers.{code_number, IsWalkAs}
 use Rattle.t85_core.specs.Steps.Segments.{IsByteOrMarker}
 use Rattle.t85_core.specs.Steps.State.{RowStart}
 use Rattle.t85_core.specs.Steps.DecodeRows.{IsCarried}
-use Rattle.t85_core.specs.Steps.DecodeStripes.{StripesRead}
 use Rattle.t85_core.specs.Steps.Pieces.{HeadStands, CommentStands, CodeStands, InRowStands, StageStands, WalkStands}
 use Rattle.t85_core.specs.Steps.PieceStands.{DecoderStands, CodeWalks, WalkWaits}
 use Rattle.t85_core.specs.Steps.PieceSteps.{KeepsDecoder}
-use Rattle.t85_core.proofs.Decodings.PieceSteps.{at_stage, put_stage}
 use Rattle.t85_core.proofs.Decodings.PieceWalk.{in_row_going}
 use Rattle.t85_core.proofs.Decodings.PieceStood.{walks_of, code_of, waits_of, put_walks, put_code, put_waits, keep_known}
 

@@ -102,13 +102,7 @@ fn number_of_code(code: Option<Code>) -> u16
 {
     match code {
         None => 0,
-        Some(Code::Marker(reset)) => {
-            if reset {
-                2
-            } else {
-                1
-            }
-        }
+        Some(Code::Marker(reset)) => { if reset { 2 } else { 1 } }
         Some(Code::Byte(byte)) => 256 + u16::from(byte),
     }
 }

@@ -1,4 +1,4 @@
-use Rattle.std.proofs.Common.{◌≡◌, ◌∙◌, refl, ap, sym, arith}
+use Rattle.std.proofs.Common.{◌≡◌, refl, ap, sym, arith}
 use Rattle.t85_core.proofs.Decodings.PieceNumbers.{ahead_of, stands_as}
 use Rattle.t85_core.proofs.pieces.PieceDecoder.resume.Goals as goal
 
