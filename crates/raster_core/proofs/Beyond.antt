@@ -1,5 +1,5 @@
 -- Lags beyond the width, at which no pixel has one to its left, and the lag that a tally chooses.
-use Rattle.std.proofs.Common.{◌≡◌, ℕ, ◌+◌, ◌-◌, ◌*◌, ◌<◌, ◌≤◌, Bool, true, false, List, [], ◌∷◌, length, refl, sym, ◌∙◌, ap, subst, arith, get_or, inl, inr, Some, None}
+use Rattle.std.proofs.Common.{◌≡◌, ℕ, ◌+◌, ◌-◌, ◌*◌, ◌<◌, ◌≤◌, Bool, true, false, List, [], ◌∷◌, length, refl, sym, ◌∙◌, ap, subst, arith, inl, inr, Some, None}
 use Rattle.std.specs.Prelude.{◌/◌, nat_lt, if◌then◌else◌}
 use Rattle.std.specs.List.{AllByRecursion}
 use Rattle.std.proofs.lemmas.Bool.{cases_lt}
@@ -8,7 +8,7 @@ use Rattle.qm_core.specs.Place.{same}
 use Rattle.raster_core.specs.Raster.{pixel_at}
 use Rattle.raster_core.specs.Lines.{Lines, adaptive}
 use Rattle.raster_core.specs.Offset.{agreements, agreement, chosen_offset}
-use Rattle.raster_core.specs.Tally.{CountsLines, least_lag, last_lag}
+use Rattle.raster_core.specs.Tally.{CountsLines, counted_at, least_lag, last_lag}
 use Rattle.raster_core.specs.declared.tally.Tally.{Tally}
 use Rattle.raster_core.proofs.Choosing.{chosen_is}
 use Rattle.raster_core.proofs.Shifts.{count_same}
@@ -34,8 +34,8 @@ beyond (r ∷ rows) width a b wide from-a from-b some-a some-b =
 pub record IsBest (t : Tally) (b : ℕ) : Type 0 where
   pub low : least_lag t.two_line ≤ b
   pub high : b ≤ last_lag t.two_line t.most t.width
-  pub greatest : (u : ℕ) → least_lag t.two_line ≤ u → u ≤ last_lag t.two_line t.most t.width → get_or t.counts u 0 ≤ get_or t.counts b 0
-  pub first : (u : ℕ) → least_lag t.two_line ≤ u → u < b → get_or t.counts u 0 < get_or t.counts b 0
+  pub greatest : (u : ℕ) → least_lag t.two_line ≤ u → u ≤ last_lag t.two_line t.most t.width → counted_at t u ≤ counted_at t b
+  pub first : (u : ℕ) → least_lag t.two_line ≤ u → u < b → counted_at t u < counted_at t b
 
 threshold : (t : Tally) (width current : ℕ) (rows : List Lines) → CountsLines t width current rows → width * length rows / 8 ≡ t.width * t.rows / 8
 threshold t width current [] k =
@@ -50,16 +50,16 @@ threshold t width current (r ∷ rows) k =
     ap (λ n. n / 8) (ap (λ x. x * length (r ∷ rows)) (sym w) ∙ ap (λ n. t.width * n) (sym k.number))
 
 -- with what the counts say of the rows
-chosen_with : (t : Tally) (width current : ℕ) (rows : List Lines) (b : ℕ) → CountsLines t width current rows → least_lag t.two_line ≤ b → b ≤ t.most → get_or t.counts b 0 ≡ agreement rows b →
+chosen_with : (t : Tally) (width current : ℕ) (rows : List Lines) (b : ℕ) → CountsLines t width current rows → least_lag t.two_line ≤ b → b ≤ t.most → counted_at t b ≡ agreement rows b →
     ((u : ℕ) → least_lag t.two_line ≤ u → u ≤ t.most → agreement rows u ≤ agreement rows b) →
     ((u : ℕ) → least_lag t.two_line ≤ u → u < b → agreement rows u < agreement rows b) →
     chosen_offset t.two_line t.most width rows current
-    ≡ (if nat_lt (t.width * t.rows / 8) (get_or t.counts b 0 - t.held) then Some b else None)
+    ≡ (if nat_lt (t.width * t.rows / 8) (counted_at t b - t.held) then Some b else None)
 chosen_with t width current rows b k low high counted greatest first =
     chosen_is t.two_line t.most width current rows b low high greatest first
     ∙ ap (λ x. if nat_lt x (agreement rows b - agreement rows current) then Some b else None) (threshold t width current rows k)
     ∙ ap (λ x. if nat_lt (t.width * t.rows / 8) (x - agreement rows current) then Some b else None) (sym counted)
-    ∙ ap (λ x. if nat_lt (t.width * t.rows / 8) (get_or t.counts b 0 - x) then Some b else None) (sym k.held)
+    ∙ ap (λ x. if nat_lt (t.width * t.rows / 8) (counted_at t b - x) then Some b else None) (sym k.held)
 
 some_lag : (two_line : Bool) → 1 ≤ least_lag two_line
 some_lag true = omega arith
@@ -73,17 +73,17 @@ beyond_last two_line most width u rows wide to above =
 
 pub chosen_by : (t : Tally) (width current : ℕ) (rows : List Lines) (b : ℕ) → CountsLines t width current rows → IsBest t b →
     chosen_offset t.two_line t.most width rows current
-    ≡ (if nat_lt (t.width * t.rows / 8) (get_or t.counts b 0 - t.held) then Some b else None)
+    ≡ (if nat_lt (t.width * t.rows / 8) (counted_at t b - t.held) then Some b else None)
 chosen_by t width current [] b k h =
     let none : t.rows ≡ 0 = k.number in
-    let zero_b : get_or t.counts b 0 ≡ 0 = omega (arith, t.counts_fit b) in
+    let zero_b : counted_at t b ≡ 0 = omega (arith, t.counts_fit b) in
     chosen_with t width current [] b k h.low (omega (arith, h.high)) zero_b (λ u from to. omega arith)
     (λ u from below. absurd (let l = h.first u from below in omega arith))
 chosen_by t width current (r ∷ rows) b k h =
     let some : 0 < length (r ∷ rows) = omega arith in
     let w : t.width ≡ width = k.width_is some in
     let high : b ≤ last_lag t.two_line t.most width = rw w at h.high in
-    let at_b : get_or t.counts b 0 ≡ agreement (r ∷ rows) b = k.each b h.low high in
+    let at_b : counted_at t b ≡ agreement (r ∷ rows) b = k.each b h.low high in
     let within : (u : ℕ) → least_lag t.two_line ≤ u → u ≤ last_lag t.two_line t.most width → agreement (r ∷ rows) u ≤ agreement (r ∷ rows) b =
     (λ u from to. subst2 ◌≤◌ (k.each u from to) at_b (h.greatest u from (rw w to))) in
     chosen_with t width current (r ∷ rows) b k h.low (omega arith) at_b

@@ -166,17 +166,23 @@ pub(crate) fn held_row(row: &[u8], above: &[u8], width: u32, offset: u8) -> u64
     held
 }
 
-/// Adds to the counts at the lags from `from` up to `end`.
-pub(crate) fn add_each(counts: &mut [u64; 128], more: &[u64; 128], from: usize, end: usize)
+/// Adds to the counts at the lags from `from` up to `end`, so many times.
+pub(crate) fn add_each(
+    counts: &mut [u64; 128],
+    more: &[u64; 128],
+    times: u64,
+    from: usize,
+    end: usize,
+)
     requires end { end ≤ 128 }
-    requires room { (lag : ℕ) → slice_index counts.old lag + slice_index more.now lag < 2 ^ 64 }
+    requires room { (k : ℕ) → slice_index counts.old k + times * slice_index more.now k < 2 ^ 64 }
     ensures counts { (lag : ℕ) → from ≤ lag → lag < end →
-        slice_index counts.new lag ≡ slice_index counts.old lag + slice_index more.now lag }
-    ensures room { (lag : ℕ) → slice_index counts.new lag ≤ slice_index counts.old lag + slice_index
-        more.now lag }
+        slice_index counts.new lag ≡ slice_index counts.old lag + times * slice_index more.now lag }
+    ensures room { (lag : ℕ) → slice_index counts.new lag ≤ slice_index counts.old lag + times *
+        slice_index more.now lag }
 {
     for lag in from..end {
-        counts[lag] += more[lag];
+        counts[lag] += times * more[lag];
     }
 }
 

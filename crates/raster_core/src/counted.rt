@@ -13,16 +13,16 @@ use crate::words::{mask_at, word_at};
 /// 2,048 bytes is kept, so that the same row is not counted again.
 #[derive(Drop)]
 pub struct Counted {
-    row: [u8; 2048],
     /// How many bytes the row has.
     len: usize,
     width: u32,
     least: usize,
     most: usize,
-    pub(crate) agreed: [u64; 128],
     /// How many equal the adaptive pixel in its nominal place, where the row above is the same row.
     /// It is counted when it is first asked for.
     below_itself: Option<u64>,
+    pub(crate) agreed: [u64; 128],
+    row: [u8; 2048],
     ghost small: { (lag : ℕ) → slice_index agreed lag ≤ 2 ^ 32 },
     ghost below_small: { (n : ℕ) → below_itself ≡ Some n → n ≤ 2 ^ 32 },
     ghost below_agrees: { (n : ℕ) → below_itself ≡ Some n → len ≤ 2048 →
@@ -45,7 +45,7 @@ impl Counted {
     }
 
     /// Whether it is of this row and these lags.
-    fn is_of(&self, row: &[u8], width: u32, least: usize, most: usize) -> bool
+    pub(crate) fn is_of(&self, row: &[u8], width: u32, least: usize, most: usize) -> bool
         ensures agreed { IsTrue result → AgreesAt row.now width least most self.now.agreed }
         ensures row { IsTrue result → take self.now.len self.now.row ≡ row.now }
         ensures width { IsTrue result → self.now.width ≡ width }
@@ -61,7 +61,7 @@ impl Counted {
         row == &self.row[..self.len]
     }
 
-    /// Counts a row at the lags from `least` to `most`, unless it is the one that was counted last.
+    /// Counts a row at the lags from `least` to `most`.
     pub(crate) fn count(&mut self, row: &[u8], width: u32, least: usize, most: usize)
         requires least { 1 ≤ least }
         requires least_small { least < 64 }
@@ -72,9 +72,6 @@ impl Counted {
         ensures least { self.new.least ≡ least }
         ensures most { self.new.most ≡ most }
     {
-        if self.is_of(row, width, least, most) {
-            return;
-        }
         count_agreed(&mut self.agreed, row, width, least, most);
         keep(&mut self.row, row);
         self.len = row.len();
@@ -96,6 +93,7 @@ impl Counted {
             result ≡ part_agreement lines self.old.width offset 0
             (64 * div_ceil self.old.width 64) }
         ensures small { result ≤ 2 ^ 32 }
+        ensures same { self.new.agreed ≡ self.old.agreed }
     {
         let lag = offset as usize;
         if self.least <= lag && lag <= self.most {
@@ -113,6 +111,7 @@ impl Counted {
         requires { self.old.len ≤ 2048 }
         ensures agreed { AgreesBelowItself (take self.old.len self.old.row) self.old.width result }
         ensures small { result ≤ 2 ^ 32 }
+        ensures same { self.new.agreed ≡ self.old.agreed }
     {
         match self.below_itself {
             Some(held) => held,

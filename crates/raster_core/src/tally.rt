@@ -14,18 +14,23 @@ pub struct Tally {
     most: u8,
     width: u32,
     rows: u32,
-    counts: [u64; 128],
     /// How many equal the adaptive pixel at the offset in use.
     held: u64,
+    /// How many rows that equal the last one are not in the counts yet.
+    times: u64,
     last: Counted,
+    counts: [u64; 128],
     ghost in_reach: { most ≤ 127 },
-    ghost counts_fit: { (lag : ℕ) → slice_index counts lag ≤ 2 ^ 32 * rows },
+    ghost counts_fit: { (lag : ℕ) →
+        slice_index counts lag + times * slice_index last.agreed lag ≤ 2 ^ 32 * rows },
+    ghost times_fit: { times ≤ rows },
     ghost held_fits: { held ≤ 2 ^ 32 * rows },
 }
 
 impl Tally {
-    ghost use Rattle.std.specs.Prelude.{◌<◌, ◌-◌, [], ◌∷◌, ◌++◌, List, IfSome};
-    ghost use Rattle.raster_core.specs.Tally.{CountsLines, is_two_line, last_lag, least_lag, most_of, row_count};
+    ghost use Rattle.std.specs.Prelude.{◌<◌, ◌-◌, [], ◌∷◌, ◌++◌, List, IfSome, take};
+    ghost use Rattle.raster_core.specs.Machine.Words.{AgreesAt};
+    ghost use Rattle.raster_core.specs.Tally.{CountsLines, CountsAlike, counted_at, is_two_line, last_lag, least_lag, most_of, row_count};
     ghost use Rattle.raster_core.specs.Lines.{Lines};
     ghost use Rattle.raster_core.specs.Offset.{chosen_offset};
     ghost use Rattle.raster_core.specs.Packed.{HasLines};
@@ -45,9 +50,10 @@ impl Tally {
             most,
             width: 0,
             rows: 0,
-            counts: [0; 128],
             held: 0,
+            times: 0,
             last: Counted::none(),
+            counts: [0; 128],
         }
     }
 
@@ -62,6 +68,7 @@ impl Tally {
             return;
         }
         self.counts = [0; 128];
+        self.times = 0;
         self.held = 0;
         self.rows = 0;
     }
@@ -85,11 +92,44 @@ impl Tally {
         let most = self.last_lag(width) as usize;
         let row = window.row(0);
         let above = window.row(1);
-        self.last.count(row, width, least, most);
-        add_each(&mut self.counts, &self.last.agreed, least, most + 1);
+        self.take(row, width, least, most);
         self.held += self.last.held(row, above, offset);
+        self.times += 1;
         self.width = width;
         self.rows += 1;
+    }
+
+    /// Counts a row at the lags from `least` to `most`, unless it equals the last one, whose counts are
+    /// then added for another time later on.
+    fn take(&mut self, row: &[u8], width: u32, least: usize, most: usize)
+        requires lags { (1 ≤ least) × (least < 64) × (most ≤ 127) }
+        ensures agreed { AgreesAt row.now width least most self.new.last.agreed }
+        ensures row { self.new.last.len ≤ 2048 → take self.new.last.len self.new.last.row ≡
+            row.now }
+        ensures last { (self.new.last.width ≡ width) × (self.new.last.least ≡ least) ×
+            (self.new.last.most ≡ most) }
+        ensures same { CountsAlike least most self.old self.new }
+    {
+        if self.last.is_of(row, width, least, most) {
+            return;
+        }
+        add_each(
+            &mut self.counts,
+            &self.last.agreed,
+            self.times,
+            least,
+            most + 1,
+        );
+        self.times = 0;
+        self.last.count(row, width, least, most);
+    }
+
+    /// What was counted at a lag.
+    fn at(&self, lag: u8) -> u64
+        requires { lag ≤ 127 }
+        ensures { result ≡ counted_at self.now lag }
+    {
+        self.counts[lag as usize] + self.times * self.last.agreed[lag as usize]
     }
 
     /// The least lag with the greatest count, where it agrees at more than an eighth of the pixels
@@ -106,12 +146,12 @@ impl Tally {
         let last = self.last_lag(self.width);
         let mut best = least;
         for lag in least + 1..last + 1 {
-            if self.counts[lag as usize] > self.counts[best as usize] {
+            if self.at(lag) > self.at(best) {
                 best = lag;
             }
         }
         let eighth = self.width as u64 * self.rows as u64 / 8;
-        let gain = self.counts[best as usize].saturating_sub(self.held);
+        let gain = self.at(best).saturating_sub(self.held);
         (gain > eighth).then_some(best)
     }
 

@@ -169,9 +169,9 @@ fn encode_image<R: Input, P: ByteTarget>(
 {
     // What the proof cites of what stands after some rows.
     fronts();
+    let mut encoder = RowEncoder::new(size, options);
     window.clear();
     write_head(size, options, target)?;
-    let mut encoder = RowEncoder::new(size, options);
     'rows: for _ in 0..size.height {
         read_next_row(size, form, window, source)?;
         encoder.put_taken(window, target)?;

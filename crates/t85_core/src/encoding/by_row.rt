@@ -27,8 +27,6 @@ pub struct RowEncoder {
     has_candidates: bool,
     reset: bool,
     kept: Kept,
-    learned: Learned,
-    tally: Tally,
     encoder: Encoder,
     /// The rows that came.
     rows: u32,
@@ -38,6 +36,9 @@ pub struct RowEncoder {
     is_counted: bool,
     /// Whether the stream was ended, or a write failed.
     is_closed: bool,
+    // The arrays stand at the end, one behind another, so that they are filled with zeros once and together.
+    tally: Tally,
+    learned: Learned,
 }
 
 impl RowEncoder {

@@ -16,7 +16,7 @@ returns-then-self-eq0-clause-counts c width current =
 
 pub returns-clause-counts : goal.returns-clause-counts
 returns-clause-counts c width current =
-    record { number = refl; width_is = λ h. absurd (omega arith); wide = tt; each = λ lag from to. zeros 128 lag; held = refl }
+    record { number = refl; width_is = λ h. absurd (omega arith); wide = tt; each = λ lag from to. (let z = zeros 128 lag in omega (arith, z)); held = refl }
 
 pub returns-clause-two_line : goal.returns-clause-two_line
 returns-clause-two_line c = search rules
