@@ -51,7 +51,8 @@ pub fn write_marker<P: ByteTarget>(reset: bool, target: &mut P) -> Result<(), Fa
     ensures err { IfErr result (λ f. f ≡ Write) }
     ensures writes { WritesOn (P.view target.old) (P.view target.new) result }
 {
-    target.put(&[ESCAPE, if reset { SDRST } else { SDNORM }])
+    target.push(ESCAPE)?;
+    target.push(if reset { SDRST } else { SDNORM })
 }
 
 /// Writes what comes after the last stripe of an image of this height, where this one was announced.
