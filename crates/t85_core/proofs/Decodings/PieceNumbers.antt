@@ -27,10 +27,9 @@ use Rattle.t85_core.specs.Steps.Segments.{IsByteOrMarker}
 use Rattle.t85_core.specs.Steps.State.{RowStart}
 use Rattle.t85_core.specs.Steps.DecodeRows.{IsCarried}
 use Rattle.t85_core.specs.Steps.Pieces.{HeadStands, CommentStands, CodeStands, InRowStands, StageStands, WalkStands}
-use Rattle.t85_core.specs.Steps.PieceStands.{DecoderStands, CodeWalks, WalkWaits}
-use Rattle.t85_core.specs.Steps.PieceSteps.{KeepsDecoder}
+use Rattle.t85_core.specs.Steps.PieceStands.{DecoderStands, HeightKnown, CodeWalks, WalkWaits}
 use Rattle.t85_core.proofs.Decodings.PieceWalk.{in_row_going}
-use Rattle.t85_core.proofs.Decodings.PieceStood.{walks_of, code_of, waits_of, put_walks, put_code, put_waits, keep_known}
+use Rattle.t85_core.proofs.Decodings.PieceStood.{walks_of, code_of, waits_of, put_walks, put_code, put_waits}
 
 -- a number that stands for a byte
 pub byte_back : (n : ℕ) (ahead : Option code_type.Code) → IfSome ahead IsByteOrMarker → n ≡ code_number ahead → n ≢ 0 → n ≢ 1 → n ≢ 2 → Some (code.Byte (n % 256)) ≡ ahead
@@ -202,13 +201,16 @@ ahead_of d text out s = by d.is_open d.waits refl refl where
   by true true e f = (waits_of d text out e f s).walk.code_is
 
 -- the decoder stands where the other one does
-pub stands_as : (d d' : PieceDecoder) (text out : List ℕ) → KeepsDecoder d d' → IsWalkAs d.walk d'.walk → DecoderStands d text out → DecoderStands d' text out
-stands_as d d' text out keeps k s = by d.is_open d.waits refl refl where
+pub stands_as : (d d' : PieceDecoder) (text out : List ℕ) → fields_of d'.header ≡ fields_of d.header → d'.height ≡ d.height → d'.is_open ≡ d.is_open → d'.waits ≡ d.waits → d'.behind ≡ d.behind → IsWalkAs d.walk d'.walk → DecoderStands d text out →
+    DecoderStands d' text out
+stands_as d d' text out header height is_open waits behind k s = by d.is_open d.waits refl refl where
+  known : HeightKnown (fields_of d'.header) d'.height d'.is_open text
+  known = subst (λ h. HeightKnown h d'.height d'.is_open text) (sym header) (subst (λ n. HeightKnown (fields_of d.header) n d'.is_open text) (sym height) (subst (λ b. HeightKnown (fields_of d.header) d.height b text) (sym is_open) s.height))
+
   by : (a b : Bool) → d.is_open ≡ a → d.waits ≡ b → DecoderStands d' text out
-  by false b e f = put_walks d' text out (keeps.is_open ∙ e) (keep_known d d' text keeps s.height)
-      (subst (λ z. WalkStands (fields_of z) d'.height d'.walk text out) (sym keeps.header) (subst (λ n. WalkStands (fields_of d.header) n d'.walk text out) (sym keeps.height) (walk_as k (walks_of d text out e s))))
-  by true false e f = put_code d' text out (keeps.is_open ∙ e) (keeps.waits ∙ f) (keep_known d d' text keeps s.height)
-      (subst (λ z. CodeWalks (fields_of z) d'.walk text out) (sym keeps.header) (code_walk_as k (code_of d text out e f s)))
+  by false b e f = put_walks d' text out (is_open ∙ e) known
+      (subst (λ h. WalkStands h d'.height d'.walk text out) (sym header) (subst (λ n. WalkStands (fields_of d.header) n d'.walk text out) (sym height) (walk_as k (walks_of d text out e s))))
+  by true false e f = put_code d' text out (is_open ∙ e) (waits ∙ f) known (subst (λ h. CodeWalks h d'.walk text out) (sym header) (code_walk_as k (code_of d text out e f s)))
   by true true e f =
       let w = waits_of d text out e f s in
       let t : WalkWaits (fields_of d.header) (record d.walk { carried = d'.walk.carried; decoder = d'.walk.decoder }) d.behind text out = record {
@@ -220,7 +222,7 @@ stands_as d d' text out keeps k s = by d.is_open d.waits refl refl where
         ungiven = w.ungiven;
         behind = w.behind;
       } in
-      put_waits d' text out (keeps.is_open ∙ e) (keeps.waits ∙ f) (keep_known d d' text keeps s.height)
-      (subst (λ z. WalkWaits (fields_of z) d'.walk d'.behind text out) (sym keeps.header)
-      (subst (λ b. WalkWaits (fields_of d.header) d'.walk b text out) (sym keeps.behind)
+      put_waits d' text out (is_open ∙ e) (waits ∙ f) known
+      (subst (λ h. WalkWaits h d'.walk d'.behind text out) (sym header)
+      (subst (λ b. WalkWaits (fields_of d.header) d'.walk b text out) (sym behind)
       (subst (λ z. WalkWaits (fields_of d.header) z d.behind text out) (sym k.same) t)))

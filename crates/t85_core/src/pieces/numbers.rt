@@ -258,8 +258,9 @@ impl<'a, 'b> PieceDecoder<'a, 'b> {
     ) -> PieceDecoder<'a, 'b>
         ensures stream { stream_of result ≡ fields_of header }
         ensures resumes { (d : PieceDecoder) (text out : List ℕ) → HasDecoded d text out →
-            d.header ≡ header → numbers.now ≡ piece_numbers d → HasWindow d.walk window.old →
-            learned.old ≡ d.walk.carried.learned.now → HasDecoded result text out }
+            stream_of d ≡ fields_of header → numbers.now ≡ piece_numbers d →
+            HasWindow d.walk window.old → learned.old ≡ d.walk.carried.learned.now →
+            HasDecoded result text out }
     {
         PieceDecoder {
             header,
