@@ -10,6 +10,8 @@ mod devices;
 #[cfg(test)]
 mod numbers;
 #[cfg(test)]
+mod parts;
+#[cfg(test)]
 mod pbm;
 #[cfg(test)]
 mod pulls;

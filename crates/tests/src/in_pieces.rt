@@ -137,6 +137,13 @@ fn answers_again(decoder: &mut PieceDecoder<'_, '_>, end: Outcome, rest: &[u8]) 
     decoder.next_row(rest).outcome == end && decoder.next_of_last(&other).outcome == end
 }
 
+/// How many calls lead to the end, at most: each takes a byte, gives a row, or tells the end, once more.
+fn most_calls(header: &Header, body: &[u8]) -> u64 {
+    (body.len() as u64)
+        .saturating_add(u64::from(header.yd))
+        .saturating_add(3)
+}
+
 /// What a stream gives that comes in pieces. It is none where no end comes, a call after the end answers something else,
 /// more is wanted after the last byte, more of a piece is left than may be, or rows that were certain are not so later, or
 /// not the image's.
@@ -155,10 +162,7 @@ fn take_pieces(
     let by_itself = cuts.ends_by_itself();
     let mut told = false;
     let mut certain = 0;
-    let calls = (body.len() as u64)
-        .saturating_add(u64::from(header.yd))
-        .saturating_add(3);
-    'calls: for _ in 0..calls {
+    'calls: for _ in 0..most_calls(&header, body) {
         let answer = call(&mut decoder, &mut feed, told);
         if decoder.certain() < certain {
             return Ok(None);
@@ -232,10 +236,7 @@ fn take_pieces_kept(
     let mut feed = Feed::new(body);
     let mut rows = Vec::new(alloc);
     let mut told = false;
-    let calls = (body.len() as u64)
-        .saturating_add(u64::from(header.yd))
-        .saturating_add(3);
-    'calls: for _ in 0..calls {
+    'calls: for _ in 0..most_calls(&header, body) {
         let lent = lent.as_mut_slice();
         match call_kept(
             header,
