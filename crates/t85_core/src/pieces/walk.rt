@@ -22,7 +22,7 @@ use crate::state::CodingState;
 use qm_core::{Decoder, Learned};
 use raster_core::{RowPlace, Window};
 
-/// The greatest offset of the adaptive template pixel (T.82, 6.2.2).
+/// The greatest offset of the adaptive template pixel that T.85 has.
 const MOST_OFFSET: u8 = 127;
 
 /// What comes next in a stream.
