@@ -24,11 +24,11 @@ fn in_pieces(header: Header, body: &[u8], window: &mut Window<'_>, size: usize, 
     let mut from = 0usize;
     let mut to = 0usize;
     'calls: for _ in 0..u64::MAX {
-        let progress = decoder.next_row(&body[from..to]);
+        let progress = decoder.next_row(window, &mut learned, &body[from..to]);
         from += progress.taken;
         match progress.outcome {
             Outcome::Row => {
-                if rows.extend_from_slice(decoder.row()).is_err() {
+                if rows.extend_from_slice(window.row(0)).is_err() {
                     return;
                 }
             }

@@ -16,6 +16,7 @@ pub mod Options
 pub mod Info
 pub mod Decode
 pub mod Outcomes
+pub mod Lent
 pub mod Pieces
 pub mod Numbers
 pub mod ToPbm

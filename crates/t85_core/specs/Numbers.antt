@@ -3,8 +3,6 @@ use Rattle.std.specs.Prelude.{ℕ, ◌+◌, ◌≡◌, Bool, true, false, Option
 use Rattle.std.specs.Option.{unwrap_or}
 use Rattle.qm_core.specs.Decoder.{decoder_registers, has_stopped}
 use Rattle.raster_core.specs.Row.{row_place_numbers}
-use Rattle.raster_core.specs.Window.{held, width_of}
-use Rattle.raster_core.specs.declared.window.Window.{Window}
 use Rattle.t85_core.specs.declared.pieces.PieceDecoder.{PieceDecoder}
 use Rattle.t85_core.specs.declared.pieces.numbers.MoveNumbers.{MoveNumbers}
 use Rattle.t85_core.specs.declared.pieces.numbers.PieceNumbers.{PieceNumbers}
@@ -60,20 +58,12 @@ piece_numbers d = record {
   place = row_place_numbers d.walk.place;
   ahead = code_number d.walk.first;
   marker = marker_number d.walk.marker;
-  offset = d.walk.carried.kept.offset;
-  is_previous_typical = d.walk.carried.kept.previous_typical;
+  offset = d.walk.kept.offset;
+  is_previous_typical = d.walk.kept.previous_typical;
   decoder = decoder_registers d.walk.decoder;
 }
 
--- a window that holds what that of a walk does
-pub record HasWindow (w : Walk) (window : Window) : Type 0 where
-  pub width_is : width_of window ≡ width_of w.carried.window.now
-  pub held_is : held window ≡ held w.carried.window.now
-
 -- A walk that stands where this one does. Its decoder is the same if that one goes on.
 pub record IsWalkAs (w w' : Walk) : Type 0 where
-  pub window_is : HasWindow w w'.carried.window.now
-  pub kept_is : w'.carried.kept ≡ w.carried.kept
-  pub learned_is : w'.carried.learned.now ≡ w.carried.learned.now
   pub decoder_is : has_stopped w.decoder ≡ false → w'.decoder ≡ w.decoder
-  pub same : w' ≡ record w { carried = w'.carried; decoder = w'.decoder }
+  pub same : w' ≡ record w { decoder = w'.decoder }

@@ -1,12 +1,12 @@
 -- What a decoder leaves that is given a stream in pieces.
-use Rattle.std.specs.Prelude.{ℕ, ◌+◌, ◌*◌, ◌≡◌, ◌≤◌, ⊤, Bool, true, false, List, [], ◌∷◌, ◌++◌, take, Some, None, flat_map}
+use Rattle.std.specs.Prelude.{ℕ, ◌+◌, ◌*◌, ◌≡◌, ◌≢◌, ◌≤◌, ⊤, Bool, true, false, List, [], ◌∷◌, ◌++◌, length, take, Some, None, flat_map}
 use Rattle.raster_core.specs.Packed.{packed_row}
-use Rattle.raster_core.specs.Window.{held}
 use Rattle.t85_core.specs.declared.fault.Fault.{Fault}
 use Rattle.t85_core.specs.declared.fault.Fault.TheVariants.{Truncated}
-use Rattle.t85_core.specs.declared.pieces.PieceDecoder.{PieceDecoder}
+use Rattle.t85_core.specs.Lent.{PieceView}
 use Rattle.t85_core.specs.declared.pieces.End.{End}
 use Rattle.t85_core.specs.declared.pieces.Outcome.{Outcome}
+use Rattle.t85_core.specs.declared.pieces.Progress.{Progress}
 use Rattle.t85_core.specs.declared.pieces.Outcome.TheVariants as outcome
 use Rattle.t85_core.specs.Header.{Fields}
 use Rattle.t85_core.specs.Options.{fields_of}
@@ -18,19 +18,19 @@ use Rattle.t85_core.specs.Steps.Pieces.{HasMarker}
 use Rattle.t85_core.specs.Steps.PieceStands.{DecoderStands}
 
 -- the header of the stream that a decoder decodes
-abbrev pub stream_of : PieceDecoder → Fields
+abbrev pub stream_of : PieceView → Fields
 stream_of d = fields_of d.header
 
 -- the height that it uses
-abbrev pub height_in_use : PieceDecoder → ℕ
+abbrev pub height_in_use : PieceView → ℕ
 height_in_use d = d.height
 
 -- the row that it gave last, packed
-abbrev pub row_held : PieceDecoder → List ℕ
-row_held d = (held d.walk.carried.window.now).current
+abbrev pub row_held : PieceView → List ℕ
+row_held d = d.walk.carried.held.current
 
 -- A decoder goes on. It has taken these bytes, and has given these rows, packed.
-pub record HasDecoded (d : PieceDecoder) (text out : List ℕ) : Type 0 where
+pub record HasDecoded (d : PieceView) (text out : List ℕ) : Type 0 where
   pub going : d.end ≡ None
   pub stands : DecoderStands d text out
 
@@ -44,7 +44,7 @@ pub record IsLeastHeight (h : Fields) (text : List ℕ) (least : ℕ) : Type 0 w
   pub reached : (rest : List ℕ) × IsHeight h (text ++ rest) least
 
 -- so many first rows are certain, and not one more
-abbrev pub AreCertain : PieceDecoder → ℕ → Type 0
+abbrev pub AreCertain : PieceView → ℕ → Type 0
 AreCertain d rows = (text out : List ℕ) → HasDecoded d text out → IsLeastHeight (stream_of d) text rows
 
 -- A body that is broken, or ends too early: its height, its fault, and the rows that it fixes, packed.
@@ -68,40 +68,40 @@ MayFollow is_all rest = is_all ≡ true → rest ≡ []
 -- ---- a call with a piece, of which so many bytes were taken
 
 -- a row more was given
-abbrev pub GivesRow : PieceDecoder → PieceDecoder → List ℕ → ℕ → Outcome → Type 0
+abbrev pub GivesRow : PieceView → PieceView → List ℕ → ℕ → Outcome → Type 0
 GivesRow old new piece taken answer =
     answer ≡ outcome.Row → (text out : List ℕ) → HasDecoded old text out → HasDecoded new (text ++ take taken piece) (out ++ row_held new)
 
 -- how many rows it gave, up to the last one of a stripe whose code it is in
-abbrev pub rows_given : PieceDecoder → ℕ
+abbrev pub rows_given : PieceView → ℕ
 rows_given d = d.walk.entities * d.header.l0 + d.walk.row
 
 -- A row that the end marker of its code decides waits for what comes behind the marker, while a height may come: none
 -- that comes then is below the rows that were given.
-abbrev pub RowsWait : Bool → PieceDecoder → PieceDecoder → List ℕ → Outcome → Type 0
+abbrev pub RowsWait : Bool → PieceView → PieceView → List ℕ → Outcome → Type 0
 RowsWait is_all old new piece answer =
     answer ≡ outcome.Row → new.is_open ≡ true → HasMarker new.walk → (text out rest : List ℕ) (height : ℕ) → HasDecoded old text out → MayFollow is_all rest → IsHeight (stream_of old) ((text ++ piece) ++ rest) height →
     rows_given new ≤ height
 
 -- No row is given. If nothing waits, and nothing comes after the piece, the stream ends too early, and what was given is
 -- what it fixes.
-abbrev pub WantsMore : PieceDecoder → PieceDecoder → List ℕ → ℕ → Outcome → Type 0
+abbrev pub WantsMore : PieceView → PieceView → List ℕ → ℕ → Outcome → Type 0
 WantsMore old new piece taken answer =
     answer ≡ outcome.More → (text out : List ℕ) → HasDecoded old text out →
     HasDecoded new (text ++ take taken piece) out × (new.waits ≡ false → HandsOut (stream_of old) (text ++ piece) new.height Truncated out)
 
 -- the image is whole at this height, whatever comes after the piece
-abbrev pub IsWhole : Bool → PieceDecoder → PieceDecoder → List ℕ → Outcome → Type 0
+abbrev pub IsWhole : Bool → PieceView → PieceView → List ℕ → Outcome → Type 0
 IsWhole is_all old new piece answer =
     (height : ℕ) → answer ≡ outcome.Done height → (new.height ≡ height) × ((text out rest : List ℕ) → HasDecoded old text out → MayFollow is_all rest → HoldsImage (stream_of old) ((text ++ piece) ++ rest) height out)
 
 -- what was given is what the stream fixes, whatever comes after the piece
-abbrev pub IsBroken : Bool → PieceDecoder → PieceDecoder → List ℕ → Outcome → Type 0
+abbrev pub IsBroken : Bool → PieceView → PieceView → List ℕ → Outcome → Type 0
 IsBroken is_all old new piece answer =
     (fault : Fault) → answer ≡ outcome.Broken fault → (text out rest : List ℕ) → HasDecoded old text out → MayFollow is_all rest → HandsOut (stream_of old) ((text ++ piece) ++ rest) new.height fault out
 
 -- after an end all stays as it is
-abbrev pub EndsAgain : PieceDecoder → PieceDecoder → ℕ → Outcome → Type 0
+abbrev pub EndsAgain : PieceView → PieceView → ℕ → Outcome → Type 0
 EndsAgain old new taken answer = (end : End) → old.end ≡ Some end → (answer ≡ end_told end old.height) × (taken ≡ 0) × (new ≡ old)
 
 -- ---- calls one after another
@@ -112,11 +112,17 @@ pub record Call : Type 0 where
   pub is_all : Bool
   pub taken : ℕ
   pub answer : Outcome
-  pub new : PieceDecoder
+  pub new : PieceView
 
--- it is as `next_row` and `next_of_last` promise
-pub record IsCall (old : PieceDecoder) (call : Call) : Type 0 where
+abbrev pub call_of : List ℕ → Bool → Progress → PieceView → Call
+call_of piece is_all progress new = record { piece = piece; is_all = is_all; taken = progress.taken; answer = progress.outcome; new = new }
+
+-- what a call of `next_row` or `next_of_last` leaves
+pub record IsCall (old : PieceView) (call : Call) : Type 0 where
   pub same : stream_of call.new ≡ stream_of old
+  pub bound : call.taken ≤ length call.piece
+  pub ends : call.is_all ≡ true → call.answer ≢ outcome.More
+  pub again : EndsAgain old call.new call.taken call.answer
   pub row : GivesRow old call.new call.piece call.taken call.answer
   pub waits : RowsWait call.is_all old call.new call.piece call.answer
   pub more : WantsMore old call.new call.piece call.taken call.answer
@@ -144,38 +150,38 @@ StreamGoesOn (outcome.Done height) = ⊥
 StreamGoesOn (outcome.Broken fault) = ⊥
 
 -- calls one after another, whatever their pieces are, up to the end
-abbrev pub AreCalls : PieceDecoder → List Call → Type 0
+abbrev pub AreCalls : PieceView → List Call → Type 0
 AreCalls d [] = ⊤
 AreCalls d (call ∷ calls) = IsCall d call × StreamGoesOn call.answer × AreCalls call.new calls
 
 -- the decoder after them
-abbrev pub decoder_after : PieceDecoder → List Call → PieceDecoder
+abbrev pub decoder_after : PieceView → List Call → PieceView
 decoder_after d [] = d
 decoder_after d (call ∷ calls) = decoder_after call.new calls
 
 -- However a stream is cut: after any calls a decoder that is fresh has taken their bytes, and has given their rows.
 abbrev pub PiecesTaken : Type 0
 PiecesTaken =
-    (d : PieceDecoder) (calls : List Call) → HasDecoded d [] [] → AreCalls d calls →
+    (d : PieceView) (calls : List Call) → HasDecoded d [] [] → AreCalls d calls →
     HasDecoded (decoder_after d calls) (flat_map bytes_taken calls) (flat_map row_given calls)
 
 -- What a call says after some calls: of all that was taken, and of all that came.
 abbrev pub PiecesWhole : Type 0
 PiecesWhole =
-    (d : PieceDecoder) (calls : List Call) (last : Call) (height : ℕ) (rest : List ℕ) → HasDecoded d [] [] → AreCalls d calls → IsCall (decoder_after d calls) last →
+    (d : PieceView) (calls : List Call) (last : Call) (height : ℕ) (rest : List ℕ) → HasDecoded d [] [] → AreCalls d calls → IsCall (decoder_after d calls) last →
     last.answer ≡ outcome.Done height → MayFollow last.is_all rest → HoldsImage (stream_of d) ((flat_map bytes_taken calls ++ last.piece) ++ rest) height (flat_map row_given calls)
 
 abbrev pub PiecesBroken : Type 0
 PiecesBroken =
-    (d : PieceDecoder) (calls : List Call) (last : Call) (fault : Fault) (rest : List ℕ) → HasDecoded d [] [] → AreCalls d calls → IsCall (decoder_after d calls) last →
+    (d : PieceView) (calls : List Call) (last : Call) (fault : Fault) (rest : List ℕ) → HasDecoded d [] [] → AreCalls d calls → IsCall (decoder_after d calls) last →
     last.answer ≡ outcome.Broken fault → MayFollow last.is_all rest → HandsOut (stream_of d) ((flat_map bytes_taken calls ++ last.piece) ++ rest) last.new.height fault (flat_map row_given calls)
 
 abbrev pub PiecesMore : Type 0
 PiecesMore =
-    (d : PieceDecoder) (calls : List Call) (last : Call) → HasDecoded d [] [] → AreCalls d calls → IsCall (decoder_after d calls) last → last.answer ≡ outcome.More → last.new.waits ≡ false →
+    (d : PieceView) (calls : List Call) (last : Call) → HasDecoded d [] [] → AreCalls d calls → IsCall (decoder_after d calls) last → last.answer ≡ outcome.More → last.new.waits ≡ false →
     HandsOut (stream_of d) (flat_map bytes_taken calls ++ last.piece) last.new.height Truncated (flat_map row_given calls)
 
 abbrev pub PiecesWait : Type 0
 PiecesWait =
-    (d : PieceDecoder) (calls : List Call) (last : Call) (height : ℕ) (rest : List ℕ) → HasDecoded d [] [] → AreCalls d calls → IsCall (decoder_after d calls) last → last.answer ≡ outcome.Row → last.new.is_open ≡ true → HasMarker last.new.walk →
+    (d : PieceView) (calls : List Call) (last : Call) (height : ℕ) (rest : List ℕ) → HasDecoded d [] [] → AreCalls d calls → IsCall (decoder_after d calls) last → last.answer ≡ outcome.Row → last.new.is_open ≡ true → HasMarker last.new.walk →
     MayFollow last.is_all rest → IsHeight (stream_of d) ((flat_map bytes_taken calls ++ last.piece) ++ rest) height → rows_given last.new ≤ height

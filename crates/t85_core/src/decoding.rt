@@ -8,6 +8,7 @@ ghost use Rattle.t85_core.specs.Change.{input_change, output_change};
 ghost use Rattle.t85_core.specs.Decode.{Decode};
 ghost use Rattle.t85_core.specs.Steps.Buffers.{known_length, ReadsOn, WritesOn};
 ghost use Rattle.t85_core.specs.Steps.Views.{entity_view, text_taken, writer_of};
+ghost use Rattle.t85_core.specs.Lent.{carried_of};
 ghost use Rattle.t85_core.specs.Steps.DecodeRows.{pair_of, IsCarried, IsFirst};
 ghost use Rattle.t85_core.specs.Steps.DecodeStripes.{CodeBegun, DecodeCodeOutcome, SomeStripeStart, DecodeStripeOutcome, ImageRead, ImageCut, ImageUnwritten};
 ghost use Rattle.t85_core.specs.Steps.Entity.{entity_known};
@@ -126,7 +127,7 @@ fn decode_buffered<S: ByteSource, W: Output, const HELD: usize>(
 ) -> Result<(), Fault>
     requires width { width_of carried.old.window.now ≡ header.now.xd }
     requires offset { carried.old.kept.offset ≡ 0 }
-    requires first { IsFirst carried.old }
+    requires first { IsFirst (carried_of carried.old) }
     requires from { 1 ≤ height }
     requires to { height ≤ header.now.yd }
     ensures ok { OnOk result (ImageRead (fields_of header.now) height (S.view stream.old).known
@@ -169,7 +170,7 @@ fn decode_image<S: ByteSource, P: ByteTarget>(
 ) -> Result<(), Fault>
     requires width { width_of carried.old.window.now ≡ header.now.xd }
     requires offset { carried.old.kept.offset ≡ 0 }
-    requires first { IsFirst carried.old }
+    requires first { IsFirst (carried_of carried.old) }
     requires from { 1 ≤ height }
     requires to { height ≤ header.now.yd }
     ensures ok { OnOk result (ImageRead (fields_of header.now) height (S.view stream.old).known
@@ -212,9 +213,10 @@ fn decode_stripe<S: ByteSource, P: ByteTarget>(
 ) -> Result<(), Fault>
     requires width { width_of carried.old.window.now ≡ header.now.xd }
     requires offset { carried.old.kept.offset ≤ 127 }
-    requires carried { SomeStripeStart carried.old }
+    requires carried { SomeStripeStart (carried_of carried.old) }
     ensures outcome { DecodeStripeOutcome (fields_of header.now) (spot_at place) (if given.new then
-        1 else 0) (S.view stream.old).known (S.view stream.new).known rows carried.old carried.new
+        1 else 0) (S.view stream.old).known (S.view stream.new).known rows (carried_of carried.old)
+        (carried_of carried.new)
         (P.view target.old).text (P.view target.new).text result }
     ensures width { OnOk result (width_of carried.new.window.now ≡
         width_of carried.old.window.now) }
@@ -241,9 +243,10 @@ fn decode_code<S: ByteSource, P: ByteTarget>(
     requires some { 1 ≤ shape.width }
     requires offset { carried.old.kept.offset ≤ 127 }
     requires to { IfSome at (λ to. to.offset ≤ 127) }
-    requires begun { CodeBegun shape (option_map pair_of at) carried.old (entity_view entity.old) }
+    requires begun { CodeBegun shape (option_map pair_of at) (carried_of carried.old) (entity_view entity.old) }
     ensures outcome { DecodeCodeOutcome (entity_view entity.old) (entity_view entity.new) (S.view
-        entity.new.stream.now).known shape (option_map pair_of at) rows carried.old carried.new
+        entity.new.stream.now).known shape (option_map pair_of at) rows (carried_of carried.old)
+        (carried_of carried.new)
         (P.view target.old).text (P.view target.new).text result }
     ensures width { OnOk result (width_of carried.new.window.now ≡
         width_of carried.old.window.now) }

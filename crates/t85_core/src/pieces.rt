@@ -1,7 +1,9 @@
 //! Decoding a stream whose bytes come in pieces, row by row.
 
-ghost use Rattle.std.specs.Prelude.{◌≡◌, ◌≢◌, ◌≤◌, [], IfSome, length, true, false};
-ghost use Rattle.raster_core.specs.Window.{width_of};
+ghost use Rattle.std.specs.Prelude.{◌≡◌, ◌≤◌, [], List, IfSome, true, false};
+ghost use Rattle.qm_core.specs.Place.{Estimate};
+ghost use Rattle.raster_core.specs.Packed.{Held};
+ghost use Rattle.raster_core.specs.Window.{memory_of, width_of};
 ghost use Rattle.t85_core.specs.Outcomes.{end_in};
 
 pub mod behind;
@@ -51,16 +53,17 @@ pub struct Progress {
     pub taken: usize,
 }
 
-/// A decoder that is given the bytes after the header in pieces, whenever they come.
+/// A decoder that is given the bytes after the header in pieces, whenever they come. It has no memory of its own: each call
+/// is lent the window with the rows, and the contexts, as the call before has left them.
 ///
 /// While a height may still come (T.82, 6.2.6.2), rows that only the end of a code decides wait for what stands behind its
 /// end marker, since a height there cuts them off. All others are given as soon as the bytes decide them.
 #[derive(Drop)]
-pub struct PieceDecoder<'a, 'b> {
+pub struct PieceDecoder {
     header: Header,
     /// The height in use: the header's, until another has come.
     height: u32,
-    walk: Walk<'a, 'b>,
+    walk: Walk,
     /// Whether a height may still come.
     is_open: bool,
     /// Whether the walk waits for what comes behind it, which is here.
@@ -72,22 +75,19 @@ pub struct PieceDecoder<'a, 'b> {
     ghost to: { height ≤ header.yd },
 }
 
-impl<'a, 'b> PieceDecoder<'a, 'b> {
-    ghost use Rattle.t85_core.specs.Options.{fields_of};
-    ghost use Rattle.t85_core.specs.Pieces.{HasDecoded, stream_of};
+impl PieceDecoder {
+    ghost use Rattle.t85_core.specs.Lent.{decoder_over, decoder_view};
+    ghost use Rattle.t85_core.specs.Pieces.{HasDecoded, IsCall, AreCertain, call_of};
 
     /// Before the first byte after the header. The window is made white, and the contexts forget.
-    pub fn start(
-        header: Header,
-        window: &'a mut Window<'b>,
-        learned: &'a mut Learned,
-    ) -> PieceDecoder<'a, 'b>
+    pub fn start(header: Header, window: &mut Window<'_>, learned: &mut Learned) -> PieceDecoder
         requires width { width_of window.old ≡ header.xd }
-        ensures stream { stream_of result ≡ fields_of header }
-        ensures none { HasDecoded result [] [] }
+        ensures stream { result.header ≡ header }
+        ensures none { HasDecoded (decoder_over result window.new learned.new) [] [] }
+        ensures same_memory { memory_of window.new ≡ memory_of window.old }
+        ensures same_width { width_of window.new ≡ width_of window.old }
     {
         let is_open = header.is_variable();
-        *learned = Learned::new();
         PieceDecoder {
             header,
             height: header.yd,
@@ -98,52 +98,50 @@ impl<'a, 'b> PieceDecoder<'a, 'b> {
             end: None,
         }
     }
-}
 
-impl PieceDecoder<'_, '_> {
-    ghost use Rattle.t85_core.specs.declared.pieces.Outcome.TheVariants as outcome;
-    ghost use Rattle.t85_core.specs.Pieces.{GivesRow, RowsWait, WantsMore, IsWhole, IsBroken, EndsAgain, AreCertain, row_held, stream_of, height_in_use};
-
-    /// Goes on with these bytes up to the end of the next row, or as far as they go.
-    pub fn next_row(&mut self, piece: &[u8]) -> Progress
-        ensures same { stream_of self.new ≡ stream_of self.old }
-        ensures bound { result.taken ≤ length piece.now }
-        ensures row { GivesRow self.old self.new piece.now result.taken result.outcome }
-        ensures waits { RowsWait false self.old self.new piece.now result.outcome }
-        ensures more { WantsMore self.old self.new piece.now result.taken result.outcome }
-        ensures done { IsWhole false self.old self.new piece.now result.outcome }
-        ensures broken { IsBroken false self.old self.new piece.now result.outcome }
-        ensures again { EndsAgain self.old self.new result.taken result.outcome }
+    /// Goes on with these bytes up to the end of the next row, or as far as they go. The window has the row.
+    pub fn next_row(
+        &mut self,
+        window: &mut Window<'_>,
+        learned: &mut Learned,
+        piece: &[u8],
+    ) -> Progress
+        ensures call { IsCall (decoder_over self.old window.old learned.old)
+            (call_of piece.now false result (decoder_over self.new window.new learned.new)) }
+        ensures same_memory { memory_of window.new ≡ memory_of window.old }
+        ensures same_width { width_of window.new ≡ width_of window.old }
     {
-        self.take(piece, false)
+        self.take(window, learned, piece, false)
     }
 
     /// Goes on with these bytes, which are the last, up to the end of the next row, or to the end of the stream. Call it
     /// again with what was not taken as long as it gives rows.
-    pub fn next_of_last(&mut self, piece: &[u8]) -> Progress
-        ensures same { stream_of self.new ≡ stream_of self.old }
-        ensures bound { result.taken ≤ length piece.now }
-        ensures row { GivesRow self.old self.new piece.now result.taken result.outcome }
-        ensures waits { RowsWait true self.old self.new piece.now result.outcome }
-        ensures ends { result.outcome ≢ outcome.More }
-        ensures done { IsWhole true self.old self.new piece.now result.outcome }
-        ensures broken { IsBroken true self.old self.new piece.now result.outcome }
-        ensures again { EndsAgain self.old self.new result.taken result.outcome }
+    pub fn next_of_last(
+        &mut self,
+        window: &mut Window<'_>,
+        learned: &mut Learned,
+        piece: &[u8],
+    ) -> Progress
+        ensures call { IsCall (decoder_over self.old window.old learned.old)
+            (call_of piece.now true result (decoder_over self.new window.new learned.new)) }
+        ensures same_memory { memory_of window.new ≡ memory_of window.old }
+        ensures same_width { width_of window.new ≡ width_of window.old }
     {
-        self.take(piece, true)
+        self.take(window, learned, piece, true)
     }
 
     /// Goes on with these bytes; whether they are the last is `is_all`.
-    fn take(&mut self, piece: &[u8], is_all: bool) -> Progress
-        ensures same { stream_of self.new ≡ stream_of self.old }
-        ensures bound { result.taken ≤ length piece.now }
-        ensures row { GivesRow self.old self.new piece.now result.taken result.outcome }
-        ensures waits { RowsWait is_all self.old self.new piece.now result.outcome }
-        ensures more { WantsMore self.old self.new piece.now result.taken result.outcome }
-        ensures ends { is_all ≡ true → result.outcome ≢ outcome.More }
-        ensures done { IsWhole is_all self.old self.new piece.now result.outcome }
-        ensures broken { IsBroken is_all self.old self.new piece.now result.outcome }
-        ensures again { EndsAgain self.old self.new result.taken result.outcome }
+    fn take(
+        &mut self,
+        window: &mut Window<'_>,
+        learned: &mut Learned,
+        piece: &[u8],
+        is_all: bool,
+    ) -> Progress
+        ensures call { IsCall (decoder_over self.old window.old learned.old)
+            (call_of piece.now is_all result (decoder_over self.new window.new learned.new)) }
+        ensures same_memory { memory_of window.new ≡ memory_of window.old }
+        ensures same_width { width_of window.new ≡ width_of window.old }
     {
         if let Some(end) = self.end {
             return Progress {
@@ -152,7 +150,7 @@ impl PieceDecoder<'_, '_> {
             };
         }
         let mut rest = Piece { rest: piece };
-        let outcome = self.go_on(&mut rest, is_all);
+        let outcome = self.go_on(window, learned, &mut rest, is_all);
         self.end = end_of(outcome);
         Progress {
             outcome,
@@ -160,17 +158,11 @@ impl PieceDecoder<'_, '_> {
         }
     }
 
-    /// The row that was given last, packed.
-    pub fn row(&self) -> &[u8]
-        ensures { result.now ≡ row_held self.now }
-    {
-        self.walk.carried.window.row(0)
-    }
-
     /// How many first rows are the image's, whatever bytes follow: a height that comes later is not below this.
     pub fn certain(&self) -> u32
-        ensures certain { AreCertain self.now result }
-        ensures ended { IfSome self.now.end (λ _. result ≡ height_in_use self.now) }
+        ensures certain { (rows : Held) (learned : List Estimate) →
+            AreCertain (decoder_view self.now rows learned) result }
+        ensures ended { IfSome self.now.end (λ _. result ≡ self.now.height) }
     {
         if !self.is_open || self.end.is_some() {
             return self.height;
@@ -184,7 +176,7 @@ impl PieceDecoder<'_, '_> {
 
     /// The height in use: the header's, until another has come.
     pub fn height(&self) -> u32
-        ensures { result ≡ height_in_use self.now }
+        ensures { result ≡ self.now.height }
     {
         self.height
     }

@@ -2,8 +2,9 @@
 
 ghost use Rattle.std.specs.Prelude.{◌≡◌, ◌<◌, ◌-◌, if◌then◌else◌};
 ghost use Rattle.qm_core.specs.Place.{fresh};
-ghost use Rattle.raster_core.specs.Window.{width_of};
+ghost use Rattle.raster_core.specs.Window.{held, memory_of, width_of};
 ghost use Rattle.t85_core.specs.Steps.State.{RowStart, first_row_start, next_stripe_start};
+ghost use Rattle.t85_core.specs.Lent.{carried_of, carried_over};
 ghost use Rattle.t85_core.specs.Steps.DecodeRows.{IsCarried, IsFirst};
 
 use qm_core::Learned;
@@ -17,7 +18,8 @@ pub struct CodingState<'a, 'b> {
     pub learned: &'a mut Learned,
 }
 
-const START: Kept = Kept {
+/// At the top of an image.
+pub const START: Kept = Kept {
     offset: 0,
     previous_typical: false,
 };
@@ -26,7 +28,7 @@ impl<'a, 'b> CodingState<'a, 'b> {
     /// At the top of an image. The window is made white.
     pub fn first(window: &'a mut Window<'b>, learned: &'a mut Learned) -> CodingState<'a, 'b>
         requires { learned.old ≡ fresh }
-        ensures first { IsFirst result }
+        ensures first { IsFirst (carried_of result) }
         ensures width { width_of result.window.now ≡ width_of window.old }
         ensures offset { result.kept.offset ≡ 0 }
     {
@@ -43,16 +45,41 @@ impl<'a, 'b> CodingState<'a, 'b> {
 impl CodingState<'_, '_> {
     /// Goes on after an end marker. All stays, or is as at the top of an image where the marker resets.
     pub fn end_stripe(&mut self, reset: bool)
-        ensures next { (last : RowStart) → IsCarried last self.old →
+        ensures next { (last : RowStart) → IsCarried last (carried_of self.old) →
             IsCarried (first_row_start (next_stripe_start (width_of self.old.window.now) reset
-            last)) self.new }
+            last)) (carried_of self.new) }
         ensures width { width_of self.new.window.now ≡ width_of self.old.window.now }
         ensures offset { self.new.kept.offset ≡ if reset then 0 else self.old.kept.offset }
     {
         if reset {
-            self.window.clear();
-            self.kept = START;
-            *self.learned = Learned::new();
+            restart(self.window, &mut self.kept, &mut self.learned);
         }
     }
+}
+
+/// Goes on after an end marker. All stays, or is as at the top of an image where the marker resets.
+pub fn next_stripe(reset: bool, window: &mut Window<'_>, kept: &mut Kept, learned: &mut Learned)
+    ensures next { (last : RowStart) →
+        IsCarried last (carried_over window.old kept.old learned.old) →
+        IsCarried (first_row_start (next_stripe_start (width_of window.old) reset last))
+        (carried_over window.new kept.new learned.new) }
+    ensures width { width_of window.new ≡ width_of window.old }
+    ensures offset { kept.new.offset ≡ if reset then 0 else kept.old.offset }
+    ensures same_memory { memory_of window.new ≡ memory_of window.old }
+{
+    if reset {
+        restart(window, kept, learned);
+    }
+}
+
+/// Goes to the top of an image. The window is made white, and the contexts forget.
+pub fn restart(window: &mut Window<'_>, kept: &mut Kept, learned: &mut Learned)
+    ensures first { IsFirst (carried_over window.new kept.new learned.new) }
+    ensures width { width_of window.new ≡ width_of window.old }
+    ensures offset { kept.new.offset ≡ 0 }
+    ensures same_memory { memory_of window.new ≡ memory_of window.old }
+{
+    window.clear();
+    *kept = START;
+    *learned = Learned::new();
 }

@@ -121,20 +121,33 @@ fn decoded(alloc: Global, header: &Header, height: u32, body: &[u8]) -> Result<G
 }
 
 /// Shows a decoder what has come and was not taken, and whether the end was told.
-fn call(decoder: &mut PieceDecoder<'_, '_>, feed: &mut Feed<'_>, told: bool) -> Outcome {
+fn call(
+    decoder: &mut PieceDecoder,
+    window: &mut Window<'_>,
+    learned: &mut Learned,
+    feed: &mut Feed<'_>,
+    told: bool,
+) -> Outcome {
     let progress = if told {
-        decoder.next_of_last(feed.shown())
+        decoder.next_of_last(window, learned, feed.shown())
     } else {
-        decoder.next_row(feed.shown())
+        decoder.next_row(window, learned, feed.shown())
     };
     feed.take(progress.taken);
     progress.outcome
 }
 
 /// Whether later calls answer the same as the end: on what was not taken, and on other bytes.
-fn answers_again(decoder: &mut PieceDecoder<'_, '_>, end: Outcome, rest: &[u8]) -> bool {
+fn answers_again(
+    decoder: &mut PieceDecoder,
+    window: &mut Window<'_>,
+    learned: &mut Learned,
+    end: Outcome,
+    rest: &[u8],
+) -> bool {
     let other = [0xFF, 2, 0xFF, 5, 0];
-    decoder.next_row(rest).outcome == end && decoder.next_of_last(&other).outcome == end
+    decoder.next_row(window, learned, rest).outcome == end
+        && decoder.next_of_last(window, learned, &other).outcome == end
 }
 
 /// How many calls lead to the end, at most: each takes a byte, gives a row, or tells the end, once more.
@@ -163,13 +176,13 @@ fn take_pieces(
     let mut told = false;
     let mut certain = 0;
     'calls: for _ in 0..most_calls(&header, body) {
-        let answer = call(&mut decoder, &mut feed, told);
+        let answer = call(&mut decoder, &mut window, &mut learned, &mut feed, told);
         if decoder.certain() < certain {
             return Ok(None);
         }
         certain = decoder.certain();
         match answer {
-            Outcome::Row => rows.extend_from_slice(decoder.row())?,
+            Outcome::Row => rows.extend_from_slice(window.row(0))?,
             Outcome::More if told || feed.come > MOST_LEFT => return Ok(None),
             Outcome::More if feed.is_all() => told = true,
             Outcome::More => {
@@ -178,7 +191,7 @@ fn take_pieces(
             }
             end => {
                 let stays = certain == decoder.height()
-                    && answers_again(&mut decoder, end, feed.rest);
+                    && answers_again(&mut decoder, &mut window, &mut learned, end, feed.rest);
                 if let Outcome::Done(height) = end {
                     rows.truncate(row_bytes(header.xd).saturating_mul(height as usize));
                 }
@@ -212,10 +225,10 @@ fn call_kept(
         return Err("memory of another size")?;
     }
     let mut window = Window::resume(lent, header.xd, kept.place);
-    let mut decoder = PieceDecoder::resume(header, &kept.numbers, &mut window, learned);
-    let outcome = call(&mut decoder, feed, told);
+    let mut decoder = PieceDecoder::resume(header, &kept.numbers);
+    let outcome = call(&mut decoder, &mut window, learned, feed, told);
     if outcome == Outcome::Row {
-        rows.extend_from_slice(decoder.row())?;
+        rows.extend_from_slice(window.row(0))?;
     }
     let numbers = decoder.numbers();
     let place = window.place();
@@ -410,7 +423,8 @@ fn rows_wait_for_a_height(rt: HostRuntime) -> Result<(), Fail> {
     let mut feed = Feed::new(input.rest);
     'calls: for &(count, answer, certain) in &ANSWERS {
         feed.come(count);
-        assert_eq!(rt; call(&mut decoder, &mut feed, false), answer);
+        let told = call(&mut decoder, &mut window, &mut learned, &mut feed, false);
+        assert_eq!(rt; told, answer);
         assert_eq!(rt; decoder.certain(), certain);
     }
     assert_eq!(rt; decoder.height(), 2);

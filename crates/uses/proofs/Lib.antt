@@ -6,3 +6,4 @@ pub mod Pixels
 pub mod Whole
 pub mod Writes
 pub mod Rooms
+pub mod KeptCalls

@@ -6,7 +6,7 @@ use Rattle.std.proofs.lemmas.Grind.{flat_map-append}
 use Rattle.std.proofs.lemmas.List.{take-append-drop}
 use Rattle.std.proofs.lemmas.List.Sums.{sum_by-append, sum_by-cons}
 use Rattle.t85_core.specs.declared.fault.Fault.TheVariants.{Truncated}
-use Rattle.t85_core.specs.declared.pieces.PieceDecoder.{PieceDecoder}
+use Rattle.t85_core.specs.Lent.{PieceView}
 use Rattle.t85_core.specs.declared.pieces.Outcome.{Outcome}
 use Rattle.t85_core.specs.declared.pieces.Outcome.TheVariants as outcome
 use Rattle.t85_core.specs.Header.{Fields}
@@ -19,11 +19,11 @@ on_err (Err e) p = p
 
 -- ---- calls one after another
 
-made_append : (d : PieceDecoder) (xs ys : List Call) → WereMade d xs → WereMade (decoder_after d xs) ys → WereMade d (xs ++ ys)
+made_append : (d : PieceView) (xs ys : List Call) → WereMade d xs → WereMade (decoder_after d xs) ys → WereMade d (xs ++ ys)
 made_append d [] ys first more = more
 made_append d (x ∷ xs) ys first more = (first.0, made_append x.new xs ys first.1 more)
 
-after_append : (d : PieceDecoder) (xs ys : List Call) → decoder_after d (xs ++ ys) ≡ decoder_after (decoder_after d xs) ys
+after_append : (d : PieceView) (xs ys : List Call) → decoder_after d (xs ++ ys) ≡ decoder_after (decoder_after d xs) ys
 after_append d [] ys = refl
 after_append d (x ∷ xs) ys = after_append x.new xs ys
 
@@ -36,7 +36,7 @@ count_append xs ys = sum_by-append (λ call. rows_told call.answer) xs ys
 -- ---- a call more
 
 -- what a call leaves that gives no row
-call_tells : (d : PieceDecoder) (call : Call) → IsCall d call → (o : Outcome) → call.answer ≡ o → o ≢ outcome.Row → (text out : List ℕ) → HasDecoded d text out →
+call_tells : (d : PieceView) (call : Call) → IsCall d call → (o : Outcome) → call.answer ≡ o → o ≢ outcome.Row → (text out : List ℕ) → HasDecoded d text out →
     (StreamGoesOn o → HasDecoded call.new (text ++ bytes_taken call) out) × SaysOfRows (stream_of d) call.is_all call.new o (text ++ call.piece) out
 call_tells d call is outcome.Row e other text out has = absurd (other refl)
 call_tells d call is outcome.More e other text out has = let k = is.more e text out has in ((λ _. k.0), k.1)
@@ -50,7 +50,7 @@ none_given (outcome.Done height) row other = refl
 none_given (outcome.Broken fault) row other = refl
 
 -- Rows of a piece so far: this many, and so many bytes were taken.
-pub record RowsSoFar (old now : PieceDecoder) (piece : List ℕ) (taken : ℕ) (held held' : List ℕ) (count : ℕ) : Type 0 where
+pub record RowsSoFar (old now : PieceView) (piece : List ℕ) (taken : ℕ) (held held' : List ℕ) (count : ℕ) : Type 0 where
   pub calls : List Call
   pub made : WereMade old calls
   pub after : now ≡ decoder_after old calls
@@ -60,7 +60,7 @@ pub record RowsSoFar (old now : PieceDecoder) (piece : List ℕ) (taken : ℕ) (
   pub same : stream_of now ≡ stream_of old
   pub goes_on : (text out : List ℕ) → HasDecoded old text out → HasDecoded now (text ++ take taken piece) (out ++ flat_map row_given calls)
 
-pub none_so_far : (d : PieceDecoder) (piece held : List ℕ) → RowsSoFar d d piece 0 held held 0
+pub none_so_far : (d : PieceView) (piece held : List ℕ) → RowsSoFar d d piece 0 held held 0
 none_so_far d piece held = record {
   calls = [];
   made = tt;
@@ -72,7 +72,7 @@ none_so_far d piece held = record {
   goes_on = λ text out has. subst (λ z. HasDecoded d z (out ++ [])) (sym (append-nil text)) (subst (HasDecoded d text) (sym (append-nil out)) has);
 }
 
-module _ (old now : PieceDecoder) (piece : List ℕ) (taken : ℕ) (held held' : List ℕ) (count : ℕ) (so_far : RowsSoFar old now piece taken held held' count) where
+module _ (old now : PieceView) (piece : List ℕ) (taken : ℕ) (held held' : List ℕ) (count : ℕ) (so_far : RowsSoFar old now piece taken held held' count) where
   pub some_came : SomeRead old held held'
   some_came = record { calls = so_far.calls; made = so_far.made; appended = so_far.appended }
 
@@ -174,13 +174,13 @@ module _ (old now : PieceDecoder) (piece : List ℕ) (taken : ℕ) (held held' :
 -- ---- a text
 
 -- an end tells of more bytes than had come
-tells_on : (h : Fields) (new : PieceDecoder) (o : Outcome) (come more out : List ℕ) → SaysOfRows h false new o come out → o ≢ outcome.More → SaysOfRows h true new o (come ++ more) out
+tells_on : (h : Fields) (new : PieceView) (o : Outcome) (come more out : List ℕ) → SaysOfRows h false new o come out → o ≢ outcome.More → SaysOfRows h true new o (come ++ more) out
 tells_on h new outcome.Row come more out t other = tt
 tells_on h new outcome.More come more out t other = absurd (other refl)
 tells_on h new (outcome.Done height) come more out t other = λ rest _. subst (λ z. HoldsImage h z height out) (sym (append_assoc come more rest)) (t (more ++ rest) (λ e. cc))
 tells_on h new (outcome.Broken fault) come more out t other = λ rest _. subst (λ z. HandsOut h z new.height fault out) (sym (append_assoc come more rest)) (t (more ++ rest) (λ e. cc))
 
-module _ (old mid : PieceDecoder) (first second : List ℕ) (limit taken : ℕ) (held held' : List ℕ) where
+module _ (old mid : PieceView) (first second : List ℕ) (limit taken : ℕ) (held held' : List ℕ) where
   split : take taken first ++ (drop taken first ++ second) ≡ first ++ second
   split = sym (append_assoc (take taken first) (drop taken first) second) ∙ ap (λ z. z ++ second) (take-append-drop taken first)
 
@@ -209,7 +209,7 @@ module _ (old mid : PieceDecoder) (first second : List ℕ) (limit taken : ℕ) 
   }
 
   -- the first wanted more, and the second told
-  pub second_told : (new : PieceDecoder) (rest : List ℕ) (answer : Outcome) (more : ℕ) (held'' : List ℕ) → PieceRead false old mid first limit outcome.More taken held held' → stream_of mid ≡ stream_of old →
+  pub second_told : (new : PieceView) (rest : List ℕ) (answer : Outcome) (more : ℕ) (held'' : List ℕ) → PieceRead false old mid first limit outcome.More taken held held' → stream_of mid ≡ stream_of old →
       rest ≡ drop taken first ++ second → PieceRead true mid new rest limit answer more held' held'' → TextRead old new (first ++ second) limit answer held held''
   second_told new rest answer more held'' p same rest_is q = record {
     calls = p.calls ++ q.calls;

@@ -3,3 +3,4 @@ pub mod Cut
 pub mod Image
 pub mod Line
 pub mod Pieces
+pub mod Kept

@@ -1,7 +1,7 @@
 -- What is read of a stream in pieces.
 use Rattle.std.specs.Prelude.{⊤, ℕ, ◌≡◌, ◌≢◌, ◌≤◌, ◌-◌, ◌^◌, Bool, true, false, List, [], ◌∷◌, ◌++◌, length, take, flat_map, sum_by}
 use Rattle.t85_core.specs.declared.fault.Fault.TheVariants.{Truncated}
-use Rattle.t85_core.specs.declared.pieces.PieceDecoder.{PieceDecoder}
+use Rattle.t85_core.specs.Lent.{PieceView}
 use Rattle.t85_core.specs.declared.pieces.Outcome.{Outcome}
 use Rattle.t85_core.specs.declared.pieces.Outcome.TheVariants as outcome
 use Rattle.t85_core.specs.Header.{Fields}
@@ -18,20 +18,20 @@ abbrev pub rows_counted : List Call → ℕ
 rows_counted calls = sum_by (λ call. rows_told call.answer) calls
 
 -- calls one after another, whatever their pieces are
-abbrev pub WereMade : PieceDecoder → List Call → Type 0
+abbrev pub WereMade : PieceView → List Call → Type 0
 WereMade d [] = ⊤
 WereMade d (call ∷ calls) = IsCall d call × WereMade call.new calls
 
 -- What an answer says of the rows that were given, when these bytes had come, which may have been told to be all: nothing
 -- where it is a row itself, or where rows wait, and else what they are, whatever comes after.
-abbrev pub SaysOfRows : Fields → Bool → PieceDecoder → Outcome → List ℕ → List ℕ → Type 0
+abbrev pub SaysOfRows : Fields → Bool → PieceView → Outcome → List ℕ → List ℕ → Type 0
 SaysOfRows h is_all new outcome.Row come out = ⊤
 SaysOfRows h is_all new outcome.More come out = new.waits ≡ false → HandsOut h come new.height Truncated out
 SaysOfRows h is_all new (outcome.Done height) come out = (rest : List ℕ) → MayFollow is_all rest → HoldsImage h (come ++ rest) height out
 SaysOfRows h is_all new (outcome.Broken fault) come out = (rest : List ℕ) → MayFollow is_all rest → HandsOut h (come ++ rest) new.height fault out
 
 -- A piece was read by some calls, up to the first answer that is no row, or until it gave `limit` rows.
-pub record PieceRead (is_all : Bool) (old new : PieceDecoder) (piece : List ℕ) (limit : ℕ) (answer : Outcome) (taken : ℕ) (held held' : List ℕ) : Type 0 where
+pub record PieceRead (is_all : Bool) (old new : PieceView) (piece : List ℕ) (limit : ℕ) (answer : Outcome) (taken : ℕ) (held held' : List ℕ) : Type 0 where
   pub calls : List Call
   pub made : WereMade old calls
   pub after : new ≡ decoder_after old calls
@@ -43,7 +43,7 @@ pub record PieceRead (is_all : Bool) (old new : PieceDecoder) (piece : List ℕ)
   pub tells : (text out : List ℕ) → HasDecoded old text out → SaysOfRows (stream_of old) is_all new answer (text ++ piece) (out ++ flat_map row_given calls)
 
 -- A text, which is all that comes, was read by some calls, of whatever pieces of it. The last answer tells of it.
-pub record TextRead (old new : PieceDecoder) (come : List ℕ) (limit : ℕ) (answer : Outcome) (held held' : List ℕ) : Type 0 where
+pub record TextRead (old new : PieceView) (come : List ℕ) (limit : ℕ) (answer : Outcome) (held held' : List ℕ) : Type 0 where
   pub calls : List Call
   pub made : WereMade old calls
   pub appended : held' ≡ held ++ flat_map row_given calls
@@ -52,7 +52,7 @@ pub record TextRead (old new : PieceDecoder) (come : List ℕ) (limit : ℕ) (an
   pub tells : (text out : List ℕ) → HasDecoded old text out → SaysOfRows (stream_of old) true new answer (text ++ come) (out ++ flat_map row_given calls)
 
 -- Memory ran out. The rows of some first calls were appended.
-pub record SomeRead (old : PieceDecoder) (held held' : List ℕ) : Type 0 where
+pub record SomeRead (old : PieceView) (held held' : List ℕ) : Type 0 where
   pub calls : List Call
   pub made : WereMade old calls
   pub appended : held' ≡ held ++ flat_map row_given calls
@@ -60,9 +60,9 @@ pub record SomeRead (old : PieceDecoder) (held held' : List ℕ) : Type 0 where
 -- A body was read by some calls of a fresh decoder, and their rows were appended. The answer tells what they are of all
 -- of it. It is a row only where more rows came than any image has.
 pub record BodyRead (h : Fields) (body : List ℕ) (answer : Outcome) (held held' : List ℕ) : Type 0 where
-  pub decoder : PieceDecoder
+  pub decoder : PieceView
   pub fresh : HasDecoded decoder [] []
-  pub last : PieceDecoder
+  pub last : PieceView
   pub calls : List Call
   pub made : WereMade decoder calls
   pub appended : held' ≡ held ++ flat_map row_given calls

@@ -6,6 +6,7 @@ pub mod coder;
 pub mod cut;
 mod held;
 pub mod image;
+pub mod kept;
 pub mod line;
 pub mod pieces;
 pub mod room;

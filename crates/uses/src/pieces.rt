@@ -1,10 +1,10 @@
 //! A stream whose bytes come in pieces.
 
-ghost use Rattle.std.specs.Prelude.{◌≡◌, ◌≢◌, ◌≤◌, ◌++◌, length, true, IfOk, OnErr};
-ghost use Rattle.raster_core.specs.Window.{width_of};
+ghost use Rattle.std.specs.Prelude.{◌≡◌, ◌++◌, IfOk, OnErr};
+ghost use Rattle.raster_core.specs.Window.{memory_of, width_of};
 ghost use Rattle.t85_core.specs.Options.{fields_of};
-ghost use Rattle.t85_core.specs.Pieces.{GivesRow, RowsWait, WantsMore, IsWhole, IsBroken, stream_of};
-ghost use Rattle.t85_core.specs.declared.pieces.Outcome.TheVariants as outcome;
+ghost use Rattle.t85_core.specs.Lent.{decoder_over};
+ghost use Rattle.t85_core.specs.Pieces.{IsCall, call_of, stream_of};
 ghost use Rattle.uses.specs.Pieces.{BodyRead, PieceRead, TextRead, SomeRead};
 
 use qm_core::Learned;
@@ -27,7 +27,16 @@ pub fn rows_of_body(
 {
     let mut learned = Learned::new();
     let mut decoder = PieceDecoder::start(header, window, &mut learned);
-    rows_of_two(alloc, &mut decoder, first, second, usize::MAX, rows)
+    rows_of_two(
+        alloc,
+        &mut decoder,
+        window,
+        &mut learned,
+        first,
+        second,
+        usize::MAX,
+        rows,
+    )
 }
 
 /// Appends the rows of a text, packed, which comes in two pieces, and is all that comes. Of the first the decoder leaves
@@ -36,22 +45,35 @@ pub fn rows_of_body(
 /// The answer is `Row` where a piece gave as many rows as `limit` and more may come. Else it tells what the rows are.
 pub fn rows_of_two(
     alloc: Global,
-    decoder: &mut PieceDecoder<'_, '_>,
+    decoder: &mut PieceDecoder,
+    window: &mut Window<'_>,
+    learned: &mut Learned,
     first: &[u8],
     second: &[u8],
     limit: usize,
     rows: &mut Vec<u8>,
 ) -> Result<Outcome, AllocError>
-    ensures read { IfOk result (λ answer. TextRead decoder.old decoder.new
+    ensures read { IfOk result (λ answer. TextRead
+        (decoder_over decoder.old window.old learned.old)
+        (decoder_over decoder.new window.new learned.new)
         (first.now ++ second.now) limit answer rows.old.items rows.new.items) }
-    ensures short { OnErr result (SomeRead decoder.old rows.old.items rows.new.items) }
+    ensures short { OnErr result (SomeRead (decoder_over decoder.old window.old learned.old)
+        rows.old.items rows.new.items) }
 {
-    let begun = rows_of_piece(decoder, first, false, limit, rows)?;
+    let begun = rows_of_piece(decoder, window, learned, first, false, limit, rows)?;
     match begun.outcome {
         Outcome::More => {
             let mut rest = Vec::from_slice(alloc, &first[begun.taken..])?;
             rest.extend_from_slice(second)?;
-            let ended = rows_of_piece(decoder, rest.as_slice(), true, limit, rows)?;
+            let ended = rows_of_piece(
+                decoder,
+                window,
+                learned,
+                rest.as_slice(),
+                true,
+                limit,
+                rows,
+            )?;
             Ok(ended.outcome)
         }
         outcome => Ok(outcome),
@@ -61,23 +83,29 @@ pub fn rows_of_two(
 /// Appends the rows of a piece, packed, which may be the last: it asks for one after the other up to the first answer that
 /// is no row, or until `limit` came. What was not taken is to be shown again, with more bytes behind it.
 pub fn rows_of_piece(
-    decoder: &mut PieceDecoder<'_, '_>,
+    decoder: &mut PieceDecoder,
+    window: &mut Window<'_>,
+    learned: &mut Learned,
     piece: &[u8],
     is_all: bool,
     limit: usize,
     rows: &mut Vec<u8>,
 ) -> Result<Progress, AllocError>
-    ensures same { stream_of decoder.new ≡ stream_of decoder.old }
-    ensures read { IfOk result (λ progress. PieceRead is_all decoder.old decoder.new piece.now
+    ensures same { stream_of (decoder_over decoder.new window.new learned.new) ≡
+        stream_of (decoder_over decoder.old window.old learned.old) }
+    ensures read { IfOk result (λ progress. PieceRead is_all
+        (decoder_over decoder.old window.old learned.old)
+        (decoder_over decoder.new window.new learned.new) piece.now
         limit progress.outcome progress.taken rows.old.items rows.new.items) }
-    ensures short { OnErr result (SomeRead decoder.old rows.old.items rows.new.items) }
+    ensures short { OnErr result (SomeRead (decoder_over decoder.old window.old learned.old)
+        rows.old.items rows.new.items) }
 {
     let mut taken = 0;
     'calls: for _ in 0..limit {
-        let step = next_row(decoder, &piece[taken..], is_all);
+        let step = next_row(decoder, window, learned, &piece[taken..], is_all);
         taken += step.taken;
         match step.outcome {
-            Outcome::Row => rows.extend_from_slice(decoder.row())?,
+            Outcome::Row => rows.extend_from_slice(window.row(0))?,
             outcome => return Ok(Progress { outcome, taken }),
         }
     }
@@ -88,19 +116,21 @@ pub fn rows_of_piece(
 }
 
 /// Goes on with a piece, which may be the last.
-fn next_row(decoder: &mut PieceDecoder<'_, '_>, piece: &[u8], is_all: bool) -> Progress
-    ensures same { stream_of decoder.new ≡ stream_of decoder.old }
-    ensures bound { result.taken ≤ length piece.now }
-    ensures row { GivesRow decoder.old decoder.new piece.now result.taken result.outcome }
-    ensures waits { RowsWait is_all decoder.old decoder.new piece.now result.outcome }
-    ensures more { WantsMore decoder.old decoder.new piece.now result.taken result.outcome }
-    ensures ends { is_all ≡ true → result.outcome ≢ outcome.More }
-    ensures done { IsWhole is_all decoder.old decoder.new piece.now result.outcome }
-    ensures broken { IsBroken is_all decoder.old decoder.new piece.now result.outcome }
+pub fn next_row(
+    decoder: &mut PieceDecoder,
+    window: &mut Window<'_>,
+    learned: &mut Learned,
+    piece: &[u8],
+    is_all: bool,
+) -> Progress
+    ensures call { IsCall (decoder_over decoder.old window.old learned.old)
+        (call_of piece.now is_all result (decoder_over decoder.new window.new learned.new)) }
+    ensures same_memory { memory_of window.new ≡ memory_of window.old }
+    ensures same_width { width_of window.new ≡ width_of window.old }
 {
     if is_all {
-        decoder.next_of_last(piece)
+        decoder.next_of_last(window, learned, piece)
     } else {
-        decoder.next_row(piece)
+        decoder.next_row(window, learned, piece)
     }
 }

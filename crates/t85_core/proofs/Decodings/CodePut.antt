@@ -9,7 +9,7 @@ use Rattle.raster_core.specs.declared.shape.Shape.{Shape}
 use Rattle.t85_core.specs.declared.fault.Fault.{Fault}
 use Rattle.t85_core.specs.declared.fault.Fault.TheVariants.{Truncated, Read}
 use Rattle.t85_core.specs.declared.segments.Code.{Code}
-use Rattle.t85_core.specs.declared.state.CodingState.{CodingState}
+use Rattle.t85_core.specs.Lent.{Carried}
 use Rattle.t85_core.specs.Header.{Fields}
 use Rattle.t85_core.specs.Grammar.{Segment}
 use Rattle.t85_core.specs.Refusal.{Spot}
@@ -43,7 +43,7 @@ pub record Broke (s t : EntityView) : Type 0 where
   pub behind : t.first ≡ None
   pub among : IsWalkFault why
 
-module _ {T : Type 0} (standing : T → EntityView) (failed : T → ℕ) (s t : T) (shape : Shape) (move : Option (ℕ × ℕ)) (carried : CodingState) where
+module _ {T : Type 0} (standing : T → EntityView) (failed : T → ℕ) (s t : T) (shape : Shape) (move : Option (ℕ × ℕ)) (carried : Carried) where
   parted : (answers : List Pulled) → IsClosed answers → Gives (Pull standing failed) s answers t → CodeBegun shape move carried (standing s) → Parted standing s answers t
   parted answers closed gives b = pulls_part standing failed answers s t closed b.begins.marker b.begins.fault gives
 
@@ -55,7 +55,7 @@ module _ {T : Type 0} (standing : T → EntityView) (failed : T → ℕ) (s t : 
     went Stopped e last = absurd (unstopped e)
 
   -- the rows were read
-  pub rows_quiet : (count : ℕ) (carried' : CodingState) (text text' : Option (List ℕ)) → CodeBegun shape move carried (standing s) → RowsOfStripe (Pull standing failed) s t shape move count carried carried' text text' → Quiet (standing s) (standing t)
+  pub rows_quiet : (count : ℕ) (carried' : Carried) (text text' : Option (List ℕ)) → CodeBegun shape move carried (standing s) → RowsOfStripe (Pull standing failed) s t shape move count carried carried' text text' → Quiet (standing s) (standing t)
   rows_quiet count carried' text text' b rows =
       let r = (rows b.h b.c b.segments b.begins.move_is b.begins.shape_is b.begins.is_carried).1 in
       quiet r.answers r.unstopped (parted r.answers r.stands.closed r.gives b)
@@ -90,7 +90,7 @@ module _ {T : Type 0} (standing : T → EntityView) (failed : T → ℕ) (s t : 
     begun = record { h = h; spot = spot; heights = heights; c = c; segments = segments; known = known; begins = begins }
 
     -- the stripe is whole
-    pub code_whole : CoderLaws → (count : ℕ) (carried' next : CodingState) (text text' u : Option (List ℕ)) (reset : Bool) → RowsOfStripe (Pull standing failed) s t shape move count carried carried' text text' →
+    pub code_whole : CoderLaws → (count : ℕ) (carried' next : Carried) (text text' u : Option (List ℕ)) (reset : Bool) → RowsOfStripe (Pull standing failed) s t shape move count carried carried' text text' →
         Finishes (standing t).known u (standing t).marker reset →
         ((last : RowStart) → IsCarried last carried' → IsCarried (first_row_start (next_stripe_start h.xd reset last)) next) → StripeRead h spot heights c known u count next text text'
     code_whole q count carried' next text text' u reset rows finishes keeps =
@@ -98,7 +98,7 @@ module _ {T : Type 0} (standing : T → EntityView) (failed : T → ℕ) (s t : 
         stripe_whole standing failed h spot heights c known segments s t begins.begun begins.passed begins.first begins.first_is begins.gives_in r.1.answers (parted r.1.answers r.1.stands.closed r.1.gives begun) q shape count carried' next r.0 text text' r.1 refl u reset finishes
         (keeps r.1.last r.1.is_carried)
 
-    pub code_rest : CoderLaws → (count : ℕ) (carried' : CodingState) (text text' u : Option (List ℕ)) (fault : Fault) → RowsOfStripe (Pull standing failed) s t shape move count carried carried' text text' →
+    pub code_rest : CoderLaws → (count : ℕ) (carried' : Carried) (text text' u : Option (List ℕ)) (fault : Fault) → RowsOfStripe (Pull standing failed) s t shape move count carried carried' text text' →
         (standing t).marker ≡ None → Ends Truncated (standing t).known u (BreaksIn (standing t).first) fault → StripeCut h spot c known u count text text' fault
     code_rest q count carried' text text' u fault rows open_ ends =
         let r = rows h c segments begins.move_is begins.shape_is begins.is_carried in
@@ -129,7 +129,7 @@ broke_fault s t fault b is =
     subst (λ f. (f ≡ Read → t.known ≡ t.beyond) × (t.reads ≡ reads_after f s.reads) × ((n : ℕ) → writes_after f n ≡ n)) (sym same) (b.drained, b.reads, unwritten b.why b.among)
 
 -- what stays after an end marker, where the width goes by another name
-pub kept_wide : (wide width : ℕ) (reset : Bool) (carried next : CodingState) → wide ≡ width → ((last : RowStart) → IsCarried last carried → IsCarried (first_row_start (next_stripe_start wide reset last)) next)
+pub kept_wide : (wide width : ℕ) (reset : Bool) (carried next : Carried) → wide ≡ width → ((last : RowStart) → IsCarried last carried → IsCarried (first_row_start (next_stripe_start wide reset last)) next)
     → (last : RowStart) → IsCarried last carried → IsCarried (first_row_start (next_stripe_start width reset last)) next
 kept_wide wide width reset carried next e kept last is = subst (λ w. IsCarried (first_row_start (next_stripe_start w reset last)) next) e (kept last is)
 

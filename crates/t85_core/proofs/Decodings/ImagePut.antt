@@ -5,7 +5,7 @@ use Rattle.std.specs.Io.KnownBytes.{Appends, Consumes}
 use Rattle.std.proofs.lemmas.Grind.{flat_map-append}
 use Rattle.raster_core.specs.Packed.{packed_row}
 use Rattle.t85_core.specs.declared.fault.Fault.{Fault}
-use Rattle.t85_core.specs.declared.state.CodingState.{CodingState}
+use Rattle.t85_core.specs.Lent.{Carried}
 use Rattle.t85_core.specs.declared.header.Header.{Header}
 use Rattle.t85_core.specs.Header.{Fields}
 use Rattle.t85_core.specs.Options.{fields_of}
@@ -30,7 +30,7 @@ use Rattle.t85_core.proofs.Decodings.Runs.{stripes_push}
 use Rattle.t85_core.proofs.Decodings.Firsts.{are_first}
 use Rattle.t85_core.proofs.Bytes.Streams.{Consumes-more, Appends-more, beginning_after}
 
-module _ (h : Fields) (height : ℕ) (known known' known'' : Option (List ℕ)) (count heights rows : ℕ) (carried carried' : CodingState) (text text' text'' : Option (List ℕ))
+module _ (h : Fields) (height : ℕ) (known known' known'' : Option (List ℕ)) (count heights rows : ℕ) (carried carried' : Carried) (text text' text'' : Option (List ℕ))
     (r : StripesRead h height known known' count heights carried text text') (rows_are : rows ≡ min (height - count * h.l0) h.l0) where
   rows_is : rows ≡ min (height - length r.stripes * h.l0) h.l0
   rows_is = rows_are ∙ ap (λ n. min (height - n * h.l0) h.l0) (sym r.many)
@@ -92,7 +92,7 @@ module _ (h : Fields) (height : ℕ) (known known' known'' : Option (List ℕ)) 
   }
 
 -- no stripe
-pub stripes_start : (h : Fields) (height width : ℕ) (known text : Option (List ℕ)) (carried : CodingState) → width ≡ h.xd → IsCarried (first_row_start (image_start width)) carried → StripesRead h height known known 0 0 carried text text
+pub stripes_start : (h : Fields) (height width : ℕ) (known text : Option (List ℕ)) (carried : Carried) → width ≡ h.xd → IsCarried (first_row_start (image_start width)) carried → StripesRead h height known known 0 0 carried text text
 stripes_start h height width known text carried wide first = record {
   stripes = [];
   many = refl;
@@ -107,7 +107,7 @@ stripes_start h height width known text carried wide first = record {
 }
 
 -- all stripes
-pub image_read : (h : Fields) (height : ℕ) (known known' : Option (List ℕ)) (count heights : ℕ) (carried : CodingState) (text text' : Option (List ℕ)) → StripesRead h height known known' count heights carried text text' → IsInUse h height → count ≡ stripe_count height h.l0 → ImageRead h height known known' text text'
+pub image_read : (h : Fields) (height : ℕ) (known known' : Option (List ℕ)) (count heights : ℕ) (carried : Carried) (text text' : Option (List ℕ)) → StripesRead h height known known' count heights carried text text' → IsInUse h height → count ≡ stripe_count height h.l0 → ImageRead h height known known' text text'
 image_read h height known known' count heights carried text text' r use_ all = record {
   given = flat_map stripe_bytes r.stripes;
   taken = r.taken;

@@ -8,9 +8,9 @@ use Rattle.byteorder.specs.Endian.{big_bytes}
 use Rattle.qm_core.specs.Code.{stuffed}
 use Rattle.t85_core.specs.declared.fault.Fault.{Fault}
 use Rattle.t85_core.specs.declared.fault.Fault.TheVariants.{Truncated, Changed}
-use Rattle.t85_core.specs.declared.pieces.PieceDecoder.{PieceDecoder}
+use Rattle.t85_core.specs.Lent.{PieceView}
 use Rattle.t85_core.specs.declared.pieces.Outcome.TheVariants as outcome
-use Rattle.t85_core.specs.declared.pieces.walk.Walk.{Walk}
+use Rattle.t85_core.specs.Lent.{WalkView}
 use Rattle.t85_core.specs.declared.pieces.walk.Stage.TheVariants as stage
 use Rattle.t85_core.specs.declared.segments.Code as code_type
 use Rattle.t85_core.specs.declared.segments.Code.TheVariants as code
@@ -97,7 +97,7 @@ module _ {h : Fields} {count : ℕ} {text : List ℕ} (ok : IsAccepted h) (s : S
 
 -- ---- a decoder that gave a row which waited
 
-module _ (d d' : PieceDecoder) (late : d.is_open ≡ true) (waits : d.waits ≡ true) (limit : ℕ) (gave : GivesBelow d d' limit) where
+module _ (d d' : PieceView) (late : d.is_open ≡ true) (waits : d.waits ≡ true) (limit : ℕ) (gave : GivesBelow d d' limit) where
   abbrev H : Fields
   H = fields_of d.header
 
@@ -134,19 +134,19 @@ module _ (d d' : PieceDecoder) (late : d.is_open ≡ true) (waits : d.waits ≡ 
           subst (λ g. InRowStands H d.header.yd d.walk.entities g d.walk.at d.walk.row d.walk.first d.walk.marker d.walk.carried d.walk.decoder d.walk.place w.done out) w.ungiven (at_stage e w.walk) in
           whole k.before k.code (code_begins k.head) (entity_closed d.walk.first d.walk.marker (k.begun.read.answers ++ k.begun.since) [] k.code k.code_is marked) k.text_is
 
-    place_is : place_behind H d.walk ≡ record { height = d.header.yd; entities = d.walk.entities + 1; given = false }
+    place_is : place_behind H d.walk.stage d.walk.entities ≡ record { height = d.header.yd; entities = d.walk.entities + 1; given = false }
     place_is = ap place_of (in_code_entities d.walk.stage d.walk.entities gave.code) where
       place_of : ℕ → Place
       place_of n = record { height = d.header.yd; entities = n; given = false }
 
-    there : BehindStands H (record { height = d.header.yd; entities = d.walk.entities + 1; given = false }) (last_behind H d.walk) d.behind w.back
-    there = subst (λ p. BehindStands H p (last_behind H d.walk) d.behind w.back) place_is w.behind
+    there : BehindStands H (record { height = d.header.yd; entities = d.walk.entities + 1; given = false }) (last_behind H d.walk.stage d.walk.left) d.behind w.back
+    there = subst (λ p. BehindStands H p (last_behind H d.walk.stage d.walk.left) d.behind w.back) place_is w.behind
 
     all_text : (p more : List ℕ) → (text ++ p) ++ more ≡ w.done ++ (w.back ++ (p ++ more))
     all_text p more = append_assoc text p more ∙ ap (λ z. z ++ (p ++ more)) w.text_is ∙ append_assoc w.done w.back (p ++ more)
 
     -- the stripe before is not the last
-    fewer : last_behind H d.walk ≡ false → d.walk.entities + 1 < stripe_count d.header.yd d.header.l0
+    fewer : last_behind H d.walk.stage d.walk.left ≡ false → d.walk.entities + 1 < stripe_count d.header.yd d.header.l0
     fewer more = next_stripe d.header.yd d.header.l0 d.walk.entities ok.stripe_from (
         let t = sym (in_code_last d.walk.stage (nat_le d.walk.left d.header.l0) gave.code) ∙ more in
         let over : d.header.l0 < d.walk.left = grind (arith, nat_tests) in
@@ -172,7 +172,7 @@ module _ (d d' : PieceDecoder) (late : d.is_open ≡ true) (waits : d.waits ≡ 
         body = all_text p more ∙ ap (λ z. w.done ++ (z ++ (p ++ more))) (front_is there between) ∙ ap (λ z. w.done ++ (there.front ++ z)) (ap (λ z. z ++ more) comes.piece_is ∙ append_assoc (segment_bytes (NewLength n)) rest more)
 
     -- the code of the next stripe comes
-    code_in_time : (c : code_type.Code) (p rest : List ℕ) → d.behind.comment ≡ None → last_behind H d.walk ≡ false → IsByteOrMarker c → p ≡ code_bytes c ++ rest → limit ≤ d.header.l0 → (more : List ℕ) (m : ℕ) → IsHeight H ((text ++ p) ++ more) m → rows_given d' ≤ m
+    code_in_time : (c : code_type.Code) (p rest : List ℕ) → d.behind.comment ≡ None → last_behind H d.walk.stage d.walk.left ≡ false → IsByteOrMarker c → p ≡ code_bytes c ++ rest → limit ≤ d.header.l0 → (more : List ℕ) (m : ℕ) → IsHeight H ((text ++ p) ++ more) m → rows_given d' ≤ m
     code_in_time c p rest between not_last is p_is within more m i =
         let above = code_above ok came there.passed (fewer not_last) c is (rest ++ more) m (subst (λ z. IsHeight H z m) body i) in
         let to = rows_to in
@@ -192,7 +192,7 @@ module _ (d d' : PieceDecoder) (late : d.is_open ≡ true) (waits : d.waits ≡ 
       some = let k = some_row d.header.yd d.header.l0 d.walk.entities ok.stripe_from (omega (arith, few)) in omega (arith, k)
 
     -- a fault comes, or the end
-    fault_in_time : (f : Fault) (p : List ℕ) → last_behind H d.walk ≡ false → StopsBehind H (place_behind H d.walk) false d.behind p f → limit ≤ d.walk.left → limit ≤ d.header.l0 → (more : List ℕ) → (f ≡ Truncated → more ≡ []) → (m : ℕ) → IsHeight H ((text ++ p) ++ more) m → rows_given d' ≤ m
+    fault_in_time : (f : Fault) (p : List ℕ) → last_behind H d.walk.stage d.walk.left ≡ false → StopsBehind H (place_behind H d.walk.stage d.walk.entities) false d.behind p f → limit ≤ d.walk.left → limit ≤ d.header.l0 → (more : List ℕ) → (f ≡ Truncated → more ≡ []) → (m : ℕ) → IsHeight H ((text ++ p) ++ more) m → rows_given d' ≤ m
     fault_in_time f p not_last stops below within more nothing m (inr own) = own_in_time below m own.0
     fault_in_time f p not_last stops below within more nothing m (inl g) =
         let above = by d.behind.comment refl stops.breaks in
@@ -206,14 +206,14 @@ module _ (d d' : PieceDecoder) (late : d.is_open ≡ true) (waits : d.waits ≡ 
         moves : cond {A = ℕ} (is_some d.behind.at) 1 0 ≡ count_by is_move here.passed.segments
         moves = here.passed.found
 
-        by : (o : Option ℕ) → d.behind.comment ≡ o → BreaksBehind H (place_behind H d.walk) false d.behind o p f → (d.walk.entities + 1) * d.header.l0 < m
+        by : (o : Option ℕ) → d.behind.comment ≡ o → BreaksBehind H (place_behind H d.walk.stage d.walk.entities) false d.behind o p f → (d.walk.entities + 1) * d.header.l0 < m
         by None between (unread, ends) =
             fault_above ok came here.passed (p ++ more) f other (subst (λ k. rest_fault H (spot_of 0 (d.walk.entities + 1) 0) k false (p ++ more) ≡ Some f) moves
             (subst (λ z. rest_fault H (spot_of 0 (d.walk.entities + 1) 0) (cond (is_some d.behind.at) 1 0) false z ≡ Some f) (sym all) (longer (stable_rest H (spot_of 0 (d.walk.entities + 1) 0) (cond (is_some d.behind.at) 1 0) false ends.given (unread ++ more) f told)))) m
             (subst (λ z. GivesHeight H z m) (all_text p more ∙ ap (λ z. w.done ++ (z ++ (p ++ more))) (front_is here between)) g)
           where
             broken : PieceFault H (record { height = d.header.yd; entities = d.walk.entities + 1; given = false }) (is_some d.behind.at) ends.given f
-            broken = subst (λ z. PieceFault H z (is_some d.behind.at) ends.given f) place_is (subst (PieceFault H (place_behind H d.walk) (is_some d.behind.at) ends.given) stops.counted ends.has_fault)
+            broken = subst (λ z. PieceFault H z (is_some d.behind.at) ends.given f) place_is (subst (PieceFault H (place_behind H d.walk.stage d.walk.entities) (is_some d.behind.at) ends.given) stops.counted ends.has_fault)
 
             other : f ≢ Changed
             other = piece_other H (record { height = d.header.yd; entities = d.walk.entities + 1; given = false }) (is_some d.behind.at) refl ends.given f broken
@@ -239,7 +239,7 @@ module _ (d d' : PieceDecoder) (late : d.is_open ≡ true) (waits : d.waits ≡ 
                 ∙ append_assoc here.front (ESC ∷ COMMENT ∷ (big_bytes 4 (length part + left) ++ part)) p ∙ ap (λ z. here.front ++ (ESC ∷ COMMENT ∷ z)) (append_assoc (big_bytes 4 (length part + left)) part p))
 
     -- the look is over
-    look_in_time : (p : List ℕ) (is_all : Bool) → last_behind H d.walk ≡ true → LookIsOver is_all d p → limit ≤ d.walk.left → (more : List ℕ) → MayFollow is_all more → (m : ℕ) → IsHeight H ((text ++ p) ++ more) m → rows_given d' ≤ m
+    look_in_time : (p : List ℕ) (is_all : Bool) → last_behind H d.walk.stage d.walk.left ≡ true → LookIsOver is_all d p → limit ≤ d.walk.left → (more : List ℕ) → MayFollow is_all more → (m : ℕ) → IsHeight H ((text ++ p) ++ more) m → rows_given d' ≤ m
     look_in_time p is_all last over below more follows m i = own_in_time below m (one_height_of H ((text ++ p) ++ more) m d.header.yd ok i (subst (λ z. IsHeight H z d.header.yd) (sym body) height)) where
       body : (text ++ p) ++ more ≡ w.done ++ ((w.back ++ p) ++ more)
       body = all_text p more ∙ ap (λ z. w.done ++ z) (sym (append_assoc w.back p more))
@@ -255,10 +255,10 @@ module _ (d d' : PieceDecoder) (late : d.is_open ≡ true) (waits : d.waits ≡ 
       many : d.walk.entities + 1 ≡ stripe_count d.header.yd d.header.l0
       many = last_stripe d.header.yd d.header.l0 d.walk.entities d.header.some_rows (let few = came.within in omega (arith, few)) all
 
-      look : LookEnds H (place_behind H d.walk).entities ((w.back ++ p) ++ more)
-      look = over w.back more (subst (λ l. BehindStands H (place_behind H d.walk) l d.behind w.back) last w.behind) follows
+      look : LookEnds H (place_behind H d.walk.stage d.walk.entities).entities ((w.back ++ p) ++ more)
+      look = over w.back more (subst (λ l. BehindStands H (place_behind H d.walk.stage d.walk.entities) l d.behind w.back) last w.behind) follows
 
-      same : length came.stripes ≡ (place_behind H d.walk).entities
+      same : length came.stripes ≡ (place_behind H d.walk.stage d.walk.entities).entities
       same = came.many ∙ sym (in_code_entities d.walk.stage d.walk.entities gave.code)
 
       height : IsHeight H (w.done ++ ((w.back ++ p) ++ more)) d.header.yd
@@ -276,13 +276,13 @@ module _ (d d' : PieceDecoder) (late : d.is_open ≡ true) (waits : d.waits ≡ 
   pub leaves_height : (n : ℕ) (p rest : List ℕ) → d.behind.comment ≡ None → HeightComes H d.walk n p rest → limit ≤ d.walk.left - (d.header.yd - n) → (is_all : Bool) → StepLeaves is_all d d' p p (Some outcome.Row)
   leaves_height n p rest between comes within is_all = leaves is_all p (λ text out s more _ m i. height_in_time text out s n p rest between comes within more m i)
 
-  pub leaves_code : (c : code_type.Code) (p rest : List ℕ) → d.behind.comment ≡ None → last_behind H d.walk ≡ false → IsByteOrMarker c → p ≡ code_bytes c ++ rest → limit ≤ d.header.l0 → (is_all : Bool) → StepLeaves is_all d d' p p (Some outcome.Row)
+  pub leaves_code : (c : code_type.Code) (p rest : List ℕ) → d.behind.comment ≡ None → last_behind H d.walk.stage d.walk.left ≡ false → IsByteOrMarker c → p ≡ code_bytes c ++ rest → limit ≤ d.header.l0 → (is_all : Bool) → StepLeaves is_all d d' p p (Some outcome.Row)
   leaves_code c p rest between more is p_is within is_all = leaves is_all p (λ text out s after _ m i. code_in_time text out s c p rest between more is p_is within after m i)
 
-  pub leaves_fault : (f : Fault) (p : List ℕ) → last_behind H d.walk ≡ false → StopsBehind H (place_behind H d.walk) false d.behind p f → limit ≤ d.walk.left → limit ≤ d.header.l0 → (is_all : Bool) → (f ≡ Truncated → is_all ≡ true) → StepLeaves is_all d d' p p (Some outcome.Row)
+  pub leaves_fault : (f : Fault) (p : List ℕ) → last_behind H d.walk.stage d.walk.left ≡ false → StopsBehind H (place_behind H d.walk.stage d.walk.entities) false d.behind p f → limit ≤ d.walk.left → limit ≤ d.header.l0 → (is_all : Bool) → (f ≡ Truncated → is_all ≡ true) → StepLeaves is_all d d' p p (Some outcome.Row)
   leaves_fault f p more stops below within is_all ends = leaves is_all p (λ text out s after follows m i. fault_in_time text out s f p more stops below within after (λ e. follows (ends e)) m i)
 
-  pub leaves_look : (p : List ℕ) (is_all : Bool) → last_behind H d.walk ≡ true → LookIsOver is_all d p → limit ≤ d.walk.left → StepLeaves is_all d d' p p (Some outcome.Row)
+  pub leaves_look : (p : List ℕ) (is_all : Bool) → last_behind H d.walk.stage d.walk.left ≡ true → LookIsOver is_all d p → limit ≤ d.walk.left → StepLeaves is_all d d' p p (Some outcome.Row)
   leaves_look p is_all last over below = leaves is_all p (λ text out s after follows m i. look_in_time text out s p is_all last over below after follows m i)
 
 -- ---- a row that did not wait
@@ -320,7 +320,7 @@ record InCode (h : Fields) (entities : ℕ) (text : List ℕ) (Is : List ℕ →
   code_is : Is code
   text_is : text ≡ before ++ code
 
-in_open_code : (h : Fields) (w : Walk) (text out : List ℕ) → CodeWalks h w text out → (HasMarker w → ⊥) → InCode h w.entities text IsOpenCode
+in_open_code : (h : Fields) (w : WalkView) (text out : List ℕ) → CodeWalks h w text out → (HasMarker w → ⊥) → InCode h w.entities text IsOpenCode
 in_open_code h w text out c ahead = by c.in_code where
   by : IsInCode w.stage → InCode h w.entities text IsOpenCode
   by (inl e) =
@@ -330,13 +330,13 @@ in_open_code h w text out c ahead = by c.in_code where
       let s : InRowStands h h.yd w.entities false w.at w.row w.first w.marker w.carried w.decoder w.place text out = subst (λ g. InRowStands h h.yd w.entities g w.at w.row w.first w.marker w.carried w.decoder w.place text out) c.ungiven (at_stage e c.walk) in
       record { before = s.before; begins = code_begins s.head; code = s.code; code_is = entity_opened w.first w.marker (s.begun.read.answers ++ s.begun.since) [] s.code s.code_is ahead; text_is = s.text_is }
 
-in_whole_code : (h : Fields) (w : Walk) (text out : List ℕ) → WalkStands h h.yd w text out → w.stage ≡ stage.Code → w.given ≡ false → HasMarker w → InCode h w.entities text IsWholeCode
+in_whole_code : (h : Fields) (w : WalkView) (text out : List ℕ) → WalkStands h h.yd w text out → w.stage ≡ stage.Code → w.given ≡ false → HasMarker w → InCode h w.entities text IsWholeCode
 in_whole_code h w text out walk is ungiven marked =
     let s : CodeStands h h.yd w.entities false w.at w.row w.first w.marker w.carried w.decoder text out = subst (λ g. CodeStands h h.yd w.entities g w.at w.row w.first w.marker w.carried w.decoder text out) ungiven (at_stage is walk) in
     record { before = s.before; begins = code_begins s.head; code = s.code; code_is = entity_closed w.first w.marker s.read.answers s.extra s.code s.code_is marked; text_is = s.text_is }
 
 -- its end marker was not read where none was among the bytes
-pub row_unmarked : (d : PieceDecoder) (w : Walk) (front part row : List ℕ) → d.is_open ≡ true → d.waits ≡ false → (HasMarker d.walk → ⊥) → HasNoMarker front → w.stage ≡ stage.Code → KeepsPlace d.walk w → StepsOn (fields_of d.header) d.header.yd d.walk w front part row →
+pub row_unmarked : (d : PieceView) (w : WalkView) (front part row : List ℕ) → d.is_open ≡ true → d.waits ≡ false → (HasMarker d.walk → ⊥) → HasNoMarker front → w.stage ≡ stage.Code → KeepsPlace d.walk w → StepsOn (fields_of d.header) d.header.yd d.walk w front part row →
     (text out : List ℕ) → DecoderStands d text out → HasMarker w → ⊥
 row_unmarked d w front part row late going ahead none is keeps on text out s marked = by was.code_is now.code_is where
   h : Fields

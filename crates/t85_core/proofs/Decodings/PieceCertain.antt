@@ -9,15 +9,15 @@ use Rattle.qm_core.specs.Code.{stuffed}
 use Rattle.qm_core.specs.Source.{bytes_of}
 use Rattle.qm_core.specs.declared.source.Pulled.{Pulled}
 use Rattle.t85_core.specs.declared.fault.Fault.TheVariants.{Changed}
-use Rattle.t85_core.specs.declared.pieces.PieceDecoder.{PieceDecoder}
+use Rattle.t85_core.specs.Lent.{PieceView}
 use Rattle.t85_core.specs.declared.pieces.behind.Behind.{Behind}
-use Rattle.t85_core.specs.declared.pieces.walk.Walk.{Walk}
+use Rattle.t85_core.specs.Lent.{WalkView}
 use Rattle.t85_core.specs.declared.pieces.walk.Stage.TheVariants as stage
 use Rattle.t85_core.specs.declared.segments.Code as code_type
 use Rattle.t85_core.specs.declared.segments.Code.TheVariants as code
 use Rattle.t85_core.specs.declared.segments.Move as move
 use Rattle.t85_core.specs.declared.segments.Place.{Place}
-use Rattle.t85_core.specs.declared.state.CodingState.{CodingState}
+use Rattle.t85_core.specs.Lent.{Carried}
 use Rattle.t85_core.specs.Header.{Fields, IsAccepted, is_variable}
 use Rattle.t85_core.specs.Options.{fields_of}
 use Rattle.t85_core.specs.Grammar.{Segment, NewLength, Stripe, segment_bytes, stripe_bytes, marker_bytes, stripe_count, all_segments, lengths, is_comment, is_valid_length, IsBegun, AreStripes}
@@ -111,7 +111,7 @@ pub record StripesCame (h : Fields) (count : ℕ) (text : List ℕ) : Type 0 whe
   pub none : lengths (all_segments stripes) ≡ []
   pub within : count ≤ stripe_count h.yd h.l0
 
-pub code_begins : {h : Fields} {entities : ℕ} {at : Option move.Move} {carried : CodingState} {text out : List ℕ} → HeadStands h h.yd entities false at carried text out → CodeBegins h entities text
+pub code_begins : {h : Fields} {entities : ℕ} {at : Option move.Move} {carried : Carried} {text out : List ℕ} → HeadStands h h.yd entities false at carried text out → CodeBegins h entities text
 code_begins {h} {entities} {at} {carried} {text} {out} s = record {
   stripes = s.stripes.stripes;
   segments = s.passed.segments;
@@ -279,7 +279,7 @@ comment_ends {h} {place} {last} b back s = by b.comment refl where
   by None between = ([], b, between, subst (BehindStands h place last b) (sym (append-nil back)) s)
   by (Some left) inside = (replicate left 0, record { at = b.at; comment = None }, refl, behind_ends s left inside (replicate left 0) (length-replicate left 0))
 
-module _ (h : Fields) (ok : IsAccepted h) (variable : IsTrue (is_variable h)) (w : Walk) where
+module _ (h : Fields) (ok : IsAccepted h) (variable : IsTrue (is_variable h)) (w : WalkView) where
   -- in the code of a stripe
   in_code : (text out : List ℕ) → CodeWalks h w text out → IsLeastHeight h text (w.entities * h.l0 + 1)
   in_code text out c = by c.in_code where
@@ -292,7 +292,7 @@ module _ (h : Fields) (ok : IsAccepted h) (variable : IsTrue (is_variable h)) (w
         subst (λ z. IsLeastHeight h z (w.entities * h.l0 + 1)) (sym s.text_is) (least_within ok (code_begins s.head) variable s.code (entity_begun w.first w.marker (s.begun.read.answers ++ s.begun.since) [] s.code s.code_is))
 
   module _ (b : Behind) (text out : List ℕ) (s : WalkWaits h w b text out) where
-    ends : (more : List ℕ) × (ends : Behind) × (ends.comment ≡ None) × BehindStands h (place_behind h w) (last_behind h w) ends (s.back ++ more)
+    ends : (more : List ℕ) × (ends : Behind) × (ends.comment ≡ None) × BehindStands h (place_behind h w.stage w.entities) (last_behind h w.stage w.left) ends (s.back ++ more)
     ends = comment_ends b s.back s.behind
 
     whole : IsLeastHeight h (s.done ++ s.back) (w.entities * h.l0 + 1) → IsLeastHeight h text (w.entities * h.l0 + 1)
@@ -310,16 +310,16 @@ module _ (h : Fields) (ok : IsAccepted h) (variable : IsTrue (is_variable h)) (w
       zero : w.entities * h.l0 ≡ 0
       zero = let e : w.entities * h.l0 ≡ 0 * h.l0 = ap (λ (m : ℕ). m * h.l0) first in omega (arith, e)
 
-      place_is : place_behind h w ≡ record { height = h.yd; entities = w.entities; given = false }
+      place_is : place_behind h w.stage w.entities ≡ record { height = h.yd; entities = w.entities; given = false }
       place_is = ap (λ k. place_of (entities_behind k w.entities)) is where
         place_of : ℕ → Place
         place_of n = record { height = h.yd; entities = n; given = false }
 
-      there : BehindStands h (place_behind h w) false ends.1 (s.back ++ ends.0)
-      there = subst (λ l. BehindStands h (place_behind h w) l ends.1 (s.back ++ ends.0)) (ap (λ k. is_last k (nat_le w.left h.l0)) is) ends.3
+      there : BehindStands h (place_behind h w.stage w.entities) false ends.1 (s.back ++ ends.0)
+      there = subst (λ l. BehindStands h (place_behind h w.stage w.entities) l ends.1 (s.back ++ ends.0)) (ap (λ k. is_last k (nat_le w.left h.l0)) is) ends.3
 
       walk : WalkStands h h.yd (record w { at = ends.1.at }) (s.done ++ (s.back ++ ends.0)) out
-      walk = head_walk h w ends.1 (place_behind h w) s.done (s.back ++ ends.0) out s.walk is none s.ungiven place_is there ends.2
+      walk = head_walk h w ends.1 (place_behind h w.stage w.entities) s.done (s.back ++ ends.0) out s.walk is none s.ungiven place_is there ends.2
 
       head : HeadStands h h.yd w.entities false ends.1.at w.carried (s.done ++ (s.back ++ ends.0)) out
       head = subst (λ g. HeadStands h h.yd w.entities g ends.1.at w.carried (s.done ++ (s.back ++ ends.0)) out) s.ungiven (at_stage is walk)
@@ -335,13 +335,13 @@ module _ (h : Fields) (ok : IsAccepted h) (variable : IsTrue (is_variable h)) (w
     -- behind the end marker of a stripe
     at_marker : IsInCode w.stage → HasMarker w → IsLeastHeight h text (w.entities * h.l0 + 1)
     at_marker inside marked = whole (by inside) where
-      place_is : place_behind h w ≡ record { height = h.yd; entities = w.entities + 1; given = false }
+      place_is : place_behind h w.stage w.entities ≡ record { height = h.yd; entities = w.entities + 1; given = false }
       place_is = ap place_of (in_code_entities w.stage w.entities inside) where
         place_of : ℕ → Place
         place_of n = record { height = h.yd; entities = n; given = false }
 
-      there : BehindStands h (record { height = h.yd; entities = w.entities + 1; given = false }) (last_behind h w) ends.1 (s.back ++ ends.0)
-      there = subst (λ p. BehindStands h p (last_behind h w) ends.1 (s.back ++ ends.0)) place_is ends.3
+      there : BehindStands h (record { height = h.yd; entities = w.entities + 1; given = false }) (last_behind h w.stage w.left) ends.1 (s.back ++ ends.0)
+      there = subst (λ p. BehindStands h p (last_behind h w.stage w.left) ends.1 (s.back ++ ends.0)) place_is ends.3
 
       behind : (before code : List ℕ) → CodeBegins h w.entities before → IsWholeCode code → s.done ≡ before ++ code → IsLeastHeight h (s.done ++ s.back) (w.entities * h.l0 + 1)
       behind before code begins is_closed is =
@@ -362,7 +362,7 @@ module _ (h : Fields) (ok : IsAccepted h) (variable : IsTrue (is_variable h)) (w
       went (inl head) = in_head head
       went (inr k) = at_marker k.0 k.1
 
-module _ (d : PieceDecoder) (text out : List ℕ) (s : DecoderStands d text out) where
+module _ (d : PieceView) (text out : List ℕ) (s : DecoderStands d text out) where
   least_open : d.is_open ≡ true → IsLeastHeight (fields_of d.header) text (d.walk.entities * d.header.l0 + 1)
   least_open late = by d.waits refl where
     by : (b : Bool) → d.waits ≡ b → IsLeastHeight (fields_of d.header) text (d.walk.entities * d.header.l0 + 1)
@@ -400,7 +400,7 @@ module _ (d : PieceDecoder) (text out : List ℕ) (s : DecoderStands d text out)
         omega (arith, to, left, small, is)
 
 -- a height that comes is not below the rows of the stripes behind
-pub left_before : (d : PieceDecoder) (n : ℕ) (p rest : List ℕ) → d.is_open ≡ true → d.waits ≡ true → SomeStand d → HeightComes (fields_of d.header) d.walk n p rest → d.header.yd - n ≤ d.walk.left
+pub left_before : (d : PieceView) (n : ℕ) (p rest : List ℕ) → d.is_open ≡ true → d.waits ≡ true → SomeStand d → HeightComes (fields_of d.header) d.walk n p rest → d.header.yd - n ≤ d.walk.left
 left_before d n p rest late waits some comes = by w.at where
   w : WalkWaits (fields_of d.header) d.walk d.behind some.0 some.1
   w = waits_of d some.0 some.1 late waits some.2

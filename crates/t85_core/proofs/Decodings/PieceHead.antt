@@ -15,7 +15,7 @@ use Rattle.t85_core.specs.declared.segments.Code as code_type
 use Rattle.t85_core.specs.declared.segments.Move as move
 use Rattle.t85_core.specs.declared.segments.Next.TheVariants as next
 use Rattle.t85_core.specs.declared.segments.Place.{Place}
-use Rattle.t85_core.specs.declared.state.CodingState.{CodingState}
+use Rattle.t85_core.specs.Lent.{Carried}
 use Rattle.t85_core.specs.Header.{Fields}
 use Rattle.t85_core.specs.Grammar.{NewLength, Move, Comment, ESC, COMMENT, segment_bytes, stripe_bytes, IsLegal, is_valid_length}
 use Rattle.t85_core.specs.Coding.{mode_of}
@@ -38,7 +38,7 @@ use Rattle.t85_core.proofs.Decodings.StripePut.{stripe_head}
 
 -- ---- with what comes after them
 
-abbrev pub stripes_ext : {h : Fields} {height : ℕ} {front : List ℕ} {count heights : ℕ} {carried : CodingState} {text text' : Option (List ℕ)} → StripesRead h height (Some front) (Some []) count heights carried text text' → (p : List ℕ) →
+abbrev pub stripes_ext : {h : Fields} {height : ℕ} {front : List ℕ} {count heights : ℕ} {carried : Carried} {text text' : Option (List ℕ)} → StripesRead h height (Some front) (Some []) count heights carried text text' → (p : List ℕ) →
     StripesRead h height (Some (front ++ p)) (Some p) count heights carried text text'
 stripes_ext r p = record {
   stripes = r.stripes;
@@ -81,7 +81,7 @@ shape_is h shape is = ap (λ w. made w (shape_mode shape)) is.width_is ∙ ap (m
 abbrev pub whole_segment : {h : Fields} (s : _) → IsLegal h s → PassesSegment h (Some (segment_bytes s)) (Some []) s
 whole_segment s legal = record { legal = legal; taken = sym (append-nil (segment_bytes s)) }
 
-module _ {h : Fields} {height entities : ℕ} {given : Bool} {at : Option move.Move} {carried : CodingState} {text out : List ℕ} (s : HeadStands h height entities given at carried text out) where
+module _ {h : Fields} {height entities : ℕ} {given : Bool} {at : Option move.Move} {carried : Carried} {text out : List ℕ} (s : HeadStands h height entities given at carried text out) where
   abbrev pub place : Place
   place = record { height = height; entities = entities; given = s.before }
 
@@ -207,7 +207,7 @@ pub length_breaks : (h : Fields) (place : Place) (moved : Bool) (p rest p' : Lis
 length_breaks h place moved p rest p' f is ends =
     Ends-after (255 ∷ 7 ∷ []) is (λ given fault k other. short_comment h (record { height = other; entities = place.entities; heights = cond place.given 1 0 }) (cond moved 1 0) given k.0 ∙ ap Some (sym k.1)) ends
 
-module _ {h : Fields} {height entities : ℕ} {given : Bool} {at : Option move.Move} {carried : CodingState} {left : ℕ} {text out : List ℕ} (s : CommentStands h height entities given at carried left text out) where
+module _ {h : Fields} {height entities : ℕ} {given : Bool} {at : Option move.Move} {carried : Carried} {left : ℕ} {text out : List ℕ} (s : CommentStands h height entities given at carried left text out) where
   comment_text : (more : List ℕ) → text ++ more ≡ s.before ++ (ESC ∷ COMMENT ∷ (big_bytes 4 (length s.part + left) ++ (s.part ++ more)))
   comment_text more =
       ap (λ z. z ++ more) s.text_is

@@ -9,7 +9,7 @@ use Rattle.std.proofs.lemmas.List.Sums.{sum_by-append}
 use Rattle.std.proofs.Math.Nat.{mul-le-mul_right}
 use Rattle.t85_core.specs.declared.segments.Move as move
 use Rattle.t85_core.specs.declared.segments.Place.{Place}
-use Rattle.t85_core.specs.declared.state.CodingState.{CodingState}
+use Rattle.t85_core.specs.Lent.{Carried}
 use Rattle.t85_core.specs.Header.{Fields, is_variable}
 use Rattle.t85_core.specs.Grammar.{Segment, Move, NewLength, Comment, Stripe, segment_bytes, stripe_bytes, stripe_count, all_segments, lengths, is_move, is_comment, is_valid_length, IsLegal}
 use Rattle.t85_core.specs.Coding.{move_of}
@@ -72,7 +72,7 @@ other_run h left n c (s ∷ stripes) rows flags next all all' run =
       other_run h (left - h.l0) (n - h.l0) run.4 stripes run.1 run.3 next (omega (arith, times, all)) (omega (arith, times, all')) run.8,
     )
 
-pub other_read : (h : Fields) (height n : ℕ) (known known' : Option (List ℕ)) (count : ℕ) (carried : CodingState) (text text' : Option (List ℕ)) → count * h.l0 ≤ n → count * h.l0 ≤ height →
+pub other_read : (h : Fields) (height n : ℕ) (known known' : Option (List ℕ)) (count : ℕ) (carried : Carried) (text text' : Option (List ℕ)) → count * h.l0 ≤ n → count * h.l0 ≤ height →
     StripesRead h height known known' count 0 carried text text' → StripesRead h n known known' count 0 carried text text'
 other_read h height n known known' count carried text text' all all' r = record {
   stripes = r.stripes;
@@ -136,7 +136,7 @@ module _ {h : Fields} {place : Place} {front back : List ℕ} {at : Option move.
   }
 
 -- the head of a stripe, and what came of it behind the marker before it
-pub head_behind : {h : Fields} {height entities : ℕ} {carried : CodingState} {done back out : List ℕ} {at : Option move.Move} {place : Place} {comments : ℕ} → place ≡ record { height = height; entities = entities; given = false } →
+pub head_behind : {h : Fields} {height entities : ℕ} {carried : Carried} {done back out : List ℕ} {at : Option move.Move} {place : Place} {comments : ℕ} → place ≡ record { height = height; entities = entities; given = false } →
     HeadStands h height entities false None carried done out → HasPassed h place false (Some back) (Some []) at (is_some at) false comments → HeadStands h height entities false at carried (done ++ back) out
 head_behind {h} {height} {entities} {carried} {done} {back} {out} {at} {place} {comments} place_is s q = went s.before refl where
   went : (b : Bool) → s.before ≡ b → HeadStands h height entities false at carried (done ++ back) out
@@ -159,7 +159,7 @@ head_behind {h} {height} {entities} {carried} {done} {back} {out} {at} {place} {
 
 -- ---- a height comes in the head of a stripe
 
-module _ {h : Fields} {entities : ℕ} {at : Option move.Move} {carried : CodingState} {text out : List ℕ} (s : HeadStands h h.yd entities false at carried text out) (n : ℕ) (variable : IsTrue (is_variable h)) (valid : is_valid_length h entities n ≡ true) where
+module _ {h : Fields} {entities : ℕ} {at : Option move.Move} {carried : Carried} {text out : List ℕ} (s : HeadStands h h.yd entities false at carried text out) (n : ℕ) (variable : IsTrue (is_variable h)) (valid : is_valid_length h entities n ≡ true) where
   given_before : s.before ≡ false
   given_before = went s.before refl where
     went : (b : Bool) → s.before ≡ b → s.before ≡ false

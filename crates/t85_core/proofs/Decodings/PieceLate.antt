@@ -15,7 +15,7 @@ use Rattle.raster_core.specs.Packed.{packed_row}
 use Rattle.raster_core.specs.declared.place.RowPlace.{RowPlace}
 use Rattle.t85_core.specs.declared.segments.Code as code_type
 use Rattle.t85_core.specs.declared.segments.Move as move
-use Rattle.t85_core.specs.declared.state.CodingState.{CodingState}
+use Rattle.t85_core.specs.Lent.{Carried}
 use Rattle.t85_core.specs.Header.{Fields, IsAccepted, is_variable}
 use Rattle.t85_core.specs.Grammar.{NewLength, Stripe, segment_bytes, stripe_bytes, marker_bytes, stripe_count, all_segments, lengths, is_comment, is_valid_length}
 use Rattle.t85_core.specs.Height.{GivesHeight}
@@ -43,7 +43,7 @@ use Rattle.t85_core.proofs.Decodings.PieceEnds.{Marked}
 -- First rows of a stripe whose code came whole, in a stream that gave no height.
 pub record RowsHeld (h : Fields) (entities row : ℕ) (text out : List ℕ) : Type 0 where
   pub at : Option move.Move
-  pub start : CodingState
+  pub start : Carried
   pub before : List ℕ
   pub began : List ℕ
   pub head : HeadStands h h.yd entities false at start before began
@@ -71,7 +71,7 @@ whole_of {answers} {text} {reset} m = sym (append-nil text) ∙ ap (λ z. text +
   none = sym (append-nil m.given) ∙ sym m.taken
 
 -- between two rows
-pub code_held : CoderLaws → {h : Fields} {entities : ℕ} {at : Option move.Move} {row : ℕ} {first : Option code_type.Code} {marker : Option Bool} {carried : CodingState} {d : Decoder} {text out : List ℕ} →
+pub code_held : CoderLaws → {h : Fields} {entities : ℕ} {at : Option move.Move} {row : ℕ} {first : Option code_type.Code} {marker : Option Bool} {carried : Carried} {d : Decoder} {text out : List ℕ} →
     CodeStands h h.yd entities false at row first marker carried d text out → Marked first marker → RowsHeld h entities row text out
 code_held q {h} {entities} {at} {row} {first} {marker} {carried} {d} {text} {out} s marked =
     let m = marker_found first marker s.read.answers s.extra s.code s.code_is marked in
@@ -118,7 +118,7 @@ first_answers xs ys c closed small a = record {
       ∙ a.ended (ap (λ z. heard_of (xs ++ z)) none ∙ ap heard_of (append-nil xs) ∙ e)
 
 -- in a row
-pub in_row_held : CoderLaws → {h : Fields} {entities : ℕ} {at : Option move.Move} {row : ℕ} {first : Option code_type.Code} {marker : Option Bool} {carried : CodingState} {d : Decoder} {in_row : RowPlace} {text out : List ℕ} →
+pub in_row_held : CoderLaws → {h : Fields} {entities : ℕ} {at : Option move.Move} {row : ℕ} {first : Option code_type.Code} {marker : Option Bool} {carried : Carried} {d : Decoder} {in_row : RowPlace} {text out : List ℕ} →
     InRowStands h h.yd entities false at row first marker carried d in_row text out → Marked first marker → RowsHeld h entities row text out
 in_row_held q {h} {entities} {at} {row} {first} {marker} {carried} {d} {in_row} {text} {out} s marked =
     let m = marker_found first marker (s.begun.read.answers ++ s.begun.since) [] s.code s.code_is marked in

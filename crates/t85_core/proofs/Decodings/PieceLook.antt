@@ -8,9 +8,9 @@ use Rattle.std.proofs.lemmas.Grind.{div_ceil_times}
 use Rattle.byteorder.specs.Endian.{big_bytes}
 use Rattle.t85_core.specs.declared.fault.Fault.{Fault}
 use Rattle.t85_core.specs.declared.fault.Fault.TheVariants.{Truncated, Read}
-use Rattle.t85_core.specs.declared.pieces.PieceDecoder.{PieceDecoder}
+use Rattle.t85_core.specs.Lent.{PieceView}
 use Rattle.t85_core.specs.declared.pieces.behind.Behind.{Behind}
-use Rattle.t85_core.specs.declared.pieces.walk.Walk.{Walk}
+use Rattle.t85_core.specs.Lent.{WalkView}
 use Rattle.t85_core.specs.declared.pieces.walk.Stage.TheVariants as stage
 use Rattle.t85_core.specs.declared.segments.Code as code_type
 use Rattle.t85_core.specs.declared.segments.Move as move
@@ -104,11 +104,11 @@ module _ {h : Fields} {place : Place} {b : Behind} {back : List ℕ} (fresh : pl
 -- ---- a walk at an end marker
 
 -- where the last stripe is over a walk is in its code
-pub in_last : (h : Fields) (w : Walk) → IsAtMarker w → last_behind h w ≡ true → IsInCode w.stage
+pub in_last : (h : Fields) (w : WalkView) → IsAtMarker w → last_behind h w.stage w.left ≡ true → IsInCode w.stage
 in_last h w (inl head) last = absurd (true≢false (sym last ∙ ap (λ z. is_last z (nat_le w.left h.l0)) head.0))
 in_last h w (inr k) last = k.0
 
-module _ (h : Fields) (w : Walk) (b : Behind) (text out : List ℕ) (q : CoderLaws) (s : WalkWaits h w b text out) (in_code : IsInCode w.stage) where
+module _ (h : Fields) (w : WalkView) (b : Behind) (text out : List ℕ) (q : CoderLaws) (s : WalkWaits h w b text out) (in_code : IsInCode w.stage) where
   -- its rows
   pub rows_held : RowsHeld h w.entities w.row s.done out
   rows_held = by in_code where
@@ -119,19 +119,19 @@ module _ (h : Fields) (w : Walk) (b : Behind) (text out : List ℕ) (q : CoderLa
   pub fewer_here : w.entities < stripe_count h.yd h.l0
   fewer_here = rows_held.head.fewer
 
-  pub place_here : place_behind h w ≡ record { height = h.yd; entities = w.entities + 1; given = false }
+  pub place_here : place_behind h w.stage w.entities ≡ record { height = h.yd; entities = w.entities + 1; given = false }
   place_here = ap place_of (in_code_entities w.stage w.entities in_code) where
     place_of : ℕ → Place
     place_of n = record { height = h.yd; entities = n; given = false }
 
 -- behind the last stripe only comments came
-pub comments_behind : (h : Fields) (w : Walk) → 1 ≤ h.l0 → IsInCode w.stage → w.left ≡ h.yd - w.entities * h.l0 → {place : Place} {front : List ℕ} {at : Option move.Move} {comments : ℕ}
-    (p : HasPassed h place (last_behind h w) (Some front) (Some []) at (move_came (last_behind h w) at) false comments) → w.entities + 1 ≡ stripe_count h.yd h.l0 → AllByRecursion (λ s. IsTrue (is_comment s)) p.segments
-comments_behind h w some in_code left {at = at} p last = only_comments p.segments (zero_moves (last_behind h w) is_last_here p.counted) (nil_of (lengths p.segments) (let e = p.given_is in omega (arith, e))) where
+pub comments_behind : (h : Fields) (w : WalkView) → 1 ≤ h.l0 → IsInCode w.stage → w.left ≡ h.yd - w.entities * h.l0 → {place : Place} {front : List ℕ} {at : Option move.Move} {comments : ℕ}
+    (p : HasPassed h place (last_behind h w.stage w.left) (Some front) (Some []) at (move_came (last_behind h w.stage w.left) at) false comments) → w.entities + 1 ≡ stripe_count h.yd h.l0 → AllByRecursion (λ s. IsTrue (is_comment s)) p.segments
+comments_behind h w some in_code left {at = at} p last = only_comments p.segments (zero_moves (last_behind h w.stage w.left) is_last_here p.counted) (nil_of (lengths p.segments) (let e = p.given_is in omega (arith, e))) where
   all : h.yd ≤ (w.entities + 1) * h.l0
   all = let t = div_ceil_times h.yd h.l0 some in let e = ap (λ (m : ℕ). m * h.l0) last in omega (arith, t.0, e)
 
-  is_last_here : last_behind h w ≡ true
+  is_last_here : last_behind h w.stage w.left ≡ true
   is_last_here =
       let times : (w.entities + 1) * h.l0 ≡ w.entities * h.l0 + h.l0 = omega arith in
       let le : w.left ≤ h.l0 = omega (arith, left, all, times) in
@@ -144,7 +144,7 @@ comments_behind h w some in_code left {at = at} p last = only_comments p.segment
 
 -- ---- the image ends in the stripe before
 
-pub late_whole : (d : PieceDecoder) (q : CoderLaws) (n : ℕ) (p rest : List ℕ) → d.is_open ≡ true → d.waits ≡ true → d.behind.comment ≡ None → IsInCode d.walk.stage → HeightComes (fields_of d.header) d.walk n p rest → d.walk.left - (d.header.yd - n) ≤ d.header.l0 →
+pub late_whole : (d : PieceView) (q : CoderLaws) (n : ℕ) (p rest : List ℕ) → d.is_open ≡ true → d.waits ≡ true → d.behind.comment ≡ None → IsInCode d.walk.stage → HeightComes (fields_of d.header) d.walk n p rest → d.walk.left - (d.header.yd - n) ≤ d.header.l0 →
     d.walk.left - (d.header.yd - n) ≤ d.walk.row → (is_all : Bool) → EndsWhole is_all d p n
 late_whole d q n p rest late waits between in_code comes fits few is_all text out more s follows = record {
   height_is = λ m is. one_height_of (fields_of d.header) ((text ++ p) ++ more) m n (own_height d.header).accepted is (inl (subst (λ z. GivesHeight (fields_of d.header) z n) (sym body) (late_gives q (own_height d.header).accepted r n (d.walk.left - (d.header.yd - n)) n_is few some fits within variable valid passed comments (rest ++ more))));
@@ -176,8 +176,8 @@ late_whole d q n p rest late waits between in_code comes fits few is_all text ou
   variable : IsTrue (is_variable (fields_of d.header))
   variable = s.height.variable late
 
-  passed : HasPassed (fields_of d.header) (record { height = d.header.yd; entities = d.walk.entities + 1; given = false }) (last_behind (fields_of d.header) d.walk) (Some w.behind.front) (Some []) d.behind.at (move_came (last_behind (fields_of d.header) d.walk) d.behind.at) false w.behind.comments
-  passed = subst (λ z. HasPassed (fields_of d.header) z (last_behind (fields_of d.header) d.walk) (Some w.behind.front) (Some []) d.behind.at (move_came (last_behind (fields_of d.header) d.walk) d.behind.at) false w.behind.comments) (place_here (fields_of d.header) d.walk d.behind text out q w in_code) w.behind.passed
+  passed : HasPassed (fields_of d.header) (record { height = d.header.yd; entities = d.walk.entities + 1; given = false }) (last_behind (fields_of d.header) d.walk.stage d.walk.left) (Some w.behind.front) (Some []) d.behind.at (move_came (last_behind (fields_of d.header) d.walk.stage d.walk.left) d.behind.at) false w.behind.comments
+  passed = subst (λ z. HasPassed (fields_of d.header) z (last_behind (fields_of d.header) d.walk.stage d.walk.left) (Some w.behind.front) (Some []) d.behind.at (move_came (last_behind (fields_of d.header) d.walk.stage d.walk.left) d.behind.at) false w.behind.comments) (place_here (fields_of d.header) d.walk d.behind text out q w in_code) w.behind.passed
 
   comments : d.walk.entities + 1 ≡ stripe_count d.header.yd d.header.l0 → AllByRecursion (λ s. IsTrue (is_comment s)) passed.segments
   comments = comments_behind (fields_of d.header) d.walk d.header.some_rows in_code w.walk.left_is passed
@@ -189,7 +189,7 @@ late_whole d q n p rest late waits between in_code comes fits few is_all text ou
 
 -- ---- the look is over
 
-pub look_whole : (d d' : PieceDecoder) (p : List ℕ) (is_all : Bool) → CoderLaws → d.is_open ≡ true → d.waits ≡ true → last_behind (fields_of d.header) d.walk ≡ true → LookIsOver is_all d p → StripeLeft d d' → EndsWhole is_all d p d.header.yd
+pub look_whole : (d d' : PieceView) (p : List ℕ) (is_all : Bool) → CoderLaws → d.is_open ≡ true → d.waits ≡ true → last_behind (fields_of d.header) d.walk.stage d.walk.left ≡ true → LookIsOver is_all d p → StripeLeft d d' → EndsWhole is_all d p d.header.yd
 look_whole d d' p is_all q late waits last over ended text out more s follows =
     subst (λ z. HoldsImage (fields_of d.header) z d.header.yd out) (sym body)
     (read_holds (fields_of d.header) d.header.yd w.done out ((w.back ++ p) ++ more)
@@ -216,10 +216,10 @@ look_whole d d' p is_all q late waits last over ended text out more s follows =
     many : d.walk.entities + 1 ≡ stripe_count d.header.yd d.header.l0
     many = last_stripe d.header.yd d.header.l0 d.walk.entities d.header.some_rows (fewer_here (fields_of d.header) d.walk d.behind text out q w in_code) all
 
-    look : LookEnds (fields_of d.header) (place_behind (fields_of d.header) d.walk).entities ((w.back ++ p) ++ more)
-    look = over w.back more (subst (λ l. BehindStands (fields_of d.header) (place_behind (fields_of d.header) d.walk) l d.behind w.back) last w.behind) follows
+    look : LookEnds (fields_of d.header) (place_behind (fields_of d.header) d.walk.stage d.walk.entities).entities ((w.back ++ p) ++ more)
+    look = over w.back more (subst (λ l. BehindStands (fields_of d.header) (place_behind (fields_of d.header) d.walk.stage d.walk.entities) l d.behind w.back) last w.behind) follows
 
-    same : length read.stripes ≡ (place_behind (fields_of d.header) d.walk).entities
+    same : length read.stripes ≡ (place_behind (fields_of d.header) d.walk.stage d.walk.entities).entities
     same = read.many ∙ sym (in_code_entities d.walk.stage d.walk.entities in_code)
 
     none : lengths (all_segments read.stripes) ≡ []
@@ -236,7 +236,7 @@ look_whole d d' p is_all q late waits last over ended text out more s follows =
 
 -- ---- the height is raised
 
-pub height_over : (d e : PieceDecoder) (n : ℕ) (p rest : List ℕ) → d.is_open ≡ true → d.waits ≡ true → SomeStand d → HeadEntered d e → HeightComes (fields_of d.header) d.walk n p rest → (IsInCode d.walk.stage → d.header.l0 < d.walk.left - (d.header.yd - n)) →
+pub height_over : (d e : PieceView) (n : ℕ) (p rest : List ℕ) → d.is_open ≡ true → d.waits ≡ true → SomeStand d → HeadEntered d e → HeightComes (fields_of d.header) d.walk n p rest → (IsInCode d.walk.stage → d.header.l0 < d.walk.left - (d.header.yd - n)) →
     e.walk.entities * d.header.l0 < n
 height_over d e n p rest late waits some head comes beyond = by w.at where
   w : WalkWaits (fields_of d.header) d.walk d.behind some.0 some.1
@@ -256,11 +256,11 @@ height_over d e n p rest late waits some head comes beyond = by w.at where
       let more = beyond k.0 in
       omega (arith, times, one, left, more, comes.legal.2)
 
-pub left_over : (d e : PieceDecoder) (n : ℕ) (p rest : List ℕ) → d.is_open ≡ true → d.waits ≡ true → SomeStand d → HeadEntered d e → HeightComes (fields_of d.header) d.walk n p rest → e.walk.entities * d.header.l0 < n → d.header.yd - n ≤ e.walk.left
+pub left_over : (d e : PieceView) (n : ℕ) (p rest : List ℕ) → d.is_open ≡ true → d.waits ≡ true → SomeStand d → HeadEntered d e → HeightComes (fields_of d.header) d.walk n p rest → e.walk.entities * d.header.l0 < n → d.header.yd - n ≤ e.walk.left
 left_over d e n p rest late waits some head comes over =
     let left = (head.stands some.0 some.1 (waits_of d some.0 some.1 late waits some.2)).left_is in omega (arith, left, over, comes.legal.2)
 
-pub raised_on : (d e d' : PieceDecoder) (n : ℕ) (p rest : List ℕ) → d.is_open ≡ true → d.waits ≡ true → HeadEntered d e → d.behind.comment ≡ None → HeightComes (fields_of d.header) d.walk n p rest → e.walk.entities * d.header.l0 < n →
+pub raised_on : (d e d' : PieceView) (n : ℕ) (p rest : List ℕ) → d.is_open ≡ true → d.waits ≡ true → HeadEntered d e → d.behind.comment ≡ None → HeightComes (fields_of d.header) d.walk n p rest → e.walk.entities * d.header.l0 < n →
     d'.header ≡ e.header → d'.height ≡ n → d'.is_open ≡ false → d'.walk ≡ record e.walk { left = e.walk.left - (d.header.yd - n); given = true } → DecoderOn d d' p rest []
 raised_on d e d' n p rest late waits head between comes over header height closed walk text out s = (
   segment_bytes (NewLength n),
@@ -311,8 +311,8 @@ height_some n p rest e = let l : length p ≡ length (segment_bytes (NewLength n
 
 -- ---- what came behind the marker
 
-pub passed_on : (d d1 : PieceDecoder) (b : Behind) (p p1 : List ℕ) → d.is_open ≡ true → d.waits ≡ true → d1.header ≡ d.header → d1.height ≡ d.height → d1.is_open ≡ d.is_open → d1.waits ≡ d.waits → d1.walk ≡ d.walk → d1.behind ≡ b →
-    BehindOn (fields_of d.header) (place_behind (fields_of d.header) d.walk) (last_behind (fields_of d.header) d.walk) d.behind b p p1 → DecoderOn d d1 p p1 []
+pub passed_on : (d d1 : PieceView) (b : Behind) (p p1 : List ℕ) → d.is_open ≡ true → d.waits ≡ true → d1.header ≡ d.header → d1.height ≡ d.height → d1.is_open ≡ d.is_open → d1.waits ≡ d.waits → d1.walk ≡ d.walk → d1.behind ≡ b →
+    BehindOn (fields_of d.header) (place_behind (fields_of d.header) d.walk.stage d.walk.entities) (last_behind (fields_of d.header) d.walk.stage d.walk.left) d.behind b p p1 → DecoderOn d d1 p p1 []
 passed_on d d1 b p p1 late waits header height is_open same_waits walk behind on text out s =
     let w = waits_of d text out late waits s in
     let k = on w.back w.behind in (
@@ -333,8 +333,8 @@ passed_on d d1 b p p1 late waits header height is_open same_waits walk behind on
           })))),
     )
 
-pub own_first : (d : PieceDecoder) → d.is_open ≡ true → SomeStand d → d.height ≡ d.header.yd
+pub own_first : (d : PieceView) → d.is_open ≡ true → SomeStand d → d.height ≡ d.header.yd
 own_first d late some = some.2.height.first late
 
-pub own_whole : (d d' : PieceDecoder) (p : List ℕ) (is_all : Bool) → d.header.yd ≡ d'.header.yd → EndsWhole is_all d p d.header.yd → EndsWhole is_all d p d'.header.yd
+pub own_whole : (d d' : PieceView) (p : List ℕ) (is_all : Bool) → d.header.yd ≡ d'.header.yd → EndsWhole is_all d p d.header.yd → EndsWhole is_all d p d'.header.yd
 own_whole d d' p is_all same k = subst (EndsWhole is_all d p) same k

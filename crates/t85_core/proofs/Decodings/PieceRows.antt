@@ -17,7 +17,7 @@ use Rattle.raster_core.specs.declared.shape.Shape.{Shape}
 use Rattle.t85_core.specs.declared.fault.Fault as fault
 use Rattle.t85_core.specs.declared.fault.Fault.TheVariants.{Truncated}
 use Rattle.t85_core.specs.declared.segments.Code.{Code}
-use Rattle.t85_core.specs.declared.state.CodingState.{CodingState}
+use Rattle.t85_core.specs.Lent.{Carried}
 use Rattle.t85_core.specs.Header.{Fields}
 use Rattle.t85_core.specs.Grammar.{Segment}
 use Rattle.t85_core.specs.Coding.{move_of}
@@ -44,7 +44,7 @@ is_err e = refl
 module _ {S : Type 0} (standing : S → EntityView) (failed : S → ℕ) (s t : S) (first first1 : Option Code) (marker marker1 : Option Bool) (p p1 : List ℕ)
     (known_s : (standing s).known ≡ entity_known first (Some p)) (known_t : (standing t).known ≡ entity_known first1 (Some p1))
     (first_s : (standing s).first ≡ first) (first_t : (standing t).first ≡ first1) (marker_s : (standing s).marker ≡ marker) (marker_t : (standing t).marker ≡ marker1) (fault_s : (standing s).fault ≡ None)
-    (h : Fields) (shape : Shape) (c : StripeStart) (segments : List Segment) (row : ℕ) (carried carried' : CodingState) (d d' : Decoder) (place place' : RowPlace) (began out text : List ℕ)
+    (h : Fields) (shape : Shape) (c : StripeStart) (segments : List Segment) (row : ℕ) (carried carried' : Carried) (d d' : Decoder) (place place' : RowPlace) (began out text : List ℕ)
     (b : RowBegun h shape c segments row carried d place began out) (code : CodeText first marker (b.read.answers ++ b.since) [] text) where
   abbrev so_far : List Pulled
   so_far = b.read.answers ++ b.since
@@ -55,11 +55,11 @@ module _ {S : Type 0} (standing : S → EntityView) (failed : S → ℕ) (s t : 
   -- what a call of `go_on_row` gives
   abbrev pub Passed : Result (Unit {0}) Stop → Type 0
   Passed result =
-      (at : State) (answers : List Pulled) (lines : Lines) → StandsInRow shape carried.kept place at answers lines (held carried.window.now) carried.learned.now d →
-      RowPasses (Pull standing failed) s t shape carried.kept carried'.kept at answers lines (held carried'.window.now) place' carried'.learned.now d' result
+      (at : State) (answers : List Pulled) (lines : Lines) → StandsInRow shape carried.kept place at answers lines carried.held carried.learned d →
+      RowPasses (Pull standing failed) s t shape carried.kept carried'.kept at answers lines carried'.held place' carried'.learned d' result
 
   passed : (result : Result (Unit {0}) Stop) → Passed result →
-      RowPasses (Pull standing failed) s t shape carried.kept carried'.kept b.read.last.state so_far below (held carried'.window.now) place' carried'.learned.now d' result
+      RowPasses (Pull standing failed) s t shape carried.kept carried'.kept b.read.last.state so_far below carried'.held place' carried'.learned d' result
   passed result gave = gave b.read.last.state so_far below b.stands
 
   assoc : (more : List Pulled) → so_far ++ more ≡ b.read.answers ++ (b.since ++ more)
@@ -71,13 +71,13 @@ module _ {S : Type 0} (standing : S → EntityView) (failed : S → ℕ) (s t : 
   -- ---- it ends
 
   module _ (gave : Passed (Ok tt)) where
-    decoded : RowDecoded Anything tt tt shape carried.kept carried'.kept b.read.last.state b.read.answers below (held carried'.window.now) carried'.learned.now d' (Ok tt)
+    decoded : RowDecoded Anything tt tt shape carried.kept carried'.kept b.read.last.state b.read.answers below carried'.held carried'.learned d' (Ok tt)
     decoded =
         let m = passed (Ok tt) gave in
         record {
           more = b.since ++ m.more;
           gives = anything (b.since ++ m.more);
-          ok = subst (λ z. RowIs shape carried.kept carried'.kept b.read.last.state z below (held carried'.window.now) carried'.learned.now d') (assoc m.more) m.ok;
+          ok = subst (λ z. RowIs shape carried.kept carried'.kept b.read.last.state z below carried'.held carried'.learned d') (assoc m.more) m.ok;
           stop = ((λ e. absurd (not_err tt e)), (λ e. m.stop.1 (ap heard_of (assoc m.more) ∙ e)));
           undecided = tt;
           stays = tt;
@@ -86,12 +86,12 @@ module _ {S : Type 0} (standing : S → EntityView) (failed : S → ℕ) (s t : 
     join : (more : List Pulled) → Gives Anything tt more tt → Gives Anything tt (b.read.answers ++ more) tt
     join more g = anything (b.read.answers ++ more)
 
-    read_on : RowsKnown h shape c segments (row + 1) carried' d' began (out ++ (held carried'.window.now).current)
-    read_on = row_done Anything Anything tt tt tt tt tt h shape c segments row b.start carried' b.decoder d' (Some began) (Some out) b.read carried.kept b.offset_is b.previous_is join (Some (out ++ (held carried'.window.now).current)) decoded refl
+    read_on : RowsKnown h shape c segments (row + 1) carried' d' began (out ++ carried'.held.current)
+    read_on = row_done Anything Anything tt tt tt tt tt h shape c segments row b.start carried' b.decoder d' (Some began) (Some out) b.read carried.kept b.offset_is b.previous_is join (Some (out ++ carried'.held.current)) decoded refl
 
     read_answers : read_on.answers ≡ b.read.answers ++ decoded.more
     unfolding read_on
-    read_answers = row_done_answers Anything Anything tt tt tt tt tt h shape c segments row b.start carried' b.decoder d' (Some began) (Some out) b.read carried.kept b.offset_is b.previous_is join (Some (out ++ (held carried'.window.now).current)) decoded refl
+    read_answers = row_done_answers Anything Anything tt tt tt tt tt h shape c segments row b.start carried' b.decoder d' (Some began) (Some out) b.read carried.kept b.offset_is b.previous_is join (Some (out ++ carried'.held.current)) decoded refl
 
     pub row_taken : PieceRowTaken h shape c segments row first1 marker1 carried' d' began out text p p1
     unfolding decoded
@@ -110,7 +110,7 @@ module _ {S : Type 0} (standing : S → EntityView) (failed : S → ℕ) (s t : 
         let w = code_broke standing failed s t first first1 marker marker1 p p1 known_s known_t first_s first_t marker_s marker_t fault_s so_far m.more text m.closed.0 m.closed.1 m.gives code reads_s reads_t stopped in
         let same_fault : f ≡ w.0 = subst (λ o. IfSome o (λ x. f ≡ x)) w.1 f_is in
         let run : BegunRun h count c segments (bytes_of (b.read.answers ++ (b.since ++ m.more))) b.read.rows b.read.flags =
-        rows_stop h c segments b.read.answers b.read.rows b.read.flags b.read.last b.read.so_far shape carried.kept carried'.kept below (held carried'.window.now) carried'.learned.now d' (b.since ++ m.more) is_ready q count b.decoder (omega (arith, few, b.read.many)) b.read.stands
+        rows_stop h c segments b.read.answers b.read.rows b.read.flags b.read.last b.read.so_far shape carried.kept carried'.kept below carried'.held carried'.learned d' (b.since ++ m.more) is_ready q count b.decoder (omega (arith, few, b.read.many)) b.read.stands
         (sym (ap heard_of (assoc m.more)) ∙ stopped) (subst (λ z. IsBytes (bytes_of z)) (assoc m.more) m.closed.1)
         (subst (λ z. IsPlace b.read.last.state.place → IsRowUndecided shape carried.kept b.read.last.state z below) (assoc m.more) m.undecided) b.read.unstopped in
         record {
@@ -141,14 +141,14 @@ module _ {S : Type 0} (standing : S → EntityView) (failed : S → ℕ) (s t : 
             unstopped = λ st. goes_on (ap heard_of (sym again)) w.1.code_is.going st;
             offset_is = ap (λ k. k.offset) kept_is ∙ b.offset_is;
             previous_is = ap (λ k. k.previous_typical) kept_is ∙ b.previous_is;
-            stands = subst (λ z. StandsInRow shape z place' b.read.last.state (b.read.answers ++ (b.since ++ before_fault m.more)) below (held carried'.window.now) carried'.learned.now d') (sym kept_is)
-                (subst (λ z. StandsInRow shape carried.kept place' b.read.last.state z below (held carried'.window.now) carried'.learned.now d') again m.waits);
+            stands = subst (λ z. StandsInRow shape z place' b.read.last.state (b.read.answers ++ (b.since ++ before_fault m.more)) below carried'.held carried'.learned d') (sym kept_is)
+                (subst (λ z. StandsInRow shape carried.kept place' b.read.last.state z below carried'.held carried'.learned d') again m.waits);
           };
           code_is = subst (λ z. CodeText None z (b.read.answers ++ (b.since ++ before_fault m.more)) [] (text ++ w.1.given)) (sym w.0)
               (subst (λ z. CodeOpen None z [] (text ++ w.1.given)) again w.1.code_is);
         }
       where
-        fault_here : RowPasses (Pull standing failed) s t shape carried.kept carried'.kept b.read.last.state so_far below (held carried'.window.now) place' carried'.learned.now d' (Err e) → (standing t).fault ≡ Some Truncated
+        fault_here : RowPasses (Pull standing failed) s t shape carried.kept carried'.kept b.read.last.state so_far below carried'.held place' carried'.learned d' (Err e) → (standing t).fault ≡ Some Truncated
         fault_here m =
             let stopped : heard_of (so_far ++ m.more) ≡ Stopped = m.stop.0 (is_err e) in
             let w = code_broke standing failed s t first first1 marker marker1 p p1 known_s known_t first_s first_t marker_s marker_t fault_s so_far m.more text m.closed.0 m.closed.1 m.gives code reads_s reads_t stopped in

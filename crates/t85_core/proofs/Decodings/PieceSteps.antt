@@ -8,11 +8,11 @@ use Rattle.std.proofs.lemmas.Grind.{div_ceil_times}
 use Rattle.std.proofs.Math.Nat.{mul-le-mul_right}
 use Rattle.t85_core.specs.declared.fault.Fault.{Fault}
 use Rattle.t85_core.specs.declared.fault.Fault.TheVariants.{Truncated, Changed}
-use Rattle.t85_core.specs.declared.pieces.walk.Walk.{Walk}
+use Rattle.t85_core.specs.Lent.{WalkView}
 use Rattle.raster_core.specs.Window.{held}
 use Rattle.t85_core.specs.declared.pieces.walk.Stage.{Stage}
 use Rattle.t85_core.specs.declared.pieces.walk.Stage.TheVariants as stage
-use Rattle.t85_core.specs.declared.state.CodingState.{CodingState}
+use Rattle.t85_core.specs.Lent.{Carried}
 use Rattle.t85_core.specs.Header.{Fields}
 use Rattle.t85_core.specs.Steps.State.{image_start, first_row_start}
 use Rattle.t85_core.specs.Steps.DecodeRows.{IsCarried}
@@ -23,28 +23,28 @@ use Rattle.t85_core.proofs.Walks.Passed.{passed_none}
 use Rattle.t85_core.proofs.Decodings.ImagePut.{stripes_start}
 
 -- bytes were taken, and nothing was handed out
-pub on_same : (h : Fields) (height : ℕ) (w' : Walk) (text out p p' given : List ℕ) → p ≡ given ++ p' → WalkStands h height w' (text ++ given) out →
+pub on_same : (h : Fields) (height : ℕ) (w' : WalkView) (text out p p' given : List ℕ) → p ≡ given ++ p' → WalkStands h height w' (text ++ given) out →
     (g : List ℕ) × (p ≡ g ++ p') × WalkStands h height w' (text ++ g) (out ++ [])
 on_same h height w' text out p p' given taken s = (given, taken, subst (WalkStands h height w' (text ++ given)) (sym (append-nil out)) s)
 
 -- nothing was taken
-pub stays : (h : Fields) (height : ℕ) (w : Walk) (p : List ℕ) → StepsOn h height w w p p []
+pub stays : (h : Fields) (height : ℕ) (w : WalkView) (p : List ℕ) → StepsOn h height w w p p []
 stays h height w p text out s = on_same h height w text out p p [] refl (subst (λ z. WalkStands h height w z out) (sym (append-nil text)) s)
 
 -- the stage is this
-pub at_stage : {h : Fields} {height : ℕ} {w : Walk} {text out : List ℕ} {k : Stage} → w.stage ≡ k → WalkStands h height w text out → StageStands k h height w text out
+pub at_stage : {h : Fields} {height : ℕ} {w : WalkView} {text out : List ℕ} {k : Stage} → w.stage ≡ k → WalkStands h height w text out → StageStands k h height w text out
 at_stage {h} {height} {w} {text} {out} e s = subst (λ z. StageStands z h height w text out) e s.stands
 
 -- it is that of the walk
-pub put_stage : (h : Fields) (height : ℕ) (w : Walk) (text out : List ℕ) (k : Stage) → w.stage ≡ k → StageStands k h height w text out → StageStands w.stage h height w text out
+pub put_stage : (h : Fields) (height : ℕ) (w : WalkView) (text out : List ℕ) (k : Stage) → w.stage ≡ k → StageStands k h height w text out → StageStands w.stage h height w text out
 put_stage h height w text out k e s = subst (λ z. StageStands z h height w text out) (sym e) s
 
 pub nil_of : (xs : List ℕ) → length xs ≡ 0 → xs ≡ []
 nil_of [] e = refl
 nil_of (x ∷ xs) e = absurd (omega (arith, e))
 
-module _ (h : Fields) (height : ℕ) (w w1 : Walk) (p p1 : List ℕ) (on : StepsOn h height w w1 p p1 []) where
-  pub on_then : (w2 : Walk) (p2 row : List ℕ) → StepsOn h height w1 w2 p1 p2 row → StepsOn h height w w2 p p2 row
+module _ (h : Fields) (height : ℕ) (w w1 : WalkView) (p p1 : List ℕ) (on : StepsOn h height w w1 p p1 []) where
+  pub on_then : (w2 : WalkView) (p2 row : List ℕ) → StepsOn h height w1 w2 p1 p2 row → StepsOn h height w w2 p p2 row
   on_then w2 p2 row next text out s =
       let a = on text out s in
       let b = next (text ++ a.0) (out ++ []) a.2 in (
@@ -108,7 +108,7 @@ next_stripe height l e some lt = went (cases_lt (e + 1) (div_ceil height l)) whe
       absurd (omega (arith, k, t.0, lt))
 
 -- before the first byte
-pub head_first : (h : Fields) (height width : ℕ) (carried : CodingState) → 1 ≤ height → 1 ≤ h.l0 → width ≡ h.xd → IsCarried (first_row_start (image_start width)) carried →
+pub head_first : (h : Fields) (height width : ℕ) (carried : Carried) → 1 ≤ height → 1 ≤ h.l0 → width ≡ h.xd → IsCarried (first_row_start (image_start width)) carried →
     HeadStands h height 0 false None carried [] []
 head_first h height width carried one some wide first = record {
   before = false;
@@ -123,11 +123,11 @@ head_first h height width carried one some wide first = record {
 
 -- ---- exits
 
-pub step_exit : (h : Fields) (height : ℕ) (w w' : Walk) (p p' : List ℕ) (r : Result (Unit {0}) Fault) (e : Fault) → IsErrAnd r (λ y. y ≡ e) → StepsOff h height w p e → (e ≡ Truncated → StepsOn h height w w' p p' []) → Step h height w w' p p' r
+pub step_exit : (h : Fields) (height : ℕ) (w w' : WalkView) (p p' : List ℕ) (r : Result (Unit {0}) Fault) (e : Fault) → IsErrAnd r (λ y. y ≡ e) → StepsOff h height w p e → (e ≡ Truncated → StepsOn h height w w' p p' []) → Step h height w w' p p' r
 step_exit h height w w' p p' (Ok x) e a off on = absurd a
 step_exit h height w w' p p' (Err y) e a off on = record { ok = tt; err = subst (StepsOff h height w p) (sym a) off; more = λ is. on (sym a ∙ (let same : y ≡ Truncated = cc in same)) }
 
-pub row_exit : (h : Fields) (height : ℕ) (w w' : Walk) (p p' : List ℕ) (r : Result (Unit {0}) Fault) (e : Fault) → IsErrAnd r (λ y. y ≡ e) → StepsOff h height w p e → (e ≡ Truncated → StepsOn h height w w' p p' []) → RowStep h height w w' p p' r
+pub row_exit : (h : Fields) (height : ℕ) (w w' : WalkView) (p p' : List ℕ) (r : Result (Unit {0}) Fault) (e : Fault) → IsErrAnd r (λ y. y ≡ e) → StepsOff h height w p e → (e ≡ Truncated → StepsOn h height w w' p p' []) → RowStep h height w w' p p' r
 row_exit h height w w' p p' (Ok x) e a off on = absurd a
 row_exit h height w w' p p' (Err y) e a off on = record { ok = tt; err = subst (StepsOff h height w p) (sym a) off; more = λ is. on (sym a ∙ (let same : y ≡ Truncated = cc in same)) }
 
@@ -137,7 +137,7 @@ other_exit (Ok x) e a other = tt
 other_exit (Err y) e a other = λ is. other (sym a ∙ is)
 
 -- a row breaks, or waits
-pub leaves_exit : (w w' : Walk) (p p' : List ℕ) (r : Result (Unit {0}) Fault) (e : Fault) → IsErrAnd r (λ y. y ≡ e) → KeepsPlace w w' → (w'.row ≡ w.row) × (w'.stage ≡ stage.Row) × (w'.first ≡ None) × (w'.marker ≡ w.marker) →
+pub leaves_exit : (w w' : WalkView) (p p' : List ℕ) (r : Result (Unit {0}) Fault) (e : Fault) → IsErrAnd r (λ y. y ≡ e) → KeepsPlace w w' → (w'.row ≡ w.row) × (w'.stage ≡ stage.Row) × (w'.first ≡ None) × (w'.marker ≡ w.marker) →
     (HasMarker w → ⊥) → (EndsInNoEscape p → p' ≡ []) → e ≢ Changed → RowLeaves w w' p p' r
 leaves_exit w w' p p' (Ok x) e a keeps same never drained other = absurd a
 leaves_exit w w' p p' (Err y) e a keeps same never drained other = record {
@@ -150,7 +150,7 @@ leaves_exit w w' p p' (Err y) e a keeps same never drained other = record {
 }
 
 -- a row was entered before
-pub leaves_then : (w w1 w2 : Walk) (p p' : List ℕ) (r : Result (Unit {0}) Fault) → KeepsPlace w w1 → (w1.row ≡ w.row) × (w1.first ≡ w.first) × (w1.marker ≡ w.marker) → RowLeaves w1 w2 p p' r → RowLeaves w w2 p p' r
+pub leaves_then : (w w1 w2 : WalkView) (p p' : List ℕ) (r : Result (Unit {0}) Fault) → KeepsPlace w w1 → (w1.row ≡ w.row) × (w1.first ≡ w.first) × (w1.marker ≡ w.marker) → RowLeaves w1 w2 p p' r → RowLeaves w w2 p p' r
 leaves_then w w1 w2 p p' r keeps same next = record {
   place = record { entities = next.place.entities ∙ keeps.entities; left = next.place.left ∙ keeps.left; given = next.place.given ∙ keeps.given; at = next.place.at ∙ keeps.at };
   row = row_of r next.row;
@@ -182,19 +182,19 @@ offset_low true old new low e = omega (arith, e)
 offset_low false old new low e = omega (arith, e, low)
 
 -- a step, and then a row
-pub row_then : (h : Fields) (height : ℕ) (w w1 w2 : Walk) (p p1 p2 : List ℕ) → StepsOn h height w w1 p p1 [] → (r : Result (Unit {0}) Fault) → RowStep h height w1 w2 p1 p2 r → RowStep h height w w2 p p2 r
-row_then h height w w1 w2 p p1 p2 on (Ok x) s = record { ok = on_then h height w w1 p p1 on w2 p2 (held w2.carried.window.now).current s.ok; err = tt; more = λ e. absurd (let bot : ⊥ = cc in bot) }
+pub row_then : (h : Fields) (height : ℕ) (w w1 w2 : WalkView) (p p1 p2 : List ℕ) → StepsOn h height w w1 p p1 [] → (r : Result (Unit {0}) Fault) → RowStep h height w1 w2 p1 p2 r → RowStep h height w w2 p p2 r
+row_then h height w w1 w2 p p1 p2 on (Ok x) s = record { ok = on_then h height w w1 p p1 on w2 p2 w2.carried.held.current s.ok; err = tt; more = λ e. absurd (let bot : ⊥ = cc in bot) }
 row_then h height w w1 w2 p p1 p2 on (Err f) s = record { ok = tt; err = off_then h height w w1 p p1 on f s.err; more = λ e. on_then h height w w1 p p1 on w2 p2 [] (s.more e) }
 
 -- a row, as a turn
-pub turn_row : (h : Fields) (height : ℕ) (w w' : Walk) (p p' : List ℕ) → StepsOn h height w w' p p' (held w'.carried.window.now).current → Turn h height w w' p p' (Ok true)
+pub turn_row : (h : Fields) (height : ℕ) (w w' : WalkView) (p p' : List ℕ) → StepsOn h height w w' p p' w'.carried.held.current → Turn h height w w' p p' (Ok true)
 turn_row h height w w' p p' on = record { row = λ _. on; done = λ e. absurd (let bot : ⊥ = cc in bot); err = tt; more = λ e. absurd (let bot : ⊥ = cc in bot) }
 
 -- the image is whole
-pub turn_done : (h : Fields) (height : ℕ) (w w' : Walk) (p p' : List ℕ) → StepsOn h height w w' p p' [] → IsOver w'.stage → Turn h height w w' p p' (Ok false)
+pub turn_done : (h : Fields) (height : ℕ) (w w' : WalkView) (p p' : List ℕ) → StepsOn h height w w' p p' [] → IsOver w'.stage → Turn h height w w' p p' (Ok false)
 turn_done h height w w' p p' on is = record { row = λ e. absurd (let bot : ⊥ = cc in bot); done = λ _. (on, is); err = tt; more = λ e. absurd (let bot : ⊥ = cc in bot) }
 
-pub turn_exit : (h : Fields) (height : ℕ) (w w' : Walk) (p p' : List ℕ) (r : Result Bool Fault) (e : Fault) → IsErrAnd r (λ y. y ≡ e) → StepsOff h height w p e → (e ≡ Truncated → StepsOn h height w w' p p' []) → Turn h height w w' p p' r
+pub turn_exit : (h : Fields) (height : ℕ) (w w' : WalkView) (p p' : List ℕ) (r : Result Bool Fault) (e : Fault) → IsErrAnd r (λ y. y ≡ e) → StepsOff h height w p e → (e ≡ Truncated → StepsOn h height w w' p p' []) → Turn h height w w' p p' r
 turn_exit h height w w' p p' (Ok x) e a off on = absurd a
 turn_exit h height w w' p p' (Err y) e a off on = record {
   row = λ is. absurd (let bot : ⊥ = cc in bot);
@@ -204,9 +204,9 @@ turn_exit h height w w' p p' (Err y) e a off on = record {
 }
 
 -- a step, and then a turn
-pub turn_then : (h : Fields) (height : ℕ) (w w1 w2 : Walk) (p p1 p2 : List ℕ) → StepsOn h height w w1 p p1 [] → (r : Result Bool Fault) → Turn h height w1 w2 p1 p2 r → Turn h height w w2 p p2 r
+pub turn_then : (h : Fields) (height : ℕ) (w w1 w2 : WalkView) (p p1 p2 : List ℕ) → StepsOn h height w w1 p p1 [] → (r : Result Bool Fault) → Turn h height w1 w2 p1 p2 r → Turn h height w w2 p p2 r
 turn_then h height w w1 w2 p p1 p2 on (Ok x) t = record {
-  row = λ e. on_then h height w w1 p p1 on w2 p2 (held w2.carried.window.now).current (t.row e);
+  row = λ e. on_then h height w w1 p p1 on w2 p2 w2.carried.held.current (t.row e);
   done = λ e. (on_then h height w w1 p p1 on w2 p2 [] (t.done e).0, (t.done e).1);
   err = tt;
   more = λ e. absurd (let bot : ⊥ = cc in bot);
@@ -244,13 +244,13 @@ first_two (inr (inr (inl c))) m n = absurd (m c)
 first_two (inr (inr (inr d))) m n = absurd (n d)
 
 -- a stripe's first row is to come
-pub first_row : {h : Fields} {height : ℕ} {w : Walk} {text out : List ℕ} → 1 ≤ h.l0 → w.stage ≡ stage.Code → w.row ≡ 0 → WalkStands h height w text out → w.row < rows_in h height w.entities
+pub first_row : {h : Fields} {height : ℕ} {w : WalkView} {text out : List ℕ} → 1 ≤ h.l0 → w.stage ≡ stage.Code → w.row ≡ 0 → WalkStands h height w text out → w.row < rows_in h height w.entities
 first_row {h} {height} {w} {text} {out} some is zero s =
     let k : CodeStands h height w.entities w.given w.at w.row w.first w.marker w.carried w.decoder text out = at_stage is s in
     let r = some_row height h.l0 w.entities some k.head.fewer in
     omega (arith, zero, r)
 
 -- a walk in the code of a stripe has fewer stripes behind it than rows
-pub walk_few : (h : Fields) (height : ℕ) (w : Walk) (text out : List ℕ) → 1 ≤ h.l0 → IsInCode w.stage → WalkStands h height w text out → w.entities < height
+pub walk_few : (h : Fields) (height : ℕ) (w : WalkView) (text out : List ℕ) → 1 ≤ h.l0 → IsInCode w.stage → WalkStands h height w text out → w.entities < height
 walk_few h height w text out some (inl code) s = few_before height h.l0 w.entities some (at_stage code s).head.fewer
 walk_few h height w text out some (inr row) s = few_before height h.l0 w.entities some (at_stage row s).head.fewer

@@ -24,11 +24,11 @@ use Rattle.t85_core.specs.Steps.Segments.{IsByteOrMarker, PieceFault, code_bytes
 use Rattle.t85_core.specs.declared.fault.Fault.{Fault}
 use Rattle.t85_core.specs.declared.fault.Fault.TheVariants.{Truncated, Changed}
 use Rattle.t85_core.specs.declared.header.Header.{Header}
-use Rattle.t85_core.specs.declared.pieces.PieceDecoder.{PieceDecoder}
+use Rattle.t85_core.specs.Lent.{PieceView}
 use Rattle.t85_core.specs.declared.pieces.Outcome.{Outcome}
 use Rattle.t85_core.specs.declared.pieces.Outcome.TheVariants as outcome
 use Rattle.t85_core.specs.declared.pieces.behind.Behind.{Behind}
-use Rattle.t85_core.specs.declared.pieces.walk.Walk.{Walk}
+use Rattle.t85_core.specs.Lent.{WalkView}
 use Rattle.t85_core.specs.declared.pieces.walk.Stage.{Stage}
 use Rattle.t85_core.specs.declared.pieces.walk.Stage.TheVariants as stage
 use Rattle.t85_core.specs.Header.{Fields, is_variable}
@@ -59,7 +59,7 @@ known_more h height is_open text more k = record {
 pub own_height : (header : Header) → IsInUse (fields_of header) header.yd
 own_height header = in_use header header.yd header.some_height (omega arith)
 
-module _ (d : PieceDecoder) (text out : List ℕ) where
+module _ (d : PieceView) (text out : List ℕ) where
   pub walks_of : d.is_open ≡ false → DecoderStands d text out → WalkStands (fields_of d.header) d.height d.walk text out
   walks_of known s = subst (λ b. StandsAs b d.waits d text out) known s.stands
 
@@ -79,7 +79,7 @@ module _ (d : PieceDecoder) (text out : List ℕ) where
   put_waits late waits k s = record { height = k; stands = subst (λ b. StandsAs b d.waits d text out) (sym late) (subst (λ b. StandsAs true b d text out) (sym waits) s) }
 
 -- a walk begins to wait
-pub waits_first : (h : Fields) (w : Walk) (b : Behind) (text out : List ℕ) → WalkStands h h.yd w text out → IsAtMarker w → w.given ≡ false → b.at ≡ None → b.comment ≡ None → WalkWaits h w b text out
+pub waits_first : (h : Fields) (w : WalkView) (b : Behind) (text out : List ℕ) → WalkStands h h.yd w text out → IsAtMarker w → w.given ≡ false → b.at ≡ None → b.comment ≡ None → WalkWaits h w b text out
 waits_first h w b text out s at ungiven none empty = record {
   done = text;
   back = [];
@@ -87,22 +87,22 @@ waits_first h w b text out s at ungiven none empty = record {
   walk = s;
   at = at;
   ungiven = ungiven;
-  behind = behind_first h (place_behind h w) (last_behind h w) b refl none empty;
+  behind = behind_first h (place_behind h w.stage w.entities) (last_behind h w.stage w.left) b refl none empty;
 }
 
 -- ---- how many steps are left
 
-pub fewer_bytes : (d d' : PieceDecoder) (p p' : List ℕ) → length p' < length p → steps_left d' p' < steps_left d p
-fewer_bytes d d' p p' less = went d.waits d'.waits where
+pub fewer_bytes : (old new : Bool) (p p' : List ℕ) → length p' < length p → steps_left new p' < steps_left old p
+fewer_bytes old new p p' less = went old new where
   went : (a b : Bool) → 2 * length p' + cond {A = ℕ} b 0 1 < 2 * length p + cond {A = ℕ} a 0 1
   went true true = omega (arith, less)
   went true false = omega (arith, less)
   went false true = omega (arith, less)
   went false false = omega (arith, less)
 
-pub begins_to_wait : (d d' : PieceDecoder) (p p' : List ℕ) → d.waits ≡ false → d'.waits ≡ true → length p' ≤ length p → steps_left d' p' < steps_left d p
-begins_to_wait d d' p p' going waits le =
-    subst (λ b. 2 * length p' + cond {A = ℕ} d'.waits 0 1 < 2 * length p + cond {A = ℕ} b 0 1) (sym going)
+pub begins_to_wait : (old new : Bool) (p p' : List ℕ) → old ≡ false → new ≡ true → length p' ≤ length p → steps_left new p' < steps_left old p
+begins_to_wait old new p p' going waits le =
+    subst (λ b. 2 * length p' + cond {A = ℕ} new 0 1 < 2 * length p + cond {A = ℕ} b 0 1) (sym going)
     (subst (λ b. 2 * length p' + cond {A = ℕ} b 0 1 < 2 * length p + cond {A = ℕ} false 0 1) (sym waits) (omega (arith, le)))
 
 pub taken_less : (p given p' : List ℕ) → p ≡ given ++ p' → length p' ≤ length p
@@ -114,7 +114,7 @@ none_some : {A : Type 0} {x : A} → None ≡ Some x → ⊥
 none_some e = cc
 
 -- another step is to be taken
-pub leaves_on : (is_all : Bool) (d d' : PieceDecoder) (p p' : List ℕ) → d'.header ≡ d.header → d'.end ≡ d.end → DecoderOn d d' p p' [] → StepLeaves is_all d d' p p' None
+pub leaves_on : (is_all : Bool) (d d' : PieceView) (p p' : List ℕ) → d'.header ≡ d.header → d'.end ≡ d.end → DecoderOn d d' p p' [] → StepLeaves is_all d d' p p' None
 leaves_on is_all d d' p p' header going on = record {
   header = header;
   going = going;
@@ -127,7 +127,7 @@ leaves_on is_all d d' p p' header going on = record {
 }
 
 -- a row
-pub leaves_row : (is_all : Bool) (d d' : PieceDecoder) (p p' : List ℕ) → d'.header ≡ d.header → d'.end ≡ d.end → DecoderOn d d' p p' (row_held d') → NoHeightBelow is_all d d' p → StepLeaves is_all d d' p p' (Some outcome.Row)
+pub leaves_row : (is_all : Bool) (d d' : PieceView) (p p' : List ℕ) → d'.header ≡ d.header → d'.end ≡ d.end → DecoderOn d d' p p' (row_held d') → NoHeightBelow is_all d d' p → StepLeaves is_all d d' p p' (Some outcome.Row)
 leaves_row is_all d d' p p' header going on waits = record {
   header = header;
   going = going;
@@ -149,7 +149,7 @@ pub record Comes (fault : Fault) (is_all : Bool) (r : Outcome) : Type 0 where
 some_is : {r s : Outcome} → Some r ≡ Some s → r ≡ s
 some_is e = cc
 
-pub leaves_stop : (is_all : Bool) (d d' : PieceDecoder) (p p' : List ℕ) (fault : Fault) (r : Outcome) → Comes fault is_all r → d'.header ≡ d.header → d'.end ≡ d.end → (fault ≡ Truncated → DecoderOn d d' p p' []) →
+pub leaves_stop : (is_all : Bool) (d d' : PieceView) (p p' : List ℕ) (fault : Fault) (r : Outcome) → Comes fault is_all r → d'.header ≡ d.header → d'.end ≡ d.end → (fault ≡ Truncated → DecoderOn d d' p p' []) →
     ((is_all : Bool) → (fault ≡ Truncated → is_all ≡ true) → EndsBroken is_all d p d'.height fault) → StepLeaves is_all d d' p p' (Some r)
 leaves_stop is_all d d' p p' fault r c header going on broken = record {
   header = header;
@@ -163,7 +163,7 @@ leaves_stop is_all d d' p p' fault r c header going on broken = record {
 }
 
 -- a fault in the code, where no height came
-pub code_broken : (d : PieceDecoder) (p : List ℕ) (fault : Fault) → d.is_open ≡ true → d.waits ≡ false → StepsOff (fields_of d.header) d.header.yd d.walk p fault → (SomeStand d → fault ≢ Changed) → (is_all : Bool) → (fault ≡ Truncated → is_all ≡ true) → EndsBroken is_all d p d.height fault
+pub code_broken : (d : PieceView) (p : List ℕ) (fault : Fault) → d.is_open ≡ true → d.waits ≡ false → StepsOff (fields_of d.header) d.header.yd d.walk p fault → (SomeStand d → fault ≢ Changed) → (is_all : Bool) → (fault ≡ Truncated → is_all ≡ true) → EndsBroken is_all d p d.height fault
 code_broken d p fault late going off other is_all all text out rest s follows =
     subst (λ n. HandsOut (fields_of d.header) ((text ++ p) ++ rest) n fault out) (sym (s.height.first late))
     (cut_hands_first (fields_of d.header) (text ++ p) out rest fault (own_height d.header) (other (text, out, s)) (λ t. follows (all t)) (off text out (code_of d text out late going s).walk))
@@ -182,18 +182,18 @@ not_head : (s : Stage) → s ≡ stage.Head → IsInCode s → ⊥
 not_head s e (inl k) = let z : stage.Head ≡ stage.Code = sym e ∙ k in cc
 not_head s e (inr k) = let z : stage.Head ≡ stage.Row = sym e ∙ k in cc
 
-pub marker_of : (w : Walk) → IsAtMarker w → IsInCode w.stage → HasMarker w
+pub marker_of : (w : WalkView) → IsAtMarker w → IsInCode w.stage → HasMarker w
 marker_of w (inl head) code = absurd (not_head w.stage head.0 code)
 marker_of w (inr k) code = k.1
 
-pub head_of : (w : Walk) → IsAtMarker w → (IsInCode w.stage → ⊥) → (w.stage ≡ stage.Head) × (w.at ≡ None) × (w.entities ≡ 0)
+pub head_of : (w : WalkView) → IsAtMarker w → (IsInCode w.stage → ⊥) → (w.stage ≡ stage.Head) × (w.at ≡ None) × (w.entities ≡ 0)
 head_of w (inl head) outside = head
 head_of w (inr k) outside = absurd (outside k.0)
 
 -- what came stays behind the same marker
-pub behind_same : (h : Fields) (w w' : Walk) (b : Behind) (back : List ℕ) → IsInCode w.stage → IsInCode w'.stage → KeepsPlace w w' → BehindStands h (place_behind h w) (last_behind h w) b back → BehindStands h (place_behind h w') (last_behind h w') b back
+pub behind_same : (h : Fields) (w w' : WalkView) (b : Behind) (back : List ℕ) → IsInCode w.stage → IsInCode w'.stage → KeepsPlace w w' → BehindStands h (place_behind h w.stage w.entities) (last_behind h w.stage w.left) b back → BehindStands h (place_behind h w'.stage w'.entities) (last_behind h w'.stage w'.left) b back
 behind_same h w w' b back code code' keeps s =
-    subst (λ p. BehindStands h p (last_behind h w') b back) (ap (λ e. place_at e) entities) (subst (λ l. BehindStands h (place_behind h w) l b back) last s)
+    subst (λ p. BehindStands h p (last_behind h w'.stage w'.left) b back) (ap (λ e. place_at e) entities) (subst (λ l. BehindStands h (place_behind h w.stage w.entities) l b back) last s)
   where
     place_at : ℕ → Place
     place_at e = record { height = h.yd; entities = e; given = false }
@@ -201,7 +201,7 @@ behind_same h w w' b back code code' keeps s =
     entities : entities_behind w.stage w.entities ≡ entities_behind w'.stage w'.entities
     entities = in_code_entities w.stage w.entities code ∙ ap (λ z. z + 1) (sym keeps.entities) ∙ sym (in_code_entities w'.stage w'.entities code')
 
-    last : last_behind h w ≡ last_behind h w'
+    last : last_behind h w.stage w.left ≡ last_behind h w'.stage w'.left
     last = in_code_last w.stage (nat_le w.left h.l0) code ∙ ap (λ z. nat_le z h.l0) (sym keeps.left) ∙ sym (in_code_last w'.stage (nat_le w'.left h.l0) code')
 
 pub on_ok : {A : Type 0} (r : Result A Fault) (P : Type 0) → IsOk r → OnOk r P → P
@@ -213,17 +213,17 @@ no_bytes [] p' e = refl
 no_bytes (x ∷ g) p' e = absurd (let bot : ⊥ = cc in bot)
 
 -- a step that has no bytes
-pub step_none : (h : Fields) (height : ℕ) (w w' : Walk) (p' row : List ℕ) → StepsOn h height w w' [] p' row → (text out : List ℕ) → WalkStands h height w text out → WalkStands h height w' text (out ++ row)
+pub step_none : (h : Fields) (height : ℕ) (w w' : WalkView) (p' row : List ℕ) → StepsOn h height w w' [] p' row → (text out : List ℕ) → WalkStands h height w text out → WalkStands h height w' text (out ++ row)
 step_none h height w w' p' row on text out s = let k = on text out s in subst (λ z. WalkStands h height w' z (out ++ row)) (ap (λ z. text ++ z) (no_bytes k.0 p' k.1) ∙ append-nil text) k.2
 
 -- the same is known of the height
-pub keep_known : (d d' : PieceDecoder) (text : List ℕ) → KeepsDecoder d d' → HeightKnown (fields_of d.header) d.height d.is_open text → HeightKnown (fields_of d'.header) d'.height d'.is_open text
+pub keep_known : (d d' : PieceView) (text : List ℕ) → KeepsDecoder d d' → HeightKnown (fields_of d.header) d.height d.is_open text → HeightKnown (fields_of d'.header) d'.height d'.is_open text
 keep_known d d' text keeps k =
     subst (λ z. HeightKnown (fields_of z) d'.height d'.is_open text) (sym keeps.header) (subst (λ n. HeightKnown (fields_of d.header) n d'.is_open text) (sym keeps.height)
     (subst (λ b. HeightKnown (fields_of d.header) d.height b text) (sym keeps.is_open) k))
 
 -- a row that waited
-pub row_given : (d d' : PieceDecoder) → d.is_open ≡ true → d.waits ≡ true → IsInCode d.walk.stage → KeepsDecoder d d' → (p' : List ℕ) (r : Result (Unit {0}) Fault) → RowStep (fields_of d.header) d.header.yd d.walk d'.walk [] p' r → RowLeaves d.walk d'.walk [] p' r →
+pub row_given : (d d' : PieceView) → d.is_open ≡ true → d.waits ≡ true → IsInCode d.walk.stage → KeepsDecoder d d' → (p' : List ℕ) (r : Result (Unit {0}) Fault) → RowStep (fields_of d.header) d.header.yd d.walk d'.walk [] p' r → RowLeaves d.walk d'.walk [] p' r →
     DecoderOn d d' [] [] (row_held d')
 row_given d d' late waits code keeps p' r step leaves text out s = (
   [],
@@ -256,11 +256,11 @@ row_given d d' late waits code keeps p' r step leaves text out s = (
   }
 
 -- its place
-pub row_after : (d : PieceDecoder) (w : Walk) → d.is_open ≡ true → d.waits ≡ true → SomeStand d → IsInCode d.walk.stage → (p' : List ℕ) (r : Result (Unit {0}) Fault) → RowLeaves d.walk w [] p' r → w.row ≡ d.walk.row + 1
+pub row_after : (d : PieceView) (w : WalkView) → d.is_open ≡ true → d.waits ≡ true → SomeStand d → IsInCode d.walk.stage → (p' : List ℕ) (r : Result (Unit {0}) Fault) → RowLeaves d.walk w [] p' r → w.row ≡ d.walk.row + 1
 row_after d w late waits some code p' r leaves = (on_ok r _ (leaves.whole (marker_of d.walk (waits_of d some.0 some.1 late waits some.2).at code)).0 leaves.row).0
 
 -- a stripe ended
-pub stripe_ended : (d d' : PieceDecoder) → d.is_open ≡ true → d.waits ≡ true → SomeStand d → IsInCode d.walk.stage → KeepsDecoder d d' → (p' : List ℕ) (r : Result (Unit {0}) Fault) → Step (fields_of d.header) d.header.yd d.walk d'.walk [] p' r → (HasMarker d.walk → IsOk r) →
+pub stripe_ended : (d d' : PieceView) → d.is_open ≡ true → d.waits ≡ true → SomeStand d → IsInCode d.walk.stage → KeepsDecoder d d' → (p' : List ℕ) (r : Result (Unit {0}) Fault) → Step (fields_of d.header) d.header.yd d.walk d'.walk [] p' r → (HasMarker d.walk → IsOk r) →
     OnOk r (StripesOn (fields_of d.header) d.header.yd d.walk d'.walk [] p') → OnOk r (d.header.l0 < d.walk.left → d'.walk.stage ≡ stage.Head) →
     OnOk r ((d'.walk.left ≡ d.walk.left - d.header.l0) × (d'.walk.given ≡ d.walk.given) × (d'.walk.at ≡ None)) → (SomeStands (fields_of d.header) d.header.yd d.walk → OnOk r (d'.walk.entities ≡ d.walk.entities + 1)) → StripeLeft d d'
 stripe_ended d d' late waits some code keeps p' r step whole read left next entities = record {
@@ -285,7 +285,7 @@ stripe_ended d d' late waits some code keeps p' r step whole read left next enti
 
 -- ---- steps one after another
 
-pub on_compose : (d e d' : PieceDecoder) (p p1 p' row : List ℕ) → DecoderOn d e p p1 [] → DecoderOn e d' p1 p' row → DecoderOn d d' p p' row
+pub on_compose : (d e d' : PieceView) (p p1 p' row : List ℕ) → DecoderOn d e p p1 [] → DecoderOn e d' p1 p' row → DecoderOn d d' p p' row
 on_compose d e d' p p1 p' row on next text out s =
     let a = on text out s in
     let b = next (text ++ a.0) (out ++ []) a.2 in (
@@ -294,10 +294,10 @@ on_compose d e d' p p1 p' row on next text out s =
       subst (λ z. DecoderStands d' z (out ++ row)) (append_assoc text a.0 b.0) (subst (λ z. DecoderStands d' ((text ++ a.0) ++ b.0) (z ++ row)) (append-nil out) b.2),
     )
 
-pub on_none : (d e : PieceDecoder) (p : List ℕ) → ((text out : List ℕ) → DecoderStands d text out → DecoderStands e text out) → DecoderOn d e p p []
+pub on_none : (d e : PieceView) (p : List ℕ) → ((text out : List ℕ) → DecoderStands d text out → DecoderStands e text out) → DecoderOn d e p p []
 on_none d e p k text out s = ([], refl, subst (λ z. DecoderStands e z (out ++ [])) (sym (append-nil text)) (subst (DecoderStands e text) (sym (append-nil out)) (k text out s)))
 
-module _ (is_all : Bool) (d e d' : PieceDecoder) (p p1 p' : List ℕ) (header : e.header ≡ d.header) (going : e.end ≡ d.end) (on : DecoderOn d e p p1 []) where
+module _ (is_all : Bool) (d e d' : PieceView) (p p1 p' : List ℕ) (header : e.header ≡ d.header) (going : e.end ≡ d.end) (on : DecoderOn d e p p1 []) where
   all_text : (text g rest : List ℕ) → p ≡ g ++ p1 → ((text ++ g) ++ p1) ++ rest ≡ (text ++ p) ++ rest
   all_text text g rest is = ap (λ z. z ++ rest) (append_assoc text g p1 ∙ ap (λ z. text ++ z) (sym is))
 
@@ -331,7 +331,7 @@ module _ (is_all : Bool) (d e d' : PieceDecoder) (p p1 p' : List ℕ) (header : 
   }
 
 -- a fault for good
-pub leaves_broken : (is_all : Bool) (d d' : PieceDecoder) (p p' : List ℕ) (f : Fault) → d'.header ≡ d.header → d'.end ≡ d.end → EndsBroken is_all d p d'.height f → StepLeaves is_all d d' p p' (Some (outcome.Broken f))
+pub leaves_broken : (is_all : Bool) (d d' : PieceView) (p p' : List ℕ) (f : Fault) → d'.header ≡ d.header → d'.end ≡ d.end → EndsBroken is_all d p d'.height f → StepLeaves is_all d d' p p' (Some (outcome.Broken f))
 leaves_broken is_all d d' p p' f header going broken = record {
   header = header;
   going = going;
@@ -343,7 +343,7 @@ leaves_broken is_all d d' p p' f header going broken = record {
   broken = λ g e. subst (EndsBroken is_all d p d'.height) (let k : f ≡ g = cc in k) broken;
 }
 
-pub leaves_done : (is_all : Bool) (d d' : PieceDecoder) (p p' : List ℕ) (n : ℕ) → d'.header ≡ d.header → d'.end ≡ d.end → d'.height ≡ n → EndsWhole is_all d p n → StepLeaves is_all d d' p p' (Some (outcome.Done n))
+pub leaves_done : (is_all : Bool) (d d' : PieceView) (p p' : List ℕ) (n : ℕ) → d'.header ≡ d.header → d'.end ≡ d.end → d'.height ≡ n → EndsWhole is_all d p n → StepLeaves is_all d d' p p' (Some (outcome.Done n))
 leaves_done is_all d d' p p' n header going height whole = record {
   header = header;
   going = going;
@@ -358,7 +358,7 @@ leaves_done is_all d d' p p' n header going height whole = record {
 -- ---- in the code
 
 -- a part of a piece was taken
-pub code_on : (d d' : PieceDecoder) (p front behind part' p' row : List ℕ) → d.is_open ≡ true → d.waits ≡ false → KeepsDecoder d d' → p ≡ front ++ behind → (SomeStand d → (g : List ℕ) → front ≡ g ++ part' → p' ≡ part' ++ behind) →
+pub code_on : (d d' : PieceView) (p front behind part' p' row : List ℕ) → d.is_open ≡ true → d.waits ≡ false → KeepsDecoder d d' → p ≡ front ++ behind → (SomeStand d → (g : List ℕ) → front ≡ g ++ part' → p' ≡ part' ++ behind) →
     StepsOn (fields_of d.header) d.header.yd d.walk d'.walk front part' row → (SomeStand d → IsInCode d'.walk.stage × (d'.walk.given ≡ d.walk.given)) → DecoderOn d d' p p' row
 code_on d d' p front behind part' p' row late going keeps p_is rest on code text out s =
     let w = code_of d text out late going s in
@@ -371,14 +371,14 @@ code_on d d' p front behind part' p' row late going keeps p_is rest on code text
     )
 
 -- a fault in a part of the piece
-pub part_broken : (d : PieceDecoder) (p front behind : List ℕ) (fault : Fault) → d.is_open ≡ true → d.waits ≡ false → p ≡ front ++ behind → StepsOff (fields_of d.header) d.header.yd d.walk front fault → (SomeStand d → fault ≢ Changed) → fault ≢ Truncated → (is_all : Bool) →
+pub part_broken : (d : PieceView) (p front behind : List ℕ) (fault : Fault) → d.is_open ≡ true → d.waits ≡ false → p ≡ front ++ behind → StepsOff (fields_of d.header) d.header.yd d.walk front fault → (SomeStand d → fault ≢ Changed) → fault ≢ Truncated → (is_all : Bool) →
     EndsBroken is_all d p d.height fault
 part_broken d p front behind fault late going p_is off other not_end is_all text out rest s follows =
     subst (λ z. HandsOut (fields_of d.header) z d.height fault out) (sym (append_assoc (text ++ front) behind rest) ∙ ap (λ z. z ++ rest) (append_assoc text front behind ∙ ap (λ z. text ++ z) (sym p_is)))
     (code_broken d front fault late going off other false (λ t. absurd (not_end t)) text out (behind ++ rest) s (λ e. absurd (true≢false (sym e))))
 
 -- an end marker is read ahead
-pub walk_ahead : (h : Fields) (height : ℕ) (w : Walk) (text out : List ℕ) (reset : Bool) → IsInCode w.stage → w.first ≡ None → w.marker ≡ None → WalkStands h height w text out →
+pub walk_ahead : (h : Fields) (height : ℕ) (w : WalkView) (text out : List ℕ) (reset : Bool) → IsInCode w.stage → w.first ≡ None → w.marker ≡ None → WalkStands h height w text out →
     WalkStands h height (record w { first = Some (code.Marker reset) }) (text ++ marker_bytes reset) out
 walk_ahead h height w text out reset in_code none unmarked s = record {
   left_is = s.left_is;
@@ -396,7 +396,7 @@ walk_ahead h height w text out reset in_code none unmarked s = record {
 
 -- ---- the stripe before
 
-pub closed_none : (d d' : PieceDecoder) → d.is_open ≡ true → d.waits ≡ true → SomeStand d → (IsInCode d.walk.stage → ⊥) → KeepsDecoder d d' → d'.walk ≡ d.walk → StripeClosed d d'
+pub closed_none : (d d' : PieceView) → d.is_open ≡ true → d.waits ≡ true → SomeStand d → (IsInCode d.walk.stage → ⊥) → KeepsDecoder d d' → d'.walk ≡ d.walk → StripeClosed d d'
 closed_none d d' late waits some outside keeps same = record {
   keeps = keeps;
   stage = ap (λ w. w.stage) same ∙ head.0;
@@ -411,7 +411,7 @@ closed_none d d' late waits some outside keeps same = record {
   head : (d.walk.stage ≡ stage.Head) × (d.walk.at ≡ None) × (d.walk.entities ≡ 0)
   head = head_of d.walk here.at outside
 
-pub closed_ended : (d d' : PieceDecoder) → d.is_open ≡ true → d.waits ≡ true → SomeStand d → IsInCode d.walk.stage → last_behind (fields_of d.header) d.walk ≡ false → StripeLeft d d' → StripeClosed d d'
+pub closed_ended : (d d' : PieceView) → d.is_open ≡ true → d.waits ≡ true → SomeStand d → IsInCode d.walk.stage → last_behind (fields_of d.header) d.walk.stage d.walk.left ≡ false → StripeLeft d d' → StripeClosed d d'
 closed_ended d d' late waits some code more e = record {
   keeps = e.keeps;
   stage = e.stage (let t = sym (in_code_last d.walk.stage (nat_le d.walk.left d.header.l0) code) ∙ more in grind (arith, nat_tests));
@@ -461,7 +461,7 @@ same_left e = cc
 
 -- ---- the head of the next stripe
 
-module _ (h : Fields) (w : Walk) (b : Behind) (place : Place) (done back out : List ℕ) (s : WalkStands h h.yd w done out) (is : w.stage ≡ stage.Head) (none : w.at ≡ None) (ungiven : w.given ≡ false) (entities : place ≡ record { height = h.yd; entities = w.entities; given = false })
+module _ (h : Fields) (w : WalkView) (b : Behind) (place : Place) (done back out : List ℕ) (s : WalkStands h h.yd w done out) (is : w.stage ≡ stage.Head) (none : w.at ≡ None) (ungiven : w.given ≡ false) (entities : place ≡ record { height = h.yd; entities = w.entities; given = false })
     (bs : BehindStands h place false b back) where
   bare : HeadStands h h.yd w.entities false None w.carried done out
   bare = subst (λ a. HeadStands h h.yd w.entities false a w.carried done out) none (subst (λ g. HeadStands h h.yd w.entities g w.at w.carried done out) ungiven (at_stage is s))
@@ -501,7 +501,7 @@ module _ (h : Fields) (w : Walk) (b : Behind) (place : Place) (done back out : L
         };
       }
 
-module _ (d e d' : PieceDecoder) (closed : StripeClosed d e) (keeps : KeepsDecoder e d') (more : last_behind (fields_of d.header) d.walk ≡ false) where
+module _ (d e d' : PieceView) (closed : StripeClosed d e) (keeps : KeepsDecoder e d') (more : last_behind (fields_of d.header) d.walk.stage d.walk.left ≡ false) where
   all_keeps : KeepsDecoder d d'
   all_keeps = record {
     header = keeps.header ∙ closed.keeps.header;
@@ -512,13 +512,13 @@ module _ (d e d' : PieceDecoder) (closed : StripeClosed d e) (keeps : KeepsDecod
     going = keeps.going ∙ closed.keeps.going;
   }
 
-  place_is : place_behind (fields_of d.header) d.walk ≡ record { height = d.header.yd; entities = e.walk.entities; given = false }
+  place_is : place_behind (fields_of d.header) d.walk.stage d.walk.entities ≡ record { height = d.header.yd; entities = e.walk.entities; given = false }
   place_is = ap at_entities (sym closed.entities) where
     at_entities : ℕ → Place
     at_entities n = record { height = d.header.yd; entities = n; given = false }
 
-  there : {text out : List ℕ} (w : WalkWaits (fields_of d.header) d.walk d.behind text out) → BehindStands (fields_of d.header) (place_behind (fields_of d.header) d.walk) false d.behind w.back
-  there w = subst (λ l. BehindStands (fields_of d.header) (place_behind (fields_of d.header) d.walk) l d.behind w.back) more w.behind
+  there : {text out : List ℕ} (w : WalkWaits (fields_of d.header) d.walk d.behind text out) → BehindStands (fields_of d.header) (place_behind (fields_of d.header) d.walk.stage d.walk.entities) false d.behind w.back
+  there w = subst (λ l. BehindStands (fields_of d.header) (place_behind (fields_of d.header) d.walk.stage d.walk.entities) l d.behind w.back) more w.behind
 
   pub entered_none : d.behind.comment ≡ None → d'.walk ≡ record e.walk { at = d.behind.at } → HeadEntered d d'
   entered_none between walk = record {
@@ -529,7 +529,7 @@ module _ (d e d' : PieceDecoder) (closed : StripeClosed d e) (keeps : KeepsDecod
     given = ap (λ w. w.given) walk ∙ closed.given;
     at = ap (λ w. w.at) walk;
     stands = λ text out w. subst (λ z. WalkStands (fields_of d.header) d.header.yd z text out) (sym walk) (subst (λ z. WalkStands (fields_of d.header) d.header.yd (record e.walk { at = d.behind.at }) z out) (sym w.text_is)
-        (head_walk (fields_of d.header) e.walk d.behind (place_behind (fields_of d.header) d.walk) w.done w.back out (closed.stands text out w) closed.stage closed.at closed.given place_is (there w) between));
+        (head_walk (fields_of d.header) e.walk d.behind (place_behind (fields_of d.header) d.walk.stage d.walk.entities) w.done w.back out (closed.stands text out w) closed.stage closed.at closed.given place_is (there w) between));
   }
 
   pub entered_some : (left : ℕ) → d.behind.comment ≡ Some left → d'.walk ≡ record e.walk { at = d.behind.at; comment = left; stage = stage.Comment } → HeadEntered d d'
@@ -541,13 +541,13 @@ module _ (d e d' : PieceDecoder) (closed : StripeClosed d e) (keeps : KeepsDecod
     given = ap (λ w. w.given) walk ∙ closed.given;
     at = ap (λ w. w.at) walk;
     stands = λ text out w. subst (λ z. WalkStands (fields_of d.header) d.header.yd z text out) (sym walk) (subst (λ z. WalkStands (fields_of d.header) d.header.yd (record e.walk { at = d.behind.at; comment = left; stage = stage.Comment }) z out) (sym w.text_is)
-        (comment_walk (fields_of d.header) e.walk d.behind (place_behind (fields_of d.header) d.walk) w.done w.back out (closed.stands text out w) closed.stage closed.at closed.given place_is (there w) left inside));
+        (comment_walk (fields_of d.header) e.walk d.behind (place_behind (fields_of d.header) d.walk.stage d.walk.entities) w.done w.back out (closed.stands text out w) closed.stage closed.at closed.given place_is (there w) left inside));
   }
 
 -- ---- what comes behind
 
 -- a code begins
-pub code_entered : (d e d' : PieceDecoder) (c : code_type.Code) (dec : Decoder) (p rest : List ℕ) → d.is_open ≡ true → d.waits ≡ true → HeadEntered d e → d.behind.comment ≡ None → IsByteOrMarker c → DecoderIsAt dec start [] → p ≡ code_bytes c ++ rest →
+pub code_entered : (d e d' : PieceView) (c : code_type.Code) (dec : Decoder) (p rest : List ℕ) → d.is_open ≡ true → d.waits ≡ true → HeadEntered d e → d.behind.comment ≡ None → IsByteOrMarker c → DecoderIsAt dec start [] → p ≡ code_bytes c ++ rest →
     d'.header ≡ e.header → d'.height ≡ e.height → d'.is_open ≡ e.is_open → d'.waits ≡ false → d'.walk ≡ record e.walk { decoder = dec; stage = stage.Code; row = 0; first = Some c; marker = None } → DecoderOn d d' p rest []
 code_entered d e d' c dec p rest late waits head between is at p_is header height is_open going walk text out s = (
   code_bytes c,
@@ -588,20 +588,20 @@ code_some (code.Marker true) p rest e = let z : length p ≡ length (255 ∷ 3 �
 code_some (code.Marker false) p rest e = let z : length p ≡ length (255 ∷ 2 ∷ rest) = ap length e in omega (arith, z)
 
 -- a fault comes next
-module _ (d e : PieceDecoder) (q : CoderLaws) (late : d.is_open ≡ true) (waits : d.waits ≡ true) (head : HeadEntered d e) (p : List ℕ) (f : Fault) (stops : StopsBehind (fields_of d.header) (place_behind (fields_of d.header) d.walk) false d.behind p f) where
+module _ (d e : PieceView) (q : CoderLaws) (late : d.is_open ≡ true) (waits : d.waits ≡ true) (head : HeadEntered d e) (p : List ℕ) (f : Fault) (stops : StopsBehind (fields_of d.header) (place_behind (fields_of d.header) d.walk.stage d.walk.entities) false d.behind p f) where
   behind_off : (text out : List ℕ) → DecoderStands d text out → CutOff (fields_of d.header) d.header.yd (text ++ p) out f × (f ≢ Changed)
   behind_off text out s = by d.behind.comment refl stops.breaks where
     there : WalkStands (fields_of d.header) d.header.yd e.walk text out
     there = head.stands text out (waits_of d text out late waits s)
 
-    by : (o : Option ℕ) → d.behind.comment ≡ o → BreaksBehind (fields_of d.header) (place_behind (fields_of d.header) d.walk) false d.behind o p f → CutOff (fields_of d.header) d.header.yd (text ++ p) out f × (f ≢ Changed)
+    by : (o : Option ℕ) → d.behind.comment ≡ o → BreaksBehind (fields_of d.header) (place_behind (fields_of d.header) d.walk.stage d.walk.entities) false d.behind o p f → CutOff (fields_of d.header) d.header.yd (text ++ p) out f × (f ≢ Changed)
     by None is (unread, ends) =
         let k : HeadStands (fields_of d.header) d.header.yd e.walk.entities e.walk.given e.walk.at e.walk.carried text out = at_stage (head.stage ∙ ap head_stage is) there in (
           head_cut k q (own_height d.header) p unread f stops.counted
               (subst (λ a. Ends Truncated (Some p) (Some unread) (PieceFault (fields_of d.header) (record { height = d.header.yd; entities = e.walk.entities; given = e.walk.given }) (is_some a)) f) (sym head.at)
               (subst (λ g. Ends Truncated (Some p) (Some unread) (PieceFault (fields_of d.header) (record { height = d.header.yd; entities = e.walk.entities; given = g }) (is_some d.behind.at)) f) (sym head.given)
               (subst (λ n. Ends Truncated (Some p) (Some unread) (PieceFault (fields_of d.header) (record { height = d.header.yd; entities = n; given = false }) (is_some d.behind.at)) f) (sym head.entities) ends))),
-          piece_other (fields_of d.header) (place_behind (fields_of d.header) d.walk) (is_some d.behind.at) refl ends.given f (subst (PieceFault (fields_of d.header) (place_behind (fields_of d.header) d.walk) (is_some d.behind.at) ends.given) stops.counted ends.has_fault),
+          piece_other (fields_of d.header) (place_behind (fields_of d.header) d.walk.stage d.walk.entities) (is_some d.behind.at) refl ends.given f (subst (PieceFault (fields_of d.header) (place_behind (fields_of d.header) d.walk.stage d.walk.entities) (is_some d.behind.at) ends.given) stops.counted ends.has_fault),
         )
     by (Some left) is (short, ended) =
         let k : CommentStands (fields_of d.header) d.header.yd e.walk.entities e.walk.given e.walk.at e.walk.carried e.walk.comment text out = at_stage (head.stage ∙ ap head_stage is) there in (
@@ -615,16 +615,16 @@ module _ (d e : PieceDecoder) (q : CoderLaws) (late : d.is_open ≡ true) (waits
       subst (λ n. HandsOut (fields_of d.header) ((text ++ p) ++ rest) n f out) (sym (head.keeps.height ∙ s.height.first late)) (cut_hands_first (fields_of d.header) (text ++ p) out rest f (own_height d.header) k.1 (λ t. follows (all t)) k.0)
 
 -- of the same decoder
-pub leaves_of : {is_all : Bool} {d0 d d' : PieceDecoder} {p p' : List ℕ} {r : Option Outcome} → d0 ≡ d → StepLeaves is_all d0 d' p p' r → StepLeaves is_all d d' p p' r
+pub leaves_of : {is_all : Bool} {d0 d d' : PieceView} {p p' : List ℕ} {r : Option Outcome} → d0 ≡ d → StepLeaves is_all d0 d' p p' r → StepLeaves is_all d d' p p' r
 leaves_of {is_all} {d0} {d} {d'} {p} {p'} {r} same k = subst (λ z. StepLeaves is_all z d' p p' r) same k
 
 -- ---- where the height is known
 
-module _ (d : PieceDecoder) (known : d.is_open ≡ false) where
+module _ (d : PieceView) (known : d.is_open ≡ false) where
   known_of : (text more : List ℕ) → HeightKnown (fields_of d.header) d.height d.is_open text → HasHeight (fields_of d.header) (text ++ more) d.height
   known_of text more k = height_known (fields_of d.header) d.height text more (own_height d.header).accepted (subst (λ b. HeightKnown (fields_of d.header) d.height b text) known k)
 
-  pub turn_on : (d' : PieceDecoder) (p p' row : List ℕ) → KeepsDecoder d d' → StepsOn (fields_of d.header) d.height d.walk d'.walk p p' row → DecoderOn d d' p p' row
+  pub turn_on : (d' : PieceView) (p p' row : List ℕ) → KeepsDecoder d d' → StepsOn (fields_of d.header) d.height d.walk d'.walk p p' row → DecoderOn d d' p p' row
   turn_on d' p p' row keeps on text out s =
       let k = on text out (walks_of d text out known s) in (
         k.0,
@@ -633,7 +633,7 @@ module _ (d : PieceDecoder) (known : d.is_open ≡ false) where
             (subst (λ z. WalkStands (fields_of z) d'.height d'.walk (text ++ k.0) (out ++ row)) (sym keeps.header) (subst (λ n. WalkStands (fields_of d.header) n d'.walk (text ++ k.0) (out ++ row)) (sym keeps.height) k.2)),
       )
 
-  pub turn_whole : (w : Walk) (p p' : List ℕ) → StepsOn (fields_of d.header) d.height d.walk w p p' [] → w.stage ≡ stage.Done → (is_all : Bool) → EndsWhole is_all d p d.height
+  pub turn_whole : (w : WalkView) (p p' : List ℕ) → StepsOn (fields_of d.header) d.height d.walk w p p' [] → w.stage ≡ stage.Done → (is_all : Bool) → EndsWhole is_all d p d.height
   turn_whole w p p' on done is_all text out rest s follows =
       let k = on text out (walks_of d text out known s) in
       let body : (text ++ k.0) ++ (p' ++ rest) ≡ (text ++ p) ++ rest = append_assoc text k.0 (p' ++ rest) ∙ ap (λ z. text ++ z) (sym (append_assoc k.0 p' rest) ∙ ap (λ z. z ++ rest) (sym k.1)) ∙ sym (append_assoc text p rest) in
@@ -646,7 +646,7 @@ module _ (d : PieceDecoder) (known : d.is_open ≡ false) where
       cut_hands (fields_of d.header) d.height (text ++ p) out rest f (subst (λ z. HasHeight (fields_of d.header) z d.height) (sym (append_assoc text p rest)) (known_of text (p ++ rest) s.height)) (λ t. follows (all t)) (off text out (walks_of d text out known s))
 
 -- more is wanted behind a marker
-pub leaves_more : (is_all : Bool) (d d' : PieceDecoder) (p p' : List ℕ) → d'.header ≡ d.header → d'.end ≡ d.end → is_all ≡ false → d'.waits ≡ true → DecoderOn d d' p p' [] → StepLeaves is_all d d' p p' (Some outcome.More)
+pub leaves_more : (is_all : Bool) (d d' : PieceView) (p p' : List ℕ) → d'.header ≡ d.header → d'.end ≡ d.end → is_all ≡ false → d'.waits ≡ true → DecoderOn d d' p p' [] → StepLeaves is_all d d' p p' (Some outcome.More)
 leaves_more is_all d d' p p' header going open_ waits on = record {
   header = header;
   going = going;
@@ -658,11 +658,11 @@ leaves_more is_all d d' p p' header going open_ waits on = record {
   broken = λ f e. absurd (let bot : ⊥ = cc in bot);
 }
 
-pub fewer_after : (d d1 d' : PieceDecoder) (p p1 p' : List ℕ) → d1.waits ≡ d.waits → length p1 ≤ length p → steps_left d' p' < steps_left d1 p1 → steps_left d' p' < steps_left d p
-fewer_after d d1 d' p p1 p' same le less = let k : steps_left d' p' < 2 * length p1 + cond {A = ℕ} d.waits 0 1 = subst (λ b. steps_left d' p' < 2 * length p1 + cond {A = ℕ} b 0 1) same less in omega (arith, k, le)
+pub fewer_after : (old mid new : Bool) (p p1 p' : List ℕ) → mid ≡ old → length p1 ≤ length p → steps_left new p' < steps_left mid p1 → steps_left new p' < steps_left old p
+fewer_after old mid new p p1 p' same le less = let k : steps_left new p' < 2 * length p1 + cond {A = ℕ} old 0 1 = subst (λ b. steps_left new p' < 2 * length p1 + cond {A = ℕ} b 0 1) same less in omega (arith, k, le)
 
 -- before the first byte
-pub started : (d : PieceDecoder) → d.is_open ≡ is_variable (fields_of d.header) → d.waits ≡ d.is_open → d.height ≡ d.header.yd → IsFirstWalk d.walk → WalkStands (fields_of d.header) d.header.yd d.walk [] [] → d.behind.at ≡ None → d.behind.comment ≡ None → DecoderStands d [] []
+pub started : (d : PieceView) → d.is_open ≡ is_variable (fields_of d.header) → d.waits ≡ d.is_open → d.height ≡ d.header.yd → IsFirstWalk d.walk → WalkStands (fields_of d.header) d.header.yd d.walk [] [] → d.behind.at ≡ None → d.behind.comment ≡ None → DecoderStands d [] []
 started d open_is waits height first s at comment = by d.is_open refl where
   known : HeightKnown (fields_of d.header) d.height d.is_open []
   known = record {
@@ -677,7 +677,7 @@ started d open_is waits height first s at comment = by d.is_open refl where
   by false e = put_walks d [] [] e known (subst (λ n. WalkStands (fields_of d.header) n d.walk [] []) (sym height) s)
 
 -- the same but for how the stream has ended
-pub stands_same : (d d' : PieceDecoder) (text out : List ℕ) → d'.header ≡ d.header → d'.height ≡ d.height → d'.is_open ≡ d.is_open → d'.waits ≡ d.waits → d'.walk ≡ d.walk → d'.behind ≡ d.behind → DecoderStands d text out → DecoderStands d' text out
+pub stands_same : (d d' : PieceView) (text out : List ℕ) → d'.header ≡ d.header → d'.height ≡ d.height → d'.is_open ≡ d.is_open → d'.waits ≡ d.waits → d'.walk ≡ d.walk → d'.behind ≡ d.behind → DecoderStands d text out → DecoderStands d' text out
 stands_same d d' text out header height is_open waits walk behind s = by d.is_open d.waits refl refl where
   known : HeightKnown (fields_of d'.header) d'.height d'.is_open text
   known = subst (λ z. HeightKnown (fields_of z) d'.height d'.is_open text) (sym header) (subst (λ n. HeightKnown (fields_of d.header) n d'.is_open text) (sym height) (subst (λ b. HeightKnown (fields_of d.header) d.height b text) (sym is_open) s.height))
@@ -699,14 +699,14 @@ taken_is p p' g e =
     ap (λ n. take n p) same ∙ ap (take (length g)) e ∙ take-append_seam g p'
 
 -- it goes on
-pub call_on : (d e d' : PieceDecoder) (p p' row : List ℕ) (taken : ℕ) → taken ≡ length p - length p' → d'.header ≡ e.header → d'.height ≡ e.height → d'.is_open ≡ e.is_open → d'.waits ≡ e.waits → d'.walk ≡ e.walk → d'.behind ≡ e.behind → d'.end ≡ None → DecoderOn d e p p' row →
+pub call_on : (d e d' : PieceView) (p p' row : List ℕ) (taken : ℕ) → taken ≡ length p - length p' → d'.header ≡ e.header → d'.height ≡ e.height → d'.is_open ≡ e.is_open → d'.waits ≡ e.waits → d'.walk ≡ e.walk → d'.behind ≡ e.behind → d'.end ≡ None → DecoderOn d e p p' row →
     (text out : List ℕ) → HasDecoded d text out → HasDecoded d' (text ++ take taken p) (out ++ row)
 call_on d e d' p p' row taken count header height is_open waits walk behind going on text out s =
     let k = on text out s.stands in
     record { going = going; stands = subst (λ z. DecoderStands d' (text ++ z) (out ++ row)) (sym (taken_is p p' k.0 k.1) ∙ ap (λ n. take n p) (sym count)) (stands_same e d' (text ++ k.0) (out ++ row) header height is_open waits walk behind k.2) }
 
 -- while a height may come, there are fewer stripes behind than the header has rows
-pub entities_few : (d : PieceDecoder) (text out : List ℕ) → d.is_open ≡ true → IsInCode d.walk.stage → DecoderStands d text out → d.walk.entities < d.header.yd
+pub entities_few : (d : PieceView) (text out : List ℕ) → d.is_open ≡ true → IsInCode d.walk.stage → DecoderStands d text out → d.walk.entities < d.header.yd
 entities_few d text out late in_code s = go d.waits refl where
   go : (b : Bool) → d.waits ≡ b → d.walk.entities < d.header.yd
   go false going = walk_few (fields_of d.header) d.header.yd d.walk text out d.header.some_rows in_code (code_of d text out late going s).walk
@@ -715,14 +715,14 @@ entities_few d text out late in_code s = go d.waits refl where
 -- ---- of a decoder that stands somewhere
 
 -- its walk does
-pub some_code : (d : PieceDecoder) → d.is_open ≡ true → d.waits ≡ false → SomeStand d → SomeStands (fields_of d.header) d.header.yd d.walk
+pub some_code : (d : PieceView) → d.is_open ≡ true → d.waits ≡ false → SomeStand d → SomeStands (fields_of d.header) d.header.yd d.walk
 some_code d late going some = (some.0, some.1, (code_of d some.0 some.1 late going some.2).walk)
 
-pub some_waits : (d : PieceDecoder) → d.is_open ≡ true → d.waits ≡ true → SomeStand d → SomeStands (fields_of d.header) d.header.yd d.walk
+pub some_waits : (d : PieceView) → d.is_open ≡ true → d.waits ≡ true → SomeStand d → SomeStands (fields_of d.header) d.header.yd d.walk
 some_waits d late waits some = let w = waits_of d some.0 some.1 late waits some.2 in (w.done, some.1, w.walk)
 
 -- what a step leaves is told of such a decoder alone
-module _ (is_all : Bool) (d d' : PieceDecoder) (p p' : List ℕ) (header : d'.header ≡ d.header) (going : d'.end ≡ d.end) where
+module _ (is_all : Bool) (d d' : PieceView) (p p' : List ℕ) (header : d'.header ≡ d.header) (going : d'.end ≡ d.end) where
   leaves_where : (r : Option Outcome) → (r ≡ Some outcome.More → is_all ≡ false) → ((n : ℕ) → r ≡ Some (outcome.Done n) → d'.height ≡ n) → (SomeStand d → StepLeaves is_all d d' p p' r) → StepLeaves is_all d d' p p' r
   leaves_where r cut done there = record {
     header = header;
@@ -752,7 +752,7 @@ module _ (is_all : Bool) (d d' : PieceDecoder) (p p' : List ℕ) (header : d'.he
   leaves_nowhere f never = broken_where f (λ some. absurd (never some))
 
 -- where all rows of the stripe before are given none has begun
-pub no_row_left : (d : PieceDecoder) → d.is_open ≡ true → d.waits ≡ true → RowsAreGiven d → IsInCode d.walk.stage → (d.walk.stage ≡ stage.Code → ⊥) → SomeStand d → ⊥
+pub no_row_left : (d : PieceView) → d.is_open ≡ true → d.waits ≡ true → RowsAreGiven d → IsInCode d.walk.stage → (d.walk.stage ≡ stage.Code → ⊥) → SomeStand d → ⊥
 no_row_left d late waits all (inl code) not_code some = not_code code
 no_row_left d late waits all (inr row) not_code some =
     let w = waits_of d some.0 some.1 late waits some.2 in
@@ -762,15 +762,15 @@ no_row_left d late waits all (inr row) not_code some =
     omega (arith, few, given)
 
 -- there are fewer stripes behind than a height has rows
-pub waits_few : (d : PieceDecoder) → d.is_open ≡ true → d.waits ≡ true → SomeStand d → d.walk.entities < d.header.yd
+pub waits_few : (d : PieceView) → d.is_open ≡ true → d.waits ≡ true → SomeStand d → d.walk.entities < d.header.yd
 waits_few d late waits some = by (waits_of d some.0 some.1 late waits some.2).at where
   by : IsAtMarker d.walk → d.walk.entities < d.header.yd
   by (inl head) = let none = head.2 in omega (arith, none, d.header.some_height)
   by (inr k) = entities_few d some.0 some.1 late k.0 some.2
 
 -- a stripe with more rows behind it is not the last
-pub not_last : (d : PieceDecoder) → d.is_open ≡ true → d.waits ≡ true → SomeStand d → (IsInCode d.walk.stage → d.header.l0 < d.walk.left) → last_behind (fields_of d.header) d.walk ≡ false
+pub not_last : (d : PieceView) → d.is_open ≡ true → d.waits ≡ true → SomeStand d → (IsInCode d.walk.stage → d.header.l0 < d.walk.left) → last_behind (fields_of d.header) d.walk.stage d.walk.left ≡ false
 not_last d late waits some more = by (waits_of d some.0 some.1 late waits some.2).at where
-  by : IsAtMarker d.walk → last_behind (fields_of d.header) d.walk ≡ false
+  by : IsAtMarker d.walk → last_behind (fields_of d.header) d.walk.stage d.walk.left ≡ false
   by (inl head) = ap (λ z. is_last z (nat_le d.walk.left d.header.l0)) head.0
   by (inr k) = in_code_last d.walk.stage (nat_le d.walk.left d.header.l0) k.0 ∙ (let over = more k.0 in grind (arith, nat_tests))

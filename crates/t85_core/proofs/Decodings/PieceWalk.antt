@@ -18,7 +18,7 @@ use Rattle.t85_core.specs.declared.fault.Fault.{Fault}
 use Rattle.t85_core.specs.declared.segments.Code as code_type
 use Rattle.t85_core.specs.declared.segments.Code.TheVariants as code
 use Rattle.t85_core.specs.declared.segments.Move as move
-use Rattle.t85_core.specs.declared.state.CodingState.{CodingState}
+use Rattle.t85_core.specs.Lent.{Carried}
 use Rattle.t85_core.specs.Header.{Fields}
 use Rattle.t85_core.specs.Grammar.{Segment, segment_bytes, marker_bytes, stripe_count, is_move, IsBegun}
 use Rattle.t85_core.specs.Refusal.{spot_behind, rest_fault}
@@ -48,7 +48,7 @@ behind_is first (Some reset) answers extra text o = o.behind
 
 -- ---- a stripe whose code breaks
 
-module _ {h : Fields} {height entities : ℕ} {given : Bool} {at : Option move.Move} {start : CodingState} {before began : List ℕ} (head : HeadStands h height entities given at start before began)
+module _ {h : Fields} {height entities : ℕ} {given : Bool} {at : Option move.Move} {start : Carried} {before began : List ℕ} (head : HeadStands h height entities given at start before began)
     (code text out : List ℕ) (text_is : text ≡ before ++ code) (q : CoderLaws) (use_ : IsInUse h height) where
   abbrev head_segments : List Segment
   head_segments = head.passed.segments
@@ -98,7 +98,7 @@ module _ {h : Fields} {height entities : ℕ} {given : Bool} {at : Option move.M
 
 -- ---- in a row that has begun
 
-module _ {h : Fields} {height entities : ℕ} {given : Bool} {at : Option move.Move} {row : ℕ} {first : Option code_type.Code} {marker : Option Bool} {carried : CodingState} {d : Decoder} {in_row : RowPlace} {text out : List ℕ}
+module _ {h : Fields} {height entities : ℕ} {given : Bool} {at : Option move.Move} {row : ℕ} {first : Option code_type.Code} {marker : Option Bool} {carried : Carried} {d : Decoder} {in_row : RowPlace} {text out : List ℕ}
     (s : InRowStands h height entities given at row first marker carried d in_row text out) where
   -- its decoder goes on
   pub in_row_going : has_stopped d ≡ false
@@ -126,8 +126,8 @@ module _ {h : Fields} {height entities : ℕ} {given : Bool} {at : Option move.M
   row_off q use_ p f m = code_off s.head s.code text out s.text_is q use_ p m.bytes f m.rows m.flags m.breaks m.begun m.out_is
 
   -- it ended
-  pub row_on : {first' : Option code_type.Code} {marker' : Option Bool} {carried' : CodingState} {d' : Decoder} {p p' : List ℕ} → (m : PieceRowTaken h s.shape s.head.stripes.next s.head.passed.segments row first' marker' carried' d' s.began out s.code p p') →
-      CodeStands h height entities given at (row + 1) first' marker' carried' d' (text ++ m.given) (out ++ (held carried'.window.now).current)
+  pub row_on : {first' : Option code_type.Code} {marker' : Option Bool} {carried' : Carried} {d' : Decoder} {p p' : List ℕ} → (m : PieceRowTaken h s.shape s.head.stripes.next s.head.passed.segments row first' marker' carried' d' s.began out s.code p p') →
+      CodeStands h height entities given at (row + 1) first' marker' carried' d' (text ++ m.given) (out ++ carried'.held.current)
   row_on m = record {
     before = s.before;
     began = s.began;
@@ -144,7 +144,7 @@ module _ {h : Fields} {height entities : ℕ} {given : Bool} {at : Option move.M
   }
 
   -- it waits
-  pub row_kept : {first' : Option code_type.Code} {marker' : Option Bool} {carried' : CodingState} {d' : Decoder} {in_row' : RowPlace} {p p' : List ℕ} →
+  pub row_kept : {first' : Option code_type.Code} {marker' : Option Bool} {carried' : Carried} {d' : Decoder} {in_row' : RowPlace} {p p' : List ℕ} →
       (m : RowWaits h s.shape s.head.stripes.next s.head.passed.segments row first' marker' carried' d' in_row' s.began out s.code p p') → InRowStands h height entities given at row first' marker' carried' d' in_row' (text ++ m.given) out
   row_kept m = record {
     before = s.before;
@@ -159,7 +159,7 @@ module _ {h : Fields} {height entities : ℕ} {given : Bool} {at : Option move.M
     text_is = sym (in_row_more m.given);
   }
 
-module _ {h : Fields} {height entities : ℕ} {given : Bool} {at : Option move.Move} {row : ℕ} {first : Option code_type.Code} {marker : Option Bool} {carried : CodingState} {d : Decoder} {text out : List ℕ}
+module _ {h : Fields} {height entities : ℕ} {given : Bool} {at : Option move.Move} {row : ℕ} {first : Option code_type.Code} {marker : Option Bool} {carried : Carried} {d : Decoder} {text out : List ℕ}
     (s : CodeStands h height entities given at row first marker carried d text out) where
   abbrev c : StripeStart
   c = s.head.stripes.next
@@ -190,7 +190,7 @@ module _ {h : Fields} {height entities : ℕ} {given : Bool} {at : Option move.M
 
     -- ---- it ends
 
-    module _ (all : row ≡ count) (p p' : List ℕ) (reset : Bool) (m : MarkerFound s.read.answers s.code p p' reset) (next : CodingState) (next_is : IsCarried (first_row_start (next_stripe_start h.xd reset s.read.last)) next) where
+    module _ (all : row ≡ count) (p p' : List ℕ) (reset : Bool) (m : MarkerFound s.read.answers s.code p p' reset) (next : Carried) (next_is : IsCarried (first_row_start (next_stripe_start h.xd reset s.read.last)) next) where
       pub whole : StripesRead h height (Some (text ++ m.given)) (Some []) (entities + 1) (cond given 1 0) next (Some []) (Some out)
       whole =
           subst (λ z. StripesRead h height (Some z) (Some []) (entities + 1) (cond given 1 0) next (Some []) (Some out)) all_text
@@ -238,12 +238,12 @@ module _ {h : Fields} {height entities : ℕ} {given : Bool} {at : Option move.M
   code_here : row < count → CodeText first marker s.read.answers [] s.code
   code_here lt = subst (λ z. CodeText first marker s.read.answers z s.code) (s.rows_first lt) s.code_is
 
-  module _ (lt : row < count) (carried' : CodingState) (in_row : RowPlace) (start : IsRowStart in_row) (learned_is : carried'.learned.now ≡ carried.learned.now) (turned_is : held carried'.window.now ≡ turned (held carried.window.now))
+  module _ (lt : row < count) (carried' : Carried) (in_row : RowPlace) (start : IsRowStart in_row) (learned_is : carried'.learned ≡ carried.learned) (turned_is : carried'.held ≡ turned carried.held)
       (offset_is : carried'.kept.offset ≡ offset_at (option_map pair_of at) row carried.kept.offset) (previous_is : carried'.kept.previous_typical ≡ carried.kept.previous_typical) where
     abbrev answers : List Pulled
     answers = s.read.answers ++ []
 
-    stands_here : StandsInRow s.shape carried'.kept in_row s.read.last.state answers (record { row = s.read.is_carried.third; above = s.read.last.above; second = s.read.last.second }) (held carried'.window.now) carried'.learned.now d
+    stands_here : StandsInRow s.shape carried'.kept in_row s.read.last.state answers (record { row = s.read.is_carried.third; above = s.read.last.above; second = s.read.last.second }) carried'.held carried'.learned d
     stands_here =
         let l = s.read.is_carried.lines_are in
         record {
@@ -345,7 +345,7 @@ text_marked first marker answers extra text reset none unmarked o = subst (λ z.
     text_is = ap (λ z. z ++ marker_bytes reset) (was.text_is ∙ append-nil (stuffed (bytes_of answers ++ extra)));
   }
 
-pub code_ahead : {h : Fields} {height entities : ℕ} {given : Bool} {at : Option move.Move} {row : ℕ} {first : Option code_type.Code} {marker : Option Bool} {carried : CodingState} {d : Decoder} {text out : List ℕ} (reset : Bool) → first ≡ None → marker ≡ None →
+pub code_ahead : {h : Fields} {height entities : ℕ} {given : Bool} {at : Option move.Move} {row : ℕ} {first : Option code_type.Code} {marker : Option Bool} {carried : Carried} {d : Decoder} {text out : List ℕ} (reset : Bool) → first ≡ None → marker ≡ None →
     CodeStands h height entities given at row first marker carried d text out → CodeStands h height entities given at row (Some (code.Marker reset)) marker carried d (text ++ marker_bytes reset) out
 code_ahead {first = first} {marker = marker} reset none unmarked s = record {
   before = s.before;
@@ -362,7 +362,7 @@ code_ahead {first = first} {marker = marker} reset none unmarked s = record {
   text_is = ap (λ z. z ++ marker_bytes reset) s.text_is ∙ append_assoc s.before s.code (marker_bytes reset);
 }
 
-pub row_ahead : {h : Fields} {height entities : ℕ} {given : Bool} {at : Option move.Move} {row : ℕ} {first : Option code_type.Code} {marker : Option Bool} {carried : CodingState} {d : Decoder} {in_row : RowPlace} {text out : List ℕ} (reset : Bool) → first ≡ None → marker ≡ None →
+pub row_ahead : {h : Fields} {height entities : ℕ} {given : Bool} {at : Option move.Move} {row : ℕ} {first : Option code_type.Code} {marker : Option Bool} {carried : Carried} {d : Decoder} {in_row : RowPlace} {text out : List ℕ} (reset : Bool) → first ≡ None → marker ≡ None →
     InRowStands h height entities given at row first marker carried d in_row text out → InRowStands h height entities given at row (Some (code.Marker reset)) marker carried d in_row (text ++ marker_bytes reset) out
 row_ahead {first = first} {marker = marker} reset none unmarked s = record {
   before = s.before;

@@ -17,7 +17,7 @@ use Rattle.raster_core.specs.Row.{RowDecoded, RowIs}
 use Rattle.raster_core.specs.declared.shape.Shape.{Shape}
 use Rattle.raster_core.specs.declared.shape.Kept.{Kept}
 use Rattle.raster_core.specs.declared.window.Window.{Window}
-use Rattle.t85_core.specs.declared.state.CodingState.{CodingState}
+use Rattle.t85_core.specs.Lent.{Carried}
 use Rattle.t85_core.specs.Header.{Fields}
 use Rattle.t85_core.specs.Grammar.{Segment}
 use Rattle.t85_core.specs.Coding.{mode_of, move_of}
@@ -47,7 +47,7 @@ appends_known None bytes = tt
 appends_known (Some a) bytes = refl
 
 module _ {S F : Type 0} (pull : S → Pulled → S → Type 0) (joined : F → Pulled → F → Type 0) (old new : S) (from at to : F) (h : Fields) (shape : Shape) (c : StripeStart) (segments : List Segment) (row : ℕ)
-    (carried carried' : CodingState) (d d' : Decoder) (began text : Option (List ℕ)) (r : RowsRead joined from at h shape c segments row carried d began text)
+    (carried carried' : Carried) (d d' : Decoder) (began text : Option (List ℕ)) (r : RowsRead joined from at h shape c segments row carried d began text)
     (kept : Kept) (offset_is : kept.offset ≡ offset_at (move_of segments) row carried.kept.offset) (previous_is : kept.previous_typical ≡ carried.kept.previous_typical) where
   -- the rows above the next one
   abbrev below : Lines
@@ -68,27 +68,27 @@ module _ {S F : Type 0} (pull : S → Pulled → S → Type 0) (joined : F → P
   Join = (more : List Pulled) → Gives pull old more new → Gives joined from (r.answers ++ more) to
 
   -- it was decoded
-  pub row_done : Join → (text' : Option (List ℕ)) → RowDecoded pull old new shape kept carried'.kept r.last.state r.answers below (held carried'.window.now) carried'.learned.now d' (Ok tt) →
-      Appends text text' (held carried'.window.now).current → RowsRead joined from to h shape c segments (row + 1) carried' d' began text'
+  pub row_done : Join → (text' : Option (List ℕ)) → RowDecoded pull old new shape kept carried'.kept r.last.state r.answers below carried'.held carried'.learned d' (Ok tt) →
+      Appends text text' carried'.held.current → RowsRead joined from to h shape c segments (row + 1) carried' d' began text'
   row_done join text' done' put =
-      let k : RowIs shape kept carried'.kept r.last.state (r.answers ++ done'.more) below (held carried'.window.now) carried'.learned.now d' = done'.ok in
+      let k : RowIs shape kept carried'.kept r.last.state (r.answers ++ done'.more) below carried'.held carried'.learned d' = done'.ok in
       let after : RowStart = after_row (mode_of h.options) (move_of segments) (length r.rows) r.last k.row k.flag in
-      let kept_is = kept_step h c segments r.answers r.rows r.flags r.last r.so_far shape kept carried'.kept below (held carried'.window.now) carried'.learned.now d' done'.more ready k in
+      let kept_is = kept_step h c segments r.answers r.rows r.flags r.last r.so_far shape kept carried'.kept below carried'.held carried'.learned d' done'.more ready k in
       record {
         answers = r.answers ++ done'.more;
         gives = join done'.more done'.gives;
         rows = r.rows ++ k.row ∷ [];
         flags = r.flags ++ k.flag ∷ [];
         last = after;
-        so_far = rows_step h c segments r.answers r.rows r.flags r.last r.so_far shape kept carried'.kept below (held carried'.window.now) carried'.learned.now d' done'.more ready k;
+        so_far = rows_step h c segments r.answers r.rows r.flags r.last r.so_far shape kept carried'.kept below carried'.held carried'.learned d' done'.more ready k;
         many = (let long = length-append r.rows (k.row ∷ []) in omega (arith, long, r.many));
-        stands = row_stands shape kept r.last.state below (mode_of h.options) (move_of segments) (length r.rows) r.last ready.mode_is ready.offset_is ready.previous_is refl refl refl carried'.kept (r.answers ++ done'.more) (held carried'.window.now) carried'.learned.now d' k;
+        stands = row_stands shape kept r.last.state below (mode_of h.options) (move_of segments) (length r.rows) r.last ready.mode_is ready.offset_is ready.previous_is refl refl refl carried'.kept (r.answers ++ done'.more) carried'.held carried'.learned d' k;
         unstopped = λ s. not_err tt (done'.stop.1 s);
         shape_is = r.shape_is;
         is_carried = record {
           offset_is = kept_is.0;
           previous_is = kept_is.1;
-          learned_is = row_taught shape kept r.last.state below (mode_of h.options) (move_of segments) (length r.rows) r.last ready.mode_is ready.offset_is ready.previous_is refl refl refl carried'.kept (r.answers ++ done'.more) (held carried'.window.now) carried'.learned.now d' k;
+          learned_is = row_taught shape kept r.last.state below (mode_of h.options) (move_of segments) (length r.rows) r.last ready.mode_is ready.offset_is ready.previous_is refl refl refl carried'.kept (r.answers ++ done'.more) carried'.held carried'.learned d' k;
           third = r.last.second;
           lines_are = k.lines_are;
         };
@@ -96,12 +96,12 @@ module _ {S F : Type 0} (pull : S → Pulled → S → Type 0) (joined : F → P
       }
 
   -- the answers up to its end
-  pub row_done_answers : (join : Join) (text' : Option (List ℕ)) (done' : RowDecoded pull old new shape kept carried'.kept r.last.state r.answers below (held carried'.window.now) carried'.learned.now d' (Ok tt)) (put : Appends text text' (held carried'.window.now).current) →
+  pub row_done_answers : (join : Join) (text' : Option (List ℕ)) (done' : RowDecoded pull old new shape kept carried'.kept r.last.state r.answers below carried'.held carried'.learned d' (Ok tt)) (put : Appends text text' carried'.held.current) →
       (row_done join text' done' put).answers ≡ r.answers ++ done'.more
   unfolding row_done
   row_done_answers join text' done' put = refl
 
-  module _ (window : Window) (turned_is : held window ≡ turned (held carried.window.now)) where
+  module _ (window : Window) (turned_is : held window ≡ turned carried.held) where
     below_are : HasLines (held window) below
     below_are = subst (λ w. HasLines w below) (sym turned_is) (let l = r.is_carried.lines_are in record {
       row_is = l.second_is;
@@ -112,23 +112,23 @@ module _ {S F : Type 0} (pull : S → Pulled → S → Type 0) (joined : F → P
       second_wide = l.above_wide;
     })
 
-    module _ (result : Result (Unit {0}) Stop) (gave : Gave pull old new shape kept carried'.kept carried.learned.now carried'.learned.now (held window) (held carried'.window.now) d d' result) where
-      done : RowDecoded pull old new shape kept carried'.kept r.last.state r.answers below (held carried'.window.now) carried'.learned.now d' result
+    module _ (result : Result (Unit {0}) Stop) (gave : Gave pull old new shape kept carried'.kept carried.learned carried'.learned (held window) carried'.held d d' result) where
+      done : RowDecoded pull old new shape kept carried'.kept r.last.state r.answers below carried'.held carried'.learned d' result
       done =
-          subst (λ l. RowDecoded pull old new shape kept carried'.kept (record { place = r.last.state.place; learned = l }) r.answers below (held carried'.window.now) carried'.learned.now d' result) r.is_carried.learned_is
+          subst (λ l. RowDecoded pull old new shape kept carried'.kept (record { place = r.last.state.place; learned = l }) r.answers below carried'.held carried'.learned d' result) r.is_carried.learned_is
           (gave r.last.state.place r.answers below r.stands below_are)
 
-    pub row_more : Join → (text' : Option (List ℕ)) → Gave pull old new shape kept carried'.kept carried.learned.now carried'.learned.now (held window) (held carried'.window.now) d d' (Ok tt) →
-        Appends text text' (held carried'.window.now).current → RowsRead joined from to h shape c segments (row + 1) carried' d' began text'
+    pub row_more : Join → (text' : Option (List ℕ)) → Gave pull old new shape kept carried'.kept carried.learned carried'.learned (held window) carried'.held d d' (Ok tt) →
+        Appends text text' carried'.held.current → RowsRead joined from to h shape c segments (row + 1) carried' d' began text'
     row_more join text' gave put = row_done join text' (done (Ok tt) gave) put
 
     -- it was decoded, but the target didn't take it
-    pub row_unset : Join → (text' : Option (List ℕ)) → (count : ℕ) → row + 1 ≤ count → Gave pull old new shape kept carried'.kept carried.learned.now carried'.learned.now (held window) (held carried'.window.now) d d' (Ok tt) →
-        AppendsBeginning text text' (held carried'.window.now).current → RowsUnwritten joined from to h c segments count began text'
+    pub row_unset : Join → (text' : Option (List ℕ)) → (count : ℕ) → row + 1 ≤ count → Gave pull old new shape kept carried'.kept carried.learned carried'.learned (held window) carried'.held d d' (Ok tt) →
+        AppendsBeginning text text' carried'.held.current → RowsUnwritten joined from to h c segments count began text'
     unfolding row_more row_done
     row_unset join text' count few gave put =
         let done' = done (Ok tt) gave in
-        let all = row_more join (append_known text (held carried'.window.now).current) gave (appends_known text (held carried'.window.now).current) in
+        let all = row_more join (append_known text carried'.held.current) gave (appends_known text carried'.held.current) in
         record {
           answers = all.answers;
           gives = all.gives;
@@ -146,7 +146,7 @@ module _ {S F : Type 0} (pull : S → Pulled → S → Type 0) (joined : F → P
         }
 
     -- the source stopped
-    pub row_cut : CoderLaws → Join → (count : ℕ) → row ≤ count → (e : Stop) → Gave pull old new shape kept carried'.kept carried.learned.now carried'.learned.now (held window) (held carried'.window.now) d d' (Err e) →
+    pub row_cut : CoderLaws → Join → (count : ℕ) → row ≤ count → (e : Stop) → Gave pull old new shape kept carried'.kept carried.learned carried'.learned (held window) carried'.held d d' (Err e) →
         RowsCut joined from to h c segments count began text
     row_cut q join count few e gave =
         let done' = done (Err e) gave in
@@ -160,7 +160,7 @@ module _ {S F : Type 0} (pull : S → Pulled → S → Type 0) (joined : F → P
           stopped = stopped;
           rows = r.rows;
           flags = r.flags;
-          begun = rows_stop h c segments r.answers r.rows r.flags r.last r.so_far shape kept carried'.kept below (held carried'.window.now) carried'.learned.now d' done'.more ready q count d (omega (arith, few, r.many)) r.stands stopped stays.1.bytes done'.undecided r.unstopped;
+          begun = rows_stop h c segments r.answers r.rows r.flags r.last r.so_far shape kept carried'.kept below carried'.held carried'.learned d' done'.more ready q count d (omega (arith, few, r.many)) r.stands stopped stays.1.bytes done'.undecided r.unstopped;
           appended = r.appended;
         }
 
@@ -169,7 +169,7 @@ appends_nothing None = tt
 appends_nothing (Some xs) = sym (append-nil xs)
 
 -- before the first row
-abbrev pub rows_begin : {S : Type 0} (pull : S → Pulled → S → Type 0) (from : S) (h : Fields) (shape : Shape) (c : StripeStart) (segments : List Segment) (carried : CodingState) (d : Decoder) (text : Option (List ℕ)) →
+abbrev pub rows_begin : {S : Type 0} (pull : S → Pulled → S → Type 0) (from : S) (h : Fields) (shape : Shape) (c : StripeStart) (segments : List Segment) (carried : Carried) (d : Decoder) (text : Option (List ℕ)) →
     DecoderIsAt d start [] → IsShapeOf h shape → IsCarried (first_row_start c) carried → RowsRead pull from from h shape c segments 0 carried d text text
 rows_begin pull from h shape c segments carried d text stands shape_is is = record {
   answers = [];

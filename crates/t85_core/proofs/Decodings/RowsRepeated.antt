@@ -25,17 +25,17 @@ use Rattle.t85_core.specs.Steps.Buffers.{copies}
 use Rattle.t85_core.specs.Steps.State.{RowStart, StripeStart, first_row_start, offset_at}
 use Rattle.t85_core.specs.Steps.Cut.{RowsSoFar}
 use Rattle.t85_core.specs.Steps.DecodeRows.{IsShapeOf, IsCarried, RowsRead, RowsRepeated, RowsUnwritten, RepeatsRows}
-use Rattle.t85_core.specs.declared.state.CodingState.{CodingState}
+use Rattle.t85_core.specs.Lent.{Carried}
 use Rattle.t85_core.proofs.Bytes.Streams.{Appends-more, beginning_after}
 use Rattle.t85_core.proofs.Decodings.TypicalRows.{run_append, run_enough_append, behind, state_behind, above_behind, second_behind, previous_behind, offset_behind, run_behind, enough_behind, flat_copies}
 
 -- ---- they are decoded
 
-module _ (shape : Shape) (move : Option (ℕ × ℕ)) (row count : ℕ) (carried carried' : CodingState) (d d' : Decoder)
-    (some : 1 ≤ count) (wide : width_of carried.window.now ≡ shape.width)
-    (skipped : (p : Place) (answers : List Pulled) → DecoderIsAt d p answers → RowsSkipped shape carried.kept (record { place = p; learned = carried.learned.now }) answers count d')
+module _ (shape : Shape) (move : Option (ℕ × ℕ)) (row count : ℕ) (carried carried' : Carried) (d d' : Decoder)
+    (some : 1 ≤ count) (wide : carried.held.width ≡ shape.width)
+    (skipped : (p : Place) (answers : List Pulled) → DecoderIsAt d p answers → RowsSkipped shape carried.kept (record { place = p; learned = carried.learned }) answers count d')
     (settled : (k o : ℕ) → row ≤ k → offset_at move k o ≡ o)
-    (kept_is : carried'.kept ≡ carried.kept) (learned_is : carried'.learned.now ≡ carried.learned.now) (window_is : held carried'.window.now ≡ repeated (held carried.window.now)) where
+    (kept_is : carried'.kept ≡ carried.kept) (learned_is : carried'.learned ≡ carried.learned) (window_is : carried'.held ≡ repeated carried.held) where
   module _ (h : Fields) (c : StripeStart) (segments : List Segment) (answers : List Pulled) (rows : List (List Bool)) (flags : List Bool) (last : RowStart) (move_is : move ≡ move_of segments) (shape_is : IsShapeOf h shape)
       (so_far : RowsSoFar h c segments answers rows flags last) (many : length rows ≡ row) (stands : DecoderIsAt d last.state.place answers) (is : IsCarried last carried) where
     previous : carried.kept.previous_typical ≡ true
@@ -74,12 +74,12 @@ module _ (shape : Shape) (move : Option (ℕ × ℕ)) (row count : ℕ) (carried
     second_is : ends_at.second ≡ last.above
     second_is = second_behind h.xd (mode_of h.options) (move_of segments) mode_typical (0 + length rows) last count some
 
-    lines_after : HasLines (held carried'.window.now) (record { row = ends_at.above; above = ends_at.second; second = last.second })
+    lines_after : HasLines carried'.held (record { row = ends_at.above; above = ends_at.second; second = last.second })
     lines_after =
         let l = is.lines_are in
         subst (λ w. HasLines w (record { row = ends_at.above; above = ends_at.second; second = last.second })) (sym window_is)
-        (subst (λ z. HasLines (repeated (held carried.window.now)) (record { row = z; above = ends_at.second; second = last.second })) (sym above_is)
-        (subst (λ z. HasLines (repeated (held carried.window.now)) (record { row = last.above; above = z; second = last.second })) (sym second_is)
+        (subst (λ z. HasLines (repeated carried.held) (record { row = z; above = ends_at.second; second = last.second })) (sym above_is)
+        (subst (λ z. HasLines (repeated carried.held) (record { row = last.above; above = z; second = last.second })) (sym second_is)
         (record { row_is = l.row_is; above_is = l.row_is; second_is = l.above_is; row_wide = l.row_wide; above_wide = l.row_wide; second_wide = l.above_wide })))
 
     pub rows_repeated : RowsRepeated h c segments answers rows flags last count carried' d'
@@ -112,16 +112,16 @@ length_replicate zero x = refl
 length_replicate (suc n) x = ap suc (length_replicate n x)
 
 module _ {F : Type 0} (joined : F → Pulled → F → Type 0) (from at : F) (h : Fields) (shape : Shape) (c : StripeStart) (segments : List Segment) (row count : ℕ)
-    (carried carried' : CodingState) (d d' : Decoder) (began text : Option (List ℕ)) (r : RowsRead joined from at h shape c segments row carried d began text)
+    (carried carried' : Carried) (d d' : Decoder) (began text : Option (List ℕ)) (r : RowsRead joined from at h shape c segments row carried d began text)
     (move : Option (ℕ × ℕ)) (move_is : move ≡ move_of segments) (repeats : RepeatsRows shape move row count carried carried' d d') where
   abbrev all : RowsRepeated h c segments r.answers r.rows r.flags r.last count carried' d'
   all = repeats h c segments r.answers r.rows r.flags r.last move_is r.shape_is r.so_far r.many r.stands r.is_carried
 
-  flat_is : flat_map packed_row (r.rows ++ replicate count r.last.above) ≡ flat_map packed_row r.rows ++ copies count (held carried.window.now).current
+  flat_is : flat_map packed_row (r.rows ++ replicate count r.last.above) ≡ flat_map packed_row r.rows ++ copies count carried.held.current
   flat_is =
       flat_map-append packed_row r.rows (replicate count r.last.above) ∙ ap (λ z. flat_map packed_row r.rows ++ z) (flat_copies count r.last.above ∙ ap (copies count) (sym r.is_carried.lines_are.row_is))
 
-  pub repeated_read : (text' : Option (List ℕ)) → Appends text text' (copies count (held carried.window.now).current) → RowsRead joined from at h shape c segments (row + count) carried' d' began text'
+  pub repeated_read : (text' : Option (List ℕ)) → Appends text text' (copies count carried.held.current) → RowsRead joined from at h shape c segments (row + count) carried' d' began text'
   repeated_read text' put = record {
     answers = r.answers;
     gives = r.gives;
@@ -134,10 +134,10 @@ module _ {F : Type 0} (joined : F → Pulled → F → Type 0) (from at : F) (h 
     unstopped = r.unstopped;
     shape_is = r.shape_is;
     is_carried = all.is_carried;
-    appended = subst (Appends began text') (sym flat_is) (Appends-more began text text' (flat_map packed_row r.rows) (copies count (held carried.window.now).current) r.appended put);
+    appended = subst (Appends began text') (sym flat_is) (Appends-more began text text' (flat_map packed_row r.rows) (copies count carried.held.current) r.appended put);
   }
 
-  pub repeated_unwritten : (text' : Option (List ℕ)) → (until : ℕ) → row + count ≤ until → AppendsBeginning text text' (copies count (held carried.window.now).current) → RowsUnwritten joined from at h c segments until began text'
+  pub repeated_unwritten : (text' : Option (List ℕ)) → (until : ℕ) → row + count ≤ until → AppendsBeginning text text' (copies count carried.held.current) → RowsUnwritten joined from at h c segments until began text'
   repeated_unwritten text' until few put = record {
     answers = r.answers;
     gives = r.gives;
@@ -150,5 +150,5 @@ module _ {F : Type 0} (joined : F → Pulled → F → Type 0) (from at : F) (h 
     few = (let long = length-append r.rows (replicate count r.last.above) in let more = length_replicate count r.last.above in omega (arith, long, more, r.many, few));
     decoder = d';
     stands = all.stands;
-    appended = subst (AppendsBeginning began text') (sym flat_is) (beginning_after began text text' (flat_map packed_row r.rows) (copies count (held carried.window.now).current) r.appended put);
+    appended = subst (AppendsBeginning began text') (sym flat_is) (beginning_after began text text' (flat_map packed_row r.rows) (copies count carried.held.current) r.appended put);
   }

@@ -14,7 +14,7 @@ use Rattle.t85_core.specs.declared.fault.Fault.{Fault}
 use Rattle.t85_core.specs.declared.fault.Fault.TheVariants.{Truncated}
 use Rattle.t85_core.specs.declared.segments.Code.{Code}
 use Rattle.t85_core.specs.declared.segments.Head.{Head}
-use Rattle.t85_core.specs.declared.state.CodingState.{CodingState}
+use Rattle.t85_core.specs.Lent.{Carried}
 use Rattle.t85_core.specs.Header.{Fields}
 use Rattle.raster_core.specs.Packed.{packed_row}
 use Rattle.t85_core.specs.Grammar.{Segment, segment_bytes, stripe_bytes, marker_bytes, is_move, is_nil, IsBegun}
@@ -76,7 +76,7 @@ module _ {T : Type 0} (standing : T → EntityView) (failed : T → ℕ) (h : Fi
         ∙ ap (λ z. front ++ z) (sym (append_assoc (stuffed (bytes_of answers)) (stuffed code) (marker_bytes reset)) ∙ ap (λ z. z ++ marker_bytes reset) (sym (stuffed_append (bytes_of answers) code)))
 
     -- the rest of the code was skipped, too
-    pub stripe_whole : CoderLaws → {pull : T → Pulled → T → Type 0} (shape : Shape) (count : ℕ) (carried carried' : CodingState) (d : Decoder) (text text' : Option (List ℕ)) (r : RowsRead pull s t h shape c segments count carried d text text') → r.answers ≡ answers →
+    pub stripe_whole : CoderLaws → {pull : T → Pulled → T → Type 0} (shape : Shape) (count : ℕ) (carried carried' : Carried) (d : Decoder) (text text' : Option (List ℕ)) (r : RowsRead pull s t h shape c segments count carried d text text') → r.answers ≡ answers →
         (u : Option (List ℕ)) (reset : Bool) → Finishes (standing t).known u (standing t).marker reset → IsCarried (first_row_start (next_stripe_start h.xd reset r.last)) carried' → StripeRead h spot heights c old u count carried' text text'
     stripe_whole q shape count carried carried' d text text' r same u reset finishes is = went (heard_of answers) refl part.last where
       stands : DecoderIsAt d r.last.state.place answers
@@ -179,7 +179,7 @@ module _ {T : Type 0} (standing : T → EntityView) (failed : T → ℕ) (h : Fi
       went Stopped e last = absurd (r.unstopped (ap heard_of same ∙ e))
 
     -- the code breaks after the stripe's rows
-    pub stripe_rest : CoderLaws → {pull : T → Pulled → T → Type 0} (shape : Shape) (count : ℕ) (carried : CodingState) (d : Decoder) (text text' : Option (List ℕ)) (r : RowsRead pull s t h shape c segments count carried d text text') → r.answers ≡ answers →
+    pub stripe_rest : CoderLaws → {pull : T → Pulled → T → Type 0} (shape : Shape) (count : ℕ) (carried : Carried) (d : Decoder) (text text' : Option (List ℕ)) (r : RowsRead pull s t h shape c segments count carried d text text') → r.answers ≡ answers →
         (u : Option (List ℕ)) (fault : Fault) → (standing t).marker ≡ None → Ends Truncated (standing t).known u (BreaksIn (standing t).first) fault → StripeCut h spot c old u count text text' fault
     stripe_rest q shape count carried d text text' r same u fault open_ ends = went (heard_of answers) refl part.last where
       went : (k : Heard) → heard_of answers ≡ k → LastIs standing part.mid k t → StripeCut h spot c old u count text text' fault
@@ -258,7 +258,7 @@ stripe_head h spot c old new count text fault some ends = record {
 }
 
 -- a stripe's head was read
-pub head_begins : {h : Fields} {spot : Spot} {old mid : Option (List ℕ)} {head : Head} (p : PassesHead h spot old mid head) (c : StripeStart) (shape : Shape) (carried : CodingState) (s : EntityView) → IsShapeOf h shape → IsCarried (first_row_start c) carried →
+pub head_begins : {h : Fields} {spot : Spot} {old mid : Option (List ℕ)} {head : Head} (p : PassesHead h spot old mid head) (c : StripeStart) (shape : Shape) (carried : Carried) (s : EntityView) → IsShapeOf h shape → IsCarried (first_row_start c) carried →
     s.known ≡ prepend_known (code_bytes head.code) mid → s.first ≡ Some head.code → s.marker ≡ None → s.fault ≡ None →
     CodeBegins h spot (cond head.given 1 0) c p.segments old shape (option_map pair_of head.at) carried s
 head_begins {h} {spot} {old} {mid} {head} p c shape carried s shape_is is known first marker fault = record {

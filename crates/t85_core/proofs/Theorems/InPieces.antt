@@ -2,14 +2,14 @@
 use Rattle.std.proofs.Common.{◌≡◌, ℕ, List, [], ◌∷◌, ◌++◌, refl, sym, ap, ◌∙◌, subst, append_assoc, append-nil}
 use Rattle.std.specs.Prelude.{flat_map}
 use Rattle.t85_core.specs.declared.fault.Fault.TheVariants.{Truncated}
-use Rattle.t85_core.specs.declared.pieces.PieceDecoder.{PieceDecoder}
+use Rattle.t85_core.specs.Lent.{PieceView}
 use Rattle.t85_core.specs.declared.pieces.Outcome.{Outcome}
 use Rattle.t85_core.specs.declared.pieces.Outcome.TheVariants as outcome
 use Rattle.t85_core.specs.Height.{IsHeight}
 use Rattle.t85_core.specs.Pieces.{stream_of, row_held, HasDecoded, HandsOut, HoldsImage, PiecesTaken, PiecesWait, PiecesMore, PiecesWhole, PiecesBroken, Call, IsCall, StreamGoesOn, bytes_taken, given_with, row_given, AreCalls, decoder_after}
 
 -- a call more
-call_on : (d : PieceDecoder) (call : Call) → IsCall d call → StreamGoesOn call.answer → (text out : List ℕ) → HasDecoded d text out → HasDecoded call.new (text ++ bytes_taken call) (out ++ row_given call)
+call_on : (d : PieceView) (call : Call) → IsCall d call → StreamGoesOn call.answer → (text out : List ℕ) → HasDecoded d text out → HasDecoded call.new (text ++ bytes_taken call) (out ++ row_given call)
 call_on d call is on text out s = by_answer call.answer refl where
   same : (row : List ℕ) → row_given call ≡ row → HasDecoded call.new (text ++ bytes_taken call) (out ++ row) → HasDecoded call.new (text ++ bytes_taken call) (out ++ row_given call)
   same row e k = subst (λ z. HasDecoded call.new (text ++ bytes_taken call) (out ++ z)) (sym e) k
@@ -21,7 +21,7 @@ call_on d call is on text out s = by_answer call.answer refl where
   by_answer (outcome.Broken fault) e = absurd (subst StreamGoesOn e on)
 
 -- and all of them
-calls_on : (d : PieceDecoder) (calls : List Call) → AreCalls d calls → (text out : List ℕ) → HasDecoded d text out → HasDecoded (decoder_after d calls) (text ++ flat_map bytes_taken calls) (out ++ flat_map row_given calls)
+calls_on : (d : PieceView) (calls : List Call) → AreCalls d calls → (text out : List ℕ) → HasDecoded d text out → HasDecoded (decoder_after d calls) (text ++ flat_map bytes_taken calls) (out ++ flat_map row_given calls)
 calls_on d [] are text out s = subst (λ z. HasDecoded d z (out ++ [])) (sym (append-nil text)) (subst (HasDecoded d text) (sym (append-nil out)) s)
 calls_on d (call ∷ calls) are text out s =
     subst (λ z. HasDecoded (decoder_after call.new calls) z (out ++ flat_map row_given (call ∷ calls))) (append_assoc text (bytes_taken call) (flat_map bytes_taken calls))
@@ -32,7 +32,7 @@ pub taken_at : PiecesTaken
 taken_at d calls s are = calls_on d calls are [] [] s
 
 -- the stream stays the same
-stream_after : (d : PieceDecoder) (calls : List Call) → AreCalls d calls → stream_of (decoder_after d calls) ≡ stream_of d
+stream_after : (d : PieceView) (calls : List Call) → AreCalls d calls → stream_of (decoder_after d calls) ≡ stream_of d
 stream_after d [] are = refl
 stream_after d (call ∷ calls) are = stream_after call.new calls are.2 ∙ are.0.same
 

@@ -5,7 +5,7 @@ use Rattle.pbm_core.specs.Device.{AppendsBeginning}
 use Rattle.qm_core.specs.Code.{stuffed}
 use Rattle.raster_core.specs.Packed.{packed_row}
 use Rattle.raster_core.specs.declared.shape.Shape.{Shape}
-use Rattle.t85_core.specs.declared.state.CodingState.{CodingState}
+use Rattle.t85_core.specs.Lent.{Carried}
 use Rattle.t85_core.specs.Header.{Fields}
 use Rattle.t85_core.specs.Grammar.{Segment, Stripe, segment_bytes, stripe_bytes, IsBegun, lengths, all_segments, GiveOnly}
 use Rattle.t85_core.specs.Refusal.{Spot, StripeFault}
@@ -28,7 +28,7 @@ pub record GivesIn (spot : Spot) (heights : ℕ) (segments : List Segment) : Typ
   pub heights_are : heights ≡ spot.heights + length (lengths segments)
 
 -- A whole stripe was decoded and written.
-pub record StripeRead (h : Fields) (spot : Spot) (heights : ℕ) (c : StripeStart) (known known' : Option (List ℕ)) (count : ℕ) (carried : CodingState) (text text' : Option (List ℕ)) : Type 0 where
+pub record StripeRead (h : Fields) (spot : Spot) (heights : ℕ) (c : StripeStart) (known known' : Option (List ℕ)) (count : ℕ) (carried : Carried) (text text' : Option (List ℕ)) : Type 0 where
   pub stripe : Stripe
   pub taken : Consumes known known' (stripe_bytes stripe)
   pub gives_in : GivesIn spot heights stripe.segments
@@ -51,7 +51,7 @@ pub record StripeCut (h : Fields) (spot : Spot) (c : StripeStart) (known known' 
   pub appended : Appends text text' (flat_map packed_row rows)
 
 -- A stripe's segments were skipped, its code begins, and this is carried to it.
-pub record CodeBegins (h : Fields) (spot : Spot) (heights : ℕ) (c : StripeStart) (segments : List Segment) (known : Option (List ℕ)) (shape : Shape) (move : Option (ℕ × ℕ)) (carried : CodingState) (s : EntityView) : Type 0 where
+pub record CodeBegins (h : Fields) (spot : Spot) (heights : ℕ) (c : StripeStart) (segments : List Segment) (known : Option (List ℕ)) (shape : Shape) (move : Option (ℕ × ℕ)) (carried : Carried) (s : EntityView) : Type 0 where
   pub begun : IsBegun h segments []
   pub passed : Consumes known s.known (flat_map segment_bytes segments)
   pub gives_in : GivesIn spot heights segments
@@ -64,7 +64,7 @@ pub record CodeBegins (h : Fields) (spot : Spot) (heights : ℕ) (c : StripeStar
   pub fault : s.fault ≡ None
 
 -- it begins so in some stripe
-pub record CodeBegun (shape : Shape) (move : Option (ℕ × ℕ)) (carried : CodingState) (s : EntityView) : Type 0 where
+pub record CodeBegun (shape : Shape) (move : Option (ℕ × ℕ)) (carried : Carried) (s : EntityView) : Type 0 where
   pub h : Fields
   pub spot : Spot
   pub heights : ℕ
@@ -74,29 +74,29 @@ pub record CodeBegun (shape : Shape) (move : Option (ℕ × ℕ)) (carried : Cod
   pub begins : CodeBegins h spot heights c segments known shape move carried s
 
 -- the code of a stripe, in whatever stripe
-abbrev pub CodeRead : EntityView → EntityView → Shape → Option (ℕ × ℕ) → ℕ → CodingState → CodingState → Option (List ℕ) → Option (List ℕ) → Type 0
+abbrev pub CodeRead : EntityView → EntityView → Shape → Option (ℕ × ℕ) → ℕ → Carried → Carried → Option (List ℕ) → Option (List ℕ) → Type 0
 CodeRead s t shape move count carried carried' text text' =
     (h : Fields) (spot : Spot) (heights : ℕ) (c : StripeStart) (segments : List Segment) (known : Option (List ℕ)) → CodeBegins h spot heights c segments known shape move carried s →
     StripeRead h spot heights c known t.known count carried' text text'
 
-abbrev pub CodeCut : EntityView → EntityView → Shape → Option (ℕ × ℕ) → ℕ → CodingState → Option (List ℕ) → Option (List ℕ) → Fault → Type 0
+abbrev pub CodeCut : EntityView → EntityView → Shape → Option (ℕ × ℕ) → ℕ → Carried → Option (List ℕ) → Option (List ℕ) → Fault → Type 0
 CodeCut s t shape move count carried text text' fault =
     (h : Fields) (spot : Spot) (heights : ℕ) (c : StripeStart) (segments : List Segment) (known : Option (List ℕ)) → CodeBegins h spot heights c segments known shape move carried s →
     StripeCut h spot c known t.known count text text' fault
 
 -- some stripe begins with this
-abbrev pub SomeStripeStart : CodingState → Type 0
+abbrev pub SomeStripeStart : Carried → Type 0
 SomeStripeStart carried = (c : StripeStart) × IsCarried (first_row_start c) carried
 
 -- whatever is carried to the stripe
-abbrev pub DecodeStripeStep : Fields → Spot → ℕ → Option (List ℕ) → Option (List ℕ) → ℕ → CodingState → CodingState → Option (List ℕ) → Option (List ℕ) → Type 0
+abbrev pub DecodeStripeStep : Fields → Spot → ℕ → Option (List ℕ) → Option (List ℕ) → ℕ → Carried → Carried → Option (List ℕ) → Option (List ℕ) → Type 0
 DecodeStripeStep h spot heights known known' count carried carried' text text' = (c : StripeStart) → IsCarried (first_row_start c) carried → StripeRead h spot heights c known known' count carried' text text'
 
-abbrev pub DecodeStripeStepCut : Fields → Spot → Option (List ℕ) → Option (List ℕ) → ℕ → CodingState → Option (List ℕ) → Option (List ℕ) → Fault → Type 0
+abbrev pub DecodeStripeStepCut : Fields → Spot → Option (List ℕ) → Option (List ℕ) → ℕ → Carried → Option (List ℕ) → Option (List ℕ) → Fault → Type 0
 DecodeStripeStepCut h spot known known' count carried text text' fault = (c : StripeStart) → IsCarried (first_row_start c) carried → StripeCut h spot c known known' count text text' fault
 
 -- This many stripes were decoded and written.
-pub record StripesRead (h : Fields) (height : ℕ) (known known' : Option (List ℕ)) (count heights : ℕ) (carried : CodingState) (text text' : Option (List ℕ)) : Type 0 where
+pub record StripesRead (h : Fields) (height : ℕ) (known known' : Option (List ℕ)) (count heights : ℕ) (carried : Carried) (text text' : Option (List ℕ)) : Type 0 where
   pub stripes : List Stripe
   pub many : length stripes ≡ count
   pub gives_in : GivesIn (record { height = height; entities = 0; heights = 0 }) heights (all_segments stripes)
@@ -144,14 +144,14 @@ pub record StripeUnwritten (h : Fields) (spot : Spot) (c : StripeStart) (known k
   pub appended : AppendsBeginning text text' (flat_map packed_row rows)
 
 -- of a stripe whose code begins, in whatever stripe
-abbrev pub CodeUnwritten : EntityView → Option (List ℕ) → Shape → Option (ℕ × ℕ) → ℕ → CodingState → Option (List ℕ) → Option (List ℕ) → Type 0
+abbrev pub CodeUnwritten : EntityView → Option (List ℕ) → Shape → Option (ℕ × ℕ) → ℕ → Carried → Option (List ℕ) → Option (List ℕ) → Type 0
 CodeUnwritten s known' shape move count carried text text' =
     (h : Fields) (spot : Spot) (heights : ℕ) (c : StripeStart) (segments : List Segment) (known : Option (List ℕ)) → CodeBegins h spot heights c segments known shape move carried s →
     StripeUnwritten h spot c known known' count text text'
 
 -- What decoding the code of a stripe leaves, also of its entity, whose stream still has these bytes. Nothing is read ahead
 -- any more, but where a write failed.
-pub record DecodeCodeOutcome (s t : EntityView) (unread : Option (List ℕ)) (shape : Shape) (move : Option (ℕ × ℕ)) (count : ℕ) (carried carried' : CodingState) (text text' : Option (List ℕ)) (answer : Result (Unit {0}) Fault) : Type 0 where
+pub record DecodeCodeOutcome (s t : EntityView) (unread : Option (List ℕ)) (shape : Shape) (move : Option (ℕ × ℕ)) (count : ℕ) (carried carried' : Carried) (text text' : Option (List ℕ)) (answer : Result (Unit {0}) Fault) : Type 0 where
   pub ok : OnOk answer (CodeRead s t shape move count carried carried' text text')
   pub err : IfErr answer (λ f. f ≢ Write → CodeCut s t shape move count carried text text' f)
   pub unwritten : IfErr answer (λ _. CodeUnwritten s unread shape move count carried text text')
@@ -163,11 +163,11 @@ pub record DecodeCodeOutcome (s t : EntityView) (unread : Option (List ℕ)) (sh
   pub same_input : t.input ≡ s.input
 
 -- whatever is carried to the stripe
-abbrev pub DecodeStripeStepUnwritten : Fields → Spot → Option (List ℕ) → Option (List ℕ) → ℕ → CodingState → Option (List ℕ) → Option (List ℕ) → Type 0
+abbrev pub DecodeStripeStepUnwritten : Fields → Spot → Option (List ℕ) → Option (List ℕ) → ℕ → Carried → Option (List ℕ) → Option (List ℕ) → Type 0
 DecodeStripeStepUnwritten h spot known known' count carried text text' = (c : StripeStart) → IsCarried (first_row_start c) carried → StripeUnwritten h spot c known known' count text text'
 
 -- What decoding a stripe leaves: all of its rows, those that what came decides, or those of them that were taken.
-pub record DecodeStripeOutcome (h : Fields) (spot : Spot) (heights : ℕ) (known known' : Option (List ℕ)) (count : ℕ) (carried carried' : CodingState) (text text' : Option (List ℕ)) (answer : Result (Unit {0}) Fault) : Type 0 where
+pub record DecodeStripeOutcome (h : Fields) (spot : Spot) (heights : ℕ) (known known' : Option (List ℕ)) (count : ℕ) (carried carried' : Carried) (text text' : Option (List ℕ)) (answer : Result (Unit {0}) Fault) : Type 0 where
   pub ok : OnOk answer (DecodeStripeStep h spot heights known known' count carried carried' text text')
   pub err : IfErr answer (λ f. f ≢ Write → DecodeStripeStepCut h spot known known' count carried text text' f)
   pub unwritten : IfErr answer (λ _. DecodeStripeStepUnwritten h spot known known' count carried text text')

@@ -9,12 +9,11 @@ use Rattle.qm_core.specs.declared.decoder.Decoder.{Decoder}
 use Rattle.raster_core.specs.Packed.{packed_row}
 use Rattle.raster_core.specs.Row.{StandsInRow}
 use Rattle.raster_core.specs.declared.place.RowPlace.{RowPlace}
-use Rattle.raster_core.specs.Window.{held}
 use Rattle.raster_core.specs.declared.shape.Shape.{Shape}
 use Rattle.t85_core.specs.declared.fault.Fault.{Fault}
 use Rattle.t85_core.specs.declared.fault.Fault.TheVariants.{Truncated}
 use Rattle.t85_core.specs.declared.segments.Code.{Code}
-use Rattle.t85_core.specs.declared.state.CodingState.{CodingState}
+use Rattle.t85_core.specs.Lent.{Carried}
 use Rattle.t85_core.specs.Header.{Fields}
 use Rattle.t85_core.specs.Grammar.{Segment, marker_bytes}
 use Rattle.t85_core.specs.Coding.{move_of}
@@ -29,7 +28,7 @@ abbrev pub Anything : Unit {0} → Pulled → Unit {0} → Type 0
 Anything s answer t = Unit {0}
 
 -- the first rows of a stripe with these segments: decoded from these answers, and handed out
-abbrev pub RowsKnown : Fields → Shape → StripeStart → List Segment → ℕ → CodingState → Decoder → List ℕ → List ℕ → Type 0
+abbrev pub RowsKnown : Fields → Shape → StripeStart → List Segment → ℕ → Carried → Decoder → List ℕ → List ℕ → Type 0
 RowsKnown h shape c segments count carried d began out = RowsRead Anything tt tt h shape c segments count carried d (Some began) (Some out)
 
 -- what was read ahead of a code
@@ -72,15 +71,15 @@ pub record CodeBreaks (text piece : List ℕ) (bytes : List ℕ) (fault : Fault)
 -- ---- a row
 
 -- A row more was decoded, from these bytes of the piece.
-pub record PieceRowTaken (h : Fields) (shape : Shape) (c : StripeStart) (segments : List Segment) (row : ℕ) (first : Option Code) (marker : Option Bool) (carried : CodingState) (d : Decoder) (began out text piece piece' : List ℕ) : Type 0 where
+pub record PieceRowTaken (h : Fields) (shape : Shape) (c : StripeStart) (segments : List Segment) (row : ℕ) (first : Option Code) (marker : Option Bool) (carried : Carried) (d : Decoder) (began out text piece piece' : List ℕ) : Type 0 where
   pub given : List ℕ
   pub taken : piece ≡ given ++ piece'
-  pub read : RowsKnown h shape c segments (row + 1) carried d began (out ++ (held carried.window.now).current)
+  pub read : RowsKnown h shape c segments (row + 1) carried d began (out ++ carried.held.current)
   pub code_is : CodeText first marker read.answers [] (text ++ given)
 
 -- A row of a stripe that has begun: the rows before it, what was answered since, and how far it has come.
-pub record RowBegun (h : Fields) (shape : Shape) (c : StripeStart) (segments : List Segment) (row : ℕ) (carried : CodingState) (d : Decoder) (place : RowPlace) (began out : List ℕ) : Type 0 where
-  pub start : CodingState
+pub record RowBegun (h : Fields) (shape : Shape) (c : StripeStart) (segments : List Segment) (row : ℕ) (carried : Carried) (d : Decoder) (place : RowPlace) (began out : List ℕ) : Type 0 where
+  pub start : Carried
   pub decoder : Decoder
   pub read : RowsKnown h shape c segments row start decoder began out
   pub since : List Pulled
@@ -88,7 +87,7 @@ pub record RowBegun (h : Fields) (shape : Shape) (c : StripeStart) (segments : L
   pub offset_is : carried.kept.offset ≡ offset_at (move_of segments) row start.kept.offset
   pub previous_is : carried.kept.previous_typical ≡ start.kept.previous_typical
   pub stands : StandsInRow shape carried.kept place read.last.state (read.answers ++ since) (record { row = read.is_carried.third; above = read.last.above; second = read.last.second })
-      (held carried.window.now) carried.learned.now d
+      carried.held carried.learned d
 
 -- A row breaks, or its piece ends: the rows before it are all that the bytes fix.
 pub record RowBroken (h : Fields) (c : StripeStart) (segments : List Segment) (count : ℕ) (began out text piece : List ℕ) (fault : Fault) : Type 0 where
@@ -100,7 +99,7 @@ pub record RowBroken (h : Fields) (c : StripeStart) (segments : List Segment) (c
   pub out_is : out ≡ began ++ flat_map packed_row rows
 
 -- A row waits for what follows the piece, of which these bytes were taken.
-pub record RowWaits (h : Fields) (shape : Shape) (c : StripeStart) (segments : List Segment) (row : ℕ) (first : Option Code) (marker : Option Bool) (carried : CodingState) (d : Decoder) (place : RowPlace) (began out text piece piece' : List ℕ) : Type 0 where
+pub record RowWaits (h : Fields) (shape : Shape) (c : StripeStart) (segments : List Segment) (row : ℕ) (first : Option Code) (marker : Option Bool) (carried : Carried) (d : Decoder) (place : RowPlace) (began out text piece piece' : List ℕ) : Type 0 where
   pub given : List ℕ
   pub taken : piece ≡ given ++ piece'
   pub begun : RowBegun h shape c segments row carried d place began out
@@ -108,14 +107,14 @@ pub record RowWaits (h : Fields) (shape : Shape) (c : StripeStart) (segments : L
 
 -- what of a decoder of rows a piece may change
 pub record RowState : Type 0 where
-  pub carried : CodingState
+  pub carried : Carried
   pub decoder : Decoder
   pub place : RowPlace
   pub first : Option Code
   pub marker : Option Bool
   pub piece : List ℕ
 
-abbrev pub row_state : CodingState → Decoder → RowPlace → Option Code → Option Bool → List ℕ → RowState
+abbrev pub row_state : Carried → Decoder → RowPlace → Option Code → Option Bool → List ℕ → RowState
 row_state carried decoder place first marker piece = record { carried = carried; decoder = decoder; place = place; first = first; marker = marker; piece = piece }
 
 -- what is left of a row that has begun in whatever stripe

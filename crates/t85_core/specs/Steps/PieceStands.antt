@@ -1,8 +1,7 @@
 -- How far a decoder has come that is given a stream in pieces, while a height may still come, and after.
 use Rattle.std.specs.Prelude.{ℕ, ◌+◌, ◌≡◌, ◌⊎◌, Bool, true, false, nat_le, List, ◌++◌, None}
-use Rattle.t85_core.specs.declared.pieces.PieceDecoder.{PieceDecoder}
+use Rattle.t85_core.specs.Lent.{PieceView, WalkView}
 use Rattle.t85_core.specs.declared.pieces.behind.Behind.{Behind}
-use Rattle.t85_core.specs.declared.pieces.walk.Walk.{Walk}
 use Rattle.t85_core.specs.declared.pieces.walk.Stage.{Stage}
 use Rattle.t85_core.specs.declared.pieces.walk.Stage.TheVariants as stage
 use Rattle.t85_core.specs.declared.segments.Place.{Place}
@@ -35,38 +34,38 @@ is_last stage.Code no_more = no_more
 is_last stage.Row no_more = no_more
 is_last stage.Done no_more = true
 
-abbrev pub place_behind : Fields → Walk → Place
-place_behind h w = record { height = h.yd; entities = entities_behind w.stage w.entities; given = false }
+abbrev pub place_behind : Fields → Stage → ℕ → Place
+place_behind h s entities = record { height = h.yd; entities = entities_behind s entities; given = false }
 
-abbrev pub last_behind : Fields → Walk → Bool
-last_behind h w = is_last w.stage (nat_le w.left h.l0)
+abbrev pub last_behind : Fields → Stage → ℕ → Bool
+last_behind h s left = is_last s (nat_le left h.l0)
 
 -- A walk is in the code of a stripe, and no height came.
-pub record CodeWalks (h : Fields) (w : Walk) (text out : List ℕ) : Type 0 where
+pub record CodeWalks (h : Fields) (w : WalkView) (text out : List ℕ) : Type 0 where
   pub walk : WalkStands h h.yd w text out
   pub in_code : IsInCode w.stage
   pub ungiven : w.given ≡ false
 
 -- where a walk waits: before the first stripe, or at the end marker of one
-abbrev pub IsAtMarker : Walk → Type 0
+abbrev pub IsAtMarker : WalkView → Type 0
 IsAtMarker w = ((w.stage ≡ stage.Head) × (w.at ≡ None) × (w.entities ≡ 0)) ⊎ (IsInCode w.stage × HasMarker w)
 
 -- A walk waits for what comes behind it, of which this came.
-pub record WalkWaits (h : Fields) (w : Walk) (b : Behind) (text out : List ℕ) : Type 0 where
+pub record WalkWaits (h : Fields) (w : WalkView) (b : Behind) (text out : List ℕ) : Type 0 where
   pub done : List ℕ
   pub back : List ℕ
   pub text_is : text ≡ done ++ back
   pub walk : WalkStands h h.yd w done out
   pub at : IsAtMarker w
   pub ungiven : w.given ≡ false
-  pub behind : BehindStands h (place_behind h w) (last_behind h w) b back
+  pub behind : BehindStands h (place_behind h w.stage w.entities) (last_behind h w.stage w.left) b back
 
-abbrev pub StandsAs : Bool → Bool → PieceDecoder → List ℕ → List ℕ → Type 0
+abbrev pub StandsAs : Bool → Bool → PieceView → List ℕ → List ℕ → Type 0
 StandsAs false waits d text out = WalkStands (fields_of d.header) d.height d.walk text out
 StandsAs true false d text out = CodeWalks (fields_of d.header) d.walk text out
 StandsAs true true d text out = WalkWaits (fields_of d.header) d.walk d.behind text out
 
 -- A decoder has taken these bytes, and has given these rows, packed.
-pub record DecoderStands (d : PieceDecoder) (text out : List ℕ) : Type 0 where
+pub record DecoderStands (d : PieceView) (text out : List ℕ) : Type 0 where
   pub height : HeightKnown (fields_of d.header) d.height d.is_open text
   pub stands : StandsAs d.is_open d.waits d text out

@@ -2,12 +2,11 @@
 use Rattle.std.specs.Prelude.{ℕ, ◌+◌, ◌*◌, ◌≡◌, ◌≤◌, ◌<◌, Bool, true, false, List, [], ◌++◌, length, min, Option, Some, None, if◌then◌else◌}
 use Rattle.t85_core.specs.declared.fault.Fault.{Fault}
 use Rattle.t85_core.specs.declared.fault.Fault.TheVariants.{Truncated}
-use Rattle.t85_core.specs.declared.pieces.PieceDecoder.{PieceDecoder}
+use Rattle.t85_core.specs.Lent.{PieceView, WalkView}
 use Rattle.t85_core.specs.declared.pieces.Outcome.{Outcome}
 use Rattle.t85_core.specs.declared.pieces.Outcome.TheVariants as outcome
 use Rattle.t85_core.specs.Options.{fields_of}
 use Rattle.t85_core.specs.Steps.PieceStands.{DecoderStands, WalkWaits, place_behind}
-use Rattle.t85_core.specs.declared.pieces.walk.Walk.{Walk}
 use Rattle.t85_core.specs.declared.pieces.walk.Stage.{Stage}
 use Rattle.t85_core.specs.declared.pieces.walk.Stage.TheVariants as stage
 use Rattle.t85_core.specs.Header.{Fields}
@@ -20,27 +19,27 @@ use Rattle.t85_core.specs.Steps.Pieces.{WalkStands, IsInCode, HasMarker}
 use Rattle.t85_core.specs.Pieces.{HandsOut, HoldsImage, MayFollow, row_held, rows_given, stream_of}
 
 -- it stands somewhere
-abbrev pub SomeStand : PieceDecoder → Type 0
+abbrev pub SomeStand : PieceView → Type 0
 SomeStand d = (text : List ℕ) × (out : List ℕ) × DecoderStands d text out
 
 -- bytes of a piece were taken, and these rows given
-abbrev pub DecoderOn : PieceDecoder → PieceDecoder → List ℕ → List ℕ → List ℕ → Type 0
+abbrev pub DecoderOn : PieceView → PieceView → List ℕ → List ℕ → List ℕ → Type 0
 DecoderOn d d' piece piece' row = (text out : List ℕ) → DecoderStands d text out → (given : List ℕ) × (piece ≡ given ++ piece') × DecoderStands d' (text ++ given) (out ++ row)
 
 -- what is the end of a stream with the piece, whatever may follow it
-abbrev pub EndsWhole : Bool → PieceDecoder → List ℕ → ℕ → Type 0
+abbrev pub EndsWhole : Bool → PieceView → List ℕ → ℕ → Type 0
 EndsWhole is_all d piece n = (text out rest : List ℕ) → DecoderStands d text out → MayFollow is_all rest → HoldsImage (stream_of d) ((text ++ piece) ++ rest) n out
 
-abbrev pub EndsBroken : Bool → PieceDecoder → List ℕ → ℕ → Fault → Type 0
+abbrev pub EndsBroken : Bool → PieceView → List ℕ → ℕ → Fault → Type 0
 EndsBroken is_all d piece height fault = (text out rest : List ℕ) → DecoderStands d text out → MayFollow is_all rest → HandsOut (stream_of d) ((text ++ piece) ++ rest) height fault out
 
 -- no height that may come is below the rows that were given, if the end marker of the last one's code was read
-abbrev pub NoHeightBelow : Bool → PieceDecoder → PieceDecoder → List ℕ → Type 0
+abbrev pub NoHeightBelow : Bool → PieceView → PieceView → List ℕ → Type 0
 NoHeightBelow is_all d d' piece =
     d'.is_open ≡ true → HasMarker d'.walk → (text out rest : List ℕ) (n : ℕ) → DecoderStands d text out → MayFollow is_all rest → IsHeight (stream_of d) ((text ++ piece) ++ rest) n → rows_given d' ≤ n
 
 -- What a step leaves: none of the answers where another step is to be taken.
-pub record StepLeaves (is_all : Bool) (d d' : PieceDecoder) (piece piece' : List ℕ) (answer : Option Outcome) : Type 0 where
+pub record StepLeaves (is_all : Bool) (d d' : PieceView) (piece piece' : List ℕ) (answer : Option Outcome) : Type 0 where
   pub header : d'.header ≡ d.header
   pub going : d'.end ≡ d.end
   pub on : answer ≡ None → DecoderOn d d' piece piece' []
@@ -53,7 +52,7 @@ pub record StepLeaves (is_all : Bool) (d d' : PieceDecoder) (piece piece' : List
 -- ---- behind an end marker
 
 -- the fields beside the walk stay the same
-pub record KeepsDecoder (d d' : PieceDecoder) : Type 0 where
+pub record KeepsDecoder (d d' : PieceView) : Type 0 where
   pub header : d'.header ≡ d.header
   pub height : d'.height ≡ d.height
   pub is_open : d'.is_open ≡ d.is_open
@@ -62,7 +61,7 @@ pub record KeepsDecoder (d d' : PieceDecoder) : Type 0 where
   pub going : d'.end ≡ d.end
 
 -- a row that waited was given, below this one of the stripe before
-pub record GivesBelow (d d' : PieceDecoder) (limit : ℕ) : Type 0 where
+pub record GivesBelow (d d' : PieceView) (limit : ℕ) : Type 0 where
   pub keeps : KeepsDecoder d d'
   pub code : IsInCode d.walk.stage
   pub entities : d'.walk.entities ≡ d.walk.entities
@@ -70,16 +69,16 @@ pub record GivesBelow (d d' : PieceDecoder) (limit : ℕ) : Type 0 where
   pub on : DecoderOn d d' [] [] (row_held d')
 
 -- none is left above this one
-pub record StaysAbove (d d' : PieceDecoder) (limit : ℕ) : Type 0 where
+pub record StaysAbove (d d' : PieceView) (limit : ℕ) : Type 0 where
   pub same : d' ≡ d
   pub all : IsInCode d.walk.stage → limit ≤ d.walk.row
 
 -- all rows of the stripe before are given
-abbrev pub RowsAreGiven : PieceDecoder → Type 0
+abbrev pub RowsAreGiven : PieceView → Type 0
 RowsAreGiven d = IsInCode d.walk.stage → min d.walk.left d.header.l0 ≤ d.walk.row
 
 -- The stripe before was ended.
-pub record StripeLeft (d d' : PieceDecoder) : Type 0 where
+pub record StripeLeft (d d' : PieceView) : Type 0 where
   pub keeps : KeepsDecoder d d'
   pub entities : d'.walk.entities ≡ d.walk.entities + 1
   pub given : d'.walk.given ≡ d.walk.given
@@ -90,10 +89,10 @@ pub record StripeLeft (d d' : PieceDecoder) : Type 0 where
       StripesRead (fields_of d.header) d.header.yd (Some text) (Some []) (d.walk.entities + 1) (if d.walk.given then 1 else 0) d'.walk.carried (Some []) (Some out)
 
 -- The stripe before was ended, if there was one.
-pub record StripeClosed (d d' : PieceDecoder) : Type 0 where
+pub record StripeClosed (d d' : PieceView) : Type 0 where
   pub keeps : KeepsDecoder d d'
   pub stage : d'.walk.stage ≡ stage.Head
-  pub entities : d'.walk.entities ≡ (place_behind (fields_of d.header) d.walk).entities
+  pub entities : d'.walk.entities ≡ (place_behind (fields_of d.header) d.walk.stage d.walk.entities).entities
   pub given : d'.walk.given ≡ false
   pub at : d'.walk.at ≡ None
   pub stands : (text out : List ℕ) → (w : WalkWaits (fields_of d.header) d.walk d.behind text out) → WalkStands (fields_of d.header) d.header.yd d'.walk w.done out
@@ -104,27 +103,27 @@ head_stage None = stage.Head
 head_stage (Some left) = stage.Comment
 
 -- The stripe before was ended: what came behind it is the head of the next.
-pub record HeadEntered (d d' : PieceDecoder) : Type 0 where
+pub record HeadEntered (d d' : PieceView) : Type 0 where
   pub keeps : KeepsDecoder d d'
   pub stage : d'.walk.stage ≡ head_stage d.behind.comment
   pub comment : (left : ℕ) → d.behind.comment ≡ Some left → d'.walk.comment ≡ left
-  pub entities : d'.walk.entities ≡ (place_behind (fields_of d.header) d.walk).entities
+  pub entities : d'.walk.entities ≡ (place_behind (fields_of d.header) d.walk.stage d.walk.entities).entities
   pub given : d'.walk.given ≡ false
   pub at : d'.walk.at ≡ d.behind.at
   pub stands : (text out : List ℕ) → WalkWaits (fields_of d.header) d.walk d.behind text out → WalkStands (fields_of d.header) d.header.yd d'.walk text out
 
 -- a valid height comes next
-pub record HeightComes (h : Fields) (w : Walk) (n : ℕ) (piece rest : List ℕ) : Type 0 where
-  pub valid : is_valid_length h (place_behind h w).entities n ≡ true
+pub record HeightComes (h : Fields) (w : WalkView) (n : ℕ) (piece rest : List ℕ) : Type 0 where
+  pub valid : is_valid_length h (place_behind h w.stage w.entities).entities n ≡ true
   pub legal : IsLegal h (NewLength n)
   pub piece_is : piece ≡ segment_bytes (NewLength n) ++ rest
 
 -- no height comes behind the last stripe, whatever follows the piece
-abbrev pub LookIsOver : Bool → PieceDecoder → List ℕ → Type 0
+abbrev pub LookIsOver : Bool → PieceView → List ℕ → Type 0
 LookIsOver is_all d piece =
-    (back rest : List ℕ) → BehindStands (fields_of d.header) (place_behind (fields_of d.header) d.walk) true d.behind back → MayFollow is_all rest →
-    LookEnds (fields_of d.header) (place_behind (fields_of d.header) d.walk).entities ((back ++ piece) ++ rest)
+    (back rest : List ℕ) → BehindStands (fields_of d.header) (place_behind (fields_of d.header) d.walk.stage d.walk.entities) true d.behind back → MayFollow is_all rest →
+    LookEnds (fields_of d.header) (place_behind (fields_of d.header) d.walk.stage d.walk.entities).entities ((back ++ piece) ++ rest)
 
 -- how many steps may be left: each takes bytes, or is the one that begins to wait
-abbrev pub steps_left : PieceDecoder → List ℕ → ℕ
-steps_left d piece = 2 * length piece + (if d.waits then 0 else 1)
+abbrev pub steps_left : Bool → List ℕ → ℕ
+steps_left waits piece = 2 * length piece + (if waits then 0 else 1)

@@ -2,7 +2,8 @@
 use Rattle.std.specs.Prelude.{⊤, ℕ, ◌+◌, ◌-◌, ◌*◌, ◌^◌, ◌≡◌, ◌≢◌, ◌≤◌, ◌<◌, Bool, true, false, List, [], ◌∷◌, ◌++◌, length, min, Option, Some, None, IfSome, is_some, if◌then◌else◌, Result, Ok, ◌⊎◌, IsOk, OnOk, IfErr, IsErrOf}
 use Rattle.byteorder.specs.Endian.{big_bytes}
 use Rattle.qm_core.specs.declared.decoder.Decoder.{Decoder}
-use Rattle.raster_core.specs.Window.{held, width_of}
+use Rattle.qm_core.specs.Place.{Estimate}
+use Rattle.raster_core.specs.Packed.{Held}
 use Rattle.raster_core.specs.declared.shape.Shape.{Shape}
 use Rattle.raster_core.specs.declared.place.RowPlace.{RowPlace}
 use Rattle.t85_core.specs.declared.fault.Fault.{Fault}
@@ -10,8 +11,8 @@ use Rattle.t85_core.specs.declared.fault.Fault.TheVariants.{Truncated, Changed}
 use Rattle.t85_core.specs.declared.segments.Code.{Code}
 use Rattle.t85_core.specs.declared.segments.Code.TheVariants as code
 use Rattle.t85_core.specs.declared.segments.Move as move
-use Rattle.t85_core.specs.declared.state.CodingState.{CodingState}
 use Rattle.t85_core.specs.declared.pieces.walk.Walk.{Walk}
+use Rattle.t85_core.specs.Lent.{Carried, WalkView, walk_view}
 use Rattle.t85_core.specs.declared.pieces.walk.Stage.{Stage}
 use Rattle.t85_core.specs.declared.pieces.walk.Stage.TheVariants as stage
 use Rattle.t85_core.specs.Header.{Fields}
@@ -28,7 +29,7 @@ pub record CutOff (h : Fields) (height : ℕ) (text out : List ℕ) (fault : Fau
   pub cut : ImageCut h height (Some text) (Some unread) (Some []) (Some out) fault
 
 -- A place in the head of a stripe: the stripes before it are decoded, and these segments of it were read.
-pub record HeadStands (h : Fields) (height entities : ℕ) (given : Bool) (at : Option move.Move) (carried : CodingState) (text out : List ℕ) : Type 0 where
+pub record HeadStands (h : Fields) (height entities : ℕ) (given : Bool) (at : Option move.Move) (carried : Carried) (text out : List ℕ) : Type 0 where
   pub before : Bool
   pub front : List ℕ
   pub back : List ℕ
@@ -39,7 +40,7 @@ pub record HeadStands (h : Fields) (height entities : ℕ) (given : Bool) (at : 
   pub fewer : entities < stripe_count height h.l0
 
 -- A place in a comment there, of which this many bytes are to come.
-pub record CommentStands (h : Fields) (height entities : ℕ) (given : Bool) (at : Option move.Move) (carried : CodingState) (left : ℕ) (text out : List ℕ) : Type 0 where
+pub record CommentStands (h : Fields) (height entities : ℕ) (given : Bool) (at : Option move.Move) (carried : Carried) (left : ℕ) (text out : List ℕ) : Type 0 where
   pub before : List ℕ
   pub head : HeadStands h height entities given at carried before out
   pub part : List ℕ
@@ -51,10 +52,10 @@ abbrev pub rows_in : Fields → ℕ → ℕ → ℕ
 rows_in h height entities = min (height - entities * h.l0) h.l0
 
 -- A place in the code of a stripe, of which this many rows are decoded.
-pub record CodeStands (h : Fields) (height entities : ℕ) (given : Bool) (at : Option move.Move) (row : ℕ) (first : Option Code) (marker : Option Bool) (carried : CodingState) (d : Decoder) (text out : List ℕ) : Type 0 where
+pub record CodeStands (h : Fields) (height entities : ℕ) (given : Bool) (at : Option move.Move) (row : ℕ) (first : Option Code) (marker : Option Bool) (carried : Carried) (d : Decoder) (text out : List ℕ) : Type 0 where
   pub before : List ℕ
   pub began : List ℕ
-  pub start : CodingState
+  pub start : Carried
   pub head : HeadStands h height entities given at start before began
   pub shape : Shape
   pub read : RowsKnown h shape head.stripes.next head.passed.segments row carried d began out
@@ -66,10 +67,10 @@ pub record CodeStands (h : Fields) (height entities : ℕ) (given : Bool) (at : 
   pub text_is : text ≡ before ++ code
 
 -- A place in a row of a stripe, of which not all code came yet.
-pub record InRowStands (h : Fields) (height entities : ℕ) (given : Bool) (at : Option move.Move) (row : ℕ) (first : Option Code) (marker : Option Bool) (carried : CodingState) (d : Decoder) (place : RowPlace) (text out : List ℕ) : Type 0 where
+pub record InRowStands (h : Fields) (height entities : ℕ) (given : Bool) (at : Option move.Move) (row : ℕ) (first : Option Code) (marker : Option Bool) (carried : Carried) (d : Decoder) (place : RowPlace) (text out : List ℕ) : Type 0 where
   pub before : List ℕ
   pub began : List ℕ
-  pub start : CodingState
+  pub start : Carried
   pub head : HeadStands h height entities given at start before began
   pub shape : Shape
   pub begun : RowBegun h shape head.stripes.next head.passed.segments row carried d place began out
@@ -86,7 +87,7 @@ IsOver stage.Code = ⊥
 IsOver stage.Row = ⊥
 IsOver stage.Done = ⊤
 
-abbrev pub StageStands : Stage → Fields → ℕ → Walk → List ℕ → List ℕ → Type 0
+abbrev pub StageStands : Stage → Fields → ℕ → WalkView → List ℕ → List ℕ → Type 0
 StageStands stage.Head h height w text out = HeadStands h height w.entities w.given w.at w.carried text out
 StageStands stage.Comment h height w text out = CommentStands h height w.entities w.given w.at w.carried w.comment text out
 StageStands stage.Code h height w text out = CodeStands h height w.entities w.given w.at w.row w.first w.marker w.carried w.decoder text out
@@ -95,9 +96,9 @@ StageStands stage.Row h height w text out = InRowStands h height w.entities w.gi
 StageStands stage.Done h height w text out = ImageRead h height (Some text) (Some []) (Some []) (Some out)
 
 -- A walk has taken these bytes, and has handed out these.
-pub record WalkStands (h : Fields) (height : ℕ) (w : Walk) (text out : List ℕ) : Type 0 where
+pub record WalkStands (h : Fields) (height : ℕ) (w : WalkView) (text out : List ℕ) : Type 0 where
   pub left_is : w.left ≡ height - w.entities * h.l0
-  pub width_is : width_of w.carried.window.now ≡ h.xd
+  pub width_is : w.carried.held.width ≡ h.xd
   pub offset_is : w.carried.kept.offset ≤ 127
   pub at_is : IfSome w.at (λ to. to.offset ≤ 127)
   pub code_is : IfSome w.first IsByteOrMarker
@@ -106,51 +107,58 @@ pub record WalkStands (h : Fields) (height : ℕ) (w : Walk) (text out : List �
   pub stands : StageStands w.stage h height w text out
 
 -- it has, of some
-abbrev pub SomeStands : Fields → ℕ → Walk → Type 0
+abbrev pub SomeStands : Fields → ℕ → WalkView → Type 0
 SomeStands h height w = (text : List ℕ) × (out : List ℕ) × WalkStands h height w text out
 
 -- A step takes bytes of the piece, and hands these out.
-abbrev pub StepsOn : Fields → ℕ → Walk → Walk → List ℕ → List ℕ → List ℕ → Type 0
+abbrev pub StepsOn : Fields → ℕ → WalkView → WalkView → List ℕ → List ℕ → List ℕ → Type 0
 StepsOn h height w w' piece piece' row = (text out : List ℕ) → WalkStands h height w text out → (given : List ℕ) × (piece ≡ given ++ piece') × WalkStands h height w' (text ++ given) (out ++ row)
 
 -- What came is broken, or ends too early, and fixes what was handed out.
-abbrev pub StepsOff : Fields → ℕ → Walk → List ℕ → Fault → Type 0
+abbrev pub StepsOff : Fields → ℕ → WalkView → List ℕ → Fault → Type 0
 StepsOff h height w piece fault = (text out : List ℕ) → WalkStands h height w text out → CutOff h height (text ++ piece) out fault
 
 -- What a step leaves that hands out no row.
-pub record Step (h : Fields) (height : ℕ) (w w' : Walk) (piece piece' : List ℕ) (answer : Result (Unit {0}) Fault) : Type 0 where
+pub record Step (h : Fields) (height : ℕ) (w w' : WalkView) (piece piece' : List ℕ) (answer : Result (Unit {0}) Fault) : Type 0 where
   pub ok : OnOk answer (StepsOn h height w w' piece piece' [])
   pub err : IfErr answer (λ f. StepsOff h height w piece f)
   pub more : IsErrOf answer Truncated → StepsOn h height w w' piece piece' []
 
+-- the same of a step that looks neither at the rows nor at the contexts, whatever they are
+abbrev pub StepAlone : Fields → ℕ → Walk → Walk → List ℕ → List ℕ → Result (Unit {0}) Fault → Type 0
+StepAlone h height w w' piece piece' answer = (rows : Held) (learned : List Estimate) → Step h height (walk_view w rows learned) (walk_view w' rows learned) piece piece' answer
+
 -- What a step leaves that hands out a row.
-pub record RowStep (h : Fields) (height : ℕ) (w w' : Walk) (piece piece' : List ℕ) (answer : Result (Unit {0}) Fault) : Type 0 where
-  pub ok : OnOk answer (StepsOn h height w w' piece piece' (held w'.carried.window.now).current)
+pub record RowStep (h : Fields) (height : ℕ) (w w' : WalkView) (piece piece' : List ℕ) (answer : Result (Unit {0}) Fault) : Type 0 where
+  pub ok : OnOk answer (StepsOn h height w w' piece piece' w'.carried.held.current)
   pub err : IfErr answer (λ f. StepsOff h height w piece f)
   pub more : IsErrOf answer Truncated → StepsOn h height w w' piece piece' []
 
 -- a walk before the first byte
-pub record IsFirstWalk (w : Walk) : Type 0 where
+pub record IsFirstWalk (w : WalkView) : Type 0 where
   pub stage : w.stage ≡ stage.Head
   pub at : w.at ≡ None
   pub entities : w.entities ≡ 0
   pub given : w.given ≡ false
 
 -- the end marker of the code was read
-abbrev pub HasMarker : Walk → Type 0
-HasMarker w = (reset : Bool) × ((w.marker ≡ Some reset) ⊎ (w.first ≡ Some (code.Marker reset)))
+abbrev pub MarkerRead : Option Bool → Option Code → Type 0
+MarkerRead marker first = (reset : Bool) × ((marker ≡ Some reset) ⊎ (first ≡ Some (code.Marker reset)))
+
+abbrev pub HasMarker : WalkView → Type 0
+HasMarker w = MarkerRead w.marker w.first
 
 -- The numbers of a walk are such that a row of this width can be decoded. Any that a walk has left are.
-pub record RowFits (width : ℕ) (w : Walk) : Type 0 where
-  pub width_is : width_of w.carried.window.now ≡ width
+pub record RowFits (width : ℕ) (w : Walk) (rows : Held) : Type 0 where
+  pub width_is : rows.width ≡ width
   pub within : w.place.done < width
-  pub offset_is : w.carried.kept.offset ≤ 127
+  pub offset_is : w.kept.offset ≤ 127
   pub at_is : IfSome w.at (λ to. to.offset ≤ 127)
   pub code_is : IfSome w.first IsByteOrMarker
   pub behind : IfSome w.marker (λ _. w.first ≡ None)
 
 -- the stripe stays the same
-pub record KeepsPlace (w w' : Walk) : Type 0 where
+pub record KeepsPlace (w w' : WalkView) : Type 0 where
   pub entities : w'.entities ≡ w.entities
   pub left : w'.left ≡ w.left
   pub given : w'.given ≡ w.given
@@ -165,13 +173,13 @@ abbrev pub RowIsLeft : ℕ → Walk → Type 0
 RowIsLeft l0 w = (w.stage ≡ stage.Row) ⊎ ((w.stage ≡ stage.Code) × (w.row < min w.left l0))
 
 -- A stripe ended: so many were decoded, and handed out.
-abbrev pub StripesOn : Fields → ℕ → Walk → Walk → List ℕ → List ℕ → Type 0
+abbrev pub StripesOn : Fields → ℕ → WalkView → WalkView → List ℕ → List ℕ → Type 0
 StripesOn h height w w' piece piece' =
     (text out : List ℕ) → WalkStands h height w text out →
     (given : List ℕ) × (piece ≡ given ++ piece') × StripesRead h height (Some (text ++ given)) (Some []) (w.entities + 1) (if w.given then 1 else 0) w'.carried (Some []) (Some out)
 
 -- What a step to a row leaves beside the row.
-pub record RowLeaves (w w' : Walk) (piece piece' : List ℕ) (answer : Result (Unit {0}) Fault) : Type 0 where
+pub record RowLeaves (w w' : WalkView) (piece piece' : List ℕ) (answer : Result (Unit {0}) Fault) : Type 0 where
   pub place : KeepsPlace w w'
   pub row : OnOk answer ((w'.row ≡ w.row + 1) × (w'.stage ≡ stage.Code))
   pub same_row : IfErr answer (λ _. (w'.row ≡ w.row) × (w'.stage ≡ stage.Row) × (w'.first ≡ None) × (w'.marker ≡ w.marker))
@@ -181,8 +189,8 @@ pub record RowLeaves (w w' : Walk) (piece piece' : List ℕ) (answer : Result (U
   pub other : IfErr answer (λ f. f ≢ Changed)
 
 -- What a step leaves that may hand out a row, or find that the image is whole.
-pub record Turn (h : Fields) (height : ℕ) (w w' : Walk) (piece piece' : List ℕ) (answer : Result Bool Fault) : Type 0 where
-  pub row : answer ≡ Ok true → StepsOn h height w w' piece piece' (held w'.carried.window.now).current
+pub record Turn (h : Fields) (height : ℕ) (w w' : WalkView) (piece piece' : List ℕ) (answer : Result Bool Fault) : Type 0 where
+  pub row : answer ≡ Ok true → StepsOn h height w w' piece piece' w'.carried.held.current
   pub done : answer ≡ Ok false → StepsOn h height w w' piece piece' [] × IsOver w'.stage
   pub err : IfErr answer (λ f. StepsOff h height w piece f)
   pub more : IsErrOf answer Truncated → StepsOn h height w w' piece piece' []

@@ -9,6 +9,7 @@ ghost use Rattle.raster_core.specs.Row.{RowsSkipped, CanSkipRows};
 ghost use Rattle.raster_core.specs.Window.{width_of, held};
 ghost use Rattle.t85_core.specs.Steps.Buffers.{PutsBytes, copies};
 ghost use Rattle.t85_core.specs.Steps.State.{offset_at};
+ghost use Rattle.t85_core.specs.Lent.{carried_of};
 ghost use Rattle.t85_core.specs.Steps.DecodeRows.{pair_of, CountsPut, DecodeRowStep, DecodeRowStepCut, DecodeRowStepUnwritten, DecodeRowsStep, DecodeRowsStepUnwritten, RepeatsRows, RowsOfStripe, RowsOfCut, RowsOfUnwritten};
 ghost use Rattle.t85_core.specs.declared.decoding.rows.RowFault.TheVariants as row_fault;
 
@@ -44,14 +45,15 @@ pub fn decode_rows<C: CodeBytes, P: ByteTarget>(
     requires to { IfSome at (λ to. to.offset ≤ 127) }
     ensures ok { OnOk result (RowsOfStripe (Pulls C.gives C.failed) source.old source.new shape
         (option_map pair_of at) rows
-        carried.old carried.new (P.view target.old).text (P.view target.new).text) }
+        (carried_of carried.old)
+        (carried_of carried.new) (P.view target.old).text (P.view target.new).text) }
     ensures stopped { IsErrOf result row_fault.Stopped →
         RowsOfCut (Pulls C.gives C.failed) source.old source.new shape (option_map pair_of at) rows
-        carried.old (P.view target.old).text (P.view target.new).text }
+        (carried_of carried.old) (P.view target.old).text (P.view target.new).text }
     ensures unwritten { IsErrOf result row_fault.Write →
         RowsOfUnwritten (Pulls C.gives C.failed) source.old source.new shape (option_map pair_of at)
         rows
-        carried.old (P.view target.old).text (P.view target.new).text }
+        (carried_of carried.old) (P.view target.old).text (P.view target.new).text }
     ensures width { OnOk result (width_of carried.new.window.now ≡ width_of
         carried.old.window.now) }
     ensures offset { OnOk result (carried.new.kept.offset ≤ 127) }
@@ -93,17 +95,18 @@ fn decode_next_rows<C: CodeBytes, P: ByteTarget>(
     requires to { IfSome at (λ to. to.offset ≤ 127) }
     requires left { row.old < rows }
     ensures ok { OnOk result (DecodeRowsStep (Pulls C.gives C.failed) source.old source.new shape
-        (option_map pair_of at) row.old row.new carried.old carried.new decoder.old decoder.new
+        (option_map pair_of at) row.old row.new (carried_of carried.old)
+        (carried_of carried.new) decoder.old decoder.new
         (P.view target.old).text (P.view target.new).text) }
     ensures more { OnOk result ((row.old < row.new) × (row.new ≤ rows)) }
     ensures stopped { IsErrOf result row_fault.Stopped →
         DecodeRowStepCut (Pulls C.gives C.failed) source.old source.new shape
         (option_map pair_of at) row.old
-        carried.old decoder.old (P.view target.old).text (P.view target.new).text }
+        (carried_of carried.old) decoder.old (P.view target.old).text (P.view target.new).text }
     ensures unwritten { IsErrOf result row_fault.Write →
         DecodeRowsStepUnwritten (Pulls C.gives C.failed) source.old source.new shape
         (option_map pair_of at) row.old rows
-        carried.old decoder.old (P.view target.old).text (P.view target.new).text }
+        (carried_of carried.old) decoder.old (P.view target.old).text (P.view target.new).text }
     ensures width { OnOk result (width_of carried.new.window.now ≡ width_of
         carried.old.window.now) }
     ensures offset { OnOk result (carried.new.kept.offset ≤ 127) }
@@ -140,8 +143,8 @@ fn skip_same(
     requires width { width_of carried.old.window.now ≡ shape.width }
     ensures none { result ≡ 0 → carried.new ≡ carried.old }
     ensures unskipped { result ≡ 0 → decoder.new ≡ decoder.old }
-    ensures all { 0 < result → RepeatsRows shape (option_map pair_of at) row result carried.old
-        carried.new decoder.old decoder.new }
+    ensures all { 0 < result → RepeatsRows shape (option_map pair_of at) row result (carried_of carried.old)
+        (carried_of carried.new) decoder.old decoder.new }
     ensures within { result ≤ left }
     ensures current { (held carried.new.window.now).current ≡
         (held carried.old.window.now).current }
@@ -246,16 +249,17 @@ fn decode_next_row<C: CodeBytes, P: ByteTarget>(
     requires offset { carried.old.kept.offset ≤ 127 }
     requires to { IfSome at (λ to. to.offset ≤ 127) }
     ensures ok { OnOk result (DecodeRowStep (Pulls C.gives C.failed) source.old source.new shape
-        (option_map pair_of at) row carried.old carried.new decoder.old decoder.new (P.view
+        (option_map pair_of at) row (carried_of carried.old)
+        (carried_of carried.new) decoder.old decoder.new (P.view
         target.old).text (P.view target.new).text) }
     ensures stopped { IsErrOf result row_fault.Stopped →
         DecodeRowStepCut (Pulls C.gives C.failed) source.old source.new shape
         (option_map pair_of at) row
-        carried.old decoder.old (P.view target.old).text (P.view target.new).text }
+        (carried_of carried.old) decoder.old (P.view target.old).text (P.view target.new).text }
     ensures unwritten { IsErrOf result row_fault.Write →
         DecodeRowStepUnwritten (Pulls C.gives C.failed) source.old source.new shape
         (option_map pair_of at) row
-        carried.old decoder.old (P.view target.old).text (P.view target.new).text }
+        (carried_of carried.old) decoder.old (P.view target.old).text (P.view target.new).text }
     ensures width { OnOk result (width_of carried.new.window.now ≡ width_of
         carried.old.window.now) }
     ensures offset { OnOk result (carried.new.kept.offset ≤ 127) }

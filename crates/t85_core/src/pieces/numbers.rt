@@ -1,7 +1,8 @@
 //! A decoder in pieces, as plain numbers.
 
 ghost use Rattle.std.specs.Prelude.{◌≡◌, ◌≤◌, Bool, List, Option, ℕ, IfSome};
-ghost use Rattle.raster_core.specs.Window.{held, width_of};
+ghost use Rattle.qm_core.specs.Place.{Estimate};
+ghost use Rattle.raster_core.specs.Packed.{Held};
 ghost use Rattle.t85_core.specs.Options.{fields_of};
 ghost use Rattle.t85_core.specs.Steps.Segments.{IsByteOrMarker};
 ghost use Rattle.t85_core.specs.Numbers.{stage_number, code_number, marker_number, move_numbers, piece_numbers};
@@ -14,9 +15,8 @@ use crate::pieces::PieceDecoder;
 use crate::pieces::behind::Behind;
 use crate::pieces::walk::{Stage, Walk};
 use crate::segments::{Code, Move};
-use crate::state::CodingState;
-use qm_core::{Decoder, DecoderRegisters, Learned};
-use raster_core::{Kept, RowPlace, RowPlaceNumbers, Window};
+use qm_core::{Decoder, DecoderRegisters};
+use raster_core::{Kept, RowPlace, RowPlaceNumbers};
 
 /// A move of the adaptive template pixel (ATMOVE), or none.
 #[derive(Clone, Copy, PartialEq, Eq, Debug)]
@@ -30,7 +30,7 @@ pub struct MoveNumbers {
 }
 
 /// How far a decoder in pieces has come that has not ended, as numbers that anyone may keep. Beside them it wants its header,
-/// the window's memory and place, and the contexts.
+/// and each call the window and the contexts.
 #[derive(Clone, Copy, PartialEq, Eq, Debug)]
 pub struct PieceNumbers {
     /// The height in use.
@@ -169,7 +169,7 @@ fn move_of(numbers: MoveNumbers) -> Option<Move>
     }
 }
 
-impl PieceDecoder<'_, '_> {
+impl PieceDecoder {
     /// How far it has come, as numbers. How the stream has ended is not among them.
     pub fn numbers(&self) -> PieceNumbers
         ensures { result ≡ piece_numbers self.now }
@@ -192,31 +192,26 @@ impl PieceDecoder<'_, '_> {
             place: walk.place.numbers(),
             ahead: number_of_code(walk.first),
             marker: number_of_marker(walk.marker),
-            offset: walk.carried.kept.offset,
-            is_previous_typical: walk.carried.kept.previous_typical,
+            offset: walk.kept.offset,
+            is_previous_typical: walk.kept.previous_typical,
             decoder: walk.decoder.registers(),
         }
     }
 }
 
 impl PieceNumbers {
-    ghost use Rattle.t85_core.specs.Numbers.{HasWindow, IsWalkAs};
+    ghost use Rattle.t85_core.specs.Numbers.{IsWalkAs};
     ghost use Rattle.t85_core.specs.declared.pieces.PieceDecoder.{PieceDecoder};
 
     /// Where the stream has come to.
-    fn walk<'a, 'b>(&self, window: &'a mut Window<'b>, learned: &'a mut Learned) -> Walk<'a, 'b>
+    fn walk(&self) -> Walk
         ensures { (d : PieceDecoder) → self.now ≡ piece_numbers d →
-            IfSome d.walk.first IsByteOrMarker → HasWindow d.walk window.old →
-            learned.old ≡ d.walk.carried.learned.now → IsWalkAs d.walk result }
+            IfSome d.walk.first IsByteOrMarker → IsWalkAs d.walk result }
     {
         Walk {
-            carried: CodingState {
-                window,
-                kept: Kept {
-                    offset: self.offset,
-                    previous_typical: self.is_previous_typical,
-                },
-                learned,
+            kept: Kept {
+                offset: self.offset,
+                previous_typical: self.is_previous_typical,
             },
             decoder: Decoder::from_registers(self.decoder).unwrap_or(Decoder::start()),
             stage: stage_of(self.stage),
@@ -243,29 +238,24 @@ impl PieceNumbers {
     }
 }
 
-impl<'a, 'b> PieceDecoder<'a, 'b> {
-    ghost use Rattle.t85_core.specs.Pieces.{HasDecoded, stream_of};
-    ghost use Rattle.t85_core.specs.Numbers.{HasWindow};
+impl PieceDecoder {
+    ghost use Rattle.t85_core.specs.Lent.{decoder_view};
+    ghost use Rattle.t85_core.specs.Pieces.{HasDecoded};
     ghost use Rattle.t85_core.specs.declared.pieces.PieceDecoder.{PieceDecoder};
 
-    /// The decoder of this header that has these numbers, and has not ended, over a window and contexts as it left them.
-    /// Numbers that no decoder has left give one of which nothing is promised.
-    pub fn resume(
-        header: Header,
-        numbers: &PieceNumbers,
-        window: &'a mut Window<'b>,
-        learned: &'a mut Learned,
-    ) -> PieceDecoder<'a, 'b>
-        ensures stream { stream_of result ≡ fields_of header }
-        ensures resumes { (d : PieceDecoder) (text out : List ℕ) → HasDecoded d text out →
-            stream_of d ≡ fields_of header → numbers.now ≡ piece_numbers d →
-            HasWindow d.walk window.old → learned.old ≡ d.walk.carried.learned.now →
-            HasDecoded result text out }
+    /// The decoder of this header that has these numbers, and has not ended. Numbers that no decoder has left give one of
+    /// which nothing is promised.
+    pub fn resume(header: Header, numbers: &PieceNumbers) -> PieceDecoder
+        ensures stream { result.header ≡ header }
+        ensures resumes { (d : PieceDecoder) (rows : Held) (learned : List Estimate)
+            (text out : List ℕ) → HasDecoded (decoder_view d rows learned) text out →
+            fields_of d.header ≡ fields_of header → numbers.now ≡ piece_numbers d →
+            HasDecoded (decoder_view result rows learned) text out }
     {
         PieceDecoder {
             header,
             height: numbers.height.clamp(1, header.yd),
-            walk: numbers.walk(window, learned),
+            walk: numbers.walk(),
             is_open: numbers.is_open,
             waits: numbers.waits,
             behind: numbers.behind(),

@@ -2,7 +2,8 @@
 
 ghost use Rattle.std.specs.Prelude.{◌≡◌, ◌≤◌, ◌<◌, ◌∷◌, ◌++◌, [], ℕ, List, None, Some, false, OnOk, IfErr, IfSome, IsErrOf};
 ghost use Rattle.qm_core.specs.Decoder.{has_stopped};
-ghost use Rattle.raster_core.specs.Window.{width_of};
+ghost use Rattle.raster_core.specs.Window.{memory_of, width_of};
+ghost use Rattle.t85_core.specs.Lent.{carried_over};
 ghost use Rattle.raster_core.specs.Row.{IsRowStart};
 ghost use Rattle.t85_core.specs.declared.fault.Fault.TheVariants.{Truncated};
 ghost use Rattle.t85_core.specs.Steps.Segments.{IsByteOrMarker};
@@ -13,43 +14,50 @@ use crate::input_buffer::ESCAPE;
 use crate::laws::coder_laws;
 use crate::pieces::piece::{Piece, PieceCode};
 use crate::segments::Code;
-use crate::state::CodingState;
-use qm_core::{Decoder, Stop};
-use raster_core::{RowPlace, Shape, go_on_row};
+use qm_core::{Decoder, Learned, Stop};
+use raster_core::{Kept, RowPlace, Shape, Window, go_on_row};
 
 /// Goes on with a row of a stripe that has begun, as far as its code came. Of a piece that ends in an escape all is taken
 /// but the FF of that.
 pub fn go_on_in_row(
     shape: Shape,
-    carried: &mut CodingState<'_, '_>,
+    window: &mut Window<'_>,
+    kept: &mut Kept,
+    learned: &mut Learned,
     decoder: &mut Decoder,
     place: &mut RowPlace,
     first: &mut Option<Code>,
     marker: &mut Option<bool>,
     piece: &mut Piece<'_>,
 ) -> Result<(), Fault>
-    requires width { width_of carried.old.window.now ≡ shape.width }
+    requires width { width_of window.old ≡ shape.width }
     requires within { place.old.done < shape.width }
     requires going { has_stopped decoder.old ≡ false }
-    requires offset { carried.old.kept.offset ≤ 127 }
+    requires offset { kept.old.offset ≤ 127 }
     requires code { IfSome first.old IsByteOrMarker }
     requires behind { IfSome marker.old (λ _. first.old ≡ None) }
     ensures ok { OnOk result (EndsRow shape
-        (row_state carried.old decoder.old place.old first.old marker.old piece.old.rest.now)
-        (row_state carried.new decoder.new place.new first.new marker.new piece.new.rest.now)) }
+        (row_state (carried_over window.old kept.old learned.old) decoder.old place.old
+        first.old marker.old piece.old.rest.now)
+        (row_state (carried_over window.new kept.new learned.new) decoder.new place.new
+        first.new marker.new piece.new.rest.now)) }
     ensures err { IfErr result (BreaksRow shape
-        (row_state carried.old decoder.old place.old first.old marker.old piece.old.rest.now)) }
+        (row_state (carried_over window.old kept.old learned.old) decoder.old place.old
+        first.old marker.old piece.old.rest.now)) }
     ensures more { IsErrOf result Truncated → WaitsInRow shape
-        (row_state carried.old decoder.old place.old first.old marker.old piece.old.rest.now)
-        (row_state carried.new decoder.new place.new first.new marker.new piece.new.rest.now) }
-    ensures width { width_of carried.new.window.now ≡ width_of carried.old.window.now }
-    ensures offset { carried.new.kept.offset ≤ 127 }
+        (row_state (carried_over window.old kept.old learned.old) decoder.old place.old
+        first.old marker.old piece.old.rest.now)
+        (row_state (carried_over window.new kept.new learned.new) decoder.new place.new
+        first.new marker.new piece.new.rest.now) }
+    ensures width { width_of window.new ≡ width_of window.old }
+    ensures offset { kept.new.offset ≤ 127 }
     ensures within { place.new.done < shape.width }
     ensures start { OnOk result (IsRowStart place.new) }
     ensures ahead { IfErr result (λ _. first.new ≡ None) }
     ensures marker { IfErr result (λ _. marker.new ≡ marker.old) }
     ensures drained { IfErr result (λ _. EndsInNoEscape piece.old.rest.now →
         piece.new.rest.now ≡ []) }
+    ensures same_memory { memory_of window.new ≡ memory_of window.old }
 {
     // What the proof cites of the coder.
     coder_laws();
@@ -60,15 +68,7 @@ pub fn go_on_in_row(
         fault: None,
         failures: 0,
     };
-    match go_on_row(
-        shape,
-        place,
-        &mut carried.kept,
-        carried.window,
-        &mut carried.learned,
-        decoder,
-        &mut code,
-    ) {
+    match go_on_row(shape, place, kept, window, learned, decoder, &mut code) {
         Ok(()) => {
             *first = code.first;
             *marker = code.marker;

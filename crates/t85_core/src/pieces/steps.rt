@@ -6,6 +6,10 @@ ghost use Rattle.t85_core.specs.Grammar.{marker_bytes};
 ghost use Rattle.t85_core.specs.declared.pieces.Outcome.TheVariants as outcome;
 ghost use Rattle.t85_core.specs.declared.fault.Fault.{Fault};
 ghost use Rattle.t85_core.specs.declared.fault.Fault.TheVariants.{Truncated};
+ghost use Rattle.raster_core.specs.Window.{memory_of, width_of};
+ghost use Rattle.qm_core.specs.Place.{Estimate};
+ghost use Rattle.raster_core.specs.Packed.{Held};
+ghost use Rattle.t85_core.specs.Lent.{decoder_over, decoder_view};
 
 use crate::fault::Fault;
 use crate::input_buffer::ESCAPE;
@@ -13,51 +17,82 @@ use crate::pieces::behind::Behind;
 use crate::pieces::piece::Piece;
 use crate::pieces::{Outcome, PieceDecoder};
 use crate::segments::{Code, SDNORM, SDRST, STUFF};
+use qm_core::Learned;
+use raster_core::Window;
 
 /// How many bytes of a code are looked at, at most, for its end marker.
 const AHEAD: usize = 256;
 
-impl PieceDecoder<'_, '_> {
+impl PieceDecoder {
     ghost use Rattle.t85_core.specs.declared.pieces.walk.Stage.TheVariants as stage;
-    ghost use Rattle.t85_core.specs.Steps.Pieces.{HasMarker, IsInCode, RowIsLeft};
+    ghost use Rattle.t85_core.specs.Steps.Pieces.{MarkerRead, IsInCode, RowIsLeft};
     ghost use Rattle.t85_core.specs.Steps.PieceSteps.{DecoderOn, StepLeaves, steps_left};
 
     /// Goes on up to the next row, to an end, or as far as the bytes go.
-    pub(super) fn go_on(&mut self, piece: &mut Piece<'_>, is_all: bool) -> Outcome
-        ensures leaves { StepLeaves is_all self.old self.new piece.old.rest.now piece.new.rest.now
+    pub(super) fn go_on(
+        &mut self,
+        window: &mut Window<'_>,
+        learned: &mut Learned,
+        piece: &mut Piece<'_>,
+        is_all: bool,
+    ) -> Outcome
+        ensures leaves { StepLeaves is_all (decoder_over self.old window.old learned.old)
+            (decoder_over self.new window.new learned.new) piece.old.rest.now piece.new.rest.now
             (Some result) }
+        ensures same_memory { memory_of window.new ≡ memory_of window.old }
+        ensures same_width { width_of window.new ≡ width_of window.old }
     {
         'steps: loop {
-            if let Some(outcome) = self.step(piece, is_all) {
+            if let Some(outcome) = self.step(window, learned, piece, is_all) {
                 return outcome;
             }
         }
     }
 
     /// Takes a step: to a row, to an end, to where more is wanted, or to where another step may be taken.
-    fn step(&mut self, piece: &mut Piece<'_>, is_all: bool) -> Option<Outcome>
-        ensures leaves { StepLeaves is_all self.old self.new piece.old.rest.now piece.new.rest.now
+    fn step(
+        &mut self,
+        window: &mut Window<'_>,
+        learned: &mut Learned,
+        piece: &mut Piece<'_>,
+        is_all: bool,
+    ) -> Option<Outcome>
+        ensures leaves { StepLeaves is_all (decoder_over self.old window.old learned.old)
+            (decoder_over self.new window.new learned.new) piece.old.rest.now piece.new.rest.now
             result }
-        ensures lowers { result ≡ None → steps_left self.new piece.new.rest.now < steps_left
-            self.old piece.old.rest.now }
+        ensures lowers { result ≡ None → steps_left self.new.waits piece.new.rest.now < steps_left self.old.waits piece.old.rest.now }
+        ensures same_memory { memory_of window.new ≡ memory_of window.old }
+        ensures same_width { width_of window.new ≡ width_of window.old }
     {
         if !self.is_open {
-            return Some(self.take_turn(piece, is_all));
+            return Some(self.take_turn(window, learned, piece, is_all));
         }
         if self.waits {
-            self.step_behind(piece, is_all)
+            self.step_behind(window, learned, piece, is_all)
         } else {
-            self.step_in_code(piece, is_all)
+            self.step_in_code(window, learned, piece, is_all)
         }
     }
 
     /// Goes on where the height is known.
-    fn take_turn(&mut self, piece: &mut Piece<'_>, is_all: bool) -> Outcome
+    fn take_turn(
+        &mut self,
+        window: &mut Window<'_>,
+        learned: &mut Learned,
+        piece: &mut Piece<'_>,
+        is_all: bool,
+    ) -> Outcome
         requires known { self.old.is_open ≡ false }
-        ensures leaves { StepLeaves is_all self.old self.new piece.old.rest.now piece.new.rest.now
+        ensures leaves { StepLeaves is_all (decoder_over self.old window.old learned.old)
+            (decoder_over self.new window.new learned.new) piece.old.rest.now piece.new.rest.now
             (Some result) }
+        ensures same_memory { memory_of window.new ≡ memory_of window.old }
+        ensures same_width { width_of window.new ≡ width_of window.old }
     {
-        match self.walk.next(&self.header, self.height, piece) {
+        match self
+            .walk
+            .next(&self.header, self.height, window, learned, piece)
+        {
             Ok(true) => Outcome::Row,
             Ok(false) => Outcome::Done(self.height),
             Err(fault) => outcome_of(fault, is_all),
@@ -65,13 +100,21 @@ impl PieceDecoder<'_, '_> {
     }
 
     /// Goes on in the code of a stripe, where a height may still come.
-    fn step_in_code(&mut self, piece: &mut Piece<'_>, is_all: bool) -> Option<Outcome>
+    fn step_in_code(
+        &mut self,
+        window: &mut Window<'_>,
+        learned: &mut Learned,
+        piece: &mut Piece<'_>,
+        is_all: bool,
+    ) -> Option<Outcome>
         requires late { self.old.is_open ≡ true }
         requires going { self.old.waits ≡ false }
-        ensures leaves { StepLeaves is_all self.old self.new piece.old.rest.now piece.new.rest.now
+        ensures leaves { StepLeaves is_all (decoder_over self.old window.old learned.old)
+            (decoder_over self.new window.new learned.new) piece.old.rest.now piece.new.rest.now
             result }
-        ensures lowers { result ≡ None → steps_left self.new piece.new.rest.now < steps_left
-            self.old piece.old.rest.now }
+        ensures lowers { result ≡ None → steps_left self.new.waits piece.new.rest.now < steps_left self.old.waits piece.old.rest.now }
+        ensures same_memory { memory_of window.new ≡ memory_of window.old }
+        ensures same_width { width_of window.new ≡ width_of window.old }
     {
         if !self.is_in_code() {
             return Some(Outcome::Broken(Fault::Truncated));
@@ -82,7 +125,7 @@ impl PieceDecoder<'_, '_> {
             return None;
         }
         if self.walk.wants_row(&self.header) {
-            self.step_in_rows(piece, is_all)
+            self.step_in_rows(window, learned, piece, is_all)
         } else {
             self.step_to_marker(piece, is_all)
         }
@@ -95,10 +138,10 @@ impl PieceDecoder<'_, '_> {
         requires unmarked { self.old.walk.marker ≡ None }
         requires stage { self.old.walk.stage ≡ stage.Code }
         requires all { min self.old.walk.left self.old.header.l0 ≤ self.old.walk.row }
-        ensures leaves { StepLeaves is_all self.old self.new piece.old.rest.now piece.new.rest.now
-            result }
-        ensures lowers { result ≡ None → steps_left self.new piece.new.rest.now < steps_left
-            self.old piece.old.rest.now }
+        ensures leaves { (rows : Held) (learned : List Estimate) →
+            StepLeaves is_all (decoder_view self.old rows learned) (decoder_view self.new rows learned)
+            piece.old.rest.now piece.new.rest.now result }
+        ensures lowers { result ≡ None → steps_left self.new.waits piece.new.rest.now < steps_left self.old.waits piece.old.rest.now }
     {
         let header = self.header;
         match self.walk.find_end(&header, header.yd, piece) {
@@ -112,22 +155,33 @@ impl PieceDecoder<'_, '_> {
     }
 
     /// Goes on in the rows of a stripe. What its end marker alone decides waits.
-    fn step_in_rows(&mut self, piece: &mut Piece<'_>, is_all: bool) -> Option<Outcome>
+    fn step_in_rows(
+        &mut self,
+        window: &mut Window<'_>,
+        learned: &mut Learned,
+        piece: &mut Piece<'_>,
+        is_all: bool,
+    ) -> Option<Outcome>
         requires late { self.old.is_open ≡ true }
         requires going { self.old.waits ≡ false }
         requires unmarked { self.old.walk.marker ≡ None }
-        requires ahead { HasMarker self.old.walk → ⊥ }
+        requires ahead { MarkerRead self.old.walk.marker self.old.walk.first → ⊥ }
         requires wants { RowIsLeft self.old.header.l0 self.old.walk }
-        ensures leaves { StepLeaves is_all self.old self.new piece.old.rest.now piece.new.rest.now
+        ensures leaves { StepLeaves is_all (decoder_over self.old window.old learned.old)
+            (decoder_over self.new window.new learned.new) piece.old.rest.now piece.new.rest.now
             result }
-        ensures lowers { result ≡ None → steps_left self.new piece.new.rest.now < steps_left
-            self.old piece.old.rest.now }
+        ensures lowers { result ≡ None → steps_left self.new.waits piece.new.rest.now < steps_left self.old.waits piece.old.rest.now }
+        ensures same_memory { memory_of window.new ≡ memory_of window.old }
+        ensures same_width { width_of window.new ≡ width_of window.old }
     {
         let bytes = piece.rest;
         let (front, behind) = bytes.split_at(code_len(bytes));
         let mut part = Piece { rest: front };
         let header = self.header;
-        match self.walk.give_row(&header, header.yd, &mut part) {
+        match self
+            .walk
+            .give_row(&header, header.yd, window, learned, &mut part)
+        {
             Ok(()) => {
                 let (_, rest) = bytes.split_at(front.len().saturating_sub(part.rest.len()));
                 piece.rest = rest;
@@ -158,7 +212,9 @@ impl PieceDecoder<'_, '_> {
         ensures end { self.new.end ≡ self.old.end }
         ensures on { self.old.walk.first ≡ None → self.old.walk.marker ≡ None →
             IsInCode self.old.walk.stage →
-            DecoderOn self.old self.new piece.old.rest.now piece.new.rest.now [] }
+            (rows : Held) (learned : List Estimate) →
+            DecoderOn (decoder_view self.old rows learned) (decoder_view self.new rows learned)
+            piece.old.rest.now piece.new.rest.now [] }
         ensures stays { ((reset : Bool) (rest : List ℕ) →
             piece.old.rest.now ≡ marker_bytes reset ++ rest → ⊥) → self.new.waits ≡ false }
         ensures no_more { length piece.new.rest.now ≤ length piece.old.rest.now }

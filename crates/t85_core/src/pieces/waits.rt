@@ -2,6 +2,8 @@
 
 ghost use Rattle.t85_core.specs.declared.fault.Fault.TheVariants.{Truncated};
 ghost use Rattle.std.specs.Prelude.{◌≡◌, ◌≢◌, ◌≤◌, ◌<◌, ◌+◌, ◌-◌, ◌*◌, ◌^◌, ◌++◌, ◌⊎◌, [], ℕ, Bool, None, Some, length, min, true, false};
+ghost use Rattle.raster_core.specs.Window.{memory_of, width_of};
+ghost use Rattle.t85_core.specs.Lent.{decoder_over, walk_over};
 
 use crate::fault::Fault;
 use crate::laws::coder_laws;
@@ -10,9 +12,10 @@ use crate::pieces::piece::Piece;
 use crate::pieces::walk::Stage;
 use crate::pieces::{Outcome, PieceDecoder};
 use crate::segments::{Code, Next, Place};
-use qm_core::Decoder;
+use qm_core::{Decoder, Learned};
+use raster_core::Window;
 
-impl PieceDecoder<'_, '_> {
+impl PieceDecoder {
     ghost use Rattle.t85_core.specs.declared.pieces.walk.Stage.TheVariants as stage;
     ghost use Rattle.t85_core.specs.Options.{fields_of};
     ghost use Rattle.t85_core.specs.Grammar.{NewLength, segment_bytes, is_valid_length, IsLegal};
@@ -23,13 +26,21 @@ impl PieceDecoder<'_, '_> {
     ghost use Rattle.t85_core.specs.Steps.PieceSteps.{SomeStand, StepLeaves, KeepsDecoder, steps_left, GivesBelow, StaysAbove, RowsAreGiven, HeadEntered, StripeLeft, StripeClosed, HeightComes, LookIsOver};
 
     /// Goes on behind an end marker, or before the first stripe, where a height may still come.
-    pub(super) fn step_behind(&mut self, piece: &mut Piece<'_>, is_all: bool) -> Option<Outcome>
+    pub(super) fn step_behind(
+        &mut self,
+        window: &mut Window<'_>,
+        learned: &mut Learned,
+        piece: &mut Piece<'_>,
+        is_all: bool,
+    ) -> Option<Outcome>
         requires late { self.old.is_open ≡ true }
         requires waits { self.old.waits ≡ true }
-        ensures leaves { StepLeaves is_all self.old self.new piece.old.rest.now piece.new.rest.now
+        ensures leaves { StepLeaves is_all (decoder_over self.old window.old learned.old)
+            (decoder_over self.new window.new learned.new) piece.old.rest.now piece.new.rest.now
             result }
-        ensures lowers { result ≡ None → steps_left self.new piece.new.rest.now < steps_left
-            self.old piece.old.rest.now }
+        ensures lowers { result ≡ None → steps_left self.new.waits piece.new.rest.now < steps_left self.old.waits piece.old.rest.now }
+        ensures same_memory { memory_of window.new ≡ memory_of window.old }
+        ensures same_width { width_of window.new ≡ width_of window.old }
     {
         if self.walk.entities == u32::MAX {
             return Some(Outcome::Broken(Fault::Truncated));
@@ -37,12 +48,12 @@ impl PieceDecoder<'_, '_> {
         let place = self.place_behind();
         let is_last = self.is_last();
         match self.behind.pass(&self.header, place, is_last, piece) {
-            Ok(coming) => self.take_coming(coming, is_last, is_all, piece),
+            Ok(coming) => self.take_coming(window, learned, coming, is_last, is_all, piece),
             Err(fault) => {
                 if is_open_end(fault, is_all) {
                     return Some(Outcome::More);
                 }
-                Some(self.stop_behind(fault, is_last, is_all, piece))
+                Some(self.stop_behind(window, learned, fault, is_last, is_all, piece))
             }
         }
     }
@@ -50,6 +61,8 @@ impl PieceDecoder<'_, '_> {
     /// A height or a code comes next.
     fn take_coming<'c>(
         &mut self,
+        window: &mut Window<'_>,
+        learned: &mut Learned,
         coming: Coming<'c>,
         is_last: bool,
         is_all: bool,
@@ -58,21 +71,23 @@ impl PieceDecoder<'_, '_> {
         requires late { self.old.is_open ≡ true }
         requires waits { self.old.waits ≡ true }
         requires between { self.old.behind.comment ≡ None }
-        requires last { is_last ≡ last_behind (fields_of self.old.header) self.old.walk }
+        requires last { is_last ≡ last_behind (fields_of self.old.header) self.old.walk.stage self.old.walk.left }
         requires comes { ComesBehind (fields_of self.old.header) (place_behind (fields_of
-            self.old.header) self.old.walk) coming.next piece.old.rest.now coming.rest.now }
-        ensures leaves { StepLeaves is_all self.old self.new piece.old.rest.now piece.new.rest.now
+            self.old.header) self.old.walk.stage self.old.walk.entities) coming.next piece.old.rest.now coming.rest.now }
+        ensures leaves { StepLeaves is_all (decoder_over self.old window.old learned.old)
+            (decoder_over self.new window.new learned.new) piece.old.rest.now piece.new.rest.now
             result }
-        ensures lowers { result ≡ None → steps_left self.new piece.new.rest.now < steps_left
-            self.old piece.old.rest.now }
+        ensures lowers { result ≡ None → steps_left self.new.waits piece.new.rest.now < steps_left self.old.waits piece.old.rest.now }
+        ensures same_memory { memory_of window.new ≡ memory_of window.old }
+        ensures same_width { width_of window.new ≡ width_of window.old }
     {
         match coming.next {
-            Next::Height(height) => self.take_height(height, coming.rest, piece),
+            Next::Height(height) => self.take_height(window, learned, height, coming.rest, piece),
             Next::Code(code) => {
                 if is_last {
-                    return Some(self.end_look(is_all, piece));
+                    return Some(self.end_look(window, learned, is_all, piece));
                 }
-                self.take_code(code, coming.rest, piece)
+                self.take_code(window, learned, code, coming.rest, piece)
             }
         }
     }
@@ -80,6 +95,8 @@ impl PieceDecoder<'_, '_> {
     /// A fault comes next, or the end of the stream.
     fn stop_behind(
         &mut self,
+        window: &mut Window<'_>,
+        learned: &mut Learned,
         fault: Fault,
         is_last: bool,
         is_all: bool,
@@ -87,23 +104,26 @@ impl PieceDecoder<'_, '_> {
     ) -> Outcome
         requires late { self.old.is_open ≡ true }
         requires waits { self.old.waits ≡ true }
-        requires last { is_last ≡ last_behind (fields_of self.old.header) self.old.walk }
+        requires last { is_last ≡ last_behind (fields_of self.old.header) self.old.walk.stage self.old.walk.left }
         requires end { fault ≡ Truncated → is_all ≡ true }
         requires stops { StopsBehind (fields_of self.old.header) (place_behind (fields_of
-            self.old.header) self.old.walk) is_last self.old.behind piece.now.rest.now fault }
-        ensures leaves { StepLeaves is_all self.old self.new piece.now.rest.now piece.now.rest.now
+            self.old.header) self.old.walk.stage self.old.walk.entities) is_last self.old.behind piece.now.rest.now fault }
+        ensures leaves { StepLeaves is_all (decoder_over self.old window.old learned.old)
+            (decoder_over self.new window.new learned.new) piece.now.rest.now piece.now.rest.now
             (Some result) }
+        ensures same_memory { memory_of window.new ≡ memory_of window.old }
+        ensures same_width { width_of window.new ≡ width_of window.old }
     {
         if is_last {
-            return self.end_look(is_all, piece);
+            return self.end_look(window, learned, is_all, piece);
         }
-        self.take_fault(fault, is_all, piece)
+        self.take_fault(window, learned, fault, is_all, piece)
     }
 
     /// Where what comes behind stands: how many data entities are before it.
     fn place_behind(&self) -> Place
         requires few { self.now.walk.entities < 2 ^ 32 - 1 }
-        ensures { result ≡ place_behind (fields_of self.now.header) self.now.walk }
+        ensures { result ≡ place_behind (fields_of self.now.header) self.now.walk.stage self.now.walk.entities }
     {
         let entities = match self.walk.stage {
             Stage::Code | Stage::Row => self.walk.entities + 1,
@@ -118,7 +138,7 @@ impl PieceDecoder<'_, '_> {
 
     /// Whether the last stripe is over there that the header's height makes.
     fn is_last(&self) -> bool
-        ensures { result ≡ last_behind (fields_of self.now.header) self.now.walk }
+        ensures { result ≡ last_behind (fields_of self.now.header) self.now.walk.stage self.now.walk.left }
     {
         match self.walk.stage {
             Stage::Code | Stage::Row => self.walk.left <= self.header.l0,
@@ -147,33 +167,45 @@ impl PieceDecoder<'_, '_> {
     }
 
     /// Gives the next row of the stripe before, where that is below this one. It waited for what its end marker decides.
-    fn gives_below(&mut self, limit: u32) -> bool
+    fn gives_below(&mut self, window: &mut Window<'_>, learned: &mut Learned, limit: u32) -> bool
         requires late { self.old.is_open ≡ true }
         requires waits { self.old.waits ≡ true }
         requires limit { limit ≤ min self.old.walk.left self.old.header.l0 }
-        ensures keeps { KeepsDecoder self.old self.new }
-        ensures gives { result ≡ true → SomeStand self.old → GivesBelow self.old self.new limit }
-        ensures stays { result ≡ false → StaysAbove self.old self.new limit }
+        ensures keeps { KeepsDecoder (decoder_over self.old window.old learned.old)
+            (decoder_over self.new window.new learned.new) }
+        ensures gives { result ≡ true → SomeStand (decoder_over self.old window.old learned.old) → GivesBelow (decoder_over self.old window.old learned.old)
+            (decoder_over self.new window.new learned.new) limit }
+        ensures stays { result ≡ false → StaysAbove (decoder_over self.old window.old learned.old)
+            (decoder_over self.new window.new learned.new) limit }
+        ensures same_memory { memory_of window.new ≡ memory_of window.old }
+        ensures same_width { width_of window.new ≡ width_of window.old }
     {
         if !self.is_in_code() || self.walk.row >= limit {
             return false;
         }
         let mut none = Piece { rest: &[] };
         let header = self.header;
-        let _given = self.walk.give_row(&header, header.yd, &mut none).is_ok();
+        let _given = self
+            .walk
+            .give_row(&header, header.yd, window, learned, &mut none)
+            .is_ok();
         true
     }
 
     /// Ends the stripe before, if there is one, all of whose rows are given. The segments that came behind begin the next.
-    fn enter_head(&mut self)
+    fn enter_head(&mut self, window: &mut Window<'_>, learned: &mut Learned)
         requires late { self.old.is_open ≡ true }
         requires waits { self.old.waits ≡ true }
-        requires all { RowsAreGiven self.old }
-        ensures keeps { KeepsDecoder self.old self.new }
-        ensures head { last_behind (fields_of self.old.header) self.old.walk ≡ false →
-            SomeStand self.old → HeadEntered self.old self.new }
+        requires all { RowsAreGiven (decoder_over self.old window.old learned.old) }
+        ensures keeps { KeepsDecoder (decoder_over self.old window.old learned.old)
+            (decoder_over self.new window.new learned.new) }
+        ensures head { last_behind (fields_of self.old.header) self.old.walk.stage self.old.walk.left ≡ false →
+            SomeStand (decoder_over self.old window.old learned.old) → HeadEntered (decoder_over self.old window.old learned.old)
+            (decoder_over self.new window.new learned.new) }
+        ensures same_memory { memory_of window.new ≡ memory_of window.old }
+        ensures same_width { width_of window.new ≡ width_of window.old }
     {
-        self.close_stripe();
+        self.close_stripe(window, learned);
         self.walk.at = self.behind.at;
         let Some(left) = self.behind.comment else {
             return;
@@ -183,28 +215,36 @@ impl PieceDecoder<'_, '_> {
     }
 
     /// Ends the stripe before, if there is one, all of whose rows are given.
-    fn close_stripe(&mut self)
+    fn close_stripe(&mut self, window: &mut Window<'_>, learned: &mut Learned)
         requires late { self.old.is_open ≡ true }
         requires waits { self.old.waits ≡ true }
-        requires all { RowsAreGiven self.old }
-        ensures keeps { KeepsDecoder self.old self.new }
-        ensures closes { last_behind (fields_of self.old.header) self.old.walk ≡ false →
-            SomeStand self.old → StripeClosed self.old self.new }
+        requires all { RowsAreGiven (decoder_over self.old window.old learned.old) }
+        ensures keeps { KeepsDecoder (decoder_over self.old window.old learned.old)
+            (decoder_over self.new window.new learned.new) }
+        ensures closes { last_behind (fields_of self.old.header) self.old.walk.stage self.old.walk.left ≡ false →
+            SomeStand (decoder_over self.old window.old learned.old) → StripeClosed (decoder_over self.old window.old learned.old)
+            (decoder_over self.new window.new learned.new) }
+        ensures same_memory { memory_of window.new ≡ memory_of window.old }
+        ensures same_width { width_of window.new ≡ width_of window.old }
     {
         if !self.is_in_code() {
             return;
         }
-        self.end_stripe();
+        self.end_stripe(window, learned);
     }
 
     /// Ends the stripe before, all of whose rows are given. Its end marker came.
-    fn end_stripe(&mut self)
+    fn end_stripe(&mut self, window: &mut Window<'_>, learned: &mut Learned)
         requires late { self.old.is_open ≡ true }
         requires waits { self.old.waits ≡ true }
-        requires all { RowsAreGiven self.old }
-        ensures keeps { KeepsDecoder self.old self.new }
-        ensures ends { IsInCode self.old.walk.stage → SomeStand self.old →
-            StripeLeft self.old self.new }
+        requires all { RowsAreGiven (decoder_over self.old window.old learned.old) }
+        ensures keeps { KeepsDecoder (decoder_over self.old window.old learned.old)
+            (decoder_over self.new window.new learned.new) }
+        ensures ends { IsInCode self.old.walk.stage → SomeStand (decoder_over self.old window.old learned.old) →
+            StripeLeft (decoder_over self.old window.old learned.old)
+            (decoder_over self.new window.new learned.new) }
+        ensures same_memory { memory_of window.new ≡ memory_of window.old }
+        ensures same_width { width_of window.new ≡ width_of window.old }
     {
         let Stage::Code = self.walk.stage else {
             return;
@@ -213,13 +253,15 @@ impl PieceDecoder<'_, '_> {
         let header = self.header;
         let _ended = self
             .walk
-            .finish_stripe(&header, header.yd, &mut none)
+            .finish_stripe(&header, header.yd, window, learned, &mut none)
             .is_ok();
     }
 
     /// A valid height comes next: it is in use, after the rows that it has of the stripe before, or the image ends there.
     fn take_height<'c>(
         &mut self,
+        window: &mut Window<'_>,
+        learned: &mut Learned,
         height: u32,
         rest: &'c [u8],
         piece: &mut Piece<'c>,
@@ -227,25 +269,29 @@ impl PieceDecoder<'_, '_> {
         requires late { self.old.is_open ≡ true }
         requires waits { self.old.waits ≡ true }
         requires between { self.old.behind.comment ≡ None }
-        requires comes { HeightComes (fields_of self.old.header) self.old.walk height
+        requires comes { HeightComes (fields_of self.old.header)
+            (walk_over self.old.walk window.old learned.old) height
             piece.old.rest.now rest.now }
-        ensures leaves { (is_all : Bool) → StepLeaves is_all self.old self.new piece.old.rest.now
-            piece.new.rest.now result }
-        ensures lowers { result ≡ None → steps_left self.new piece.new.rest.now < steps_left
-            self.old piece.old.rest.now }
+        ensures leaves { (is_all : Bool) → StepLeaves is_all
+            (decoder_over self.old window.old learned.old)
+            (decoder_over self.new window.new learned.new) piece.old.rest.now piece.new.rest.now
+            result }
+        ensures lowers { result ≡ None → steps_left self.new.waits piece.new.rest.now < steps_left self.old.waits piece.old.rest.now }
+        ensures same_memory { memory_of window.new ≡ memory_of window.old }
+        ensures same_width { width_of window.new ≡ width_of window.old }
     {
         // What the proof cites of the coder.
         coder_laws();
         let fewer = self.header.yd - height;
         let left = self.walk.left.saturating_sub(fewer);
-        if self.gives_below(left.min(self.header.l0)) {
+        if self.gives_below(window, learned, left.min(self.header.l0)) {
             return Some(Outcome::Row);
         }
         if self.ends_in_stripe(left) {
             self.height = height;
             return Some(Outcome::Done(height));
         }
-        self.enter_head();
+        self.enter_head(window, learned);
         piece.rest = rest;
         self.walk.given = true;
         self.walk.left = self.walk.left.saturating_sub(fewer);
@@ -258,6 +304,8 @@ impl PieceDecoder<'_, '_> {
     /// A code comes next: the next stripe has it, after the rows of the stripe before.
     fn take_code<'c>(
         &mut self,
+        window: &mut Window<'_>,
+        learned: &mut Learned,
         code: Code,
         rest: &'c [u8],
         piece: &mut Piece<'c>,
@@ -265,18 +313,21 @@ impl PieceDecoder<'_, '_> {
         requires late { self.old.is_open ≡ true }
         requires waits { self.old.waits ≡ true }
         requires between { self.old.behind.comment ≡ None }
-        requires more { last_behind (fields_of self.old.header) self.old.walk ≡ false }
+        requires more { last_behind (fields_of self.old.header) self.old.walk.stage self.old.walk.left ≡ false }
         requires code { IsByteOrMarker code }
         requires comes { piece.old.rest.now ≡ code_bytes code ++ rest.now }
-        ensures leaves { (is_all : Bool) → StepLeaves is_all self.old self.new piece.old.rest.now
-            piece.new.rest.now result }
-        ensures lowers { result ≡ None → steps_left self.new piece.new.rest.now < steps_left
-            self.old piece.old.rest.now }
+        ensures leaves { (is_all : Bool) → StepLeaves is_all
+            (decoder_over self.old window.old learned.old)
+            (decoder_over self.new window.new learned.new) piece.old.rest.now piece.new.rest.now
+            result }
+        ensures lowers { result ≡ None → steps_left self.new.waits piece.new.rest.now < steps_left self.old.waits piece.old.rest.now }
+        ensures same_memory { memory_of window.new ≡ memory_of window.old }
+        ensures same_width { width_of window.new ≡ width_of window.old }
     {
-        if self.gives_below(self.walk.left.min(self.header.l0)) {
+        if self.gives_below(window, learned, self.walk.left.min(self.header.l0)) {
             return Some(Outcome::Row);
         }
-        self.enter_head();
+        self.enter_head(window, learned);
         piece.rest = rest;
         self.walk.stage = Stage::Code;
         self.walk.decoder = Decoder::start();
@@ -288,40 +339,60 @@ impl PieceDecoder<'_, '_> {
     }
 
     /// A fault comes next, or the end of the stream: it is told after the rows of the stripe before.
-    fn take_fault(&mut self, fault: Fault, is_all: bool, piece: &Piece<'_>) -> Outcome
+    fn take_fault(
+        &mut self,
+        window: &mut Window<'_>,
+        learned: &mut Learned,
+        fault: Fault,
+        is_all: bool,
+        piece: &Piece<'_>,
+    ) -> Outcome
         requires late { self.old.is_open ≡ true }
         requires waits { self.old.waits ≡ true }
-        requires more { last_behind (fields_of self.old.header) self.old.walk ≡ false }
+        requires more { last_behind (fields_of self.old.header) self.old.walk.stage self.old.walk.left ≡ false }
         requires end { fault ≡ Truncated → is_all ≡ true }
         requires stops { StopsBehind (fields_of self.old.header) (place_behind (fields_of
-            self.old.header) self.old.walk) false self.old.behind piece.now.rest.now fault }
-        ensures leaves { StepLeaves is_all self.old self.new piece.now.rest.now piece.now.rest.now
+            self.old.header) self.old.walk.stage self.old.walk.entities) false self.old.behind piece.now.rest.now fault }
+        ensures leaves { StepLeaves is_all (decoder_over self.old window.old learned.old)
+            (decoder_over self.new window.new learned.new) piece.now.rest.now piece.now.rest.now
             (Some result) }
+        ensures same_memory { memory_of window.new ≡ memory_of window.old }
+        ensures same_width { width_of window.new ≡ width_of window.old }
     {
         // What the proof cites of the coder.
         coder_laws();
-        if self.gives_below(self.walk.left.min(self.header.l0)) {
+        if self.gives_below(window, learned, self.walk.left.min(self.header.l0)) {
             return Outcome::Row;
         }
-        self.enter_head();
+        self.enter_head(window, learned);
         Outcome::Broken(fault)
     }
 
     /// No height comes behind the last stripe: the image ends at the header's, after the rows of that stripe.
-    fn end_look(&mut self, is_all: bool, piece: &Piece<'_>) -> Outcome
+    fn end_look(
+        &mut self,
+        window: &mut Window<'_>,
+        learned: &mut Learned,
+        is_all: bool,
+        piece: &Piece<'_>,
+    ) -> Outcome
         requires late { self.old.is_open ≡ true }
         requires waits { self.old.waits ≡ true }
-        requires last { last_behind (fields_of self.old.header) self.old.walk ≡ true }
-        requires over { SomeStand self.old → LookIsOver is_all self.old piece.now.rest.now }
-        ensures leaves { StepLeaves is_all self.old self.new piece.now.rest.now piece.now.rest.now
+        requires last { last_behind (fields_of self.old.header) self.old.walk.stage self.old.walk.left ≡ true }
+        requires over { SomeStand (decoder_over self.old window.old learned.old) → LookIsOver is_all
+            (decoder_over self.old window.old learned.old) piece.now.rest.now }
+        ensures leaves { StepLeaves is_all (decoder_over self.old window.old learned.old)
+            (decoder_over self.new window.new learned.new) piece.now.rest.now piece.now.rest.now
             (Some result) }
+        ensures same_memory { memory_of window.new ≡ memory_of window.old }
+        ensures same_width { width_of window.new ≡ width_of window.old }
     {
         // What the proof cites of the coder.
         coder_laws();
-        if self.gives_below(self.walk.left.min(self.header.l0)) {
+        if self.gives_below(window, learned, self.walk.left.min(self.header.l0)) {
             return Outcome::Row;
         }
-        self.end_stripe();
+        self.end_stripe(window, learned);
         Outcome::Done(self.height)
     }
 }

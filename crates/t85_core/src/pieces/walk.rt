@@ -1,13 +1,15 @@
 //! How far a stream has been decoded that comes in pieces.
 
 ghost use Rattle.std.specs.Prelude.{◌≡◌, ◌≢◌, false, ◌≤◌, ◌<◌, ◌+◌, ◌-◌, ◌⊎◌, ◌∷◌, [], ℕ, List, None, true, length, min, IsOk, IfErr, IfSome, OnOk};
-ghost use Rattle.qm_core.specs.Place.{fresh};
-ghost use Rattle.raster_core.specs.Window.{width_of};
+ghost use Rattle.qm_core.specs.Place.{Estimate};
+ghost use Rattle.raster_core.specs.Packed.{Held};
+ghost use Rattle.raster_core.specs.Window.{held, memory_of, width_of};
 ghost use Rattle.t85_core.specs.declared.fault.Fault.TheVariants.{Truncated, Changed};
 ghost use Rattle.t85_core.specs.declared.pieces.walk.Stage.TheVariants as stage;
 ghost use Rattle.t85_core.specs.Options.{fields_of};
 ghost use Rattle.t85_core.specs.Steps.Segments.{IsByteOrMarker};
-ghost use Rattle.t85_core.specs.Steps.Pieces.{WalkStands, SomeStands, RowFits, IsOver, Step, RowStep, RowLeaves, KeepsPlace, HasMarker, RowIsLeft, StripesOn, IsFirstWalk, Turn};
+ghost use Rattle.t85_core.specs.Lent.{walk_view, walk_over};
+ghost use Rattle.t85_core.specs.Steps.Pieces.{WalkStands, SomeStands, RowFits, IsOver, StepAlone, Step, RowStep, RowLeaves, KeepsPlace, MarkerRead, RowIsLeft, StripesOn, IsFirstWalk, Turn};
 
 use crate::decoding::rows::offset_in;
 use crate::fault::Fault;
@@ -18,9 +20,9 @@ use crate::pieces::code::find_marker;
 use crate::pieces::piece::Piece;
 use crate::pieces::rows::go_on_in_row;
 use crate::segments::{self, COMMENT, Code, Move, Place, next_piece, number};
-use crate::state::CodingState;
+use crate::state::{START, next_stripe, restart};
 use qm_core::{Decoder, Learned};
-use raster_core::{RowPlace, Window};
+use raster_core::{Kept, RowPlace, Window};
 
 /// The greatest offset of the adaptive template pixel that T.85 has.
 const MOST_OFFSET: u8 = 127;
@@ -42,8 +44,8 @@ pub enum Stage {
 
 /// How far a stream has been decoded.
 #[derive(Drop)]
-pub struct Walk<'a, 'b> {
-    pub carried: CodingState<'a, 'b>,
+pub struct Walk {
+    pub kept: Kept,
     pub decoder: Decoder,
     pub stage: Stage,
     /// How many data entities are whole.
@@ -66,24 +68,28 @@ pub struct Walk<'a, 'b> {
     pub marker: Option<bool>,
 }
 
-impl<'a, 'b> Walk<'a, 'b> {
-    /// Before the first byte after the header. The window is made white.
+impl Walk {
+    /// Before the first byte after the header. The window is made white, and the contexts forget.
     pub fn start(
         header: &Header,
         height: u32,
-        window: &'a mut Window<'b>,
-        learned: &'a mut Learned,
-    ) -> Walk<'a, 'b>
+        window: &mut Window<'_>,
+        learned: &mut Learned,
+    ) -> Walk
         requires width { width_of window.old ≡ header.now.xd }
         requires from { 1 ≤ height }
-        requires learned { learned.old ≡ fresh }
-        ensures stands { WalkStands (fields_of header.now) height result [] [] }
-        ensures first { IsFirstWalk result }
+        ensures stands { WalkStands (fields_of header.now) height
+            (walk_over result window.new learned.new) [] [] }
+        ensures first { IsFirstWalk (walk_over result window.new learned.new) }
+        ensures same_memory { memory_of window.new ≡ memory_of window.old }
+        ensures same_width { width_of window.new ≡ width_of window.old }
     {
         // The proof reads from this value that a stripe has rows.
         let _rows = header.l0;
+        let mut kept = START;
+        restart(window, &mut kept, learned);
         Walk {
-            carried: CodingState::first(window, learned),
+            kept,
             decoder: Decoder::start(),
             stage: Stage::Head,
             entities: 0,
@@ -99,7 +105,7 @@ impl<'a, 'b> Walk<'a, 'b> {
     }
 }
 
-impl Walk<'_, '_> {
+impl Walk {
     /// Skips the rest of a comment, if one has begun.
     fn leave_comment(
         &mut self,
@@ -110,8 +116,8 @@ impl Walk<'_, '_> {
         requires from { 1 ≤ height }
         requires to { height ≤ header.now.yd }
         requires stage { (self.old.stage ≡ stage.Head) ⊎ (self.old.stage ≡ stage.Comment) }
-        ensures step { Step (fields_of header.now) height self.old self.new piece.old.rest.now
-            piece.new.rest.now result }
+        ensures step { StepAlone (fields_of header.now) height self.old self.new
+            piece.old.rest.now piece.new.rest.now result }
         ensures stage { OnOk result (self.new.stage ≡ stage.Head) }
         ensures no_more { length piece.new.rest.now ≤ length piece.old.rest.now }
     {
@@ -132,8 +138,8 @@ impl Walk<'_, '_> {
         requires from { 1 ≤ height }
         requires to { height ≤ header.now.yd }
         requires stage { self.old.stage ≡ stage.Comment }
-        ensures step { Step (fields_of header.now) height self.old self.new piece.old.rest.now
-            piece.new.rest.now result }
+        ensures step { StepAlone (fields_of header.now) height self.old self.new
+            piece.old.rest.now piece.new.rest.now result }
         ensures stage { OnOk result (self.new.stage ≡ stage.Head) }
         ensures no_more { length piece.new.rest.now ≤ length piece.old.rest.now }
     {
@@ -160,8 +166,8 @@ impl Walk<'_, '_> {
         requires from { 1 ≤ height }
         requires to { height ≤ header.now.yd }
         requires stage { self.old.stage ≡ stage.Head }
-        ensures step { Step (fields_of header.now) height self.old self.new piece.old.rest.now
-            piece.new.rest.now result }
+        ensures step { StepAlone (fields_of header.now) height self.old self.new
+            piece.old.rest.now piece.new.rest.now result }
         ensures row { OnOk result (self.new.stage ≡ stage.Code → self.new.row ≡ 0) }
         ensures stage { OnOk result (IsOver self.new.stage ⊎ (self.new.stage ≡ stage.Code)
             ⊎ (self.new.stage ≡ stage.Head) ⊎ (self.new.stage ≡ stage.Comment)) }
@@ -185,8 +191,8 @@ impl Walk<'_, '_> {
         requires to { height ≤ header.now.yd }
         requires stage { self.old.stage ≡ stage.Head }
         requires comment { (rest : List ℕ) × (piece.old.rest.now ≡ 255 ∷ 7 ∷ rest) }
-        ensures step { Step (fields_of header.now) height self.old self.new piece.old.rest.now
-            piece.new.rest.now result }
+        ensures step { StepAlone (fields_of header.now) height self.old self.new
+            piece.old.rest.now piece.new.rest.now result }
         ensures stage { OnOk result (self.new.stage ≡ stage.Comment) }
         ensures lowers { OnOk result (length piece.new.rest.now < length piece.old.rest.now) }
     {
@@ -218,8 +224,8 @@ impl Walk<'_, '_> {
         requires from { 1 ≤ height }
         requires to { height ≤ header.now.yd }
         requires stage { self.old.stage ≡ stage.Head }
-        ensures step { Step (fields_of header.now) height self.old self.new piece.old.rest.now
-            piece.new.rest.now result }
+        ensures step { StepAlone (fields_of header.now) height self.old self.new
+            piece.old.rest.now piece.new.rest.now result }
         ensures row { OnOk result (self.new.stage ≡ stage.Code → self.new.row ≡ 0) }
         ensures stage { OnOk result (IsOver self.new.stage ⊎ (self.new.stage ≡ stage.Code)
             ⊎ (self.new.stage ≡ stage.Head)) }
@@ -265,7 +271,7 @@ impl Walk<'_, '_> {
     }
 }
 
-impl Walk<'_, '_> {
+impl Walk {
     /// Reads the segments of a stripe, and what its code begins with.
     fn read_head(
         &mut self,
@@ -276,8 +282,8 @@ impl Walk<'_, '_> {
         requires from { 1 ≤ height }
         requires to { height ≤ header.now.yd }
         requires stage { (self.old.stage ≡ stage.Head) ⊎ (self.old.stage ≡ stage.Comment) }
-        ensures step { Step (fields_of header.now) height self.old self.new piece.old.rest.now
-            piece.new.rest.now result }
+        ensures step { StepAlone (fields_of header.now) height self.old self.new
+            piece.old.rest.now piece.new.rest.now result }
         ensures stage { OnOk result (IsOver self.new.stage ⊎ (self.new.stage ≡ stage.Code)) }
         ensures row { OnOk result (self.new.stage ≡ stage.Code → self.new.row ≡ 0) }
     {
@@ -305,23 +311,26 @@ impl Walk<'_, '_> {
     }
 
     /// Goes down to the next row of a stripe, and makes its move.
-    fn enter_row(&mut self, header: &Header, height: u32)
+    fn enter_row(&mut self, header: &Header, height: u32, window: &mut Window<'_>)
         requires stage { self.old.stage ≡ stage.Code }
         requires row { self.old.row < min self.old.left header.now.l0 }
-        requires fits { RowFits header.now.xd self.old }
-        ensures enters { (text out : List ℕ) →
-            WalkStands (fields_of header.now) height self.old text out →
-            WalkStands (fields_of header.now) height self.new text out }
-        ensures fits { RowFits header.now.xd self.new }
+        requires fits { RowFits header.now.xd self.old (held window.old) }
+        ensures enters { (learned : List Estimate) (text out : List ℕ) →
+            WalkStands (fields_of header.now) height (walk_over self.old window.old learned) text out →
+            WalkStands (fields_of header.now) height (walk_over self.new window.new learned) text out }
+        ensures fits { RowFits header.now.xd self.new (held window.new) }
         ensures stage { self.new.stage ≡ stage.Row }
-        ensures place { KeepsPlace self.old self.new }
+        ensures place { (rows rows' : Held) (learned learned' : List Estimate) →
+            KeepsPlace (walk_view self.old rows learned) (walk_view self.new rows' learned') }
+        ensures same_memory { memory_of window.new ≡ memory_of window.old }
+        ensures same_width { width_of window.new ≡ width_of window.old }
         ensures same { (self.new.row ≡ self.old.row) × (self.new.first ≡ self.old.first) ×
             (self.new.marker ≡ self.old.marker) }
     {
         // The proof reads from this value that a row has pixels.
         let _width = header.xd;
-        self.carried.kept.offset = offset_in(self.at, self.row, self.carried.kept.offset);
-        self.carried.window.turn();
+        self.kept.offset = offset_in(self.at, self.row, self.kept.offset);
+        window.turn();
         self.place = RowPlace::start();
         self.stage = Stage::Row;
     }
@@ -331,23 +340,33 @@ impl Walk<'_, '_> {
         &mut self,
         header: &Header,
         height: u32,
+        window: &mut Window<'_>,
+        learned: &mut Learned,
         piece: &mut Piece<'_>,
     ) -> Result<(), Fault>
         requires from { 1 ≤ height }
         requires to { height ≤ header.now.yd }
         requires stage { self.old.stage ≡ stage.Row }
-        requires fits { RowFits header.now.xd self.old }
-        ensures step { RowStep (fields_of header.now) height self.old self.new piece.old.rest.now
-            piece.new.rest.now result }
-        ensures leaves { SomeStands (fields_of header.now) height self.old →
-            RowLeaves self.old self.new piece.old.rest.now piece.new.rest.now result }
+        requires fits { RowFits header.now.xd self.old (held window.old) }
+        ensures step { RowStep (fields_of header.now) height
+            (walk_over self.old window.old learned.old) (walk_over self.new window.new learned.new)
+            piece.old.rest.now piece.new.rest.now result }
+        ensures leaves { SomeStands (fields_of header.now) height
+            (walk_over self.old window.old learned.old) →
+            RowLeaves (walk_over self.old window.old learned.old)
+            (walk_over self.new window.new learned.new) piece.old.rest.now piece.new.rest.now
+            result }
+        ensures same_memory { memory_of window.new ≡ memory_of window.old }
+        ensures same_width { width_of window.new ≡ width_of window.old }
     {
         // What the proof cites of the coder.
         coder_laws();
         self.decoder.resume();
         go_on_in_row(
             header.shape(),
-            &mut self.carried,
+            window,
+            &mut self.kept,
+            learned,
             &mut self.decoder,
             &mut self.place,
             &mut self.first,
@@ -360,19 +379,32 @@ impl Walk<'_, '_> {
     }
 
     /// Decodes the next row of a stripe.
-    fn read_row(&mut self, header: &Header, height: u32, piece: &mut Piece<'_>) -> Result<(), Fault>
+    fn read_row(
+        &mut self,
+        header: &Header,
+        height: u32,
+        window: &mut Window<'_>,
+        learned: &mut Learned,
+        piece: &mut Piece<'_>,
+    ) -> Result<(), Fault>
         requires from { 1 ≤ height }
         requires to { height ≤ header.now.yd }
         requires stage { self.old.stage ≡ stage.Code }
         requires row { self.old.row < min self.old.left header.now.l0 }
-        requires fits { RowFits header.now.xd self.old }
-        ensures step { RowStep (fields_of header.now) height self.old self.new piece.old.rest.now
-            piece.new.rest.now result }
-        ensures leaves { SomeStands (fields_of header.now) height self.old →
-            RowLeaves self.old self.new piece.old.rest.now piece.new.rest.now result }
+        requires fits { RowFits header.now.xd self.old (held window.old) }
+        ensures step { RowStep (fields_of header.now) height
+            (walk_over self.old window.old learned.old) (walk_over self.new window.new learned.new)
+            piece.old.rest.now piece.new.rest.now result }
+        ensures leaves { SomeStands (fields_of header.now) height
+            (walk_over self.old window.old learned.old) →
+            RowLeaves (walk_over self.old window.old learned.old)
+            (walk_over self.new window.new learned.new) piece.old.rest.now piece.new.rest.now
+            result }
+        ensures same_memory { memory_of window.new ≡ memory_of window.old }
+        ensures same_width { width_of window.new ≡ width_of window.old }
     {
-        self.enter_row(header, height);
-        self.finish_row(header, height, piece)
+        self.enter_row(header, height, window);
+        self.finish_row(header, height, window, learned, piece)
     }
 
     /// Goes on to the end of the next row, where one is wanted. Numbers that no decoder leaves are answered by the end of
@@ -381,34 +413,42 @@ impl Walk<'_, '_> {
         &mut self,
         header: &Header,
         height: u32,
+        window: &mut Window<'_>,
+        learned: &mut Learned,
         piece: &mut Piece<'_>,
     ) -> Result<(), Fault>
         requires from { 1 ≤ height }
         requires to { height ≤ header.now.yd }
         requires wants { RowIsLeft header.now.l0 self.old }
-        ensures step { RowStep (fields_of header.now) height self.old self.new piece.old.rest.now
-            piece.new.rest.now result }
-        ensures leaves { SomeStands (fields_of header.now) height self.old →
-            RowLeaves self.old self.new piece.old.rest.now piece.new.rest.now result }
+        ensures step { RowStep (fields_of header.now) height
+            (walk_over self.old window.old learned.old) (walk_over self.new window.new learned.new)
+            piece.old.rest.now piece.new.rest.now result }
+        ensures leaves { SomeStands (fields_of header.now) height
+            (walk_over self.old window.old learned.old) →
+            RowLeaves (walk_over self.old window.old learned.old)
+            (walk_over self.new window.new learned.new) piece.old.rest.now piece.new.rest.now
+            result }
+        ensures same_memory { memory_of window.new ≡ memory_of window.old }
+        ensures same_width { width_of window.new ≡ width_of window.old }
     {
-        if !self.has_row_that_fits(header) {
+        if !self.has_row_that_fits(header, window) {
             return Err(Fault::Truncated);
         }
         match self.stage {
-            Stage::Row => self.finish_row(header, height, piece),
-            _ => self.read_row(header, height, piece),
+            Stage::Row => self.finish_row(header, height, window, learned, piece),
+            _ => self.read_row(header, height, window, learned, piece),
         }
     }
 
     /// Whether the numbers of the walk are such that a row of this image can be decoded.
-    fn has_row_that_fits(&self, header: &Header) -> bool
-        ensures yes { result ≡ true → RowFits header.now.xd self.now }
-        ensures no { result ≡ false → RowFits header.now.xd self.now → ⊥ }
+    fn has_row_that_fits(&self, header: &Header, window: &Window<'_>) -> bool
+        ensures yes { result ≡ true → RowFits header.now.xd self.now (held window.now) }
+        ensures no { result ≡ false → RowFits header.now.xd self.now (held window.now) → ⊥ }
     {
-        if self.carried.window.width() != header.xd {
+        if window.width() != header.xd {
             return false;
         }
-        if self.place.done() >= header.xd || self.carried.kept.offset > MOST_OFFSET {
+        if self.place.done() >= header.xd || self.kept.offset > MOST_OFFSET {
             return false;
         }
         if !self.has_low_move() {
@@ -459,9 +499,9 @@ impl Walk<'_, '_> {
 
     /// Whether the end marker of the code was read.
     pub fn has_marker(&self) -> bool
-        ensures yes { result ≡ true → HasMarker self.now }
+        ensures yes { result ≡ true → MarkerRead self.now.marker self.now.first }
         ensures no { result ≡ false → self.now.marker ≡ None }
-        ensures unmarked { result ≡ false → HasMarker self.now → ⊥ }
+        ensures unmarked { result ≡ false → MarkerRead self.now.marker self.now.first → ⊥ }
     {
         self.marker.is_some() || matches!(self.first, Some(Code::Marker(_)))
     }
@@ -478,13 +518,15 @@ impl Walk<'_, '_> {
         requires stage { self.old.stage ≡ stage.Code }
         requires row { min self.old.left header.now.l0 ≤ self.old.row }
         requires unmarked { self.old.marker ≡ None }
-        ensures step { Step (fields_of header.now) height self.old self.new piece.old.rest.now
-            piece.new.rest.now result }
-        ensures place { KeepsPlace self.old self.new }
+        ensures step { StepAlone (fields_of header.now) height self.old self.new
+            piece.old.rest.now piece.new.rest.now result }
+        ensures place { (rows rows' : Held) (learned learned' : List Estimate) →
+            KeepsPlace (walk_view self.old rows learned) (walk_view self.new rows' learned') }
         ensures stage { self.new.stage ≡ stage.Code }
-        ensures marked { OnOk result (HasMarker self.new) }
+        ensures marked { OnOk result (MarkerRead self.new.marker self.new.first) }
         ensures no_more { length piece.new.rest.now ≤ length piece.old.rest.now }
-        ensures other { SomeStands (fields_of header.now) height self.old →
+        ensures other { (rows : Held) (learned : List Estimate) →
+            SomeStands (fields_of header.now) height (walk_view self.old rows learned) →
             IfErr result (λ f. f ≢ Changed) }
     {
         // What the proof cites of the coder.
@@ -499,29 +541,36 @@ impl Walk<'_, '_> {
         &mut self,
         header: &Header,
         height: u32,
+        window: &mut Window<'_>,
+        learned: &mut Learned,
         piece: &mut Piece<'_>,
     ) -> Result<(), Fault>
         requires from { 1 ≤ height }
         requires to { height ≤ header.now.yd }
         requires stage { self.old.stage ≡ stage.Code }
         requires row { min self.old.left header.now.l0 ≤ self.old.row }
-        ensures step { Step (fields_of header.now) height self.old self.new piece.old.rest.now
-            piece.new.rest.now result }
+        ensures step { Step (fields_of header.now) height
+            (walk_over self.old window.old learned.old) (walk_over self.new window.new learned.new)
+            piece.old.rest.now piece.new.rest.now result }
         ensures stage { OnOk result ((self.new.stage ≡ stage.Done)
             ⊎ (self.new.stage ≡ stage.Head)) }
-        ensures marked { HasMarker self.old → IsOk result }
-        ensures read { OnOk result (StripesOn (fields_of header.now) height self.old self.new
+        ensures marked { MarkerRead self.old.marker self.old.first → IsOk result }
+        ensures read { OnOk result (StripesOn (fields_of header.now) height
+            (walk_over self.old window.old learned.old) (walk_over self.new window.new learned.new)
             piece.old.rest.now piece.new.rest.now) }
         ensures left { OnOk result (header.now.l0 < self.old.left → self.new.stage ≡ stage.Head) }
         ensures next { OnOk result ((self.new.left ≡ self.old.left - header.now.l0)
             × (self.new.given ≡ self.old.given) × (self.new.at ≡ None)) }
-        ensures entities { SomeStands (fields_of header.now) height self.old →
+        ensures entities { SomeStands (fields_of header.now) height
+            (walk_over self.old window.old learned.old) →
             OnOk result (self.new.entities ≡ self.old.entities + 1) }
+        ensures same_memory { memory_of window.new ≡ memory_of window.old }
+        ensures same_width { width_of window.new ≡ width_of window.old }
     {
         // What the proof cites of the coder.
         coder_laws();
         let reset = find_marker(&mut self.first, self.marker, piece)?;
-        self.carried.end_stripe(reset);
+        next_stripe(reset, window, &mut self.kept, learned);
         self.entities = self.entities.saturating_add(1);
         self.left -= self.left.min(header.l0);
         self.at = None;
@@ -536,19 +585,24 @@ impl Walk<'_, '_> {
     }
 }
 
-impl Walk<'_, '_> {
+impl Walk {
     /// Reads the head of a stripe, and decodes its first row, if there is one.
     fn begin_stripe(
         &mut self,
         header: &Header,
         height: u32,
+        window: &mut Window<'_>,
+        learned: &mut Learned,
         piece: &mut Piece<'_>,
     ) -> Result<bool, Fault>
         requires from { 1 ≤ height }
         requires to { height ≤ header.now.yd }
         requires stage { (self.old.stage ≡ stage.Head) ⊎ (self.old.stage ≡ stage.Comment) }
-        ensures step { Turn (fields_of header.now) height self.old self.new piece.old.rest.now
-            piece.new.rest.now result }
+        ensures step { Turn (fields_of header.now) height
+            (walk_over self.old window.old learned.old) (walk_over self.new window.new learned.new)
+            piece.old.rest.now piece.new.rest.now result }
+        ensures same_memory { memory_of window.new ≡ memory_of window.old }
+        ensures same_width { width_of window.new ≡ width_of window.old }
     {
         // The proof reads from this value that a stripe has rows.
         let _rows = header.l0;
@@ -557,26 +611,36 @@ impl Walk<'_, '_> {
             if !self.wants_row(header) {
                 return Err(Fault::Truncated);
             }
-            self.give_row(header, height, piece)?;
+            self.give_row(header, height, window, learned, piece)?;
             return Ok(true);
         }
         Ok(false)
     }
 
     /// Goes on after the last row of a stripe. Answers whether a row was decoded.
-    fn go_on(&mut self, header: &Header, height: u32, piece: &mut Piece<'_>) -> Result<bool, Fault>
+    fn go_on(
+        &mut self,
+        header: &Header,
+        height: u32,
+        window: &mut Window<'_>,
+        learned: &mut Learned,
+        piece: &mut Piece<'_>,
+    ) -> Result<bool, Fault>
         requires from { 1 ≤ height }
         requires to { height ≤ header.now.yd }
         requires stage { self.old.stage ≡ stage.Code }
         requires row { min self.old.left header.now.l0 ≤ self.old.row }
-        ensures step { Turn (fields_of header.now) height self.old self.new piece.old.rest.now
-            piece.new.rest.now result }
+        ensures step { Turn (fields_of header.now) height
+            (walk_over self.old window.old learned.old) (walk_over self.new window.new learned.new)
+            piece.old.rest.now piece.new.rest.now result }
+        ensures same_memory { memory_of window.new ≡ memory_of window.old }
+        ensures same_width { width_of window.new ≡ width_of window.old }
     {
-        self.finish_stripe(header, height, piece)?;
+        self.finish_stripe(header, height, window, learned, piece)?;
         if let Stage::Done = self.stage {
             return Ok(false);
         }
-        self.begin_stripe(header, height, piece)
+        self.begin_stripe(header, height, window, learned, piece)
     }
 
     /// Decodes the next row, and answers whether there is one.
@@ -584,21 +648,28 @@ impl Walk<'_, '_> {
         &mut self,
         header: &Header,
         height: u32,
+        window: &mut Window<'_>,
+        learned: &mut Learned,
         piece: &mut Piece<'_>,
     ) -> Result<bool, Fault>
         requires from { 1 ≤ height }
         requires to { height ≤ header.now.yd }
-        ensures step { Turn (fields_of header.now) height self.old self.new piece.old.rest.now
-            piece.new.rest.now result }
+        ensures step { Turn (fields_of header.now) height
+            (walk_over self.old window.old learned.old) (walk_over self.new window.new learned.new)
+            piece.old.rest.now piece.new.rest.now result }
+        ensures same_memory { memory_of window.new ≡ memory_of window.old }
+        ensures same_width { width_of window.new ≡ width_of window.old }
     {
         match self.stage {
-            Stage::Head | Stage::Comment => self.begin_stripe(header, height, piece),
+            Stage::Head | Stage::Comment => self.begin_stripe(
+                header, height, window, learned, piece,
+            ),
             Stage::Code | Stage::Row => {
                 if self.wants_row(header) {
-                    self.give_row(header, height, piece)?;
+                    self.give_row(header, height, window, learned, piece)?;
                     Ok(true)
                 } else {
-                    self.go_on(header, height, piece)
+                    self.go_on(header, height, window, learned, piece)
                 }
             }
             Stage::Done => Ok(false),

@@ -1,4 +1,5 @@
 use Rattle.std.proofs.Common.{◌≡◌, ◌-◌, ◌*◌, ◌∙◌, min, refl, arith}
+use Rattle.t85_core.specs.Lent.{carried_of}
 use Rattle.t85_core.specs.Options.{fields_of}
 use Rattle.t85_core.proofs.Bytes.Ends.{exit}
 use Rattle.t85_core.proofs.Decodings.ImagePut.{in_use, stripes_next, image_cut, image_unset, image_read, stripes_start}
@@ -10,7 +11,7 @@ returns-in_err-decode_stripe-clause-err g c =
     let header = c.args.header.now in
     let rows_are : c.min-rows.result ≡ min (c.args.height - c.stripes.entities * header.l0) header.l0 = omega (arith, c.min-rows.ensures, c.stripes.invariant.left) in
     exit _ _ c.from_residual.ensures.1 (λ written.
-    image_cut (fields_of header) c.args.height _ _ _ c.stripes.entities _ c.min-rows.result c.stripes.carried c.decode_stripe.new.carried _ _ _ c.stripes.invariant.read rows_are c.coder_laws.ensures (in_use header c.args.height c.requires.from c.requires.to) (rw c.div_ceil-entities-end.ensures at c.stripes-test.true) _
+    image_cut (fields_of header) c.args.height _ _ _ c.stripes.entities _ c.min-rows.result (carried_of c.stripes.carried) (carried_of c.decode_stripe.new.carried) _ _ _ c.stripes.invariant.read rows_are c.coder_laws.ensures (in_use header c.args.height c.requires.from c.requires.to) (rw c.div_ceil-entities-end.ensures at c.stripes-test.true) _
     (c.in_err-decode_stripe.ensures.outcome.err written _ c.stripes.invariant.read.is_carried))
 
 pub returns-in_err-decode_stripe-clause-unwritten : goal.returns-in_err-decode_stripe-clause-unwritten
@@ -18,7 +19,7 @@ returns-in_err-decode_stripe-clause-unwritten g c =
     let header = c.args.header.now in
     let rows_are : c.min-rows.result ≡ min (c.args.height - c.stripes.entities * header.l0) header.l0 = omega (arith, c.min-rows.ensures, c.stripes.invariant.left) in
     exit (λ _. ImageUnwritten _ _ _ _ _ _) _ c.from_residual.ensures.1
-    (image_unset (fields_of header) c.args.height _ _ _ c.stripes.entities _ c.min-rows.result c.stripes.carried c.decode_stripe.new.carried _ _ _ c.stripes.invariant.read rows_are c.coder_laws.ensures (in_use header c.args.height c.requires.from c.requires.to) (rw c.div_ceil-entities-end.ensures at c.stripes-test.true)
+    (image_unset (fields_of header) c.args.height _ _ _ c.stripes.entities _ c.min-rows.result (carried_of c.stripes.carried) (carried_of c.decode_stripe.new.carried) _ _ _ c.stripes.invariant.read rows_are c.coder_laws.ensures (in_use header c.args.height c.requires.from c.requires.to) (rw c.div_ceil-entities-end.ensures at c.stripes-test.true)
     (c.in_err-decode_stripe.ensures.outcome.unwritten _ c.stripes.invariant.read.is_carried))
 
 pub stripes-preserved : goal.stripes-preserved
@@ -26,7 +27,7 @@ stripes-preserved g c =
     let header = c.args.header.now in
     let rows_are : c.min-rows.result ≡ min (c.args.height - c.stripes.entities * header.l0) header.l0 = omega (arith, c.min-rows.ensures, c.stripes.invariant.left) in
     record {
-      read = stripes_next (fields_of header) c.args.height _ _ _ c.stripes.entities _ c.min-rows.result c.stripes.carried c.decode_stripe.new.carried _ _ _ c.stripes.invariant.read rows_are _ (c.in_ok-decode_stripe.ensures.outcome.ok _ c.stripes.invariant.read.is_carried);
+      read = stripes_next (fields_of header) c.args.height _ _ _ c.stripes.entities _ c.min-rows.result (carried_of c.stripes.carried) (carried_of c.decode_stripe.new.carried) _ _ _ c.stripes.invariant.read rows_are _ (c.in_ok-decode_stripe.ensures.outcome.ok _ c.stripes.invariant.read.is_carried);
       left = omega (arith, rows_are, c.stripes.invariant.left);
       width = c.in_ok-decode_stripe.ensures.width ∙ c.stripes.invariant.width;
       offset = c.in_ok-decode_stripe.ensures.offset;

@@ -1,5 +1,6 @@
 use Rattle.std.proofs.Common.{rules, cond, refl, ◌∙◌, sym, ap, subst, arith}
 use Rattle.std.specs.Io.KnownBytes.{prepend_known}
+use Rattle.t85_core.specs.Lent.{carried_of}
 use Rattle.t85_core.specs.Steps.Segments.{spot_at, code_bytes}
 use Rattle.t85_core.specs.Steps.Entity.{entity_known}
 use Rattle.t85_core.specs.Options.{fields_of}
@@ -31,9 +32,9 @@ returns-clause-outcome g c = record {
       let entity = c.new-entity.ensures in
       let begun = ap (λ x. entity_known x (g.S.ByteSource.view c.new-entity.result.stream.now).known) entity.first ∙ ap (λ m. prepend_known (code_bytes c.in_ok-head.head.code) (g.S.ByteSource.view m.now).known) entity.lent in
       on_ok c.decode_code.result (λ none read c' is.
-      subst (λ k. StripeRead (fields_of c.args.header.now) (spot_at c.args.place) (cond c.in_ok-head.head.given 1 0) c' (g.S.ByteSource.view c.args.stream.now).known k c.args.rows c.decode_code.new.carried (g.P.ByteTarget.view c.args.target.now).text (g.P.ByteTarget.view c.decode_code.new.target).text)
+      subst (λ k. StripeRead (fields_of c.args.header.now) (spot_at c.args.place) (cond c.in_ok-head.head.given 1 0) c' (g.S.ByteSource.view c.args.stream.now).known k c.args.rows (carried_of c.decode_code.new.carried) (g.P.ByteTarget.view c.args.target.now).text (g.P.ByteTarget.view c.decode_code.new.target).text)
       (ap (λ x. entity_known x (g.S.ByteSource.view c.decode_code.new.entity.stream.now).known) none ∙ known)
-      (read _ _ _ c' _ _ (head_begins c.in_ok-head.ensures.ok c' c.shape.result c.args.carried.now _ (record { width_is = c.shape.ensures.width; mode_is = c.shape.ensures.mode }) is begun entity.first entity.marker entity.fault)))
+      (read _ _ _ c' _ _ (head_begins c.in_ok-head.ensures.ok c' c.shape.result (carried_of c.args.carried.now) _ (record { width_is = c.shape.ensures.width; mode_is = c.shape.ensures.mode }) is begun entity.first entity.marker entity.fault)))
       c.decode_code.ensures.outcome.behind c.decode_code.ensures.outcome.ok);
   err = (let known = ap (λ d. (g.S.ByteSource.view d).known) (search rules) in
       let entity = c.new-entity.ensures in
@@ -41,7 +42,7 @@ returns-clause-outcome g c = record {
       if_err c.decode_code.result (λ f none cut written c' is.
       subst (λ k. StripeCut (fields_of c.args.header.now) (spot_at c.args.place) c' (g.S.ByteSource.view c.args.stream.now).known k c.args.rows (g.P.ByteTarget.view c.args.target.now).text (g.P.ByteTarget.view c.decode_code.new.target).text f)
       (ap (λ x. entity_known x (g.S.ByteSource.view c.decode_code.new.entity.stream.now).known) (none written) ∙ known)
-      (cut written _ _ _ c' _ _ (head_begins c.in_ok-head.ensures.ok c' c.shape.result c.args.carried.now _ (record { width_is = c.shape.ensures.width; mode_is = c.shape.ensures.mode }) is begun entity.first entity.marker entity.fault)))
+      (cut written _ _ _ c' _ _ (head_begins c.in_ok-head.ensures.ok c' c.shape.result (carried_of c.args.carried.now) _ (record { width_is = c.shape.ensures.width; mode_is = c.shape.ensures.mode }) is begun entity.first entity.marker entity.fault)))
       c.decode_code.ensures.outcome.cut_behind c.decode_code.ensures.outcome.err);
   unwritten = (let known = ap (λ d. (g.S.ByteSource.view d).known) (search rules) in
       let entity = c.new-entity.ensures in
@@ -49,7 +50,7 @@ returns-clause-outcome g c = record {
       if_err c.decode_code.result (λ f none cut c' is.
       subst (λ k. StripeUnwritten (fields_of c.args.header.now) (spot_at c.args.place) c' (g.S.ByteSource.view c.args.stream.now).known k c.args.rows (g.P.ByteTarget.view c.args.target.now).text (g.P.ByteTarget.view c.decode_code.new.target).text)
       known
-      (cut _ _ _ c' _ _ (head_begins c.in_ok-head.ensures.ok c' c.shape.result c.args.carried.now _ (record { width_is = c.shape.ensures.width; mode_is = c.shape.ensures.mode }) is begun entity.first entity.marker entity.fault)))
+      (cut _ _ _ c' _ _ (head_begins c.in_ok-head.ensures.ok c' c.shape.result (carried_of c.args.carried.now) _ (record { width_is = c.shape.ensures.width; mode_is = c.shape.ensures.mode }) is begun entity.first entity.marker entity.fault)))
       c.decode_code.ensures.outcome.cut_behind c.decode_code.ensures.outcome.unwritten);
 }
 
@@ -70,5 +71,5 @@ decode_code-requires-clause-begun g c =
       c = c.requires.carried.0;
       segments = _;
       known = _;
-      begins = head_begins c.in_ok-head.ensures.ok c.requires.carried.0 c.shape.result c.args.carried.now _ (record { width_is = c.shape.ensures.width; mode_is = c.shape.ensures.mode }) c.requires.carried.1 begun entity.first entity.marker entity.fault;
+      begins = head_begins c.in_ok-head.ensures.ok c.requires.carried.0 c.shape.result (carried_of c.args.carried.now) _ (record { width_is = c.shape.ensures.width; mode_is = c.shape.ensures.mode }) c.requires.carried.1 begun entity.first entity.marker entity.fault;
     }

@@ -1,21 +1,12 @@
+use Rattle.std.proofs.Common.{Bool, subst, sym}
+use Rattle.t85_core.specs.Lent.{PieceView, decoder_over}
+use Rattle.t85_core.specs.Pieces.{IsCall, call_of}
 use Rattle.uses.proofs.pieces.next_row.Goals as goal
 
-pub returns-then-is_all-clause-waits : goal.returns-then-is_all-clause-waits
-returns-then-is_all-clause-waits c = λ is late marked text out rest height s follows i. c.next_of_last.ensures.waits is late marked text out rest height s (λ _. follows c.if-is_all.true) i
+pub returns-then-is_all-clause-call : goal.returns-then-is_all-clause-call
+returns-then-is_all-clause-call c =
+    subst (λ b. IsCall (decoder_over c.args.decoder.now c.args.window.now c.args.learned.now) (call_of c.args.piece.now b c.next_of_last.result (decoder_over c.next_of_last.new.self c.next_of_last.new.window c.next_of_last.new.learned))) (sym c.if-is_all.true) c.next_of_last.ensures.call
 
-pub returns-else-is_all-clause-waits : goal.returns-else-is_all-clause-waits
-returns-else-is_all-clause-waits c = λ is late marked text out rest height s _ i. c.next_row.ensures.waits is late marked text out rest height s (λ e. cc) i
-
-pub returns-then-is_all-clause-done : goal.returns-then-is_all-clause-done
-returns-then-is_all-clause-done c = λ height is.
-    let k = c.next_of_last.ensures.done height is in (k.0, (λ text out rest s follows. k.1 text out rest s (λ _. follows c.if-is_all.true)))
-
-pub returns-then-is_all-clause-broken : goal.returns-then-is_all-clause-broken
-returns-then-is_all-clause-broken c = λ fault is text out rest s follows. c.next_of_last.ensures.broken fault is text out rest s (λ _. follows c.if-is_all.true)
-
-pub returns-else-is_all-clause-done : goal.returns-else-is_all-clause-done
-returns-else-is_all-clause-done c = λ height is.
-    let k = c.next_row.ensures.done height is in (k.0, (λ text out rest s _. k.1 text out rest s (λ e. cc)))
-
-pub returns-else-is_all-clause-broken : goal.returns-else-is_all-clause-broken
-returns-else-is_all-clause-broken c = λ fault is text out rest s _. c.next_row.ensures.broken fault is text out rest s (λ e. cc)
+pub returns-else-is_all-clause-call : goal.returns-else-is_all-clause-call
+returns-else-is_all-clause-call c =
+    subst (λ b. IsCall (decoder_over c.args.decoder.now c.args.window.now c.args.learned.now) (call_of c.args.piece.now b c.next_row.result (decoder_over c.next_row.new.self c.next_row.new.window c.next_row.new.learned))) (sym c.if-is_all.false) c.next_row.ensures.call

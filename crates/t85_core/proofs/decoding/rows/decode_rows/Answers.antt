@@ -1,5 +1,6 @@
 use Rattle.std.proofs.Common.{◌≡◌, ◌∙◌, refl, arith}
 use Rattle.qm_core.specs.Source.{Pulls}
+use Rattle.t85_core.specs.Lent.{carried_of}
 use Rattle.t85_core.proofs.Bytes.Ends.{exit_same}
 use Rattle.t85_core.proofs.Decodings.RowPut.{rows_begin}
 use Rattle.t85_core.proofs.decoding.rows.decode_rows.Goals as goal
@@ -7,7 +8,7 @@ use Rattle.t85_core.proofs.decoding.rows.decode_rows.Goals as goal
 pub rows-init : goal.rows-init
 rows-init g c = record {
   within = omega arith;
-  read = λ h c' segments _ shape_is is. rows_begin (Pulls g.C.CodeBytes.gives g.C.CodeBytes.failed) c.args.source.now h c.args.shape c' segments c.args.carried.now c.start-decoder.result (g.P.ByteTarget.view c.args.target.now).text c.start-decoder.ensures.stands shape_is is;
+  read = λ h c' segments _ shape_is is. rows_begin (Pulls g.C.CodeBytes.gives g.C.CodeBytes.failed) c.args.source.now h c.args.shape c' segments (carried_of c.args.carried.now) c.start-decoder.result (g.P.ByteTarget.view c.args.target.now).text c.start-decoder.ensures.stands shape_is is;
   width = refl;
   offset = c.requires.offset;
   counted = refl;

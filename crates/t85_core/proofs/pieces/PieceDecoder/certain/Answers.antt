@@ -5,10 +5,10 @@ use Rattle.t85_core.proofs.pieces.PieceDecoder.certain.Goals as goal
 use Rattle.t85_core.proofs.pieces.PieceDecoder.certain.Goals.{then-not-self-via-then-not-self, then-not-self-via-else-not-self+then-is_some}
 
 pub returns-then-not-self-clause-certain : goal.returns-then-not-self-clause-certain
-returns-then-not-self-clause-certain c = λ text out s. elim c.then-not-self.branch [
+returns-then-not-self-clause-certain c = λ rows learned text out s. elim c.then-not-self.branch [
   | then-not-self-via-then-not-self w ↦ least_known _ text out s.stands w.if-not-self.true
   | then-not-self-via-else-not-self+then-is_some w ↦ absurd (true≢false (w.if-is_some.ensures ∙ ap is_some s.going))
 ]
 
 pub returns-clause-certain : goal.returns-clause-certain
-returns-clause-certain c = λ text out s. least_late _ text out s.stands c.if-not-self.false _ (c.saturating_add.ensures ∙ ap (λ (n : ℕ). min (n + 1) (2 ^ 32 - 1)) c.saturating_sub.ensures)
+returns-clause-certain c = λ rows learned text out s. least_late _ text out s.stands c.if-not-self.false _ (c.saturating_add.ensures ∙ ap (λ (n : ℕ). min (n + 1) (2 ^ 32 - 1)) c.saturating_sub.ensures)

@@ -1,16 +1,17 @@
 use Rattle.std.proofs.Common.{refl}
+use Rattle.t85_core.specs.Lent.{decoder_over}
 use Rattle.t85_core.proofs.Decodings.PieceStood.{stripe_ended, no_row_left}
 use Rattle.t85_core.proofs.pieces.PieceDecoder.end_stripe.Goals as goal
 
-pub returns : goal.returns
-returns c = record {
-  keeps = record { header = refl; height = refl; is_open = refl; waits = refl; behind = refl; going = refl };
-  ends = λ code some. stripe_ended c.args.self.now _ c.requires.late c.requires.waits some code (record { header = refl; height = refl; is_open = refl; waits = refl; behind = refl; going = refl }) c.finish_stripe.new.piece.rest.now c.finish_stripe.result c.finish_stripe.ensures.step c.finish_stripe.ensures.marked c.finish_stripe.ensures.read
-      c.finish_stripe.ensures.left c.finish_stripe.ensures.next c.finish_stripe.ensures.entities;
-}
+pub returns-clause-keeps : goal.returns-clause-keeps
+returns-clause-keeps c = record { header = refl; height = refl; is_open = refl; waits = refl; behind = refl; going = refl }
 
-pub returns-in_default : goal.returns-in_default
-returns-in_default c = record {
-  keeps = record { header = refl; height = refl; is_open = refl; waits = refl; behind = refl; going = refl };
-  ends = λ code some. absurd (no_row_left c.args.self.now c.requires.late c.requires.waits c.requires.all code c.in_default.not-Code some);
-}
+pub returns-clause-ends : goal.returns-clause-ends
+returns-clause-ends c = λ code some. stripe_ended (decoder_over c.args.self.now c.args.window.now c.args.learned.now) _ c.requires.late c.requires.waits some code (record { header = refl; height = refl; is_open = refl; waits = refl; behind = refl; going = refl }) c.finish_stripe.new.piece.rest.now c.finish_stripe.result c.finish_stripe.ensures.step c.finish_stripe.ensures.marked c.finish_stripe.ensures.read
+    c.finish_stripe.ensures.left c.finish_stripe.ensures.next c.finish_stripe.ensures.entities
+
+pub returns-in_default-clause-keeps : goal.returns-in_default-clause-keeps
+returns-in_default-clause-keeps c = record { header = refl; height = refl; is_open = refl; waits = refl; behind = refl; going = refl }
+
+pub returns-in_default-clause-ends : goal.returns-in_default-clause-ends
+returns-in_default-clause-ends c = λ code some. absurd (no_row_left (decoder_over c.args.self.now c.args.window.now c.args.learned.now) c.requires.late c.requires.waits c.requires.all code c.in_default.not-Code some)

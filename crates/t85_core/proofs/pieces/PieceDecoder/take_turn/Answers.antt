@@ -1,23 +1,20 @@
 use Rattle.std.proofs.Common.{[], Ok, Err, ap, refl, sym, ◌∙◌, true≢false}
+use Rattle.t85_core.specs.Lent.{decoder_over, walk_over}
 use Rattle.t85_core.proofs.Decodings.PieceSteps.{over_done}
 use Rattle.t85_core.proofs.Decodings.PieceStood.{leaves_row, leaves_done, leaves_stop, turn_on, turn_whole, turn_broken}
 use Rattle.t85_core.proofs.pieces.PieceDecoder.take_turn.Goals as goal
 
-pub returns-in-Ok-true : goal.returns-in-Ok-true
-returns-in-Ok-true c = record {
-  leaves = leaves_row c.args.is_all c.args.self.now _ c.args.piece.now.rest.now c.next.new.piece.rest.now refl refl (turn_on c.args.self.now c.requires.known _ c.args.piece.now.rest.now c.next.new.piece.rest.now _ (record { header = refl; height = refl; is_open = refl; waits = refl; behind = refl; going = refl }) (c.in-Ok-true.ensures.step.row (ap Ok c.in-Ok-true.field-0-test))) (λ late. absurd (true≢false (sym late ∙ c.requires.known)));
-}
+pub returns-in-Ok-true-clause-leaves : goal.returns-in-Ok-true-clause-leaves
+returns-in-Ok-true-clause-leaves c =
+    leaves_row c.args.is_all (decoder_over c.args.self.now c.args.window.now c.args.learned.now) _ c.args.piece.now.rest.now c.next.new.piece.rest.now refl refl (turn_on (decoder_over c.args.self.now c.args.window.now c.args.learned.now) c.requires.known _ c.args.piece.now.rest.now c.next.new.piece.rest.now _ (record { header = refl; height = refl; is_open = refl; waits = refl; behind = refl; going = refl }) (c.in-Ok-true.ensures.step.row (ap Ok c.in-Ok-true.field-0-test))) (λ late. absurd (true≢false (sym late ∙ c.requires.known)))
 
-pub returns-in-Ok-false : goal.returns-in-Ok-false
-returns-in-Ok-false c =
+pub returns-in-Ok-false-clause-leaves : goal.returns-in-Ok-false-clause-leaves
+returns-in-Ok-false-clause-leaves c =
     let k = c.in-Ok-false.ensures.step.done (ap Ok c.in-Ok-false.field-0-test) in
-    record {
-      leaves = leaves_done c.args.is_all c.args.self.now _ c.args.piece.now.rest.now c.next.new.piece.rest.now c.args.self.now.height refl refl refl (turn_whole c.args.self.now c.requires.known c.next.new.self c.args.piece.now.rest.now c.next.new.piece.rest.now k.0 (over_done _ k.1) c.args.is_all);
-    }
+    leaves_done c.args.is_all (decoder_over c.args.self.now c.args.window.now c.args.learned.now) _ c.args.piece.now.rest.now c.next.new.piece.rest.now c.args.self.now.height refl refl refl (turn_whole (decoder_over c.args.self.now c.args.window.now c.args.learned.now) c.requires.known (walk_over c.next.new.self c.next.new.window c.next.new.learned) c.args.piece.now.rest.now c.next.new.piece.rest.now k.0 (over_done _ k.1) c.args.is_all)
 
-pub returns-in-Err : goal.returns-in-Err
-returns-in-Err c = record {
-  leaves = leaves_stop c.args.is_all c.args.self.now _ c.args.piece.now.rest.now c.next.new.piece.rest.now c.in-Err.fault c.outcome_of.result
-      (record { more = c.outcome_of.ensures.more; broken = c.outcome_of.ensures.broken; row = c.outcome_of.ensures.row; done = c.outcome_of.ensures.done }) refl refl
-      (λ e. turn_on c.args.self.now c.requires.known _ c.args.piece.now.rest.now c.next.new.piece.rest.now [] (record { header = refl; height = refl; is_open = refl; waits = refl; behind = refl; going = refl }) (c.in-Err.ensures.step.more (ap Err e))) (turn_broken c.args.self.now c.requires.known c.args.piece.now.rest.now c.in-Err.fault c.in-Err.ensures.step.err);
-}
+pub returns-in-Err-clause-leaves : goal.returns-in-Err-clause-leaves
+returns-in-Err-clause-leaves c =
+    leaves_stop c.args.is_all (decoder_over c.args.self.now c.args.window.now c.args.learned.now) _ c.args.piece.now.rest.now c.next.new.piece.rest.now c.in-Err.fault c.outcome_of.result
+    (record { more = c.outcome_of.ensures.more; broken = c.outcome_of.ensures.broken; row = c.outcome_of.ensures.row; done = c.outcome_of.ensures.done }) refl refl
+    (λ e. turn_on (decoder_over c.args.self.now c.args.window.now c.args.learned.now) c.requires.known _ c.args.piece.now.rest.now c.next.new.piece.rest.now [] (record { header = refl; height = refl; is_open = refl; waits = refl; behind = refl; going = refl }) (c.in-Err.ensures.step.more (ap Err e))) (turn_broken (decoder_over c.args.self.now c.args.window.now c.args.learned.now) c.requires.known c.args.piece.now.rest.now c.in-Err.fault c.in-Err.ensures.step.err)

@@ -1,6 +1,7 @@
 use Rattle.std.proofs.Common.{◌≡◌, ◌∷◌, ◌++◌, List, ℕ, drop, sym, ap, ◌∙◌, arith}
 use Rattle.byteorder.specs.Endian.{big_bytes}
 use Rattle.t85_core.specs.Options.{fields_of}
+use Rattle.t85_core.specs.Lent.{walk_view}
 use Rattle.t85_core.proofs.Decodings.ImagePut.{in_use}
 use Rattle.t85_core.proofs.Decodings.PieceHead.{head_enters, head_cut, length_breaks, counted_of}
 use Rattle.t85_core.proofs.Decodings.PieceSteps.{on_same, stays, at_stage}
@@ -10,7 +11,7 @@ pub returns-in-Ok-clause-step : goal.returns-in-Ok-clause-step
 returns-in-Ok-clause-step c =
     let rest : c.split_at.result.1.now ≡ c.requires.comment.0 = c.split_at.ensures.back ∙ ap (drop 2) c.requires.comment.1 in
     let taken : c.args.piece.now.rest.now ≡ (255 ∷ 7 ∷ big_bytes 4 c.in-Ok.len) ++ c.number.new.stream.rest.now = c.requires.comment.1 ∙ ap (λ (z : List ℕ). 255 ∷ 7 ∷ z) (sym rest ∙ c.in-Ok.ensures.ok) in
-    record {
+    λ rows learned. record {
       ok = λ text out s. on_same (fields_of c.args.header.now) c.args.height _ text out c.args.piece.now.rest.now c.number.new.stream.rest.now (255 ∷ 7 ∷ big_bytes 4 c.in-Ok.len) taken (record {
         left_is = s.left_is;
         width_is = s.width_is;
@@ -29,10 +30,10 @@ pub returns-in-Err-clause-step : goal.returns-in-Err-clause-step
 returns-in-Err-clause-step c =
     let rest : c.split_at.result.1.now ≡ c.requires.comment.0 = c.split_at.ensures.back ∙ ap (drop 2) c.requires.comment.1 in
     let is : c.args.piece.now.rest.now ≡ 255 ∷ 7 ∷ c.split_at.result.1.now = c.requires.comment.1 ∙ ap (λ (z : List ℕ). 255 ∷ 7 ∷ z) (sym rest) in
-    record {
+    λ rows learned. record {
       ok = tt;
       err = λ text out s.
           head_cut (at_stage c.requires.stage s) c.coder_laws.ensures (in_use c.args.header.now c.args.height c.requires.from c.requires.to) c.args.piece.now.rest.now c.number.new.stream.rest.now c.in-Err.fault (counted_of c.in-Err.fault c.in-Err.ensures.reads.counts)
           (length_breaks (fields_of c.args.header.now) (record { height = c.args.height; entities = c.args.self.now.entities; given = c.args.self.now.given }) _ c.args.piece.now.rest.now c.split_at.result.1.now c.number.new.stream.rest.now c.in-Err.fault is c.in-Err.ensures.err);
-      more = λ _. stays (fields_of c.args.header.now) c.args.height c.args.self.now c.args.piece.now.rest.now;
+      more = λ _. stays (fields_of c.args.header.now) c.args.height (walk_view c.args.self.now rows learned) c.args.piece.now.rest.now;
     }

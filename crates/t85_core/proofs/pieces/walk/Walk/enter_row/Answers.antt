@@ -5,7 +5,7 @@ use Rattle.t85_core.proofs.Decodings.PieceWalk.{row_entered}
 use Rattle.t85_core.proofs.pieces.walk.Walk.enter_row.Goals as goal
 
 pub returns-clause-enters : goal.returns-clause-enters
-returns-clause-enters c = λ text out s.
+returns-clause-enters c = λ learned text out s.
     let k = at_stage c.requires.stage s in
     record {
       left_is = s.left_is;
@@ -19,7 +19,7 @@ returns-clause-enters c = λ text out s.
     }
 
 pub returns-clause-place : goal.returns-clause-place
-returns-clause-place c = record { entities = refl; left = refl; given = refl; at = refl }
+returns-clause-place c = λ rows rows' learned learned'. record { entities = refl; left = refl; given = refl; at = refl }
 
 pub returns-clause-fits : goal.returns-clause-fits
 returns-clause-fits c = record {
@@ -30,3 +30,6 @@ returns-clause-fits c = record {
   code_is = c.requires.fits.code_is;
   behind = c.requires.fits.behind;
 }
+
+pub returns-clause-same_width : goal.returns-clause-same_width
+returns-clause-same_width c = ap (λ w. w.width) c.turn.ensures.turned

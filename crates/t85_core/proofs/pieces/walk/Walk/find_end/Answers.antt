@@ -1,6 +1,7 @@
 use Rattle.std.proofs.Common.{◌≡◌, ◌++◌, None, Some, Err, inr, refl, sym, ap, subst}
 use Rattle.std.specs.Prelude.{IfSome}
 use Rattle.t85_core.specs.Options.{fields_of}
+use Rattle.t85_core.specs.Lent.{walk_view}
 use Rattle.t85_core.proofs.Decodings.ImagePut.{in_use}
 use Rattle.t85_core.proofs.Decodings.PieceSteps.{on_same, at_stage, put_stage, step_exit, other_exit}
 use Rattle.t85_core.proofs.Decodings.PieceWalk.{ahead_is, behind_is, marker_off, code_kept, code_marked}
@@ -12,7 +13,7 @@ use Rattle.t85_core.proofs.pieces.walk.Walk.find_end.Goals as goal
 
 pub returns-in_err-reset-clause-step : goal.returns-in_err-reset-clause-step
 returns-in_err-reset-clause-step c =
-    step_exit (fields_of c.args.header.now) c.args.height c.args.self.now (record c.args.self.now { first = c.find_marker.new.first }) c.args.piece.now.rest.now c.find_marker.new.piece.rest.now c.from_residual.result c.in_err-reset.field-0.0 c.from_residual.ensures.1
+    λ rows learned. step_exit (fields_of c.args.header.now) c.args.height (walk_view c.args.self.now rows learned) (walk_view (record c.args.self.now { first = c.find_marker.new.first }) rows learned) c.args.piece.now.rest.now c.find_marker.new.piece.rest.now c.from_residual.result c.in_err-reset.field-0.0 c.from_residual.ensures.1
     (λ text out s.
     let k = at_stage c.requires.stage s in
     marker_off k c.coder_laws.ensures (in_use c.args.header.now c.args.height c.requires.from c.requires.to) (rows_all c.requires.stage s c.requires.row) c.args.piece.now.rest.now c.in_err-reset.field-0.0 (c.in_err-reset.ensures.err k.read.answers k.extra k.code k.code_is))
@@ -27,18 +28,18 @@ returns-in_err-reset-clause-step c =
       code_is = ahead_is c.find_marker.new.first c.args.self.now.marker k.read.answers m.extra _ m.code_is;
       behind = behind_is c.find_marker.new.first c.args.self.now.marker k.read.answers m.extra _ m.code_is;
       within = s.within;
-      stands = put_stage (fields_of c.args.header.now) c.args.height (record c.args.self.now { first = c.find_marker.new.first }) (text ++ m.given) out _ c.requires.stage (code_kept k (rows_all c.requires.stage s c.requires.row) c.args.piece.now.rest.now c.find_marker.new.piece.rest.now m);
+      stands = put_stage (fields_of c.args.header.now) c.args.height (walk_view (record c.args.self.now { first = c.find_marker.new.first }) rows learned) (text ++ m.given) out _ c.requires.stage (code_kept k (rows_all c.requires.stage s c.requires.row) c.args.piece.now.rest.now c.find_marker.new.piece.rest.now m);
     }))
 
 pub returns-in_err-reset-clause-other : goal.returns-in_err-reset-clause-other
-returns-in_err-reset-clause-other c = λ some. other_exit c.from_residual.result c.in_err-reset.field-0.0 c.from_residual.ensures.1
+returns-in_err-reset-clause-other c = λ rows learned some. other_exit c.from_residual.result c.in_err-reset.field-0.0 c.from_residual.ensures.1
     (λ e.
     let k = at_stage c.requires.stage some.2 in
     let m = c.in_err-reset.ensures.err k.read.answers k.extra k.code k.code_is in
     never_changed (fields_of c.args.header.now) before_all m.breaks.rest (subst (RestFault m.breaks.rest) e m.breaks.broken))
 
 pub returns-clause-step : goal.returns-clause-step
-returns-clause-step c = record {
+returns-clause-step c = λ rows learned. record {
   ok = λ text out s.
       let k = at_stage c.requires.stage s in
       let m = c.in_ok-reset.ensures.ok k.read.answers k.extra k.code k.code_is in
@@ -50,7 +51,7 @@ returns-clause-step c = record {
         code_is = tt;
         behind = subst (λ z. IfSome z (λ _. Some (code.Marker c.in_ok-reset.reset) ≡ None)) (sym c.requires.unmarked) tt;
         within = s.within;
-        stands = put_stage (fields_of c.args.header.now) c.args.height (record c.args.self.now { first = Some (code.Marker c.in_ok-reset.reset) }) (text ++ m.given) out _ c.requires.stage (code_marked k (rows_all c.requires.stage s c.requires.row) c.requires.unmarked c.args.piece.now.rest.now c.find_marker.new.piece.rest.now c.in_ok-reset.reset m);
+        stands = put_stage (fields_of c.args.header.now) c.args.height (walk_view (record c.args.self.now { first = Some (code.Marker c.in_ok-reset.reset) }) rows learned) (text ++ m.given) out _ c.requires.stage (code_marked k (rows_all c.requires.stage s c.requires.row) c.requires.unmarked c.args.piece.now.rest.now c.find_marker.new.piece.rest.now c.in_ok-reset.reset m);
       });
   err = tt;
   more = λ e. absurd (let bot : ⊥ = cc in bot);

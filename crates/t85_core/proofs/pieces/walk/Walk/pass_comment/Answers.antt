@@ -1,6 +1,7 @@
 use Rattle.std.proofs.Common.{◌≡◌, ◌<◌, ◌≤◌, ◌-◌, ◌++◌, List, ℕ, length, take, append-nil, sym, ap, ◌∙◌, arith}
 use Rattle.std.proofs.lemmas.List.{length-take-le, take-append-drop}
 use Rattle.t85_core.specs.Options.{fields_of}
+use Rattle.t85_core.specs.Lent.{walk_view}
 use Rattle.t85_core.proofs.Decodings.ImagePut.{in_use}
 use Rattle.t85_core.proofs.Decodings.PieceHead.{comment_more, comment_ends, comment_off}
 use Rattle.t85_core.proofs.Decodings.PieceSteps.{on_same, at_stage, put_stage, nil_of}
@@ -13,7 +14,7 @@ returns-then-self-gt0-clause-step c =
     let few : length p < c.args.self.now.comment = omega (arith, all, c.min-len.ensures, c.if-self-gt0.true) in
     let taken : c.args.piece.now.rest.now ≡ c.args.piece.now.rest.now ++ c.split_at.result.1.now =
     sym (append-nil c.args.piece.now.rest.now) ∙ ap (λ (z : List ℕ). c.args.piece.now.rest.now ++ z) (sym (nil_of c.split_at.result.1.now (omega (arith, c.split_at.ensures.back_len, all)))) in
-    record {
+    λ rows learned. record {
       ok = tt;
       err = λ text out s. comment_off (at_stage c.requires.stage s) c.coder_laws.ensures (in_use c.args.header.now c.args.height c.requires.from c.requires.to) c.args.piece.now.rest.now few;
       more = λ _ text out s. on_same (fields_of c.args.header.now) c.args.height _ text out c.args.piece.now.rest.now c.split_at.result.1.now c.args.piece.now.rest.now taken (record {
@@ -24,7 +25,7 @@ returns-then-self-gt0-clause-step c =
         code_is = s.code_is;
         behind = s.behind;
         within = s.within;
-        stands = put_stage (fields_of c.args.header.now) c.args.height (record c.args.self.now { comment = c.args.self.now.comment - c.min-len.result }) (text ++ c.args.piece.now.rest.now) out _ c.requires.stage (comment_more (at_stage c.requires.stage s) c.args.piece.now.rest.now (c.args.self.now.comment - c.min-len.result) (omega (arith, all, few)));
+        stands = put_stage (fields_of c.args.header.now) c.args.height (walk_view (record c.args.self.now { comment = c.args.self.now.comment - c.min-len.result }) rows learned) (text ++ c.args.piece.now.rest.now) out _ c.requires.stage (comment_more (at_stage c.requires.stage s) c.args.piece.now.rest.now (c.args.self.now.comment - c.min-len.result) (omega (arith, all, few)));
       });
     }
 
@@ -35,7 +36,7 @@ returns-clause-step c =
     let all : c.min-len.result ≡ c.args.self.now.comment = omega (arith, c.min-len.ensures, c.if-self-gt0.false) in
     let taken : c.args.piece.now.rest.now ≡ take c.min-len.result c.args.piece.now.rest.now ++ c.split_at.result.1.now =
     sym (take-append-drop c.min-len.result c.args.piece.now.rest.now) ∙ ap (λ (z : List ℕ). take c.min-len.result c.args.piece.now.rest.now ++ z) (sym c.split_at.ensures.back) in
-    record {
+    λ rows learned. record {
       ok = λ text out s. on_same (fields_of c.args.header.now) c.args.height _ text out c.args.piece.now.rest.now c.split_at.result.1.now (take c.min-len.result c.args.piece.now.rest.now) taken (record {
         left_is = s.left_is;
         width_is = s.width_is;

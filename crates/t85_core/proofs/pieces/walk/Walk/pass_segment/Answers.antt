@@ -4,24 +4,25 @@ use Rattle.t85_core.specs.Options.{fields_of}
 use Rattle.t85_core.specs.Failures.{Ends}
 use Rattle.t85_core.specs.Grammar.{NewLength, Move, Comment, segment_bytes}
 use Rattle.t85_core.specs.Steps.Segments.{PieceFault, code_bytes}
+use Rattle.t85_core.specs.Lent.{walk_view}
 use Rattle.t85_core.proofs.Decodings.ImagePut.{in_use}
 use Rattle.t85_core.proofs.Decodings.PieceHead.{head_length, head_move, head_comment, head_code, head_cut, head_other, counted_of}
 use Rattle.t85_core.proofs.Decodings.PieceSteps.{on_same, stays, at_stage, put_stage}
 use Rattle.t85_core.proofs.pieces.walk.Walk.pass_segment.Goals as goal
 
 pub returns-in-Err-clause-step : goal.returns-in-Err-clause-step
-returns-in-Err-clause-step c = record {
+returns-in-Err-clause-step c = λ rows learned. record {
   ok = tt;
   err = λ text out s.
       head_cut (at_stage c.requires.stage s) c.coder_laws.ensures (in_use c.args.header.now c.args.height c.requires.from c.requires.to) c.args.piece.now.rest.now c.next_piece.new.stream.rest.now c.in-Err.fault (counted_of c.in-Err.fault c.in-Err.ensures.reads.counts)
       (subst (λ m. Ends Truncated (Some c.args.piece.now.rest.now) (Some c.next_piece.new.stream.rest.now) (PieceFault (fields_of c.args.header.now) (record { height = c.args.height; entities = c.args.self.now.entities; given = c.args.self.now.given }) m) c.in-Err.fault) c.is_some.ensures c.in-Err.ensures.err);
-  more = λ _. stays (fields_of c.args.header.now) c.args.height c.args.self.now c.args.piece.now.rest.now;
+  more = λ _. stays (fields_of c.args.header.now) c.args.height (walk_view c.args.self.now rows learned) c.args.piece.now.rest.now;
 }
 
 pub returns-then-other-height-clause-step : goal.returns-then-other-height-clause-step
 returns-then-other-height-clause-step c =
     let h = rw c.in-NewLength.is at c.in-Ok.ensures.ok in
-    record {
+    λ rows learned. record {
       ok = λ text out s. on_same (fields_of c.args.header.now) c.args.height _ text out c.args.piece.now.rest.now c.next_piece.new.stream.rest.now (segment_bytes (NewLength c.in-NewLength.other)) h.2.taken (record {
         left_is = s.left_is;
         width_is = s.width_is;
@@ -30,7 +31,7 @@ returns-then-other-height-clause-step c =
         code_is = s.code_is;
         behind = s.behind;
         within = s.within;
-        stands = put_stage (fields_of c.args.header.now) c.args.height (record c.args.self.now { given = true }) (text ++ segment_bytes (NewLength c.in-NewLength.other)) out _ c.requires.stage (head_length (at_stage c.requires.stage s) c.in-NewLength.other h.0 c.if-other-height.true h.2.legal);
+        stands = put_stage (fields_of c.args.header.now) c.args.height (walk_view (record c.args.self.now { given = true }) rows learned) (text ++ segment_bytes (NewLength c.in-NewLength.other)) out _ c.requires.stage (head_length (at_stage c.requires.stage s) c.in-NewLength.other h.0 c.if-other-height.true h.2.legal);
       });
       err = tt;
       more = λ e. absurd (let bot : ⊥ = cc in bot);
@@ -39,7 +40,7 @@ returns-then-other-height-clause-step c =
 pub returns-in-Move-clause-step : goal.returns-in-Move-clause-step
 returns-in-Move-clause-step c =
     let h = rw c.in-Move.is at c.in-Ok.ensures.ok in
-    record {
+    λ rows learned. record {
       ok = λ text out s. on_same (fields_of c.args.header.now) c.args.height _ text out c.args.piece.now.rest.now c.next_piece.new.stream.rest.now (segment_bytes (Move c.in-Move.to.row c.in-Move.to.offset)) h.1.taken (record {
         left_is = s.left_is;
         width_is = s.width_is;
@@ -48,7 +49,7 @@ returns-in-Move-clause-step c =
         code_is = s.code_is;
         behind = s.behind;
         within = s.within;
-        stands = put_stage (fields_of c.args.header.now) c.args.height (record c.args.self.now { at = Some c.in-Move.to }) (text ++ segment_bytes (Move c.in-Move.to.row c.in-Move.to.offset)) out _ c.requires.stage (head_move (at_stage c.requires.stage s) c.in-Move.to (sym c.is_some.ensures ∙ h.0) h.1.legal);
+        stands = put_stage (fields_of c.args.header.now) c.args.height (walk_view (record c.args.self.now { at = Some c.in-Move.to }) rows learned) (text ++ segment_bytes (Move c.in-Move.to.row c.in-Move.to.offset)) out _ c.requires.stage (head_move (at_stage c.requires.stage s) c.in-Move.to (sym c.is_some.ensures ∙ h.0) h.1.legal);
       });
       err = tt;
       more = λ e. absurd (let bot : ⊥ = cc in bot);
@@ -57,7 +58,7 @@ returns-in-Move-clause-step c =
 pub returns-in-Comment-clause-step : goal.returns-in-Comment-clause-step
 returns-in-Comment-clause-step c =
     let h = rw c.in-Comment.is at c.in-Ok.ensures.ok in
-    record {
+    λ rows learned. record {
       ok = λ text out s. on_same (fields_of c.args.header.now) c.args.height _ text out c.args.piece.now.rest.now c.next_piece.new.stream.rest.now (segment_bytes (Comment h.0)) h.1.taken (record {
         left_is = s.left_is;
         width_is = s.width_is;
@@ -66,7 +67,7 @@ returns-in-Comment-clause-step c =
         code_is = s.code_is;
         behind = s.behind;
         within = s.within;
-        stands = put_stage (fields_of c.args.header.now) c.args.height c.args.self.now (text ++ segment_bytes (Comment h.0)) out _ c.requires.stage (head_comment (at_stage c.requires.stage s) h.0 h.1.legal);
+        stands = put_stage (fields_of c.args.header.now) c.args.height (walk_view c.args.self.now rows learned) (text ++ segment_bytes (Comment h.0)) out _ c.requires.stage (head_comment (at_stage c.requires.stage s) h.0 h.1.legal);
       });
       err = tt;
       more = λ e. absurd (let bot : ⊥ = cc in bot);
@@ -75,7 +76,7 @@ returns-in-Comment-clause-step c =
 pub returns-in-Code-clause-step : goal.returns-in-Code-clause-step
 returns-in-Code-clause-step c =
     let h = rw c.in-Code.is at c.in-Ok.ensures.ok in
-    record {
+    λ rows learned. record {
       ok = λ text out s. on_same (fields_of c.args.header.now) c.args.height _ text out c.args.piece.now.rest.now c.next_piece.new.stream.rest.now (code_bytes c.in-Code.code) h.1 (record {
         left_is = s.left_is;
         width_is = s.width_is;
@@ -93,7 +94,7 @@ returns-in-Code-clause-step c =
 pub returns-else-other-height-clause-step : goal.returns-else-other-height-clause-step
 returns-else-other-height-clause-step c =
     let h = rw c.in-NewLength.is at c.in-Ok.ensures.ok in
-    record {
+    λ rows learned. record {
       ok = tt;
       err = λ text out s. head_other (at_stage c.requires.stage s) c.coder_laws.ensures (in_use c.args.header.now c.args.height c.requires.from c.requires.to) c.args.piece.now.rest.now c.next_piece.new.stream.rest.now c.in-NewLength.other h.0 h.1 h.2.legal c.if-other-height.false h.2.taken;
       more = λ e. absurd (let bot : ⊥ = cc in bot);

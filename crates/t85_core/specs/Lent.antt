@@ -1,0 +1,88 @@
+-- What decoders are seen as: what they hold, and what they are lent.
+use Rattle.std.specs.Prelude.{ℕ, Bool, List, Option}
+use Rattle.qm_core.specs.declared.decoder.Decoder.{Decoder}
+use Rattle.qm_core.specs.Place.{Estimate}
+use Rattle.raster_core.specs.Packed.{Held}
+use Rattle.raster_core.specs.Window.{held}
+use Rattle.raster_core.specs.declared.shape.Kept.{Kept}
+use Rattle.raster_core.specs.declared.place.RowPlace.{RowPlace}
+use Rattle.raster_core.specs.declared.window.Window.{Window}
+use Rattle.t85_core.specs.declared.header.Header.{Header}
+use Rattle.t85_core.specs.declared.segments.Code.{Code}
+use Rattle.t85_core.specs.declared.segments.Move.{Move}
+use Rattle.t85_core.specs.declared.state.CodingState.{CodingState}
+use Rattle.t85_core.specs.declared.pieces.End.{End}
+use Rattle.t85_core.specs.declared.pieces.PieceDecoder.{PieceDecoder}
+use Rattle.t85_core.specs.declared.pieces.behind.Behind.{Behind}
+use Rattle.t85_core.specs.declared.pieces.walk.Stage.{Stage}
+use Rattle.t85_core.specs.declared.pieces.walk.Walk.{Walk}
+
+-- what is carried from row to row and from stripe to stripe
+pub record Carried : Type 0 where
+  pub held : Held
+  pub kept : Kept
+  pub learned : List Estimate
+
+abbrev pub carried_of : CodingState → Carried
+carried_of s = record { held = held s.window.now; kept = s.kept; learned = s.learned.now }
+
+abbrev pub carried_over : Window → Kept → List Estimate → Carried
+carried_over window kept learned = record { held = held window; kept = kept; learned = learned }
+
+-- how far a stream has been decoded, with the rows and the contexts that it was lent
+pub record WalkView : Type 0 where
+  pub carried : Carried
+  pub decoder : Decoder
+  pub stage : Stage
+  pub entities : ℕ
+  pub left : ℕ
+  pub given : Bool
+  pub at : Option Move
+  pub comment : ℕ
+  pub row : ℕ
+  pub place : RowPlace
+  pub first : Option Code
+  pub marker : Option Bool
+
+abbrev pub walk_view : Walk → Held → List Estimate → WalkView
+walk_view w rows learned = record {
+  carried = record { held = rows; kept = w.kept; learned = learned };
+  decoder = w.decoder;
+  stage = w.stage;
+  entities = w.entities;
+  left = w.left;
+  given = w.given;
+  at = w.at;
+  comment = w.comment;
+  row = w.row;
+  place = w.place;
+  first = w.first;
+  marker = w.marker;
+}
+
+abbrev pub walk_over : Walk → Window → List Estimate → WalkView
+walk_over w window learned = walk_view w (held window) learned
+
+-- a decoder in pieces, with these
+pub record PieceView : Type 0 where
+  pub header : Header
+  pub height : ℕ
+  pub walk : WalkView
+  pub is_open : Bool
+  pub waits : Bool
+  pub behind : Behind
+  pub end : Option End
+
+abbrev pub decoder_view : PieceDecoder → Held → List Estimate → PieceView
+decoder_view d rows learned = record {
+  header = d.header;
+  height = d.height;
+  walk = walk_view d.walk rows learned;
+  is_open = d.is_open;
+  waits = d.waits;
+  behind = d.behind;
+  end = d.end;
+}
+
+abbrev pub decoder_over : PieceDecoder → Window → List Estimate → PieceView
+decoder_over d window learned = decoder_view d (held window) learned

@@ -1,0 +1,42 @@
+-- A decoder in pieces of which nothing but numbers is kept from call to call.
+use Rattle.std.specs.Prelude.{ℕ, ◌≡◌, ◌≤◌, Bool, List, ◌++◌, length, take}
+use Rattle.qm_core.specs.Place.{Estimate}
+use Rattle.raster_core.specs.Packed.{rows_at}
+use Rattle.t85_core.specs.declared.fault.Fault.{Fault}
+use Rattle.t85_core.specs.declared.header.Header.{Header}
+use Rattle.t85_core.specs.declared.pieces.Outcome.TheVariants as outcome
+use Rattle.t85_core.specs.declared.pieces.PieceDecoder.{PieceDecoder}
+use Rattle.t85_core.specs.declared.pieces.Progress.{Progress}
+use Rattle.t85_core.specs.Lent.{decoder_view}
+use Rattle.t85_core.specs.Numbers.{piece_numbers}
+use Rattle.t85_core.specs.Options.{fields_of}
+use Rattle.t85_core.specs.Pieces.{HasDecoded, HandsOut, HoldsImage, MayFollow, StreamGoesOn, given_with}
+use Rattle.uses.specs.declared.kept.KeptDecoder.{KeptDecoder}
+
+-- what there is between two calls
+pub record Between : Type 0 where
+  pub header : Header
+  pub kept : KeptDecoder
+  pub memory : List ℕ
+  pub learned : List Estimate
+
+abbrev pub between : Header → KeptDecoder → List ℕ → List Estimate → Between
+between header kept memory learned = record { header = header; kept = kept; memory = memory; learned = learned }
+
+-- They are those of a decoder that goes on. It has taken these bytes, and has given these rows, packed.
+pub record IsKept (b : Between) (text out : List ℕ) : Type 0 where
+  pub decoder : PieceDecoder
+  pub stream_is : fields_of decoder.header ≡ fields_of b.header
+  pub numbers_are : b.kept.numbers ≡ piece_numbers decoder
+  pub has : HasDecoded (decoder_view decoder (rows_at b.kept.place b.header.xd b.memory) b.learned) text out
+
+-- the current row of the memory
+abbrev pub row_in : Between → List ℕ
+row_in b = (rows_at b.kept.place b.header.xd b.memory).current
+
+-- What a call leaves: the next numbers, or what the image is, whatever comes after the piece.
+pub record KeptOn (old new : Between) (piece : List ℕ) (is_all : Bool) (progress : Progress) : Type 0 where
+  pub bound : progress.taken ≤ length piece
+  pub goes_on : StreamGoesOn progress.outcome → (text out : List ℕ) → IsKept old text out → IsKept new (text ++ take progress.taken piece) (out ++ given_with progress.outcome (row_in new))
+  pub done : (height : ℕ) → progress.outcome ≡ outcome.Done height → (text out rest : List ℕ) → IsKept old text out → MayFollow is_all rest → HoldsImage (fields_of old.header) ((text ++ piece) ++ rest) height out
+  pub broken : (fault : Fault) → progress.outcome ≡ outcome.Broken fault → (text out rest : List ℕ) → IsKept old text out → MayFollow is_all rest → HandsOut (fields_of old.header) ((text ++ piece) ++ rest) new.kept.numbers.height fault out

@@ -1,0 +1,57 @@
+//! A decoder in pieces of which nothing but numbers is kept from call to call.
+
+ghost use Rattle.std.specs.Prelude.{◌≡◌, ◌<◌, ◌*◌, [], length};
+ghost use Rattle.std.specs.Int.{div_ceil};
+ghost use Rattle.uses.specs.Kept.{IsKept, KeptOn, between};
+
+use crate::pieces::next_row;
+use qm_core::Learned;
+use raster_core::Window;
+use t85_core::{Header, PieceDecoder, PieceNumbers, Progress};
+
+/// What is kept of a decoder from call to call, beside its header, the memory of its window and the contexts.
+#[derive(Clone, Copy)]
+pub struct KeptDecoder {
+    pub numbers: PieceNumbers,
+    /// Where the memory has the row that was decoded last.
+    pub place: u8,
+}
+
+/// Before the first byte after the header. The memory is made white, and the contexts forget.
+pub fn first_kept(header: Header, memory: &mut [u8], learned: &mut Learned) -> KeptDecoder
+    requires { length memory.old ≡ 3 * div_ceil header.xd 8 }
+    ensures kept { IsKept (between header result memory.new learned.new) [] [] }
+    ensures place { result.place < 3 }
+{
+    let mut window = Window::over(memory, header.xd);
+    let decoder = PieceDecoder::start(header, &mut window, learned);
+    KeptDecoder {
+        numbers: decoder.numbers(),
+        place: window.place(),
+    }
+}
+
+/// Goes on with a piece, which may be the last, up to the next row, or as far as it goes. The memory has the row.
+pub fn next_of_kept(
+    header: Header,
+    kept: &mut KeptDecoder,
+    memory: &mut [u8],
+    learned: &mut Learned,
+    piece: &[u8],
+    is_all: bool,
+) -> Progress
+    requires long { length memory.old ≡ 3 * div_ceil header.xd 8 }
+    requires place { kept.old.place < 3 }
+    ensures place { kept.new.place < 3 }
+    ensures on { KeptOn (between header kept.old memory.old learned.old)
+        (between header kept.new memory.new learned.new) piece.now is_all result }
+{
+    let mut window = Window::resume(memory, header.xd, kept.place);
+    let mut decoder = PieceDecoder::resume(header, &kept.numbers);
+    let progress = next_row(&mut decoder, &mut window, learned, piece, is_all);
+    *kept = KeptDecoder {
+        numbers: decoder.numbers(),
+        place: window.place(),
+    };
+    progress
+}
