@@ -1,6 +1,6 @@
 //! A piece of a stream.
 
-ghost use Rattle.std.specs.Prelude.{◌≡◌, ◌<◌, ℕ, Bool, None, Some, IfSome, [], length};
+ghost use Rattle.std.specs.Prelude.{◌≡◌, ◌<◌, ℕ, Bool, None, Some, IfSome, [], length, if◌then◌else◌};
 ghost use Rattle.t85_core.specs.declared.segments.Code.TheVariants as code;
 
 use crate::fault::Fault;
@@ -33,6 +33,7 @@ impl ByteSource for Piece<'_> {
         }
     }
 
+    #[inline(always)]
     fn next_plain(&mut self) -> Option<u8> {
         match self.rest {
             [] => None,
@@ -68,26 +69,25 @@ pub struct PieceCode<'a> {
 }
 
 impl PieceCode<'_> {
+    ghost use Rattle.qm_core.specs.Counts.{one_more};
+    ghost use Rattle.qm_core.specs.Source.{is_fault};
+    ghost use Rattle.t85_core.specs.Steps.Entity.{EntityGives};
+    ghost use Rattle.t85_core.specs.Steps.Views.{piece_view};
+
     /// Why the code has broken.
     pub fn fault(&self) -> Fault
         ensures { IfSome self.now.fault (λ f. result ≡ f) }
     {
         self.fault.unwrap_or(Fault::Truncated)
     }
-}
 
-impl CodeBytes for PieceCode<'_> {
-    ghost use Rattle.t85_core.specs.Steps.Entity.{EntityGives};
-    ghost use Rattle.t85_core.specs.Steps.Views.{piece_view};
-
-    ghost gives = { λ s answer t. EntityGives
-        (piece_view s)
-        answer
-        (piece_view t) };
-
-    ghost failed = { λ s. s.failures };
-
-    fn pull(&mut self) -> Pulled {
+    /// The next byte, whatever comes next.
+    #[inline(never)]
+    fn pull_any(&mut self) -> Pulled
+        ensures answer { EntityGives (piece_view self.old) result (piece_view self.new) }
+        ensures counted { self.new.failures ≡
+            (if is_fault result then one_more self.old.failures else self.old.failures) }
+    {
         if self.fault.is_some() {
             self.failures = self.failures.wrapping_add(1);
             return Pulled::Fault;
@@ -108,6 +108,28 @@ impl CodeBytes for PieceCode<'_> {
                 Pulled::Fault
             }
         }
+    }
+}
+
+impl CodeBytes for PieceCode<'_> {
+    ghost use Rattle.t85_core.specs.Steps.Entity.{EntityGives};
+    ghost use Rattle.t85_core.specs.Steps.Views.{piece_view};
+
+    ghost gives = { λ s answer t. EntityGives
+        (piece_view s)
+        answer
+        (piece_view t) };
+
+    ghost failed = { λ s. s.failures };
+
+    #[inline(always)]
+    fn pull(&mut self) -> Pulled {
+        if self.first.is_none() && self.fault.is_none() {
+            if let Some(byte) = self.piece.next_plain() {
+                return Pulled::Byte(byte);
+            }
+        }
+        self.pull_any()
     }
 
     fn failures(&self) -> u64 {
