@@ -104,11 +104,20 @@ pub fn encode_row<W: CodeSink>(
         (record { place = p; learned = learned.old }) pushed lines encoder.new learned.new result }
 {
     let rows = window.rows();
+    let flag = is_typical(shape, rows);
+    // Below a typical row a typical one is always the same pixel. Nothing of the rest is prepared for it.
+    if flag && kept.previous_typical {
+        let mut coder = Coder {
+            learned,
+            encoder,
+            out,
+        };
+        return coder.put(flag_context(shape.two_line), true);
+    }
     let template = Template {
         two_line: shape.two_line,
         offset: kept.offset,
     };
-    let flag = is_typical(shape, rows);
     let mut coder = Coder {
         learned,
         encoder,
