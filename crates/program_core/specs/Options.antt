@@ -1,8 +1,9 @@
 -- Options of one letter, as clap's contracts see them.
-use Rattle.std.specs.Prelude.{◌^◌, ◌&&◌, ℕ, List, Option, Some, None, true, pos, if◌then◌else◌, nat_lt, option_and_then}
+use Rattle.std.specs.Prelude.{◌≡◌, ◌^◌, ◌&&◌, ℕ, List, Option, Some, None, true, pos, if◌then◌else◌, nat_lt, option_and_then}
 use Rattle.std.specs.Str.Parse.{digits_value, without_leading_plus}
 use Rattle.clap.specs.ValueTests.{is_numeral}
-use Rattle.clap.specs.Words.{App, Row, Rule, Text, new_rule, one_of}
+use Rattle.clap.specs.Words.{App, Row, Rule, Text, app_of, new_rule, one_of, with_rule}
+use Rattle.clap.specs.declared.builder.command.Command.{Command}
 use Rattle.clap.specs.declared.builder.ArgAction.TheVariants.{Set, SetTrue}
 use Rattle.clap.specs.declared.builder.value_parser.ValueParser.TheVariants as parser
 
@@ -32,6 +33,10 @@ text_rule id letter = record (new_rule id) { short = Some letter; value_names = 
 -- an option of one letter alone
 abbrev pub flag_rule : Text → ℕ → Rule
 flag_rule id letter = record (new_rule id) { short = Some letter; action = Some SetTrue }
+
+-- a command has a rule more than another
+abbrev pub HasAlso : Command → Rule → Command → Type 0
+HasAlso c rule more = app_of more ≡ with_rule (app_of c) rule
 
 -- the number below 2^32 that a text writes in decimal
 abbrev pub decimal : Text → Option ℕ

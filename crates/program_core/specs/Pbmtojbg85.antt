@@ -17,14 +17,18 @@ use Rattle.program_core.specs.declared.line_fault.LineFault.TheVariants as line_
 use Rattle.program_core.specs.Options.{with_version, number_rule, text_rule, flag_rule, number_in}
 use Rattle.program_core.specs.declared.pbmtojbg85.work.Job.{Job}
 
--- `pbmtojbg85 [options] [input [output]]`
-abbrev pub encode_command : App
-encode_command = with_version (with_rule (with_rule (with_rule (with_rule (with_rule (with_rule (with_rule (with_rule
+-- the options that have a number
+abbrev pub encode_numbers : App
+encode_numbers = with_rule (with_rule (with_rule (with_rule
     (new_app (codes "pbmtojbg85"))
     (number_rule (codes "options") 112 (codes "8" ∷ [])))
     (number_rule (codes "stripe") 115 (codes "128" ∷ [])))
     (number_rule (codes "move") 109 (codes "0" ∷ [])))
-    (number_rule (codes "announced") 89 []))
+    (number_rule (codes "announced") 89 [])
+
+-- `pbmtojbg85 [options] [input [output]]`
+abbrev pub encode_command : App
+encode_command = with_version (with_rule (with_rule (with_rule (with_rule encode_numbers
     (text_rule (codes "comment") 67))
     (flag_rule (codes "reset") 114))
     (new_rule (codes "input")))

@@ -1,17 +1,20 @@
 //! Arguments as clap takes them: options of one letter, and names of files.
+//!
+//! An argument takes 600 bytes of stack, and several times that while it is made. So each is given to its command by a
+//! call that is not made in line, and the next one is made where it was.
 
-ghost use Rattle.std.specs.Prelude.{◌≡◌, ◌∷◌, [], false, Some};
+ghost use Rattle.std.specs.Prelude.{◌≡◌, ◌∷◌, [], false, IfOk, Some};
 ghost use Rattle.clap.specs.Words.{new_rule, rule_of};
-ghost use Rattle.program_core.specs.Options.{number_rule, flag_rule, text_rule};
+ghost use Rattle.program_core.specs.Options.{HasAlso, number_rule, flag_rule, text_rule};
 
-use clap::{Arg, ArgAction, value_parser};
-use std::alloc::Global;
+use clap::{Arg, ArgAction, Command, value_parser};
+use std::alloc::{AllocError, Global};
 
 /// The version of both commands, which is also the library's.
 pub(crate) const VERSION: &str = "1.0.0";
 
 /// The name of a file.
-pub(crate) fn file_arg<'a>(alloc: Global, name: &'a str, help: &'a str) -> Arg<'a>
+fn file_arg<'a>(alloc: Global, name: &'a str, help: &'a str) -> Arg<'a>
     ensures rule { rule_of result ≡ new_rule name.entry.now }
     ensures local { result.global ≡ false }
     ensures help { result.help ≡ Some help.entry }
@@ -20,7 +23,7 @@ pub(crate) fn file_arg<'a>(alloc: Global, name: &'a str, help: &'a str) -> Arg<'
 }
 
 /// An option of one letter with a number below 2^32.
-pub(crate) fn number_arg<'a>(alloc: Global, id: &'a str, letter: char, help: &'a str) -> Arg<'a>
+fn number_arg<'a>(alloc: Global, id: &'a str, letter: char, help: &'a str) -> Arg<'a>
     ensures rule { rule_of result ≡ number_rule id.entry.now letter [] }
     ensures local { result.global ≡ false }
     ensures help { result.help ≡ Some help.entry }
@@ -34,7 +37,7 @@ pub(crate) fn number_arg<'a>(alloc: Global, id: &'a str, letter: char, help: &'a
 }
 
 /// The same, and the number that it has where it is not given.
-pub(crate) fn default_arg<'a>(
+fn default_arg<'a>(
     alloc: Global,
     id: &'a str,
     letter: char,
@@ -49,7 +52,7 @@ pub(crate) fn default_arg<'a>(
 }
 
 /// An option of one letter with a text.
-pub(crate) fn text_arg<'a>(alloc: Global, id: &'a str, letter: char, help: &'a str) -> Arg<'a>
+fn text_arg<'a>(alloc: Global, id: &'a str, letter: char, help: &'a str) -> Arg<'a>
     ensures rule { rule_of result ≡ text_rule id.entry.now letter }
     ensures local { result.global ≡ false }
     ensures help { result.help ≡ Some help.entry }
@@ -61,7 +64,7 @@ pub(crate) fn text_arg<'a>(alloc: Global, id: &'a str, letter: char, help: &'a s
 }
 
 /// An option of one letter alone.
-pub(crate) fn flag_arg<'a>(alloc: Global, id: &'a str, letter: char, help: &'a str) -> Arg<'a>
+fn flag_arg<'a>(alloc: Global, id: &'a str, letter: char, help: &'a str) -> Arg<'a>
     ensures rule { rule_of result ≡ flag_rule id.entry.now letter }
     ensures local { result.global ≡ false }
     ensures help { result.help ≡ Some help.entry }
@@ -70,4 +73,75 @@ pub(crate) fn flag_arg<'a>(alloc: Global, id: &'a str, letter: char, help: &'a s
         .short(letter)
         .action(ArgAction::SetTrue)
         .help(help)
+}
+
+/// The command with the name of a file.
+#[inline(never)]
+pub(crate) fn with_file<'a>(
+    command: Command<'a>,
+    alloc: Global,
+    name: &'a str,
+    help: &'a str,
+) -> Result<Command<'a>, AllocError>
+    ensures { IfOk result (HasAlso command.entry (new_rule name.entry.now)) }
+{
+    command.arg(file_arg(alloc, name, help))
+}
+
+/// The command with an option that has a number.
+#[inline(never)]
+pub(crate) fn with_number<'a>(
+    command: Command<'a>,
+    alloc: Global,
+    id: &'a str,
+    letter: char,
+    help: &'a str,
+) -> Result<Command<'a>, AllocError>
+    ensures { IfOk result (HasAlso command.entry (number_rule id.entry.now letter [])) }
+{
+    command.arg(number_arg(alloc, id, letter, help))
+}
+
+/// The command with an option that has a number, also where it is not given.
+#[inline(never)]
+pub(crate) fn with_default<'a>(
+    command: Command<'a>,
+    alloc: Global,
+    id: &'a str,
+    letter: char,
+    value: &'a str,
+    help: &'a str,
+) -> Result<Command<'a>, AllocError>
+    ensures { IfOk result (HasAlso command.entry
+        (number_rule id.entry.now letter (value.entry.now ∷ []))) }
+{
+    command.arg(default_arg(alloc, id, letter, value, help))
+}
+
+/// The command with an option that has a text.
+#[inline(never)]
+pub(crate) fn with_text<'a>(
+    command: Command<'a>,
+    alloc: Global,
+    id: &'a str,
+    letter: char,
+    help: &'a str,
+) -> Result<Command<'a>, AllocError>
+    ensures { IfOk result (HasAlso command.entry (text_rule id.entry.now letter)) }
+{
+    command.arg(text_arg(alloc, id, letter, help))
+}
+
+/// The command with an option alone.
+#[inline(never)]
+pub(crate) fn with_flag<'a>(
+    command: Command<'a>,
+    alloc: Global,
+    id: &'a str,
+    letter: char,
+    help: &'a str,
+) -> Result<Command<'a>, AllocError>
+    ensures { IfOk result (HasAlso command.entry (flag_rule id.entry.now letter)) }
+{
+    command.arg(flag_arg(alloc, id, letter, help))
 }

@@ -3,12 +3,12 @@
 ghost use Rattle.std.specs.Prelude.{◌≡◌, IfErr, IfOk, map, false, true};
 ghost use Rattle.clap.specs.Words.{app_of, found_of, is_simple, rows_of, rule_of};
 ghost use Rattle.program_core.specs.Line.{IsRefusal};
-ghost use Rattle.program_core.specs.Options.{with_version};
+ghost use Rattle.program_core.specs.Options.{HasAlso, with_version};
 ghost use Rattle.program_core.specs.Jbgtopbm85.{IsDecodeJobOf, decode_command as the_command, info_rule, decode_matches, max_rows_rule, decode_refusals};
 
 use super::NAME;
 use super::work::Job;
-use crate::args::{VERSION, file_arg};
+use crate::args::{VERSION, with_file};
 use crate::line_fault::LineFault;
 use crate::matches::{flag, matches_of, number, text};
 use clap::{Arg, ArgAction, ArgMatches, Command, value_parser};
@@ -47,22 +47,36 @@ fn command<'a>(alloc: Global) -> Result<Command<'a>, AllocError>
 fn unversioned<'a>(alloc: Global) -> Result<Command<'a>, AllocError>
     ensures { IfOk result (λ c. with_version (app_of c) ≡ the_command) }
 {
-    let args = [
-        info_arg(alloc),
-        max_rows_arg(alloc),
-        file_arg(
-            alloc,
-            "input",
-            "The JBIG1 stream, or `-` for standard input",
-        ),
-        file_arg(
-            alloc,
-            "output",
-            "The file to write, or `-` for standard output",
-        ),
-    ];
-    let args = Vec::from_array(alloc, args)?;
-    Command::new(alloc, NAME).args(args)
+    let command = with_info(Command::new(alloc, NAME), alloc)?;
+    let command = with_max_rows(command, alloc)?;
+    let command = with_file(
+        command,
+        alloc,
+        "input",
+        "The JBIG1 stream, or `-` for standard input",
+    )?;
+    with_file(
+        command,
+        alloc,
+        "output",
+        "The file to write, or `-` for standard output",
+    )
+}
+
+/// The command with the option for a line of numbers.
+#[inline(never)]
+fn with_info<'a>(command: Command<'a>, alloc: Global) -> Result<Command<'a>, AllocError>
+    ensures { IfOk result (HasAlso command.entry info_rule) }
+{
+    command.arg(info_arg(alloc))
+}
+
+/// The command with the option that has the most rows.
+#[inline(never)]
+fn with_max_rows<'a>(command: Command<'a>, alloc: Global) -> Result<Command<'a>, AllocError>
+    ensures { IfOk result (HasAlso command.entry max_rows_rule) }
+{
+    command.arg(max_rows_arg(alloc))
 }
 
 /// The job that the matches ask for.
@@ -82,6 +96,9 @@ fn job_of(alloc: Global, matches: &ArgMatches<'_>) -> Result<Job, AllocError>
 }
 
 /// The job that the arguments ask for, of which the first is the program's name.
+///
+/// Not made in line, it gives back its stack before the job is done.
+#[inline(never)]
 pub fn job<S: AsStr>(alloc: Global, words: &[S]) -> Result<Job, LineFault>
     ensures simple { is_simple the_command ≡ true }
     ensures values { IfOk result (IsDecodeJobOf (decode_matches (map S.text words.now))) }

@@ -3,11 +3,11 @@
 ghost use Rattle.std.specs.Prelude.{◌≡◌, Some, is_some, IfErr, IfOk, map, option_map, string_bytes, true};
 ghost use Rattle.clap.specs.Words.{app_of, found_of, is_simple, rows_of};
 ghost use Rattle.program_core.specs.Options.{number_in, with_version};
-ghost use Rattle.program_core.specs.Pbmtojbg85.{HasDefaults, IsFaultOf, IsEncodeJobOf, IsOptionFault, encode_command as the_command, encode_matches};
+ghost use Rattle.program_core.specs.Pbmtojbg85.{HasDefaults, IsFaultOf, IsEncodeJobOf, IsOptionFault, encode_command as the_command, encode_matches, encode_numbers};
 
 use super::NAME;
 use super::work::Job;
-use crate::args::{VERSION, default_arg, file_arg, flag_arg, number_arg, text_arg};
+use crate::args::{VERSION, with_default, with_file, with_flag, with_number, with_text};
 use crate::line_fault::LineFault;
 use crate::matches::{flag, matches_of, number, text};
 use clap::{ArgMatches, Command};
@@ -25,39 +25,53 @@ fn command<'a>(alloc: Global) -> Result<Command<'a>, AllocError>
 fn unversioned<'a>(alloc: Global) -> Result<Command<'a>, AllocError>
     ensures { IfOk result (λ c. with_version (app_of c) ≡ the_command) }
 {
-    let args = [
-        default_arg(
-            alloc,
-            "options",
-            'p',
-            "8",
-            "Options: 64 two lines, 32 variable height, 8 typical prediction, summed",
-        ),
-        default_arg(alloc, "stripe", 's', "128", "Rows in a stripe"),
-        default_arg(
-            alloc,
-            "move",
-            'm',
-            "0",
-            "Greatest offset of the adaptive pixel",
-        ),
-        number_arg(
-            alloc,
-            "announced",
-            'Y',
-            "Announce a height that the image may fall short of",
-        ),
-        text_arg(alloc, "comment", 'C', "A comment in the stream"),
-        flag_arg(alloc, "reset", 'r', "Begin each stripe anew"),
-        file_arg(alloc, "input", "The PBM image, or `-` for standard input"),
-        file_arg(
-            alloc,
-            "output",
-            "The file to write, or `-` for standard output",
-        ),
-    ];
-    let args = Vec::from_array(alloc, args)?;
-    Command::new(alloc, NAME).args(args)
+    let command = with_numbers(alloc)?;
+    let command = with_text(command, alloc, "comment", 'C', "A comment in the stream")?;
+    let command = with_flag(command, alloc, "reset", 'r', "Begin each stripe anew")?;
+    let command = with_file(
+        command,
+        alloc,
+        "input",
+        "The PBM image, or `-` for standard input",
+    )?;
+    with_file(
+        command,
+        alloc,
+        "output",
+        "The file to write, or `-` for standard output",
+    )
+}
+
+/// The command with its options that have a number.
+#[inline(never)]
+fn with_numbers<'a>(alloc: Global) -> Result<Command<'a>, AllocError>
+    ensures { IfOk result (λ c. app_of c ≡ encode_numbers) }
+{
+    let command = Command::new(alloc, NAME);
+    let command = with_default(
+        command,
+        alloc,
+        "options",
+        'p',
+        "8",
+        "Options: 64 two lines, 32 variable height, 8 typical prediction, summed",
+    )?;
+    let command = with_default(command, alloc, "stripe", 's', "128", "Rows in a stripe")?;
+    let command = with_default(
+        command,
+        alloc,
+        "move",
+        'm',
+        "0",
+        "Greatest offset of the adaptive pixel",
+    )?;
+    with_number(
+        command,
+        alloc,
+        "announced",
+        'Y',
+        "Announce a height that the image may fall short of",
+    )
 }
 
 /// The bytes of a comment that may be there.
@@ -108,6 +122,9 @@ fn job_of(alloc: Global, matches: &ArgMatches<'_>) -> Result<Job, LineFault>
 }
 
 /// The job that the arguments ask for, of which the first is the program's name.
+///
+/// Not made in line, it gives back its stack before the job is done.
+#[inline(never)]
 pub fn job<S: AsStr>(alloc: Global, words: &[S]) -> Result<Job, LineFault>
     ensures simple { is_simple the_command ≡ true }
     ensures values { IfOk result (IsEncodeJobOf (encode_matches (map S.text words.now))) }
