@@ -10,3 +10,6 @@ pub mod HeightFound
 pub mod Summed
 pub mod FindingHeight
 pub mod StripeBegins
+pub mod PartsRead
+pub mod PartsPassed
+pub mod PartsTold

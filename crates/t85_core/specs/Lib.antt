@@ -14,6 +14,7 @@ pub mod Change
 pub mod Failures
 pub mod Options
 pub mod Info
+pub mod Parts
 pub mod Decode
 pub mod Outcomes
 pub mod Lent

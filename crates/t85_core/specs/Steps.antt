@@ -3,6 +3,7 @@ pub mod CoderLaws
 pub mod Buffers
 pub mod Segments
 pub mod HeightWalk
+pub mod PartSteps
 pub mod Entity
 pub mod Views
 pub mod State

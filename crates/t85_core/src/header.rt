@@ -60,7 +60,7 @@ impl Header {
 
     /// Judges the twenty bytes.
     #[inline(always)]
-    fn accept(bytes: &[u8; 20]) -> Result<Header, Fault>
+    pub(crate) fn accept(bytes: &[u8; 20]) -> Result<Header, Fault>
         ensures accepted { IfOk result (λ h. HeaderOf bytes.now (fields_of h)) }
         ensures refused { MatchResult result (λ _. header_fault bytes.now ≡ None)
             (λ f. header_fault bytes.now ≡ Some f) }

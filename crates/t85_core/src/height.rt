@@ -105,7 +105,11 @@ pub fn find<S: ByteSource>(header: &Header, stream: &mut S) -> Result<Reached, F
 }
 
 /// Skips comments after the last stripe that the header's height makes, and a height where one comes after them.
-fn look<S: ByteSource>(header: &Header, entities: u32, stream: &mut S) -> Result<Option<u32>, Fault>
+pub fn look<S: ByteSource>(
+    header: &Header,
+    entities: u32,
+    stream: &mut S,
+) -> Result<Option<u32>, Fault>
     requires variable { is_variable (fields_of header.now) ≡ true }
     ensures found { IfOk result (λ height. IfSome height (LooksTo (fields_of header.now) entities
         (S.view stream.old).known (S.view stream.new).known)) }
@@ -236,7 +240,7 @@ fn skip_stripe<S: ByteSource>(
 }
 
 /// Skips what is left of a data entity that begins so.
-fn skip_rest<S: ByteSource>(first: Code, stream: &mut S) -> Result<(), Fault>
+pub fn skip_rest<S: ByteSource>(first: Code, stream: &mut S) -> Result<(), Fault>
     requires first { IsByteOrMarker first }
     ensures ok { OnOk result (PassesRest first (S.view stream.old).known
         (S.view stream.new).known) }

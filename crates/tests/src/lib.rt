@@ -24,6 +24,8 @@ mod info;
 #[cfg(test)]
 mod large;
 #[cfg(test)]
+mod parts;
+#[cfg(test)]
 mod plain;
 #[cfg(test)]
 mod random;

@@ -169,24 +169,29 @@ module _ (h : Fields) (ok : IsAccepted h) where
   header_height : (body : List ℕ) → ((n : ℕ) → GivesHeight h body n → ⊥) → (n : ℕ) × IsHeight h body n
   header_height body never = (h.yd, inr (refl, never))
 
-  -- No height is given where the look after the last stripe ended, and the header's is that of the image.
+  -- No height is given where the look after the last stripe ended.
+  pub never_behind : (body : List ℕ) (ss : List Stripe) (rest : List ℕ) (cs : List Segment) (last : List ℕ) → length ss ≡ stripe_count h.yd h.l0 → AreStripes h ss → GiveOnly 0 0 (all_segments ss) → body ≡ flat_map stripe_bytes ss ++ rest →
+      AllByRecursion (λ s. IsTrue (is_comment s)) cs → AllByRecursion (IsLegal h) cs →
+      ((n : ℕ) (more : List ℕ) → is_valid_length h (length ss) n ≡ true → last ≡ segment_bytes (NewLength n) ++ more → ⊥) →
+      ((text more : List ℕ) → length text < 2 ^ 32 → last ≡ segment_bytes (Comment text) ++ more → ⊥) →
+      rest ≡ flat_map segment_bytes cs ++ last → (n : ℕ) → GivesHeight h body n → ⊥
+  never_behind body ss rest cs last many each gives is c l no_height no_comment e n g = by (cases_lt (length g.stripes) (length ss)) where
+    by : (length g.stripes < length ss) ⊎ (length ss ≤ length g.stripes) → ⊥
+    by (inl less) =
+        parts_or_fault h ok 0 (length ss) (never_suits h (length ss)) ss g.stripes rest (flat_map segment_bytes g.segments ++ (segment_bytes (NewLength n) ++ g.rest)) Changed each g.each gives
+        (omega (arith, less)) less (given_breaks h ok body n g) (sym is ∙ g.body_is)
+    by (inr more) =
+        let same : length ss ≡ length g.stripes = omega (arith, more, many, g.within) in
+        let front = one_front h ok ss g.stripes rest (flat_map segment_bytes g.segments ++ (segment_bytes (NewLength n) ++ g.rest)) each g.each same (sym is ∙ g.body_is) in
+        no_look (length ss) n cs g.segments last g.rest c l (g.behind (sym same ∙ many)) g.begun.legal (subst (λ k. is_valid_length h k n ≡ true) (sym same) g.valid) no_height no_comment (sym e ∙ front.1)
+
+  -- and the header's is that of the image
   pub height_of_ended : (body : List ℕ) (ss : List Stripe) (rest : List ℕ) (cs : List Segment) (last : List ℕ) → length ss ≡ stripe_count h.yd h.l0 → AreStripes h ss → GiveOnly 0 0 (all_segments ss) → body ≡ flat_map stripe_bytes ss ++ rest →
       AllByRecursion (λ s. IsTrue (is_comment s)) cs → AllByRecursion (IsLegal h) cs →
       ((n : ℕ) (more : List ℕ) → is_valid_length h (length ss) n ≡ true → last ≡ segment_bytes (NewLength n) ++ more → ⊥) →
       ((text more : List ℕ) → length text < 2 ^ 32 → last ≡ segment_bytes (Comment text) ++ more → ⊥) →
       rest ≡ flat_map segment_bytes cs ++ last → IsHeight h body h.yd
-  height_of_ended body ss rest cs last many each gives is c l no_height no_comment e = inr (refl, never) where
-    by : (n : ℕ) (g : GivesHeight h body n) → (length g.stripes < length ss) ⊎ (length ss ≤ length g.stripes) → ⊥
-    by n g (inl less) =
-        parts_or_fault h ok 0 (length ss) (never_suits h (length ss)) ss g.stripes rest (flat_map segment_bytes g.segments ++ (segment_bytes (NewLength n) ++ g.rest)) Changed each g.each gives
-        (omega (arith, less)) less (given_breaks h ok body n g) (sym is ∙ g.body_is)
-    by n g (inr more) =
-        let same : length ss ≡ length g.stripes = omega (arith, more, many, g.within) in
-        let front = one_front h ok ss g.stripes rest (flat_map segment_bytes g.segments ++ (segment_bytes (NewLength n) ++ g.rest)) each g.each same (sym is ∙ g.body_is) in
-        no_look (length ss) n cs g.segments last g.rest c l (g.behind (sym same ∙ many)) g.begun.legal (subst (λ k. is_valid_length h k n ≡ true) (sym same) g.valid) no_height no_comment (sym e ∙ front.1)
-
-    never : (n : ℕ) → GivesHeight h body n → ⊥
-    never n g = by n g (cases_lt (length g.stripes) (length ss))
+  height_of_ended body ss rest cs last many each gives is c l no_height no_comment e = inr (refl, never_behind body ss rest cs last many each gives is c l no_height no_comment e)
 
   -- Where 0 is in use, a body that breaks with another fault than that of a valid height gives none.
   pub height_of_broken : (body : List ℕ) (f : Fault) → StripesFault h 0 (stripe_count h.yd h.l0) body f → (f ≡ Changed → ⊥) → IsHeight h body h.yd

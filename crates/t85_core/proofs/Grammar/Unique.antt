@@ -43,7 +43,7 @@ differs : (a b : ℕ) → a ≢ b → nat_eq a b ≡ false
 differs a b p = grind (arith, nat_tests)
 
 -- an accepted header has no fault
-accepted : (bytes : List ℕ) (h : Fields) → HeaderOf bytes h → header_fault bytes ≡ None
+pub accepted : (bytes : List ℕ) (h : Fields) → HeaderOf bytes h → header_fault bytes ≡ None
 accepted bytes h p =
     let private : slice_index bytes 19 % 8 ≢ 6 = λ e. p.accepted.no_table (ap (λ o. o % 8) (sym p.options) ∙ e) in
     skip _ _ _ (not_above_20 (length bytes) p.whole)

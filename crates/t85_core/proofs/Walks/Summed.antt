@@ -69,7 +69,7 @@ fits l n (suc j) some low = went (cases_lt (stripe_count n l) (suc j)) where
       let c : (suc j - 1) * l ≡ j * l = ap (λ z. z * l) same in
       absurd (omega (arith, t.0, up, low, c))
 
-entities_fit : (h : Fields) (k n : ℕ) → 0 < h.l0 → is_valid_length h k n ≡ true → k ≤ stripe_count n h.l0
+pub entities_fit : (h : Fields) (k n : ℕ) → 0 < h.l0 → is_valid_length h k n ≡ true → k ≤ stripe_count n h.l0
 entities_fit h k n some e = fits h.l0 n k some (last_within h k n e)
 
 -- a lower height makes no more stripes
