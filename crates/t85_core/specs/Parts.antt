@@ -1,8 +1,9 @@
 -- What a stream is made of, part by part: the header, segments and data entities.
-use Rattle.std.specs.Prelude.{ℕ, ◌+◌, ◌≡◌, ◌≤◌, ◌<◌, ◌⊎◌, Bool, true, false, not, List, [], ◌∷◌, ◌++◌, length, take, drop, flat_map, count_by, Some, if◌then◌else◌, IsTrue}
+use Rattle.std.specs.Prelude.{ℕ, ◌≢◌, ◌+◌, ◌≡◌, ◌≤◌, ◌<◌, ◌⊎◌, Bool, true, false, not, List, [], ◌∷◌, ◌++◌, length, take, drop, flat_map, count_by, Some, if◌then◌else◌, IsTrue}
 use Rattle.std.specs.List.{AllByRecursion}
 use Rattle.qm_core.specs.Code.{stuffed}
 use Rattle.t85_core.specs.declared.fault.Fault.{Fault}
+use Rattle.t85_core.specs.declared.fault.Fault.TheVariants.{Read}
 use Rattle.t85_core.specs.declared.parts.Found.{Found}
 use Rattle.t85_core.specs.declared.parts.Found.TheVariants as found
 use Rattle.t85_core.specs.declared.parts.Part.{Part}
@@ -13,7 +14,7 @@ use Rattle.t85_core.specs.Header.{Fields, HeaderOf, header_fault}
 use Rattle.t85_core.specs.Grammar.{Segment, NewLength, Move, Comment, IsLegal, segment_bytes, is_move, is_comment, lengths, Stripe, stripe_bytes, marker_bytes, all_segments, stripe_count, is_nil, IsBegun, AreStripes, GiveOnly}
 use Rattle.t85_core.specs.Refusal.{rest_fault}
 use Rattle.t85_core.specs.Height.{GivesHeight, IsHeight, StreamFault}
-use Rattle.t85_core.specs.Info.{numbers_of, HasNumbers}
+use Rattle.t85_core.specs.Info.{numbers_of, HasNumbers, IsWalkFault}
 
 -- The parts that were passed: none, or the header, whole stripes and segments of the next stripe.
 pub data Passed : Type 0 where
@@ -146,3 +147,10 @@ abbrev pub Tells : List ℕ → PartWalk → PartWalk → Passed → Found → T
 Tells stream w w' from (found.Part part) = TakesPart stream w w' from part
 Tells stream w w' from (found.End len) = EndsAt stream from len × (w' ≡ w)
 Tells stream w w' from (found.Broken fault offset stripe) = BreaksAt stream w from fault offset stripe × (w' ≡ w)
+
+-- What a walk tells whatever its numbers are: a part has a byte at least, and ends within the stream; a fault is one that
+-- a stream may have.
+abbrev pub TellsOfAny : List ℕ → PartWalk → PartWalk → Found → Type 0
+TellsOfAny stream w w' (found.Part part) = (part.offset ≡ w.offset) × (w'.offset ≡ w.offset + part.len) × (0 < part.len) × (w'.offset ≤ length stream)
+TellsOfAny stream w w' (found.End len) = (len ≡ w.offset) × (w' ≡ w)
+TellsOfAny stream w w' (found.Broken fault offset stripe) = IsWalkFault fault × (fault ≢ Read) × (w' ≡ w)

@@ -1,10 +1,12 @@
 //! What a stream is made of, part by part: its header, segments and data entities.
 
-ghost use Rattle.std.specs.Prelude.{◌≡◌, ◌≤◌, ◌<◌, ◌+◌, ◌-◌, ◌^◌, ℕ, IfErr, IfOk, IfSome, OnOk, Some, None, drop, length, true};
+ghost use Rattle.std.specs.Prelude.{◌≡◌, ◌≢◌, ◌≤◌, ◌<◌, ◌+◌, ◌-◌, ◌^◌, ℕ, IfErr, IfOk, IfSome, OnOk, Some, None, drop, length, true};
 ghost use Rattle.t85_core.specs.Options.{fields_of};
 ghost use Rattle.t85_core.specs.Header.{HeaderOf, header_fault, is_variable};
-ghost use Rattle.t85_core.specs.Parts.{Passed, start_walk, Stands, Tells};
+ghost use Rattle.t85_core.specs.Info.{IsWalkFault};
+ghost use Rattle.t85_core.specs.Parts.{Passed, start_walk, Stands, Tells, TellsOfAny};
 ghost use Rattle.t85_core.specs.Steps.HeightWalk.{LookEnds};
+ghost use Rattle.t85_core.specs.declared.fault.Fault.TheVariants.{Read};
 ghost use Rattle.t85_core.specs.declared.parts.Found.TheVariants as found;
 ghost use Rattle.t85_core.specs.Steps.PartSteps.{ReadsPart, MissesPart, IsSegment, place_before, CanPass, kind_of, part_told, walk_behind, header_part, header_walk, height_in_use, is_given, TellsThere, TellsInStripe, TellsBehind, TellsBefore, SeesHeight};
 
@@ -42,7 +44,8 @@ pub struct Part {
 #[derive(Clone, Copy, Debug, PartialEq, Eq)]
 pub enum Found {
     Part(Part),
-    /// All parts were told, and the stream has so many bytes.
+    /// All parts were told, and the stream has so many bytes. An empty data entity behind a height that came last, as the
+    /// encoder writes it, is not looked at, and comes after these bytes.
     End {
         len: usize,
     },
@@ -102,8 +105,9 @@ impl PartWalk {
     /// before it are parts; nothing else is that stands there. Any numbers are safe; what is told is true of a walk that
     /// began at `start` and went on in the same stream.
     pub fn next(&mut self, stream: &[u8]) -> Found
-        ensures { (from : Passed) → Stands stream.now self.old from →
+        ensures told { (from : Passed) → Stands stream.now self.old from →
             Tells stream.now self.old self.new from result }
+        ensures any { TellsOfAny stream.now self.old self.new result }
     {
         let header = match read_header(stream) {
             Ok(header) => header,
@@ -123,7 +127,8 @@ impl PartWalk {
 
     /// Tells the next part behind the header.
     fn next_in_body(&mut self, header: &Header, stream: &[u8]) -> Found
-        ensures { TellsThere (fields_of header.now) stream.now self.old self.new result }
+        ensures told { TellsThere (fields_of header.now) stream.now self.old self.new result }
+        ensures any { TellsOfAny stream.now self.old self.new result }
     {
         let count = self.height_in_use(header).div_ceil(header.l0);
         if self.entities < count {
@@ -154,7 +159,8 @@ impl PartWalk {
     /// Tells the next part of a stripe.
     fn next_in_stripe(&mut self, header: &Header, stream: &[u8]) -> Found
         requires few { self.old.entities < 2 ^ 32 - 1 }
-        ensures { TellsInStripe (fields_of header.now) stream.now self.old self.new result }
+        ensures told { TellsInStripe (fields_of header.now) stream.now self.old self.new result }
+        ensures any { TellsOfAny stream.now self.old self.new result }
     {
         let rest = rest_of(stream, self.offset);
         let place = Place {
@@ -175,7 +181,8 @@ impl PartWalk {
 
     /// Tells what comes behind the last stripe.
     fn next_behind(&mut self, header: &Header, stream: &[u8]) -> Found
-        ensures { TellsBehind (fields_of header.now) stream.now self.old self.new result }
+        ensures told { TellsBehind (fields_of header.now) stream.now self.old self.new result }
+        ensures any { TellsOfAny stream.now self.old self.new result }
     {
         if self.sees_height(header, stream) {
             self.next_before_height(header, stream)
@@ -208,7 +215,8 @@ impl PartWalk {
 
     /// Tells a comment behind the last stripe, or the height there, where it is known that one comes.
     fn next_before_height(&mut self, header: &Header, stream: &[u8]) -> Found
-        ensures { TellsBefore (fields_of header.now) stream.now self.old self.new result }
+        ensures told { TellsBefore (fields_of header.now) stream.now self.old self.new result }
+        ensures any { TellsOfAny stream.now self.old self.new result }
     {
         let rest = rest_of(stream, self.offset);
         let mut source = Piece { rest };
@@ -301,6 +309,7 @@ fn kind_of(taken: Taken) -> PartKind
 fn read_header(stream: &[u8]) -> Result<Header, Fault>
     ensures accepted { IfOk result (λ h. HeaderOf stream.now (fields_of h)) }
     ensures refused { IfErr result (λ f. header_fault stream.now ≡ Some f) }
+    ensures among { IfErr result (λ f. IsWalkFault f × (f ≢ Read)) }
 {
     if stream.len() < HEADER_LEN {
         return Err(Fault::ShortHeader);
@@ -330,7 +339,8 @@ fn read_part(
         source.new.rest.now) }
     ensures err { IfErr result (MissesPart (fields_of header.now) place moved
         source.old.rest.now) }
-    ensures no_more { OnOk result (length source.new.rest.now ≤ length source.old.rest.now) }
+    ensures among { IfErr result (λ f. IsWalkFault f × (f ≢ Read)) }
+    ensures lowers { OnOk result (length source.new.rest.now < length source.old.rest.now) }
 {
     match next_piece(header, place, moved, source)? {
         segments::Piece::NewLength(height) => Ok(Taken::NewHeight(height)),
@@ -350,7 +360,7 @@ fn read_before_height(header: &Header, entities: u32, source: &mut Piece<'_>) ->
     ensures segment { IfSome result IsSegment }
     ensures none { result ≡ None → is_variable (fields_of header.now) ≡ true →
         LookEnds (fields_of header.now) entities source.old.rest.now }
-    ensures no_more { IfSome result (λ _. length source.new.rest.now ≤
+    ensures lowers { IfSome result (λ _. length source.new.rest.now <
         length source.old.rest.now) }
 {
     let place = Place {

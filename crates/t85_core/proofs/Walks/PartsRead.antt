@@ -1,5 +1,5 @@
 -- A part is read from the front of bytes, or breaks.
-use Rattle.std.proofs.Common.{cond, ◌≡◌, ◌≢◌, ◌⊎◌, inl, inr, ◌<◌, ◌≤◌, ◌+◌, ℕ, Bool, true, false, List, [], ◌∷◌, ◌++◌, Some, length, take, drop, slice_index, refl, sym, ap, ◌∙◌, subst, append_assoc, append-nil, arith}
+use Rattle.std.proofs.Common.{cond, not, ◌≡◌, ◌≢◌, ◌⊎◌, inl, inr, ◌<◌, ◌≤◌, ◌+◌, ℕ, Bool, true, false, List, [], ◌∷◌, ◌++◌, Some, length, take, drop, slice_index, refl, sym, ap, ◌∙◌, subst, append_assoc, append-nil, arith}
 use Rattle.std.proofs.lemmas.List.{get_or_append_left, drop-append-le, take-append-drop, length-take-le, length-drop}
 use Rattle.byteorder.specs.Endian.{big_number}
 use Rattle.byteorder.specs.Numbers.{big_from-append}
@@ -11,13 +11,15 @@ use Rattle.t85_core.specs.declared.segments.Code.TheVariants as code
 use Rattle.t85_core.specs.declared.segments.Place.{Place}
 use Rattle.t85_core.specs.declared.parts.Taken.TheVariants as taken
 use Rattle.t85_core.specs.Header.{Fields, HeaderOf, long_at}
-use Rattle.t85_core.specs.Grammar.{marker_bytes}
+use Rattle.t85_core.specs.Grammar.{marker_bytes, is_nil}
 use Rattle.t85_core.specs.Refusal.{Spot, rest_fault}
 use Rattle.t85_core.specs.Failures.{Ends, reads_after}
 use Rattle.t85_core.specs.Steps.Segments.{IsByteOrMarker, code_bytes, CodeFault, PieceFault}
+use Rattle.t85_core.specs.Info.{IsWalkFault}
 use Rattle.t85_core.specs.Steps.HeightWalk.{PassesRest, RestBreaks}
 use Rattle.t85_core.specs.Steps.PartSteps.{ReadsPart, MissesPart}
 use Rattle.t85_core.proofs.Bytes.Known.{stable_rest, counted-other}
+use Rattle.t85_core.proofs.Grammar.Faults.{rest_faults}
 use Rattle.t85_core.proofs.Bytes.Stuffing.{stuffed_append}
 
 -- the header is in the first twenty bytes
@@ -102,3 +104,7 @@ module _ (h : Fields) (place : Place) (moved : Bool) (old new : List ℕ) where
           ∙ ap (λ z. z ++ (marker_bytes reset ++ new)) (sym (stuffed_append (b ∷ []) q.code)) ∙ sym (append_assoc (stuffed (b ∷ q.code)) (marker_bytes reset) new),
     )
     read_entity (code.Marker reset) small front same = ([], reset, tt, front ∙ ap (λ z. marker_bytes reset ++ z) (let e : mid ≡ new = cc in e))
+
+-- the fault is one of a stream
+pub missed_among : (h : Fields) (place : Place) (moved : Bool) (bytes : List ℕ) (f : Fault) → MissesPart h place moved bytes f → IsWalkFault f
+missed_among h place moved bytes f m = rest_faults h (record { height = 0; entities = place.entities; heights = cond place.given 1 0 }) (cond moved 1 0) (not (is_nil m.code)) m.rest f (m.rest_has 0)

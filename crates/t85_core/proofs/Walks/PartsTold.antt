@@ -4,7 +4,7 @@ use Rattle.std.specs.Prelude.{flat_map, IsTrue}
 use Rattle.std.specs.List.{AllByRecursion}
 use Rattle.std.proofs.lemmas.Bool.Decides.{nat_tests}
 use Rattle.std.proofs.lemmas.Grind.{flat_map-append}
-use Rattle.std.proofs.lemmas.List.{take-append-drop, length-take-le}
+use Rattle.std.proofs.lemmas.List.{take-append-drop, length-take-le, length-drop}
 use Rattle.std.proofs.Math.Seq.{take-append_seam, take-append-add}
 use Rattle.qm_core.specs.Code.{stuffed}
 use Rattle.t85_core.specs.declared.fault.Fault.{Fault}
@@ -19,7 +19,7 @@ use Rattle.t85_core.specs.Grammar.{Segment, NewLength, Move, Comment, segment_by
 use Rattle.t85_core.specs.Refusal.{BodyFault, rest_fault}
 use Rattle.t85_core.specs.Height.{GivesHeight, IsHeight}
 use Rattle.t85_core.specs.Steps.HeightWalk.{moved_behind, IsAlone, SkipsFault, LooksTo, LookEnds}
-use Rattle.t85_core.specs.Parts.{Passed, Nothing, Behind, Tells, passed_bytes, EndsInHeight, IsUngiven, IsGiven, StandsBehind, Adds, Stands, TakesPart, IsWhole, BreaksAt}
+use Rattle.t85_core.specs.Parts.{Passed, Nothing, Behind, Tells, TellsOfAny, passed_bytes, EndsInHeight, IsUngiven, IsGiven, StandsBehind, Adds, Stands, TakesPart, IsWhole, BreaksAt}
 use Rattle.t85_core.specs.Steps.PartSteps.{ReadsPart, MissesPart, IsSegment, place_before, kind_of, part_told, walk_behind, is_given, height_in_use, stripes_in_use, header_part, header_walk, CanPass, TellsThere, TellsBehind, TellsBefore, SeesHeight, ComesOrEnds}
 use Rattle.t85_core.proofs.Bytes.Lists.{All-append}
 use Rattle.t85_core.proofs.Bytes.Lengths.{many_lengths, lengths_append, gives_none, gives_left, gives_right, valid_parts}
@@ -392,6 +392,22 @@ module _ {stream : List ℕ} {w : PartWalk} {h : Fields} {ss : List Stripe} {gs 
 pub tells_taken : {stream : List ℕ} {w w' v : PartWalk} {from : Passed} {told : Found} {part : Part} → told ≡ found.Part part → w' ≡ v → TakesPart stream w v from part → Tells stream w w' from told
 tells_taken {stream} {w} {w'} {v} {from} {told} {part} e k t = subst (λ r. Tells stream w w' from r) (sym e) (subst (λ z. TakesPart stream w z from part) (sym k) t)
 
+-- whatever the numbers are
+offset_behind : (t : Taken) (w : PartWalk) (len : ℕ) → (walk_behind t w len).offset ≡ w.offset + len
+offset_behind taken.Comment w len = refl
+offset_behind taken.Move w len = refl
+offset_behind (taken.NewHeight n) w len = refl
+offset_behind taken.DataEntity w len = refl
+
+pub any_taken : {w' : PartWalk} {told : Found} {len : ℕ} (stream : List ℕ) (w v : PartWalk) (t : Taken) (left : List ℕ) → told ≡ found.Part (part_told t v len) → w' ≡ walk_behind t v len → v.offset ≡ w.offset →
+    len ≡ length (drop w.offset stream) - length left → length left < length (drop w.offset stream) → TellsOfAny stream w w' told
+any_taken {w'} {told} {len} stream w v t left e k same len_is less =
+    let l = length-drop w.offset stream in
+    let next : w'.offset ≡ w.offset + len = ap (λ z. z.offset) k ∙ offset_behind t v len ∙ ap (λ n. n + len) same in
+    let some : 0 < len = omega (arith, len_is, less) in
+    let within : w'.offset ≤ length stream = omega (arith, l, next, len_is, less) in
+    subst (TellsOfAny stream w w') (sym e) (same, next, some, within)
+
 -- the look answered
 pub seen : {stream : List ℕ} {w : PartWalk} {h : Fields} {ss : List Stripe} {gs : List Segment} (p : StandsBehind stream w h ss gs) → is_given w ≡ false → stripes_in_use h w ≤ w.entities → w.height_comes ≡ false →
     (o : Option ℕ) (left : List ℕ) (sees : Bool) → sees ≡ is_some o → IfSome o (LooksTo h w.entities (Some (drop w.offset stream)) (Some left)) → (o ≡ None → LookEnds h w.entities (drop w.offset stream)) → ComesOrEnds h stream w ss gs sees
@@ -454,3 +470,12 @@ tells_header stream h w header zero (Behind k ss gs) p = absurd (let o = p.offse
 pub tells_refused : (stream : List ℕ) (f : Fault) (w : PartWalk) → header_fault stream ≡ Some f → (from : Passed) → Stands stream w from → BreaksAt stream w from f 0 0
 tells_refused stream f w refused Nothing p = record { offset_is = sym p; stripe_is = refl; breaks = refused; stream_has = inl refused }
 tells_refused stream f w refused (Behind k ss gs) p = absurd (let e : None ≡ Some f = sym (accepted stream k p.header_of) ∙ refused in let bot : ⊥ = cc in bot)
+
+-- the header's numbers
+pub any_header : {w' : PartWalk} {told : Found} (stream : List ℕ) (h : Fields) (w : PartWalk) → HeaderOf stream h → w.offset ≡ 0 → told ≡ found.Part header_part → w' ≡ header_walk → TellsOfAny stream w w' told
+any_header {w'} {told} stream h w header zero e k =
+    let at : w'.offset ≡ 20 = ap (λ z. z.offset) k in
+    let long = header.whole in
+    let next : w'.offset ≡ w.offset + 20 = omega (arith, at, zero) in
+    let within : w'.offset ≤ length stream = omega (arith, at, long) in
+    subst (TellsOfAny stream w w') (sym e) (sym zero, next, omega arith, within)

@@ -4,5 +4,5 @@ use Rattle.t85_core.specs.Steps.PartSteps.{SeesHeight}
 use Rattle.t85_core.proofs.Walks.PartsTold.{before_of}
 use Rattle.t85_core.proofs.parts.PartWalk.next_behind.Goals as goal
 
-pub returns-then-sees_height : goal.returns-then-sees_height
-returns-then-sees_height c = before_of (fields_of c.args.header.now) _ _ _ _ (subst (SeesHeight _ _ _) c.if-sees_height.true c.sees_height.ensures) c.next_before_height.ensures
+pub returns-then-sees_height-clause-told : goal.returns-then-sees_height-clause-told
+returns-then-sees_height-clause-told c = before_of (fields_of c.args.header.now) _ _ _ _ (subst (SeesHeight _ _ _) c.if-sees_height.true c.sees_height.ensures) c.next_before_height.ensures.told
