@@ -8,6 +8,7 @@ mod held;
 pub mod image;
 pub mod kept;
 pub mod line;
+pub mod parts;
 pub mod pieces;
 pub mod room;
 pub mod rows;
