@@ -217,7 +217,11 @@ fn tells(stream: &[u8], body: &[(PartKind, usize, usize, u32)], end: Found) -> b
 fn all_tell(rt: &impl Abort, alloc: Global, cases: &[Case]) -> Result<(), Fail> {
     for case in cases {
         let stream = Hex(case.stream).to_vec(alloc)?;
-        assert!(rt; tells(stream.as_slice(), case.body, case.end), "{}", case.stream);
+        assert!(rt;
+            tells(stream.as_slice(), case.body, case.end),
+            "{}",
+            case.stream
+        );
     }
     Ok(())
 }
@@ -260,15 +264,10 @@ fn breaks_at(stream: &[u8], len: usize, parts: &[(usize, usize, u32)]) -> bool {
 
 #[test]
 fn each_cut_of_a_stream(rt: HostRuntime) -> Result<(), Fail> {
-    let hex = "00000100 00000008 00000002 00000001 03 0000 00 FF07 00000002 6869 F0 FF02 FF06 00000000 0300 F8 FF02";
+    let hex =
+        "00000100 00000008 00000002 00000001 03 0000 00 FF07 00000002 6869 F0 FF02 FF06 00000000 0300 F8 FF02";
     let stream = Hex(hex).to_vec(rt.alloc())?;
-    let parts = [
-        (0, 20, 0),
-        (20, 8, 0),
-        (28, 3, 0),
-        (31, 8, 1),
-        (39, 3, 1),
-    ];
+    let parts = [(0, 20, 0), (20, 8, 0), (28, 3, 0), (31, 8, 1), (39, 3, 1)];
     for len in 0..42 {
         assert!(rt; breaks_at(stream.as_slice(), len, &parts), "{len} bytes");
     }
@@ -290,7 +289,8 @@ fn len_of(bytes: &[u8]) -> Option<usize> {
 
 #[test]
 fn streams_one_after_another(rt: HostRuntime) -> Result<(), Fail> {
-    let hex = "00000100 00000001 00000001 00000080 00 0000 00 C0 FF02 00000100 00000008 00000001 00000080 00 0000 08 FF02";
+    let hex =
+        "00000100 00000001 00000001 00000080 00 0000 00 C0 FF02 00000100 00000008 00000001 00000080 00 0000 08 FF02";
     let bytes = Hex(hex).to_vec(rt.alloc())?;
     assert_eq!(rt; len_of(bytes.as_slice()), Some(23));
     assert_eq!(rt; len_of(&bytes[23..]), Some(22));
