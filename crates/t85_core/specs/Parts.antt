@@ -30,9 +30,15 @@ entities_in (Behind h stripes segments) = length stripes
 abbrev pub passed_bytes : List Stripe → List Segment → List ℕ
 passed_bytes stripes segments = flat_map stripe_bytes stripes ++ flat_map segment_bytes segments
 
--- nothing, or what gives this height
-abbrev pub EndsInHeight : ℕ → List Segment → Type 0
-EndsInHeight height segments = (segments ≡ []) ⊎ ((front : List Segment) × (segments ≡ front ++ NewLength height ∷ []))
+-- what gives this height, where it came last, or nothing
+abbrev pub EndsInHeight : Bool → ℕ → List Segment → Type 0
+EndsInHeight true height segments = (front : List Segment) × (segments ≡ front ++ NewLength height ∷ [])
+EndsInHeight false height segments = segments ≡ []
+
+-- an empty data entity behind a height that came last, if one is there, and else nothing
+abbrev pub IsTail : Bool → List ℕ → List ℕ → Type 0
+IsTail true tail rest = ((reset : Bool) × (tail ≡ marker_bytes reset)) ⊎ ((tail ≡ []) × ((reset : Bool) (more : List ℕ) → rest ≡ marker_bytes reset ++ more → ⊥))
+IsTail false tail rest = tail ≡ []
 
 -- No height is given in these parts. Behind the last stripe that the header's height makes there are comments alone, and
 -- those only where a height comes behind them.
@@ -40,8 +46,8 @@ pub record IsUngiven (w : PartWalk) (h : Fields) (stripes : List Stripe) (segmen
   pub zero : w.late_height ≡ 0
   pub none : lengths (all_segments stripes ++ segments) ≡ []
   pub within : length stripes ≤ stripe_count h.yd h.l0
-  pub quiet : length stripes ≡ stripe_count h.yd h.l0 → w.height_comes ≡ false → segments ≡ []
-  pub comes : w.height_comes ≡ true → (length stripes ≡ stripe_count h.yd h.l0) × AllByRecursion (λ s. IsTrue (is_comment s)) segments × ((height : ℕ) × GivesHeight h body height)
+  pub quiet : length stripes ≡ stripe_count h.yd h.l0 → w.at_height ≡ false → segments ≡ []
+  pub comes : w.at_height ≡ true → (length stripes ≡ stripe_count h.yd h.l0) × AllByRecursion (λ s. IsTrue (is_comment s)) segments × ((height : ℕ) × GivesHeight h body height)
 
 -- The height of the stream is given in these parts, and no other. Behind the last stripe that it makes there is nothing but
 -- what gives it.
@@ -50,7 +56,7 @@ pub record IsGiven (w : PartWalk) (h : Fields) (stripes : List Stripe) (segments
   pub only : GiveOnly w.late_height 0 (all_segments stripes ++ segments)
   pub one : length (lengths (all_segments stripes ++ segments)) ≡ 1
   pub within : length stripes ≤ stripe_count w.late_height h.l0
-  pub last : length stripes ≡ stripe_count w.late_height h.l0 → EndsInHeight w.late_height segments
+  pub last : length stripes ≡ stripe_count w.late_height h.l0 → EndsInHeight w.at_height w.late_height segments
 
 -- A walk stands in a stream behind its header, these stripes and these segments.
 pub record StandsBehind (stream : List ℕ) (w : PartWalk) (h : Fields) (stripes : List Stripe) (segments : List Segment) : Type 0 where
@@ -65,7 +71,7 @@ pub record StandsBehind (stream : List ℕ) (w : PartWalk) (h : Fields) (stripes
 
 -- a walk before the first byte
 abbrev pub start_walk : PartWalk
-start_walk = record { offset = 0; entities = 0; late_height = 0; moved = false; height_comes = false }
+start_walk = record { offset = 0; entities = 0; late_height = 0; moved = false; at_height = false }
 
 -- A walk stands in a stream behind these parts.
 abbrev pub Stands : List ℕ → PartWalk → Passed → Type 0
@@ -107,12 +113,16 @@ pub record TakesPart (stream : List ℕ) (w w' : PartWalk) (from : Passed) (part
   pub there : take part.len (drop part.offset stream) ≡ bytes
   pub stripe_is : part.stripe ≡ entities_in from
 
--- All parts were passed: the stripes of the height of the stream, and behind them nothing but what gives it.
+-- All parts were passed: the stripes of the height of the stream, and behind them nothing but what gives it, with its empty
+-- data entity.
 pub record IsWhole (stream : List ℕ) (len : ℕ) (h : Fields) (stripes : List Stripe) (segments : List Segment) : Type 0 where
   pub height : ℕ
-  pub last : EndsInHeight height segments
+  pub comes_last : Bool
+  pub last : EndsInHeight comes_last height segments
+  pub tail : List ℕ
+  pub tail_is : IsTail comes_last tail (drop len stream)
   pub within : len ≤ length stream
-  pub bytes_are : take len stream ≡ take 20 stream ++ passed_bytes stripes segments
+  pub bytes_are : take len stream ≡ take 20 stream ++ (passed_bytes stripes segments ++ tail)
   pub numbers : HasNumbers stream (numbers_of h height stripes)
   pub height_is : IsHeight h (drop 20 stream) height
   pub all : length stripes ≡ stripe_count height h.l0
@@ -152,5 +162,5 @@ Tells stream w w' from (found.Broken fault offset stripe) = BreaksAt stream w fr
 -- a stream may have.
 abbrev pub TellsOfAny : List ℕ → PartWalk → PartWalk → Found → Type 0
 TellsOfAny stream w w' (found.Part part) = (part.offset ≡ w.offset) × (w'.offset ≡ w.offset + part.len) × (0 < part.len) × (w'.offset ≤ length stream)
-TellsOfAny stream w w' (found.End len) = (len ≡ w.offset) × (w' ≡ w)
+TellsOfAny stream w w' (found.End len) = (w.offset ≤ len) × (len ≤ w.offset + 2) × (w' ≡ w)
 TellsOfAny stream w w' (found.Broken fault offset stripe) = IsWalkFault fault × (fault ≢ Read) × (w' ≡ w)

@@ -8,12 +8,13 @@ ghost use Rattle.t85_core.specs.Parts.{Passed, start_walk, Stands, Tells, TellsO
 ghost use Rattle.t85_core.specs.Steps.HeightWalk.{LookEnds};
 ghost use Rattle.t85_core.specs.declared.fault.Fault.TheVariants.{Read};
 ghost use Rattle.t85_core.specs.declared.parts.Found.TheVariants as found;
-ghost use Rattle.t85_core.specs.Steps.PartSteps.{ReadsPart, MissesPart, IsSegment, place_before, CanPass, kind_of, part_told, walk_behind, header_part, header_walk, height_in_use, is_given, TellsThere, TellsInStripe, TellsBehind, TellsBefore, SeesHeight};
+ghost use Rattle.t85_core.specs.Steps.PartSteps.{ReadsPart, MissesPart, IsSegment, place_before, CanPass, kind_of, part_told, walk_behind, header_part, header_walk, height_in_use, is_given, TellsThere, TellsInStripe, TellsBehind, TellsBefore, SeesHeight, TailIs};
 
 use crate::fault::Fault;
 use crate::header::Header;
 use crate::height::{look, skip_rest};
 use crate::pieces::piece::Piece;
+use crate::pieces::steps::marker_at;
 use crate::segments::{self, Place, next_piece};
 
 /// What a part of a stream is.
@@ -45,7 +46,7 @@ pub struct Part {
 pub enum Found {
     Part(Part),
     /// All parts were told, and the stream has so many bytes. An empty data entity behind a height that came last, as the
-    /// encoder writes it, is not looked at, and comes after these bytes.
+    /// encoder writes it, is among them, and is no part.
     End {
         len: usize,
     },
@@ -68,8 +69,8 @@ pub struct PartWalk {
     pub late_height: u32,
     /// Whether the stripe has had its move.
     pub moved: bool,
-    /// Whether it is known that a height comes behind the last data entity.
-    pub height_comes: bool,
+    /// Whether it is known that a height comes behind the last data entity, or one came since.
+    pub at_height: bool,
 }
 
 /// What was read of a stream's body: a part, and the height that it gives.
@@ -94,7 +95,7 @@ impl PartWalk {
             entities: 0,
             late_height: 0,
             moved: false,
-            height_comes: false,
+            at_height: false,
         }
     }
 
@@ -187,7 +188,23 @@ impl PartWalk {
         if self.sees_height(header, stream) {
             self.next_before_height(header, stream)
         } else {
-            Found::End { len: self.offset }
+            Found::End {
+                len: self.offset + self.tail_len(stream),
+            }
+        }
+    }
+
+    /// How many bytes an empty data entity has that stands where a height has come last.
+    fn tail_len(&self, stream: &[u8]) -> usize
+        ensures is { TailIs self.now stream.now result }
+        ensures fits { (0 < result → self.now.offset ≤ length stream.now) × (result ≤ 2) }
+    {
+        if !self.at_height {
+            return 0;
+        }
+        match marker_at(rest_of(stream, self.offset)) {
+            Some(_) => 2,
+            None => 0,
         }
     }
 
@@ -201,7 +218,7 @@ impl PartWalk {
         if !header.is_variable() {
             return false;
         }
-        if self.height_comes {
+        if self.at_height {
             return true;
         }
         let mut source = Piece {
@@ -222,7 +239,7 @@ impl PartWalk {
         let mut source = Piece { rest };
         match read_before_height(header, self.entities, &mut source) {
             Some(taken) => {
-                self.height_comes = true;
+                self.at_height = true;
                 self.take(taken, rest.len() - source.rest.len())
             }
             None => Found::End { len: self.offset },
@@ -263,13 +280,14 @@ impl PartWalk {
             Taken::NewHeight(height) => PartWalk {
                 offset,
                 late_height: height,
-                height_comes: false,
+                at_height: true,
                 ..*self
             },
             Taken::DataEntity => PartWalk {
                 offset,
                 entities: self.entities + 1,
                 moved: false,
+                at_height: false,
                 ..*self
             },
         }

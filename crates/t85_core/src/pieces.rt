@@ -11,7 +11,7 @@ pub mod code;
 pub mod numbers;
 pub mod piece;
 pub mod rows;
-mod steps;
+pub mod steps;
 mod waits;
 pub mod walk;
 

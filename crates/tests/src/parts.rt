@@ -15,7 +15,7 @@ struct Case {
     end: Found,
 }
 
-static WHOLE: [Case; 12] = [
+static WHOLE: [Case; 13] = [
     Case {
         stream: "00000100 00000001 00000002 00000001 00 0000 08 E0 FF02 E0 FF03",
         body: &[(DataEntity, 20, 3, 0), (DataEntity, 23, 3, 1)],
@@ -70,7 +70,29 @@ static WHOLE: [Case; 12] = [
             (Comment, 26, 6, 2),
             (NewHeight, 32, 6, 2),
         ],
-        end: Found::End { len: 38 },
+        end: Found::End { len: 40 },
+    },
+    // The same with the other end marker, with no marker, and with a marker behind something else.
+    Case {
+        stream: "00000100 00000001 00000009 00000001 00 0000 20 C0 FF02 FF05 00000001 FF03 FF02",
+        body: &[(DataEntity, 20, 3, 0), (NewHeight, 23, 6, 1)],
+        end: Found::End { len: 31 },
+    },
+    Case {
+        stream: "00000100 00000001 00000009 00000001 00 0000 20 C0 FF02 FF05 00000001 FF",
+        body: &[(DataEntity, 20, 3, 0), (NewHeight, 23, 6, 1)],
+        end: Found::End { len: 29 },
+    },
+    Case {
+        stream: "00000100 00000001 00000009 00000001 00 0000 20 C0 FF02 FF05 00000001 C0 FF02",
+        body: &[(DataEntity, 20, 3, 0), (NewHeight, 23, 6, 1)],
+        end: Found::End { len: 29 },
+    },
+    // An end marker behind the last stripe, where the height came before that.
+    Case {
+        stream: "00000100 00000001 00000009 00000001 00 0000 20 FF05 00000001 C0 FF02 FF02",
+        body: &[(NewHeight, 20, 6, 0), (DataEntity, 26, 3, 0)],
+        end: Found::End { len: 29 },
     },
     // Behind the last stripe of the header's height, after two comments.
     Case {
@@ -82,6 +104,12 @@ static WHOLE: [Case; 12] = [
             (NewHeight, 36, 6, 1),
         ],
         end: Found::End { len: 42 },
+    },
+    // One that is the header's.
+    Case {
+        stream: "00000100 00000001 00000001 00000080 00 0000 20 C0 FF02 FF05 00000001",
+        body: &[(DataEntity, 20, 3, 0), (NewHeight, 23, 6, 1)],
+        end: Found::End { len: 29 },
     },
     // None there: a code, one above the header's, and one that is cut short.
     Case {
@@ -292,9 +320,11 @@ fn streams_one_after_another(rt: HostRuntime) -> Result<(), Fail> {
     let hex =
         "00000100 00000001 00000001 00000080 00 0000 00 C0 FF02 00000100 00000008 00000001 00000080 00 0000 08 FF02";
     let bytes = Hex(hex).to_vec(rt.alloc())?;
-    assert_eq!(rt; len_of(bytes.as_slice()), Some(23));
-    assert_eq!(rt; len_of(&bytes[23..]), Some(22));
-    assert_eq!(rt; len_of(&bytes[45..]), None);
+    let second = bytes.get(23..).unwrap_or(&[]);
+    let end = bytes.get(45..).unwrap_or(&[]);
+    assert!(rt; len_of(bytes.as_slice()) == Some(23));
+    assert!(rt; len_of(second) == Some(22));
+    assert!(rt; end.is_empty());
     Ok(())
 }
 
@@ -317,7 +347,7 @@ fn numbers_that_no_walk_leaves(rt: HostRuntime) -> Result<(), Fail> {
         entities: u32::MAX,
         late_height: u32::MAX,
         moved: true,
-        height_comes: true,
+        at_height: true,
     };
     let known = PartWalk {
         late_height: 0,
@@ -325,7 +355,7 @@ fn numbers_that_no_walk_leaves(rt: HostRuntime) -> Result<(), Fail> {
     };
     for (walk, found) in [
         (behind, broken),
-        (many, Found::End { len: 21 }),
+        (many, Found::End { len: 23 }),
         (known, Found::End { len: 21 }),
     ] {
         let mut walk = walk;

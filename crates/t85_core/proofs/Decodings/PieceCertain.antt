@@ -40,7 +40,7 @@ use Rattle.t85_core.proofs.Decodings.CarriedDenotes.{stripes_whole}
 use Rattle.t85_core.proofs.Decodings.PieceBehind.{front_is, behind_ends}
 use Rattle.t85_core.proofs.Decodings.PieceEnds.{Marked}
 use Rattle.t85_core.proofs.Decodings.PieceGiven.{height_known}
-use Rattle.t85_core.proofs.Decodings.PieceHeights.{valid_over, stripes_of, height_comes}
+use Rattle.t85_core.proofs.Decodings.PieceHeights.{valid_over, stripes_of, at_height}
 use Rattle.t85_core.proofs.Decodings.PieceLook.{only_comments, comments_behind}
 use Rattle.t85_core.proofs.Decodings.PieceSteps.{nil_of, some_row, at_stage}
 use Rattle.t85_core.proofs.Decodings.PieceStood.{own_height, code_of, waits_of, head_walk, in_code_entities}
@@ -304,7 +304,7 @@ module _ (h : Fields) (ok : IsAccepted h) (variable : IsTrue (is_variable h)) (w
       below = λ rest n i. let u = height_within h ((s.done ++ s.back) ++ rest) n ok i in let from = u.from in omega (arith, from, zero);
       reached = (
         ends.0 ++ segment_bytes (NewLength (w.entities * h.l0 + 1)),
-        inl (subst (λ z. GivesHeight h z (w.entities * h.l0 + 1)) text_is (height_comes head (w.entities * h.l0 + 1) variable valid [])),
+        inl (subst (λ z. GivesHeight h z (w.entities * h.l0 + 1)) text_is (at_height head (w.entities * h.l0 + 1) variable valid [])),
       );
     }) where
       zero : w.entities * h.l0 ≡ 0

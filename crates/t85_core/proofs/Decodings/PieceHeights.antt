@@ -176,8 +176,8 @@ module _ {h : Fields} {entities : ℕ} {at : Option move.Move} {carried : Carrie
   fewer = subst (λ k. k < stripe_count h.yd h.l0) (sym s.stripes.many) s.fewer
 
   -- it is the body's, whatever follows
-  pub height_comes : (rest : List ℕ) → GivesHeight h ((text ++ segment_bytes (NewLength n)) ++ rest) n
-  height_comes rest = record {
+  pub at_height : (rest : List ℕ) → GivesHeight h ((text ++ segment_bytes (NewLength n)) ++ rest) n
+  at_height rest = record {
     variable = variable;
     stripes = s.stripes.stripes;
     segments = s.passed.segments;

@@ -40,7 +40,7 @@ use Rattle.t85_core.proofs.Decodings.CarriedDenotes.{stripes_whole}
 use Rattle.t85_core.proofs.Decodings.ImagePut.{image_read}
 use Rattle.t85_core.proofs.Decodings.PieceHead.{passed_ext}
 use Rattle.t85_core.proofs.Decodings.PieceSteps.{at_stage, put_stage, nil_of, last_stripe}
-use Rattle.t85_core.proofs.Decodings.PieceHeights.{valid_over, height_comes, head_raised}
+use Rattle.t85_core.proofs.Decodings.PieceHeights.{valid_over, at_height, head_raised}
 use Rattle.t85_core.proofs.Decodings.PieceBehind.{front_is, part_of}
 use Rattle.t85_core.proofs.Decodings.PieceGiven.{read_holds}
 use Rattle.t85_core.proofs.Decodings.PieceLate.{RowsHeld, code_held, in_row_held, late_denotes, late_out, late_gives}
@@ -290,7 +290,7 @@ raised_on d e d' n p rest late waits head between comes over header height close
   known = record {
     variable = λ e. absurd (true≢false (sym e));
     first = λ e. absurd (true≢false (sym e));
-    came = λ _ _ more. height_comes in_head n variable valid more;
+    came = λ _ _ more. at_height in_head n variable valid more;
     fixed = λ _ v. absurd (true≢false (sym variable ∙ v));
   }
 

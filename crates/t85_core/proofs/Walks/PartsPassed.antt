@@ -90,7 +90,7 @@ segments_whole ss gs code reset = append-nil (all_segments (ss ++ ended gs code 
 
 module _ {h : Fields} {w : PartWalk} {ss : List Stripe} {gs : List Segment} {body : List ℕ} (w' : PartWalk) where
   module _ (u : IsUngiven w h ss gs body) where
-    pub ungiven_segment : (s : Segment) → lengths (s ∷ []) ≡ [] → w'.late_height ≡ w.late_height → w'.height_comes ≡ w.height_comes → length ss < stripe_count h.yd h.l0 → IsUngiven w' h ss (gs ++ s ∷ []) body
+    pub ungiven_segment : (s : Segment) → lengths (s ∷ []) ≡ [] → w'.late_height ≡ w.late_height → w'.at_height ≡ w.at_height → length ss < stripe_count h.yd h.l0 → IsUngiven w' h ss (gs ++ s ∷ []) body
     ungiven_segment s none late comes few = record {
       zero = late ∙ u.zero;
       none = lengths_more ss gs s ∙ ap (λ z. z ++ lengths (s ∷ [])) u.none ∙ none;
@@ -100,7 +100,7 @@ module _ {h : Fields} {w : PartWalk} {ss : List Stripe} {gs : List Segment} {bod
     }
 
     -- a comment behind the last stripe, where a height comes
-    pub ungiven_comment : (text : List ℕ) → w'.late_height ≡ w.late_height → w'.height_comes ≡ true → length ss ≡ stripe_count h.yd h.l0 → AllByRecursion (λ s. IsTrue (is_comment s)) gs → (n : ℕ) → GivesHeight h body n → IsUngiven w' h ss (gs ++ Comment text ∷ []) body
+    pub ungiven_comment : (text : List ℕ) → w'.late_height ≡ w.late_height → w'.at_height ≡ true → length ss ≡ stripe_count h.yd h.l0 → AllByRecursion (λ s. IsTrue (is_comment s)) gs → (n : ℕ) → GivesHeight h body n → IsUngiven w' h ss (gs ++ Comment text ∷ []) body
     ungiven_comment text late comes all comments n g = record {
       zero = late ∙ u.zero;
       none = lengths_more ss gs (Comment text) ∙ ap (λ z. z ++ []) u.none;
@@ -109,23 +109,23 @@ module _ {h : Fields} {w : PartWalk} {ss : List Stripe} {gs : List Segment} {bod
       comes = λ _. (all, All-push (λ s. IsTrue (is_comment s)) gs (Comment text) comments refl, (n, g));
     }
 
-    pub ungiven_entity : (code : List ℕ) (reset : Bool) → w'.late_height ≡ w.late_height → w'.height_comes ≡ w.height_comes → length ss < stripe_count h.yd h.l0 → IsUngiven w' h (ss ++ ended gs code reset ∷ []) [] body
+    pub ungiven_entity : (code : List ℕ) (reset : Bool) → w'.late_height ≡ w.late_height → w'.at_height ≡ false → length ss < stripe_count h.yd h.l0 → IsUngiven w' h (ss ++ ended gs code reset ∷ []) [] body
     ungiven_entity code reset late comes few = record {
       zero = late ∙ u.zero;
       none = ap lengths (segments_whole ss gs code reset) ∙ u.none;
       within = (let l = length_push ss (ended gs code reset) in omega (arith, l, few));
       quiet = λ _ _. refl;
-      comes = λ c. (let e = (u.comes (sym comes ∙ c)).0 in absurd (omega (arith, e, few)));
+      comes = λ c. absurd (true≢false (sym c ∙ comes));
     }
 
     -- the height is given
-    pub given_now : (n : ℕ) → 0 < h.l0 → w'.late_height ≡ n → is_valid_length h (length ss) n ≡ true → GivesHeight h body n → IsGiven w' h ss (gs ++ NewLength n ∷ []) body
-    given_now n some late valid g = record {
+    pub given_now : (n : ℕ) → 0 < h.l0 → w'.late_height ≡ n → w'.at_height ≡ true → is_valid_length h (length ss) n ≡ true → GivesHeight h body n → IsGiven w' h ss (gs ++ NewLength n ∷ []) body
+    given_now n some late at valid g = record {
       gives = subst (GivesHeight h body) (sym late) g;
       only = subst (λ z. GiveOnly z 0 (all_segments ss ++ (gs ++ NewLength n ∷ []))) (sym late) only;
       one = ap length (lengths_more ss gs (NewLength n) ∙ ap (λ z. z ++ n ∷ []) u.none);
       within = subst (λ z. length ss ≤ stripe_count z h.l0) (sym late) (entities_fit h (length ss) n some valid);
-      last = λ _. subst (λ z. EndsInHeight z (gs ++ NewLength n ∷ [])) (sym late) (inr (gs, refl));
+      last = λ _. subst (λ z. EndsInHeight w'.at_height z (gs ++ NewLength n ∷ [])) (sym late) (subst (λ b. EndsInHeight b n (gs ++ NewLength n ∷ [])) (sym at) (gs, refl));
     } where
       only : GiveOnly n 0 (all_segments ss ++ (gs ++ NewLength n ∷ []))
       only =
@@ -146,13 +146,13 @@ module _ {h : Fields} {w : PartWalk} {ss : List Stripe} {gs : List Segment} {bod
       last = λ all. absurd (let e : length ss ≡ stripe_count w.late_height h.l0 = all ∙ ap (λ z. stripe_count z h.l0) late in omega (arith, e, few));
     }
 
-    pub given_entity : (code : List ℕ) (reset : Bool) → IsGiven w' h (ss ++ ended gs code reset ∷ []) [] body
-    given_entity code reset = record {
+    pub given_entity : w'.at_height ≡ false → (code : List ℕ) (reset : Bool) → IsGiven w' h (ss ++ ended gs code reset ∷ []) [] body
+    given_entity at code reset = record {
       gives = subst (GivesHeight h body) (sym late) g.gives;
       only = subst (λ z. GiveOnly z 0 (all_segments (ss ++ ended gs code reset ∷ []) ++ [])) (sym late) (subst (GiveOnly w.late_height 0) (sym (segments_whole ss gs code reset)) g.only);
       one = ap (λ z. length (lengths z)) (segments_whole ss gs code reset) ∙ g.one;
       within = (let l = length_push ss (ended gs code reset) in let k = ap (λ z. stripe_count z h.l0) late in omega (arith, l, few, k));
-      last = λ _. inl refl;
+      last = λ _. subst (λ b. EndsInHeight b w'.late_height []) (sym at) refl;
     }
 
 -- what stands before it, and the height itself

@@ -4,8 +4,8 @@ use Rattle.std.specs.Prelude.{flat_map, IsTrue}
 use Rattle.std.specs.List.{AllByRecursion}
 use Rattle.std.proofs.lemmas.Bool.Decides.{nat_tests}
 use Rattle.std.proofs.lemmas.Grind.{flat_map-append}
-use Rattle.std.proofs.lemmas.List.{take-append-drop, length-take-le, length-drop}
-use Rattle.std.proofs.Math.Seq.{take-append_seam, take-append-add}
+use Rattle.std.proofs.lemmas.List.{drop-drop, take-append-drop, length-take-le, length-drop}
+use Rattle.std.proofs.Math.Seq.{drop-append_seam, take-add, take-append_seam, take-append-add}
 use Rattle.qm_core.specs.Code.{stuffed}
 use Rattle.t85_core.specs.declared.fault.Fault.{Fault}
 use Rattle.t85_core.specs.declared.parts.Found.{Found}
@@ -19,8 +19,8 @@ use Rattle.t85_core.specs.Grammar.{Segment, NewLength, Move, Comment, segment_by
 use Rattle.t85_core.specs.Refusal.{BodyFault, rest_fault}
 use Rattle.t85_core.specs.Height.{GivesHeight, IsHeight}
 use Rattle.t85_core.specs.Steps.HeightWalk.{moved_behind, IsAlone, SkipsFault, LooksTo, LookEnds}
-use Rattle.t85_core.specs.Parts.{Passed, Nothing, Behind, Tells, TellsOfAny, passed_bytes, EndsInHeight, IsUngiven, IsGiven, StandsBehind, Adds, Stands, TakesPart, IsWhole, BreaksAt}
-use Rattle.t85_core.specs.Steps.PartSteps.{ReadsPart, MissesPart, IsSegment, place_before, kind_of, part_told, walk_behind, is_given, height_in_use, stripes_in_use, header_part, header_walk, CanPass, TellsThere, TellsBehind, TellsBefore, SeesHeight, ComesOrEnds}
+use Rattle.t85_core.specs.Parts.{Passed, Nothing, Behind, Tells, TellsOfAny, passed_bytes, EndsInHeight, IsTail, IsUngiven, IsGiven, StandsBehind, Adds, Stands, TakesPart, IsWhole, BreaksAt}
+use Rattle.t85_core.specs.Steps.PartSteps.{ReadsPart, MissesPart, IsSegment, place_before, kind_of, part_told, walk_behind, is_given, height_in_use, stripes_in_use, header_part, header_walk, CanPass, TellsThere, TellsBehind, TellsBefore, SeesHeight, ComesOrEnds, IsDone, TailIs}
 use Rattle.t85_core.proofs.Bytes.Lists.{All-append}
 use Rattle.t85_core.proofs.Bytes.Lengths.{many_lengths, lengths_append, gives_none, gives_left, gives_right, valid_parts}
 use Rattle.t85_core.proofs.Grammar.Unique.{header_is, accepted}
@@ -46,7 +46,7 @@ in_use_given h w e = let t : nat_eq w.late_height 0 ≡ false = grind (arith, na
 
 -- it is known that a height comes
 abbrev pub known : PartWalk → PartWalk
-known w = record { offset = w.offset; entities = w.entities; late_height = w.late_height; moved = w.moved; height_comes = true }
+known w = record { offset = w.offset; entities = w.entities; late_height = w.late_height; moved = w.moved; at_height = true }
 
 few_moves : (t : Bool) → cond {A = ℕ} t 1 0 ≤ 1
 few_moves true = omega arith
@@ -98,17 +98,17 @@ module _ {stream : List ℕ} {w : PartWalk} {h : Fields} {ss : List Stripe} {gs 
       few_given : IsGiven w h ss gs (drop 20 stream) → length ss < stripe_count w.late_height h.l0
       few_given g = let e = ap (λ n. stripe_count n h.l0) (in_use_given h w (late_of g)) in let n = p.entities_are in omega (arith, few, e, n)
 
-      height_segment : (w' : PartWalk) (s : Segment) → lengths (s ∷ []) ≡ [] → w'.late_height ≡ w.late_height → w'.height_comes ≡ w.height_comes → IsUngiven w' h ss (gs ++ s ∷ []) (drop 20 stream) ⊎ IsGiven w' h ss (gs ++ s ∷ []) (drop 20 stream)
+      height_segment : (w' : PartWalk) (s : Segment) → lengths (s ∷ []) ≡ [] → w'.late_height ≡ w.late_height → w'.at_height ≡ w.at_height → IsUngiven w' h ss (gs ++ s ∷ []) (drop 20 stream) ⊎ IsGiven w' h ss (gs ++ s ∷ []) (drop 20 stream)
       height_segment w' s none late comes = by p.height where
         by : IsUngiven w h ss gs (drop 20 stream) ⊎ IsGiven w h ss gs (drop 20 stream) → IsUngiven w' h ss (gs ++ s ∷ []) (drop 20 stream) ⊎ IsGiven w' h ss (gs ++ s ∷ []) (drop 20 stream)
         by (inl u) = inl (ungiven_segment w' u s none late comes (few_ungiven u))
         by (inr g) = inr (given_segment w' g late (few_given g) s none)
 
-      height_entity : (w' : PartWalk) (code : List ℕ) (reset : Bool) → w'.late_height ≡ w.late_height → w'.height_comes ≡ w.height_comes → IsUngiven w' h (ss ++ ended gs code reset ∷ []) [] (drop 20 stream) ⊎ IsGiven w' h (ss ++ ended gs code reset ∷ []) [] (drop 20 stream)
+      height_entity : (w' : PartWalk) (code : List ℕ) (reset : Bool) → w'.late_height ≡ w.late_height → w'.at_height ≡ false → IsUngiven w' h (ss ++ ended gs code reset ∷ []) [] (drop 20 stream) ⊎ IsGiven w' h (ss ++ ended gs code reset ∷ []) [] (drop 20 stream)
       height_entity w' code reset late comes = by p.height where
         by : IsUngiven w h ss gs (drop 20 stream) ⊎ IsGiven w h ss gs (drop 20 stream) → IsUngiven w' h (ss ++ ended gs code reset ∷ []) [] (drop 20 stream) ⊎ IsGiven w' h (ss ++ ended gs code reset ∷ []) [] (drop 20 stream)
         by (inl u) = inl (ungiven_entity w' u code reset late comes (few_ungiven u))
-        by (inr g) = inr (given_entity w' g late (few_given g) code reset)
+        by (inr g) = inr (given_entity w' g late (few_given g) comes code reset)
 
       -- of a stripe
       pub takes_in_stripe : (given : Bool) (t : Taken) → given ≡ is_given w → ReadsPart h (record { height = 0; entities = w.entities; given = given }) w.moved (drop w.offset stream) left t → TakesPart stream w (walk_behind t w len) (Behind h ss gs) (part_told t w len)
@@ -132,7 +132,7 @@ module _ {stream : List ℕ} {w : PartWalk} {h : Fields} {ss : List Stripe} {gs 
           let fits : is_valid_length h (length ss) n ≡ true = subst (λ k. is_valid_length h k n ≡ true) p.entities_are valid in
           told (taken.NewHeight n) w' (Behind h ss (gs ++ NewLength n ∷ [])) bytes s.1 (n, (s.0, refl, refl))
           (stands_segment p w' bytes left s.1 (at_more (taken.NewHeight n) bytes s.1) (NewLength n) refl s.0 refl (omega arith) (few_moves w.moved)
-          (inr (given_now w' u n p.header_of.accepted.stripe_from refl fits
+          (inr (given_now w' u n p.header_of.accepted.stripe_from refl refl fits
           (gives_there p n left u.none u.within (λ all. absurd (let less = few_ungiven u in omega (arith, all, less))) s.0 fits s.1))))
       takes_in_stripe given taken.DataEntity is (code, reset, small, there) =
           let w' : PartWalk = walk_behind taken.DataEntity w len in
@@ -147,8 +147,8 @@ module _ {stream : List ℕ} {w : PartWalk} {h : Fields} {ss : List Stripe} {gs 
   all_of u most = let n = p.entities_are in let within = u.within in omega (arith, n, most, within)
 
   comments_of : IsUngiven w h ss gs (drop 20 stream) → length ss ≡ stripe_count h.yd h.l0 → AllByRecursion (λ s. IsTrue (is_comment s)) gs
-  comments_of u all = by w.height_comes refl where
-    by : (t : Bool) → w.height_comes ≡ t → AllByRecursion (λ s. IsTrue (is_comment s)) gs
+  comments_of u all = by w.at_height refl where
+    by : (t : Bool) → w.at_height ≡ t → AllByRecursion (λ s. IsTrue (is_comment s)) gs
     by true e = (u.comes e).1
     by false e = subst (AllByRecursion (λ s. IsTrue (is_comment s))) (sym (u.quiet all e)) tt
 
@@ -210,12 +210,12 @@ module _ {stream : List ℕ} {w : PartWalk} {h : Fields} {ss : List Stripe} {gs 
       let fits : is_valid_length h (length ss) m ≡ true = subst (λ k. is_valid_length h k m ≡ true) p.entities_are valid in
       told left len len_is (taken.NewHeight m) w' (Behind h ss (gs ++ NewLength m ∷ [])) bytes s.1 (m, (s.0, refl, refl))
       (stands_segment p w' bytes left s.1 (at_more left len len_is (taken.NewHeight m) bytes s.1) (NewLength m) refl s.0 refl (omega arith) (few_moves w.moved)
-      (inr (given_now w' u m p.header_of.accepted.stripe_from refl fits (gives_there p m left u.none u.within (λ _. comments_of u all) s.0 fits s.1))))
+      (inr (given_now w' u m p.header_of.accepted.stripe_from refl refl fits (gives_there p m left u.none u.within (λ _. comments_of u all) s.0 fits s.1))))
   takes_before left len len_is zero most n g taken.DataEntity is more = absurd is
 
   -- ---- the end
 
-  whole : (height : ℕ) → EndsInHeight height gs → IsHeight h (drop 20 stream) height → length ss ≡ stripe_count height h.l0 → GiveOnly height 0 (all_segments ss) → IsWhole stream w.offset h ss gs
+  whole : (height : ℕ) → EndsInHeight w.at_height height gs → IsHeight h (drop 20 stream) height → length ss ≡ stripe_count height h.l0 → GiveOnly height 0 (all_segments ss) → IsDone stream w h ss gs
   whole height last height_is all gives = record {
     height = height;
     last = last;
@@ -255,7 +255,7 @@ module _ {stream : List ℕ} {w : PartWalk} {h : Fields} {ss : List Stripe} {gs 
     apart = sym (take-append-drop 20 stream) ∙ ap (λ z. take 20 stream ++ z) p.body_is
 
   -- the height was given
-  pub ends_given : is_given w ≡ true → stripes_in_use h w ≤ w.entities → IsWhole stream w.offset h ss gs
+  pub ends_given : is_given w ≡ true → stripes_in_use h w ≤ w.entities → IsDone stream w h ss gs
   ends_given is most =
       let g = given_of_walk is in
       let all : length ss ≡ stripe_count w.late_height h.l0 = (let e = ap (λ n. stripe_count n h.l0) (in_use_given h w (late_of g)) in let n = p.entities_are in let within = g.within in omega (arith, most, e, n, within)) in
@@ -268,26 +268,46 @@ module _ {stream : List ℕ} {w : PartWalk} {h : Fields} {ss : List Stripe} {gs 
     pub most_there : stripe_count h.yd h.l0 ≤ w.entities
     most_there = let e = ap (λ n. stripe_count n h.l0) (in_use_zero h w zero_there) in omega (arith, most, e)
 
-    never_whole : w.height_comes ≡ false → ((n : ℕ) → GivesHeight h (drop 20 stream) n → ⊥) → IsWhole stream w.offset h ss gs
+    never_whole : w.at_height ≡ false → ((n : ℕ) → GivesHeight h (drop 20 stream) n → ⊥) → IsDone stream w h ss gs
     never_whole quiet never =
         let u = ungiven_of zero_there in
         let all = all_of u most_there in
-        whole h.yd (inl (u.quiet all quiet)) (inr (refl, never)) all (gives_none h.yd 0 (all_segments ss) (omega arith) (none_left (all_segments ss) gs u.none))
+        whole h.yd (subst (λ b. EndsInHeight b h.yd gs) (sym quiet) (u.quiet all quiet)) (inr (refl, never)) all (gives_none h.yd 0 (all_segments ss) (omega arith) (none_left (all_segments ss) gs u.none))
 
     -- none may be
-    pub ends_fixed : is_variable h ≡ false → IsWhole stream w.offset h ss gs
-    ends_fixed fixed = never_whole (by w.height_comes refl) (λ n g. true≢false (sym g.variable ∙ fixed)) where
-      by : (t : Bool) → w.height_comes ≡ t → w.height_comes ≡ false
+    pub ends_fixed : is_variable h ≡ false → IsDone stream w h ss gs
+    ends_fixed fixed = never_whole (by w.at_height refl) (λ n g. true≢false (sym g.variable ∙ fixed)) where
+      by : (t : Bool) → w.at_height ≡ t → w.at_height ≡ false
       by true e = absurd (let c = ((ungiven_of zero_there).comes e).2 in true≢false (sym c.1.variable ∙ fixed))
       by false e = e
 
     -- none is behind the last stripe
-    pub ends_looked : w.height_comes ≡ false → LookEnds h w.entities (drop w.offset stream) → IsWhole stream w.offset h ss gs
+    pub ends_looked : w.at_height ≡ false → LookEnds h w.entities (drop w.offset stream) → IsDone stream w h ss gs
     ends_looked quiet l = never_whole quiet (never_before zero_there most_there l)
 
     -- one comes
-    pub comes_known : w.height_comes ≡ true → (n : ℕ) × GivesHeight h (drop 20 stream) n
+    pub comes_known : w.at_height ≡ true → (n : ℕ) × GivesHeight h (drop 20 stream) n
     comes_known e = ((ungiven_of zero_there).comes e).2
+
+  -- with what belongs to it behind its parts
+  pub whole_there : (n : ℕ) → IsDone stream w h ss gs → TailIs w stream n → IsWhole stream (w.offset + n) h ss gs
+  whole_there n d t = record {
+    height = d.height;
+    comes_last = w.at_height;
+    last = d.last;
+    tail = t.0;
+    tail_is = subst (IsTail w.at_height t.0) (sym rest_is) t.4;
+    within = (let l = length-drop w.offset stream in let k : length (drop w.offset stream) ≡ length t.0 + length t.1 = ap length t.2 ∙ length-append t.0 t.1 in let e = t.3 in let within = d.within in omega (arith, l, k, e, within));
+    bytes_are = take-add w.offset n stream ∙ ap (λ z. z ++ take n (drop w.offset stream)) d.bytes_are ∙ ap (λ z. (take 20 stream ++ passed_bytes ss gs) ++ z) tail_taken ∙ append_assoc (take 20 stream) (passed_bytes ss gs) t.0;
+    numbers = d.numbers;
+    height_is = d.height_is;
+    all = d.all;
+  } where
+    tail_taken : take n (drop w.offset stream) ≡ t.0
+    tail_taken = ap (λ z. take n z) t.2 ∙ ap (λ k. take k (t.0 ++ t.1)) (sym t.3) ∙ take-append_seam t.0 t.1
+
+    rest_is : drop (w.offset + n) stream ≡ t.1
+    rest_is = sym (drop-drop n w.offset stream) ∙ ap (λ z. drop n z) t.2 ∙ ap (λ k. drop k (t.0 ++ t.1)) (sym t.3) ∙ drop-append_seam t.0 t.1
 
   -- ---- a fault
 
@@ -409,7 +429,7 @@ any_taken {w'} {told} {len} stream w v t left e k same len_is less =
     subst (TellsOfAny stream w w') (sym e) (same, next, some, within)
 
 -- the look answered
-pub seen : {stream : List ℕ} {w : PartWalk} {h : Fields} {ss : List Stripe} {gs : List Segment} (p : StandsBehind stream w h ss gs) → is_given w ≡ false → stripes_in_use h w ≤ w.entities → w.height_comes ≡ false →
+pub seen : {stream : List ℕ} {w : PartWalk} {h : Fields} {ss : List Stripe} {gs : List Segment} (p : StandsBehind stream w h ss gs) → is_given w ≡ false → stripes_in_use h w ≤ w.entities → w.at_height ≡ false →
     (o : Option ℕ) (left : List ℕ) (sees : Bool) → sees ≡ is_some o → IfSome o (LooksTo h w.entities (Some (drop w.offset stream)) (Some left)) → (o ≡ None → LookEnds h w.entities (drop w.offset stream)) → ComesOrEnds h stream w ss gs sees
 seen {stream} {w} {h} {ss} {gs} p none most quiet None left sees is found ends = subst (ComesOrEnds h stream w ss gs) (sym is) (ends_looked p none most quiet (ends refl))
 seen {stream} {w} {h} {ss} {gs} p none most quiet (Some n) left sees is found ends =
@@ -479,3 +499,16 @@ any_header {w'} {told} stream h w header zero e k =
     let next : w'.offset ≡ w.offset + 20 = omega (arith, at, zero) in
     let within : w'.offset ≤ length stream = omega (arith, at, long) in
     subst (TellsOfAny stream w w') (sym e) (sym zero, next, omega arith, within)
+
+-- what belongs to a stream behind its parts
+pub tail_none : (w : PartWalk) (stream : List ℕ) → ((reset : Bool) (more : List ℕ) → drop w.offset stream ≡ marker_bytes reset ++ more → ⊥) → TailIs w stream 0
+tail_none w stream never = ([], drop w.offset stream, refl, refl, by w.at_height) where
+  by : (t : Bool) → IsTail t [] (drop w.offset stream)
+  by true = inr (refl, never)
+  by false = refl
+
+pub tail_quiet : (w : PartWalk) (stream : List ℕ) → w.at_height ≡ false → TailIs w stream 0
+tail_quiet w stream quiet = ([], drop w.offset stream, refl, refl, subst (λ t. IsTail t [] (drop w.offset stream)) (sym quiet) refl)
+
+pub tail_marker : (w : PartWalk) (stream : List ℕ) (reset : Bool) (rest : List ℕ) → w.at_height ≡ true → drop w.offset stream ≡ marker_bytes reset ++ rest → TailIs w stream 2
+tail_marker w stream reset rest at there = (marker_bytes reset, rest, there, refl, subst (λ t. IsTail t (marker_bytes reset) rest) (sym at) (inl (reset, refl)))

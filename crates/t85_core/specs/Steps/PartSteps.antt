@@ -1,5 +1,5 @@
 -- What one step of a walk over the parts of a stream reads and tells.
-use Rattle.std.specs.Prelude.{ℕ, ◌+◌, ◌-◌, ◌^◌, ◌≡◌, ◌≤◌, ◌<◌, ⊤, Bool, true, false, not, ◌==◌, List, ◌++◌, drop, if◌then◌else◌}
+use Rattle.std.specs.Prelude.{ℕ, ◌+◌, ◌-◌, ◌^◌, ◌≡◌, ◌≤◌, ◌<◌, ⊤, Bool, true, false, not, ◌==◌, List, ◌++◌, length, take, drop, if◌then◌else◌}
 use Rattle.std.specs.List.{AllByRecursion}
 use Rattle.qm_core.specs.Code.{stuffed}
 use Rattle.t85_core.specs.declared.fault.Fault.{Fault}
@@ -13,8 +13,9 @@ use Rattle.t85_core.specs.declared.parts.Taken.TheVariants as taken
 use Rattle.t85_core.specs.declared.segments.Place.{Place}
 use Rattle.t85_core.specs.Header.{Fields}
 use Rattle.t85_core.specs.Grammar.{Segment, NewLength, Move, Comment, segment_bytes, Stripe, marker_bytes, stripe_count, is_valid_length, IsLegal}
-use Rattle.t85_core.specs.Height.{GivesHeight}
-use Rattle.t85_core.specs.Parts.{StandsBehind, Behind, IsWhole, PartFault, Tells}
+use Rattle.t85_core.specs.Height.{GivesHeight, IsHeight}
+use Rattle.t85_core.specs.Info.{numbers_of, HasNumbers}
+use Rattle.t85_core.specs.Parts.{StandsBehind, Behind, EndsInHeight, IsTail, PartFault, Tells, passed_bytes}
 
 -- A legal segment is at the front of the bytes.
 abbrev pub ReadsSegment : Fields → Segment → List ℕ → List ℕ → Type 0
@@ -57,16 +58,16 @@ part_told t w len = record { kind = kind_of t; offset = w.offset; len = len; str
 
 -- the walk behind it
 abbrev pub walk_behind : Taken → PartWalk → ℕ → PartWalk
-walk_behind taken.Comment w len = record { offset = w.offset + len; entities = w.entities; late_height = w.late_height; moved = w.moved; height_comes = w.height_comes }
-walk_behind taken.Move w len = record { offset = w.offset + len; entities = w.entities; late_height = w.late_height; moved = true; height_comes = w.height_comes }
-walk_behind (taken.NewHeight height) w len = record { offset = w.offset + len; entities = w.entities; late_height = height; moved = w.moved; height_comes = false }
-walk_behind taken.DataEntity w len = record { offset = w.offset + len; entities = w.entities + 1; late_height = w.late_height; moved = false; height_comes = w.height_comes }
+walk_behind taken.Comment w len = record { offset = w.offset + len; entities = w.entities; late_height = w.late_height; moved = w.moved; at_height = w.at_height }
+walk_behind taken.Move w len = record { offset = w.offset + len; entities = w.entities; late_height = w.late_height; moved = true; at_height = w.at_height }
+walk_behind (taken.NewHeight height) w len = record { offset = w.offset + len; entities = w.entities; late_height = height; moved = w.moved; at_height = true }
+walk_behind taken.DataEntity w len = record { offset = w.offset + len; entities = w.entities + 1; late_height = w.late_height; moved = false; at_height = false }
 
 abbrev pub header_part : Part
 header_part = record { kind = kind.Header; offset = 0; len = 20; stripe = 0 }
 
 abbrev pub header_walk : PartWalk
-header_walk = record { offset = 20; entities = 0; late_height = 0; moved = false; height_comes = false }
+header_walk = record { offset = 20; entities = 0; late_height = 0; moved = false; at_height = false }
 
 -- whether a segment gave a height
 abbrev pub is_given : PartWalk → Bool
@@ -96,10 +97,24 @@ TellsBehind h stream w w' found = stripes_in_use h w ≤ w.entities → TellsThe
 abbrev pub TellsBefore : Fields → List ℕ → PartWalk → PartWalk → Found → Type 0
 TellsBefore h stream w w' found = w.late_height ≡ 0 → stripe_count h.yd h.l0 ≤ w.entities → (height : ℕ) → GivesHeight h (drop 20 stream) height → TellsThere h stream w w' found
 
+-- All parts were passed.
+pub record IsDone (stream : List ℕ) (w : PartWalk) (h : Fields) (stripes : List Stripe) (segments : List Segment) : Type 0 where
+  pub height : ℕ
+  pub last : EndsInHeight w.at_height height segments
+  pub within : w.offset ≤ length stream
+  pub bytes_are : take w.offset stream ≡ take 20 stream ++ passed_bytes stripes segments
+  pub numbers : HasNumbers stream (numbers_of h height stripes)
+  pub height_is : IsHeight h (drop 20 stream) height
+  pub all : length stripes ≡ stripe_count height h.l0
+
+-- so many bytes has what belongs to the stream behind them
+abbrev pub TailIs : PartWalk → List ℕ → ℕ → Type 0
+TailIs w stream n = (tail : List ℕ) × (rest : List ℕ) × (drop w.offset stream ≡ tail ++ rest) × (length tail ≡ n) × IsTail w.at_height tail rest
+
 -- Behind the last stripe a height comes, or the stream is whole.
 abbrev pub ComesOrEnds : Fields → List ℕ → PartWalk → List Stripe → List Segment → Bool → Type 0
 ComesOrEnds h stream w stripes segments true = (w.late_height ≡ 0) × ((height : ℕ) × GivesHeight h (drop 20 stream) height)
-ComesOrEnds h stream w stripes segments false = IsWhole stream w.offset h stripes segments
+ComesOrEnds h stream w stripes segments false = IsDone stream w h stripes segments
 
 abbrev pub SeesHeight : Fields → List ℕ → PartWalk → Bool → Type 0
 SeesHeight h stream w sees = stripes_in_use h w ≤ w.entities → (stripes : List Stripe) (segments : List Segment) → StandsBehind stream w h stripes segments → ComesOrEnds h stream w stripes segments sees

@@ -280,7 +280,7 @@ fn code_len(bytes: &[u8]) -> usize
 }
 
 /// The end marker that bytes begin with: whether it resets.
-fn marker_at(bytes: &[u8]) -> Option<bool>
+pub(crate) fn marker_at(bytes: &[u8]) -> Option<bool>
     ensures some { IfSome result (λ reset. (rest : List ℕ) ×
         (bytes.now ≡ marker_bytes reset ++ rest)) }
     ensures none { result ≡ None → (reset : Bool) (rest : List ℕ) →
