@@ -16,12 +16,14 @@ ghost use Rattle.t85_core.specs.Failures.{CountsBoth, CountsRead, CountsWrite, I
 ghost use Rattle.t85_core.specs.declared.fault.Fault.TheVariants.{Write, Pbm};
 
 mod by_row;
+mod learning;
 mod rows;
 mod segments;
 mod sink;
 mod steps;
 
 pub use self::by_row::RowEncoder;
+pub use self::learning::Learning;
 use self::steps::write_head;
 use crate::fault::Fault;
 use crate::laws::{code_denotes, fronts};
@@ -169,14 +171,15 @@ fn encode_image<R: Input, P: ByteTarget>(
 {
     // What the proof cites of what stands after some rows.
     fronts();
+    let mut learning = Learning::first(size, options);
     let mut encoder = RowEncoder::new(size, options);
     window.clear();
     write_head(size, options, target)?;
     'rows: for _ in 0..size.height {
         read_next_row(size, form, window, source)?;
-        encoder.put_taken(window, target)?;
+        encoder.put_taken(window, &mut learning, target)?;
     }
-    encoder.end(window, target)
+    encoder.end(window, &mut learning, target)
 }
 
 /// Goes a row down in the window and reads that row.

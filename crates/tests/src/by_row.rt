@@ -9,7 +9,7 @@ use pbm_core::{PbmFault, Size, row_bytes};
 use raster_core::{Window, window_bytes};
 use std::alloc::Global;
 use std::test::Fail;
-use t85_core::{Fault, Options, RowEncoder};
+use t85_core::{Fault, Learning, Options, RowEncoder};
 
 /// How a run ends whose rows are given one by one.
 #[derive(Clone, Copy, Debug, PartialEq, Eq)]
@@ -51,7 +51,9 @@ impl Rows<'_> {
     fn run(&self, window: &mut Window<'_>, output: &mut Drip<'_>) -> End
         requires { width_of window.old ≡ self.now.size.width }
     {
-        let mut encoder = match RowEncoder::start(self.size, self.options, window, output) {
+        let mut learning = Learning::new();
+        let begun = RowEncoder::start(self.size, self.options, window, &mut learning, output);
+        let mut encoder = match begun {
             Ok(encoder) => encoder,
             Err(Fault::Write) => return End::HeadFails,
             Err(Fault::AnnouncedLow) => return End::Low,
@@ -63,9 +65,11 @@ impl Rows<'_> {
                 return End::Wrong("how many rows may come");
             }
             let most = with_written(output, encoder.most_row_bytes());
-            match encoder.put_row(row, window, output) {
+            match encoder.put_row(row, window, &mut learning, output) {
                 Ok(()) => left -= 1,
-                Err(_) => return self.closed(&mut encoder, window, output, End::RowFails),
+                Err(_) => {
+                    return self.closed(&mut encoder, window, &mut learning, output, End::RowFails);
+                }
             }
             if with_written(output, 0) > most {
                 return End::Wrong("the bytes that a row may write");
@@ -81,14 +85,14 @@ impl Rows<'_> {
             return End::Wrong("whether the image may end");
         }
         let most = with_written(output, encoder.most_end_bytes());
-        let end = match encoder.finish(window, output) {
+        let end = match encoder.finish(window, &mut learning, output) {
             Ok(()) => End::Whole,
             Err(_) => End::EndFails,
         };
         if with_written(output, 0) > most {
             return End::Wrong("the bytes that an end may write");
         }
-        self.closed(&mut encoder, window, output, end)
+        self.closed(&mut encoder, window, &mut learning, output, end)
     }
 
     /// Whether these bytes begin the stream, and there are at least so many.
@@ -101,6 +105,7 @@ impl Rows<'_> {
         &self,
         encoder: &mut RowEncoder,
         window: &mut Window<'_>,
+        learning: &mut Learning,
         output: &mut Drip<'_>,
         end: End,
     ) -> End
@@ -116,9 +121,9 @@ impl Rows<'_> {
         }
         // A window may be lent again once it is white.
         window.clear();
-        let put = encoder.put_row(row, window, output);
+        let put = encoder.put_row(row, window, learning, output);
         window.clear();
-        let finished = encoder.finish(window, output);
+        let finished = encoder.finish(window, learning, output);
         if put == Err(Fault::Write)
             && finished == Err(Fault::Write)
             && encoder.is_closed()

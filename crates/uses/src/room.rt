@@ -2,14 +2,14 @@
 
 ghost use Rattle.std.specs.Prelude.{◌≡◌, ◌≤◌, ◌<◌, ◌+◌, Some, false, length, take, true};
 ghost use Rattle.pbm_core.specs.Pbm.{bytes_of_row};
-ghost use Rattle.pbm_core.specs.Image.{pixels_of};
 ghost use Rattle.raster_core.specs.Window.{held, width_of};
 ghost use Rattle.t85_core.specs.Steps.ByRow.{view_of, MayGoOn, IsLined, TakesNextRow};
 ghost use Rattle.t85_core.specs.Steps.MostBytes.{most_row_bytes};
+ghost use Rattle.t85_core.specs.Steps.RowSteps.{IsGoing, given_row};
 
 use pbm_core::{DeviceFailed, Output};
 use raster_core::Window;
-use t85_core::RowEncoder;
+use t85_core::{Learning, RowEncoder};
 
 const SIZE: usize = 8192;
 
@@ -88,25 +88,28 @@ pub fn put_where_room(
     encoder: &mut RowEncoder,
     row: &[u8],
     window: &mut Window<'_>,
+    learning: &mut Learning,
     room: &mut Room,
 ) -> bool
     requires width { width_of window.old ≡ encoder.old.size.width }
     requires lined { IsLined (held window.old) }
     requires whole { length row.now ≡ bytes_of_row encoder.old.size.width }
     requires left { encoder.old.rows < encoder.old.size.height }
-    requires ready { MayGoOn (view_of encoder.old) }
-    requires going { encoder.old.is_closed ≡ false }
+    requires ready { MayGoOn encoder.old learning.old }
+    requires going { IsGoing encoder.old }
     requires unfailed { room.old.failures ≡ 0 }
-    ensures put { result ≡ true → TakesNextRow (pixels_of encoder.old.size.width row.now)
-        (view_of encoder.old) (view_of encoder.new) (held window.old) (held window.new)
-        (Some (take room.old.len room.old.bytes)) (Some (take room.new.len room.new.bytes)) }
-    ensures kept { result ≡ false → (encoder.new ≡ encoder.old) × (room.new ≡ room.old) }
+    ensures put { result ≡ true → TakesNextRow (given_row encoder.old row.now)
+        (view_of encoder.old learning.old) (view_of encoder.new learning.new) (held window.old)
+        (held window.new) (Some (take room.old.len room.old.bytes)) (Some
+        (take room.new.len room.new.bytes)) }
+    ensures kept { result ≡ false → (encoder.new ≡ encoder.old) × (learning.new ≡ learning.old) ×
+        (room.new ≡ room.old) }
     ensures unfailed { room.new.failures ≡ 0 }
-    ensures wherever { most_row_bytes (view_of encoder.old) + room.old.len < 8192 → result ≡ true }
+    ensures wherever { most_row_bytes encoder.old + room.old.len < 8192 → result ≡ true }
 {
     let left = room.left() as u64;
     if encoder.most_row_bytes() >= left {
         return false;
     }
-    encoder.put_row(row, window, room).is_ok()
+    encoder.put_row(row, window, learning, room).is_ok()
 }

@@ -1,6 +1,6 @@
 //! Rows that are handed one by one.
 
-ghost use Rattle.std.specs.Prelude.{◌≡◌, ◌≢◌, ◌<◌, ◌*◌, ◌∷◌, ◌⊎◌, [], length, false, true, Err, Ok, OnOk, OnErr, IfErr};
+ghost use Rattle.std.specs.Prelude.{◌≡◌, ◌≢◌, ◌≤◌, ◌<◌, ◌*◌, ◌∷◌, ◌⊎◌, [], length, false, true, Err, Ok, OnOk, OnErr, IfErr};
 ghost use Rattle.std.specs.Io.KnownBytes.{Appends};
 ghost use Rattle.pbm_core.specs.Pbm.{bytes_of_row};
 ghost use Rattle.pbm_core.specs.Image.{pixels_of};
@@ -12,11 +12,12 @@ ghost use Rattle.t85_core.specs.Jbg.{jbg, is_low};
 ghost use Rattle.t85_core.specs.Failures.{OnlyWrites};
 ghost use Rattle.t85_core.specs.Options.{settings_of};
 ghost use Rattle.t85_core.specs.Steps.ByRow.{view_of, MayGoOn, IsLined, EndsImage, CutsImage};
+ghost use Rattle.t85_core.specs.Steps.RowSteps.{IsGoing};
 ghost use Rattle.t85_core.specs.declared.fault.Fault.TheVariants.{AnnouncedLow, Write};
 
 use pbm_core::{Output, Size};
 use raster_core::{Window, current_row};
-use t85_core::{Fault, Options, RowEncoder};
+use t85_core::{Fault, Learning, Options, RowEncoder};
 
 /// Writes the stream of an image of two rows. What is written is the stream of the whole image.
 #[tactic(auto, using(crate::proofs::Writes::after_ok))]
@@ -41,19 +42,19 @@ pub fn two_rows<W: Output>(
         is_low (settings_of options.now) size.height ≡ true }
     ensures writes { OnlyWrites (W.view output.old) (W.view output.new) result }
 {
-    let mut encoder = RowEncoder::start(size, options, window, output)?;
-    encoder.put_row(first, window, output)?;
-    encoder.put_row(second, window, output)?;
-    encoder.finish(window, output)
+    let mut learning = Learning::new();
+    let mut encoder = RowEncoder::start(size, options, window, &mut learning, output)?;
+    encoder.put_row(first, window, &mut learning, output)?;
+    encoder.put_row(second, window, &mut learning, output)?;
+    encoder.finish(window, &mut learning, output)
 }
 
 /// Whether the encoder takes a row more.
 pub fn takes_row(encoder: &RowEncoder) -> bool
-    requires ready { encoder.now.is_closed ≡ false → MayGoOn (view_of encoder.now) }
-    ensures open_ { result ≡ true → encoder.now.is_closed ≡ false }
+    requires within { IsGoing encoder.now → encoder.now.rows ≤ encoder.now.size.height }
+    ensures open_ { result ≡ true → IsGoing encoder.now }
     ensures left { result ≡ true → encoder.now.rows < encoder.now.size.height }
-    ensures all { encoder.now.is_closed ≡ false → encoder.now.rows < encoder.now.size.height →
-        result ≡ true }
+    ensures all { IsGoing encoder.now → encoder.now.rows < encoder.now.size.height → result ≡ true }
 {
     !encoder.is_closed() && encoder.left() > 0
 }
@@ -62,19 +63,20 @@ pub fn takes_row(encoder: &RowEncoder) -> bool
 pub fn end_where_allowed<W: Output>(
     encoder: &mut RowEncoder,
     window: &mut Window<'_>,
+    learning: &mut Learning,
     output: &mut W,
 ) -> Result<bool, Fault>
     requires width { width_of window.old ≡ encoder.old.size.width }
     requires lined { IsLined (held window.old) }
-    requires going { encoder.old.is_closed ≡ false }
-    requires ready { MayGoOn (view_of encoder.old) }
-    ensures ended { result ≡ Ok true → EndsImage (view_of encoder.old) (held window.old)
-        (W.view output.old).contents (W.view output.new).contents }
-    ensures kept { result ≡ Ok false → (encoder.new ≡ encoder.old) × (output.new ≡ output.old) }
-    ensures whole { result ≡ Ok false → 0 < encoder.old.rows → encoder.old.may_end ≡ false }
-    ensures left { result ≡ Ok false → 0 < encoder.old.rows →
-        encoder.old.rows ≢ encoder.old.size.height }
-    ensures cut { OnErr result (CutsImage (view_of encoder.old) (held window.old)
+    requires going { IsGoing encoder.old }
+    requires ready { MayGoOn encoder.old learning.old }
+    ensures ended { result ≡ Ok true → EndsImage (view_of encoder.old learning.old)
+        (held window.old) (W.view output.old).contents (W.view output.new).contents }
+    ensures kept { result ≡ Ok false → (encoder.new ≡ encoder.old) × (learning.new ≡ learning.old) ×
+        (output.new ≡ output.old) }
+    ensures more { result ≡ Ok false → 0 < encoder.old.rows → (encoder.old.may_end ≡ false) ×
+        (encoder.old.rows ≢ encoder.old.size.height) }
+    ensures cut { OnErr result (CutsImage (view_of encoder.old learning.old) (held window.old)
         (W.view output.old).contents (W.view output.new).contents) }
     ensures err { IfErr result (λ f. f ≡ Write) }
     ensures writes { OnlyWrites (W.view output.old) (W.view output.new) result }
@@ -82,7 +84,7 @@ pub fn end_where_allowed<W: Output>(
     if !encoder.may_finish() {
         return Ok(false);
     }
-    encoder.finish(window, output)?;
+    encoder.finish(window, learning, output)?;
     Ok(true)
 }
 

@@ -13,7 +13,7 @@ use pbm_core::trial::{Drip, Pieces};
 use qm_core::{Context, Learned};
 use raster_core::Window;
 use std::alloc::{AllocError, Global};
-use t85_core::{Fault, Header, Options, Outcome, RowEncoder};
+use t85_core::{Fault, Header, Learning, Options, Outcome, RowEncoder};
 
 /// Three by two pixels in the plain form.
 const IMAGE: &[u8] = b"P1 3 2 101 010";
@@ -112,8 +112,9 @@ fn put_narrow() -> Result<bool, Fault> {
     let mut lent = [0; 3];
     let mut window = Window::over(&mut lent, 8);
     let mut room = Room::new();
-    let mut encoder = RowEncoder::start(size, &options, &mut window, &mut room)?;
-    Ok(put_where_room(&mut encoder, b"\x5a", &mut window, &mut room))
+    let mut learning = Learning::new();
+    let mut encoder = RowEncoder::start(size, &options, &mut window, &mut learning, &mut room)?;
+    Ok(put_where_room(&mut encoder, b"\x5a", &mut window, &mut learning, &mut room))
 }
 
 /// Whether one is that may have four times 2,041 bytes and a few, behind a header.
@@ -126,8 +127,15 @@ fn put_wide() -> Result<bool, Fault> {
     let mut lent = [0; 765];
     let mut window = Window::over(&mut lent, 2040);
     let mut room = Room::new();
-    let mut encoder = RowEncoder::start(size, &options, &mut window, &mut room)?;
-    Ok(put_where_room(&mut encoder, &[0; 255], &mut window, &mut room))
+    let mut learning = Learning::new();
+    let mut encoder = RowEncoder::start(size, &options, &mut window, &mut learning, &mut room)?;
+    Ok(put_where_room(
+        &mut encoder,
+        &[0; 255],
+        &mut window,
+        &mut learning,
+        &mut room,
+    ))
 }
 
 #[test]

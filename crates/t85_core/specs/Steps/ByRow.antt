@@ -15,6 +15,7 @@ use Rattle.raster_core.specs.declared.shape.Shape.{Shape}
 use Rattle.raster_core.specs.declared.shape.Kept.{Kept}
 use Rattle.raster_core.specs.declared.tally.Tally.{Tally}
 use Rattle.t85_core.specs.declared.encoding.by_row.RowEncoder.{RowEncoder}
+use Rattle.t85_core.specs.declared.encoding.learning.Learning.{Learning}
 use Rattle.t85_core.specs.Grammar.{segment_bytes}
 use Rattle.t85_core.specs.Coding.{mode_of}
 use Rattle.t85_core.specs.Encode.{IsBeginning, HoldsStripes, raster_of}
@@ -56,7 +57,7 @@ pub record RowPlan : Type 0 where
   pub has_candidates : Bool
   pub reset : Bool
 
--- what a row encoder holds, but for whether it is closed
+-- what a row encoder holds, but for whether it is closed, and what it is lent of what was learned
 pub record RowView : Type 0 where
   pub plan : RowPlan
   pub kept : Kept
@@ -79,12 +80,12 @@ plan_of e = record {
   reset = e.reset;
 }
 
-abbrev pub view_of : RowEncoder → RowView
-view_of e = record {
+abbrev pub view_of : RowEncoder → Learning → RowView
+view_of e l = record {
   plan = plan_of e;
   kept = e.kept;
-  learned = e.learned;
-  tally = e.tally;
+  learned = l.learned;
+  tally = l.tally;
   encoder = e.encoder;
   rows = e.rows;
   in_stripe = e.in_stripe;
@@ -112,10 +113,10 @@ pub record IsAble (v : RowView) : Type 0 where
   pub somewhere : IsSomewhere v.encoder
 
 -- between two calls
-pub record MayGoOn (v : RowView) : Type 0 where
-  pub able : IsAble v
-  pub fewer : v.in_stripe < v.plan.stripe_rows
-  pub tallied : 0 < v.in_stripe → row_count v.tally ≤ v.in_stripe
+pub record MayGoOn (e : RowEncoder) (l : Learning) : Type 0 where
+  pub able : IsAble (view_of e l)
+  pub fewer : e.in_stripe < e.stripe_rows
+  pub tallied : 0 < e.in_stripe → row_count l.tally ≤ e.in_stripe
 
 -- the plan is that of these settings
 pub record IsPlan (s : Settings) (width limit : ℕ) (p : RowPlan) : Type 0 where
@@ -241,8 +242,7 @@ CutsImage v window old new =
     (s : Settings) (width limit : ℕ) (rows : List (List Bool)) (text : Option (List ℕ)) → Stands s width limit rows v window text old →
     AppendsBeginning text new (jbg s (raster_of width rows))
 
--- What stands after some rows is a beginning of the stream of each image that begins with them and may still come, and
--- has each stripe whose rows all came.
+-- What stands after some rows is a beginning of each stream that may come, and has each stripe whose rows all came.
 abbrev pub RowFronts : Type 0
 RowFronts =
     (s : Settings) (width limit : ℕ) (rows : List (List Bool)) (v : RowView) (window : Held) (text text' : Option (List ℕ)) →

@@ -2,7 +2,7 @@
 use Rattle.std.specs.Prelude.{ℕ, ◌+◌, ◌*◌, ◌≤◌, List, length, Option, Result, OnOk, OnErr}
 use Rattle.std.specs.Io.KnownBytes.{Appends}
 use Rattle.qm_core.specs.Encoder.{waiting_bytes}
-use Rattle.t85_core.specs.Steps.ByRow.{RowView}
+use Rattle.t85_core.specs.declared.encoding.by_row.RowEncoder.{RowEncoder}
 
 -- Bytes were appended, and with so many others they are at most so many.
 pub record AppendsBeside (others most : ℕ) (old new : Option (List ℕ)) : Type 0 where
@@ -15,25 +15,25 @@ abbrev pub AppendsAtMost : ℕ → Option (List ℕ) → Option (List ℕ) → T
 AppendsAtMost most old new = AppendsBeside 0 most old new
 
 -- to end the code: stuffing at most doubles the bytes that wait
-abbrev pub most_code_bytes : RowView → ℕ
-most_code_bytes v = 2 * waiting_bytes v.encoder
+abbrev pub most_code_bytes : RowEncoder → ℕ
+most_code_bytes e = 2 * waiting_bytes e.encoder
 
 -- to end the stream: the code, its end marker, and a height with an empty data entity
-abbrev pub most_end_bytes : RowView → ℕ
-most_end_bytes v = most_code_bytes v + 10
+abbrev pub most_end_bytes : RowEncoder → ℕ
+most_end_bytes e = most_code_bytes e + 10
 
 -- for a row: a move, four bytes for each pixel and for the pixel before them, the end of the code, and its end marker
-abbrev pub most_row_bytes : RowView → ℕ
-most_row_bytes v = most_code_bytes v + 4 * (v.plan.width + 1) + 10
+abbrev pub most_row_bytes : RowEncoder → ℕ
+most_row_bytes e = most_code_bytes e + 4 * (e.size.width + 1) + 10
 
 -- no more bytes were appended than for a row, or for the end
-abbrev pub AppendsRow : RowView → Option (List ℕ) → Option (List ℕ) → Type 0
-AppendsRow v old new = AppendsAtMost (most_row_bytes v) old new
+abbrev pub AppendsRow : RowEncoder → Option (List ℕ) → Option (List ℕ) → Type 0
+AppendsRow e old new = AppendsAtMost (most_row_bytes e) old new
 
-abbrev pub AppendsEnd : RowView → Option (List ℕ) → Option (List ℕ) → Type 0
-AppendsEnd v old new = AppendsAtMost (most_end_bytes v) old new
+abbrev pub AppendsEnd : RowEncoder → Option (List ℕ) → Option (List ℕ) → Type 0
+AppendsEnd e old new = AppendsAtMost (most_end_bytes e) old new
 
 -- A row was coded, so that this many bytes are left for what comes after it; or no more were appended than that.
-pub record CodesFew {E : Type 0} (v v' : RowView) (old new : Option (List ℕ)) (answer : Result (Unit {0}) E) : Type 0 where
-  pub ok : OnOk answer (AppendsBeside (most_code_bytes v') (most_code_bytes v + 4 * (v.plan.width + 1)) old new)
-  pub err : OnErr answer (AppendsAtMost (most_code_bytes v + 4 * (v.plan.width + 1)) old new)
+pub record CodesFew {E : Type 0} (e e' : RowEncoder) (old new : Option (List ℕ)) (answer : Result (Unit {0}) E) : Type 0 where
+  pub ok : OnOk answer (AppendsBeside (most_code_bytes e') (most_code_bytes e + 4 * (e.size.width + 1)) old new)
+  pub err : OnErr answer (AppendsAtMost (most_code_bytes e + 4 * (e.size.width + 1)) old new)

@@ -1,8 +1,9 @@
 -- What the steps of a row encoder leave.
-use Rattle.std.specs.Prelude.{ℕ, ◌+◌, ◌*◌, ◌≡◌, ◌≤◌, ◌<◌, Bool, List, [], ◌∷◌, ◌++◌, length, Option, IfSome, unwrap_or, Result, OnOk, OnErr}
+use Rattle.std.specs.Prelude.{ℕ, ◌+◌, ◌*◌, ◌≡◌, ◌≤◌, ◌<◌, Bool, false, List, [], ◌∷◌, ◌++◌, length, Option, IfSome, unwrap_or, Result, OnOk, OnErr}
 use Rattle.std.specs.Io.KnownBytes.{Appends}
 use Rattle.pbm_core.specs.Device.{AppendsBeginning}
-use Rattle.qm_core.specs.Place.{Estimate, Place, State, start}
+use Rattle.pbm_core.specs.Image.{pixels_of}
+use Rattle.qm_core.specs.Place.{Estimate, Place, State, start, fresh}
 use Rattle.qm_core.specs.Encoder.{EncoderIsAt, IsStuffedFront}
 use Rattle.qm_core.specs.Code.{stuffed, IsCode}
 use Rattle.qm_core.specs.Place as place
@@ -14,14 +15,18 @@ use Rattle.raster_core.specs.Row.{RowCoded, canonical_events}
 use Rattle.qm_core.specs.Puts.{FailsIn}
 use Rattle.raster_core.specs.Window.{shape_mode}
 use Rattle.raster_core.specs.Lines.{may_be_typical}
+use Rattle.raster_core.specs.Tally.{CountsLines, is_two_line, most_of}
 use Rattle.raster_core.specs.declared.shape.Shape.{Shape}
 use Rattle.raster_core.specs.declared.shape.Kept.{Kept}
 use Rattle.t85_core.specs.Grammar.{marker_bytes, stripe_bytes, stripe_count}
+use Rattle.t85_core.specs.declared.encoding.by_row.RowEncoder.{RowEncoder}
+use Rattle.t85_core.specs.declared.encoding.learning.Learning.{Learning}
+use Rattle.t85_core.specs.Coding.{mode_of}
 use Rattle.t85_core.specs.Encode.{raster_of}
 use Rattle.t85_core.specs.Jbg.{Settings, head_of, jbg_up_to}
 use Rattle.t85_core.specs.Steps.State.{offset_at}
 use Rattle.t85_core.specs.Steps.Written.{EncoderStart, next_move, next_stripe, next_encoder_start}
-use Rattle.t85_core.specs.Steps.ByRow.{IsPlan, HaveCome, StripesWhole, IsStart, RowView, Stands, Waits, Runs, StreamCut, IsBelow, move_bytes}
+use Rattle.t85_core.specs.Steps.ByRow.{IsPlan, HaveCome, StripesWhole, IsStart, RowView, Stands, Waits, Runs, StreamCut, IsBelow, TakesNextRow, CutsRow, move_bytes}
 
 -- The move of a stripe was written and made.
 pub record MoveMade (s : Settings) (width : ℕ) (at : EncoderStart) (text text' : Option (List ℕ)) (kept kept' : Kept) : Type 0 where
@@ -192,6 +197,28 @@ abbrev pub EndsStripes : RowView → RowView → Held → Option (List ℕ) → 
 EndsStripes v v' window old new =
     (s : Settings) (width limit : ℕ) (rows : List (List Bool)) (text : Option (List ℕ)) → Stands s width limit rows v window text old →
     StripesEnded s width limit rows v' text new
+
+-- A row is taken that is below the lines that a window had.
+abbrev pub TakesBelow : RowView → RowView → Held → Held → Option (List ℕ) → Option (List ℕ) → Type 0
+TakesBelow v v' window window' old new = (row : List Bool) (before : Held) → IsBelow row before window → TakesNextRow row v v' before window' old new
+
+abbrev pub CutsBelow : RowView → Held → Option (List ℕ) → Option (List ℕ) → Type 0
+CutsBelow v window old new = (row : List Bool) (before : Held) → IsBelow row before window → CutsRow row v before old new
+
+-- nothing is learned or counted yet of an image
+pub record IsUntaught (s : Settings) (l : Learning) : Type 0 where
+  pub learned_is : l.learned ≡ fresh
+  pub two_line : is_two_line l.tally ≡ (mode_of s.options).two_line
+  pub most : most_of l.tally ≡ s.most_offset
+  pub counts : (width current : ℕ) → CountsLines l.tally width current []
+
+-- the encoder takes rows
+abbrev pub IsGoing : RowEncoder → Type 0
+IsGoing e = e.is_closed ≡ false
+
+-- the row that it is given by these bytes
+abbrev pub given_row : RowEncoder → List ℕ → List Bool
+given_row e bytes = pixels_of e.size.width bytes
 
 -- Once the head of a stream is written, and a window is white, no row has come.
 abbrev pub StandsFirst : Settings → ℕ → ℕ → RowView → Type 0

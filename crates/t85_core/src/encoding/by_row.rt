@@ -1,5 +1,6 @@
 //! Encoding an image row by row.
 
+use crate::encoding::learning::Learning;
 use crate::encoding::rows::{start_held, take_row};
 use crate::encoding::segments::write_ending;
 use crate::encoding::steps::{code_row, count_row, end_entity, go_on, has_candidates, move_pixel};
@@ -8,11 +9,11 @@ use crate::laws::{fronts, writing_laws};
 use crate::options::Options;
 use crate::output_buffer::{ByteTarget, OutputBuffer, ROW_HELD};
 use pbm_core::{Output, Size};
-use qm_core::{Encoder, Learned};
-use raster_core::{Kept, Shape, Tally, Window};
+use qm_core::Encoder;
+use raster_core::{Kept, Shape, Window};
 
 /// An encoder of an image whose rows come one by one. It has no memory of its own: the three rows are in a window that
-/// each call is lent.
+/// each call is lent, and so is what is learned of the image.
 #[derive(Drop)]
 pub struct RowEncoder {
     /// The width, and the most rows that may come.
@@ -36,9 +37,6 @@ pub struct RowEncoder {
     is_counted: bool,
     /// Whether the stream was ended, or a write failed.
     is_closed: bool,
-    // The arrays stand at the end, one behind another, so that they are filled with zeros once and together.
-    tally: Tally,
-    learned: Learned,
 }
 
 impl RowEncoder {
@@ -53,9 +51,12 @@ impl RowEncoder {
     ghost use Rattle.t85_core.specs.Steps.Buffers.{WritesOn};
     ghost use Rattle.t85_core.specs.Steps.MostBytes.{AppendsAtMost, AppendsRow, AppendsEnd, CodesFew, most_code_bytes, most_end_bytes, most_row_bytes};
     ghost use Rattle.t85_core.specs.declared.fault.Fault.TheVariants.{Write};
+    ghost use Rattle.t85_core.specs.declared.encoding.learning.Learning.{Learning};
     ghost use Rattle.t85_core.specs.Steps.ByRow.{
+      plan_of,
       view_of,
       counted_of,
+      IsPlan,
       IsAble,
       MayGoOn,
       IsLined,
@@ -70,6 +71,10 @@ impl RowEncoder {
       StreamCut,
     };
     ghost use Rattle.t85_core.specs.Steps.RowSteps.{
+      IsGoing,
+      IsUntaught,
+      TakesBelow,
+      CutsBelow,
       StandsToRun,
       WaitsToRun,
       CutsMove,
@@ -87,10 +92,11 @@ impl RowEncoder {
     #[inline(always)]
     pub(crate) fn new(size: Size, options: &Options<'_>) -> RowEncoder
         requires { is_low (settings_of options.now) size.height ≡ false }
-        ensures first { StandsFirst (settings_of options.now) size.width size.height
-            (view_of result) }
-        ensures ready { MayGoOn (view_of result) }
-        ensures going { result.is_closed ≡ false }
+        ensures plan { IsPlan (settings_of options.now) size.width size.height (plan_of result) }
+        ensures first { (learning : Learning) → IsUntaught (settings_of options.now) learning →
+            StandsFirst (settings_of options.now) size.width size.height (view_of result learning) }
+        ensures ready { (learning : Learning) → MayGoOn result learning }
+        ensures going { IsGoing result }
         ensures none { result.rows ≡ 0 }
         ensures size { result.size ≡ size }
     {
@@ -107,8 +113,6 @@ impl RowEncoder {
                 offset: 0,
                 previous_typical: false,
             },
-            learned: Learned::new(),
-            tally: Tally::new(shape.two_line, options.most_offset),
             encoder: Encoder::start(),
             rows: 0,
             in_stripe: 0,
@@ -119,7 +123,7 @@ impl RowEncoder {
 
     /// How many rows may still come.
     pub fn left(&self) -> u32
-        requires ready { MayGoOn (view_of self.now) }
+        requires within { self.now.rows ≤ self.now.size.height }
         ensures { result + self.now.rows ≡ self.now.size.height }
     {
         self.size.height - self.rows
@@ -145,14 +149,14 @@ impl RowEncoder {
 
     /// How many bytes the next row makes the encoder write at most.
     pub fn most_row_bytes(&self) -> u64
-        ensures { result ≡ most_row_bytes (view_of self.now) }
+        ensures { result ≡ most_row_bytes self.now }
     {
         2 * self.encoder.waiting() + 4 * (u64::from(self.size.width) + 1) + 10
     }
 
     /// How many bytes it writes at most where the stream ends here.
     pub fn most_end_bytes(&self) -> u64
-        ensures { result ≡ most_end_bytes (view_of self.now) }
+        ensures { result ≡ most_end_bytes self.now }
     {
         2 * self.encoder.waiting() + 10
     }
@@ -161,57 +165,61 @@ impl RowEncoder {
     pub(crate) fn put_taken<P: ByteTarget>(
         &mut self,
         window: &mut Window<'_>,
+        learning: &mut Learning,
         target: &mut P,
     ) -> Result<(), Fault>
         requires width { width_of window.old ≡ self.old.size.width }
-        requires lined { self.old.is_closed ≡ false → IsLined (held window.old) }
-        requires left { self.old.is_closed ≡ false → self.old.rows < self.old.size.height }
-        requires ready { self.old.is_closed ≡ false → MayGoOn (view_of self.old) }
-        ensures ok { OnOk result ((row : List Bool) (before : Held) → IsBelow row before
-            (held window.old) → TakesNextRow row (view_of self.old) (view_of self.new) before
-            (held window.new) (P.view target.old).text (P.view target.new).text) }
-        ensures cut { self.old.is_closed ≡ false →
-            OnErr result ((row : List Bool) (before : Held) → IsBelow row before
-            (held window.old) → CutsRow row (view_of self.old) before (P.view target.old).text
-            (P.view target.new).text) }
-        ensures closed { self.old.is_closed ≡ true → (result ≡ Err Write) × (self.new ≡ self.old)
-            × (target.new ≡ target.old) }
-        ensures few { AppendsRow (view_of self.old) (P.view target.old).text
-            (P.view target.new).text }
+        requires lined { IsGoing self.old → IsLined (held window.old) }
+        requires left { IsGoing self.old → self.old.rows < self.old.size.height }
+        requires ready { IsGoing self.old → MayGoOn self.old learning.old }
+        ensures ok { OnOk result (TakesBelow (view_of self.old learning.old)
+            (view_of self.new learning.new) (held window.old) (held window.new)
+            (P.view target.old).text (P.view target.new).text) }
+        ensures cut { IsGoing self.old → OnErr result (CutsBelow (view_of self.old learning.old)
+            (held window.old) (P.view target.old).text (P.view target.new).text) }
+        ensures closed { self.old.is_closed ≡ true → (result ≡ Err Write) × (self.new ≡ self.old) ×
+            (learning.new ≡ learning.old) × (target.new ≡ target.old) }
+        ensures few { AppendsRow self.old (P.view target.old).text (P.view target.new).text }
         ensures closes { self.new.is_closed ≡ is_err result }
-        ensures ready { OnOk result (MayGoOn (view_of self.new)) }
+        ensures ready { OnOk result (MayGoOn self.new learning.new) }
         ensures rows { OnOk result (self.new.rows ≡ self.old.rows + 1) }
         ensures size { self.new.size ≡ self.old.size }
         ensures lined { OnOk result (IsLined (held window.new)) }
         ensures width { width_of window.new ≡ width_of window.old }
         ensures err { IfErr result (λ f. f ≡ Write) }
-        ensures writes { self.old.is_closed ≡ false →
-            WritesOn (P.view target.old) (P.view target.new) result }
+        ensures writes { IsGoing self.old → WritesOn (P.view target.old) (P.view target.new)
+            result }
     {
         if self.is_closed {
             return Err(Fault::Write);
         }
         self.is_closed = true;
-        self.begin_where_due(target)?;
-        self.code(window, target)?;
-        self.end_where_due(window, target)?;
+        self.begin_where_due(learning, target)?;
+        self.code(window, learning, target)?;
+        self.end_where_due(window, learning, target)?;
         self.is_closed = false;
         Ok(())
     }
 
     /// Begins a stripe where none runs.
-    fn begin_where_due<P: ByteTarget>(&mut self, target: &mut P) -> Result<(), Fault>
+    fn begin_where_due<P: ByteTarget>(
+        &mut self,
+        learning: &mut Learning,
+        target: &mut P,
+    ) -> Result<(), Fault>
         requires left { self.old.rows < self.old.size.height }
-        requires able { IsAble (view_of self.old) }
-        requires tallied { 0 < self.old.in_stripe → row_count self.old.tally ≤ self.old.in_stripe }
-        ensures ok { OnOk result (StandsToRun (view_of self.old) (view_of self.new)
-            (P.view target.old).text (P.view target.new).text) }
+        requires able { IsAble (view_of self.old learning.old) }
+        requires tallied { 0 < self.old.in_stripe → row_count learning.old.tally ≤
+            self.old.in_stripe }
+        ensures ok { OnOk result (StandsToRun (view_of self.old learning.old)
+            (view_of self.new learning.new) (P.view target.old).text (P.view target.new).text) }
         ensures cut { OnErr result ((row : List Bool) (before : Held) → CutsRow row
-            (view_of self.old) before (P.view target.old).text (P.view target.new).text) }
+            (view_of self.old learning.old) before (P.view target.old).text
+            (P.view target.new).text) }
         ensures few { AppendsAtMost 8 (P.view target.old).text (P.view target.new).text }
         ensures same_encoder { self.new.encoder ≡ self.old.encoder }
-        ensures able { OnOk result (IsAble (view_of self.new)) }
-        ensures tallied { OnOk result (row_count self.new.tally ≤ self.new.in_stripe) }
+        ensures able { OnOk result (IsAble (view_of self.new learning.new)) }
+        ensures tallied { OnOk result (row_count learning.new.tally ≤ self.new.in_stripe) }
         ensures rows { self.new.rows ≡ self.old.rows }
         ensures in_stripe { self.new.in_stripe ≡ self.old.in_stripe }
         ensures stripe_rows { self.new.stripe_rows ≡ self.old.stripe_rows }
@@ -221,24 +229,28 @@ impl RowEncoder {
         ensures writes { WritesOn (P.view target.old) (P.view target.new) result }
     {
         if self.in_stripe == 0 {
-            self.begin_stripe(target)
+            self.begin_stripe(learning, target)
         } else {
             Ok(())
         }
     }
 
     /// Begins a stripe.
-    fn begin_stripe<P: ByteTarget>(&mut self, target: &mut P) -> Result<(), Fault>
+    fn begin_stripe<P: ByteTarget>(
+        &mut self,
+        learning: &mut Learning,
+        target: &mut P,
+    ) -> Result<(), Fault>
         requires left { self.old.rows < self.old.size.height }
-        requires able { IsAble (view_of self.old) }
-        ensures ok { OnOk result (WaitsToRun (view_of self.old) (view_of self.new)
+        requires able { IsAble (view_of self.old learning.old) }
+        ensures ok { OnOk result (WaitsToRun (view_of self.old learning.old)
+            (view_of self.new learning.new) (P.view target.old).text (P.view target.new).text) }
+        ensures cut { OnErr result (CutsMove (view_of self.old learning.old)
             (P.view target.old).text (P.view target.new).text) }
-        ensures cut { OnErr result (CutsMove (view_of self.old) (P.view target.old).text
-            (P.view target.new).text) }
         ensures few { AppendsAtMost 8 (P.view target.old).text (P.view target.new).text }
         ensures same_encoder { self.new.encoder ≡ self.old.encoder }
-        ensures able { OnOk result (IsAble (view_of self.new)) }
-        ensures tallied { OnOk result (row_count self.new.tally ≡ 0) }
+        ensures able { OnOk result (IsAble (view_of self.new learning.new)) }
+        ensures tallied { OnOk result (row_count learning.new.tally ≡ 0) }
         ensures rows { self.new.rows ≡ self.old.rows }
         ensures in_stripe { self.new.in_stripe ≡ self.old.in_stripe }
         ensures stripe_rows { self.new.stripe_rows ≡ self.old.stripe_rows }
@@ -247,8 +259,8 @@ impl RowEncoder {
         ensures err { IfErr result (λ f. f ≡ Write) }
         ensures writes { WritesOn (P.view target.old) (P.view target.new) result }
     {
-        move_pixel(&mut self.kept, &self.tally, target)?;
-        self.tally.restart();
+        move_pixel(&mut self.kept, &learning.tally, target)?;
+        learning.tally.restart();
         self.is_counted = self.is_followed();
         Ok(())
     }
@@ -263,21 +275,27 @@ impl RowEncoder {
     }
 
     /// Codes the row that the window has, in a stripe that runs.
-    fn code<P: ByteTarget>(&mut self, window: &Window<'_>, target: &mut P) -> Result<(), Fault>
+    fn code<P: ByteTarget>(
+        &mut self,
+        window: &Window<'_>,
+        learning: &mut Learning,
+        target: &mut P,
+    ) -> Result<(), Fault>
         requires width { width_of window.now ≡ self.old.size.width }
         requires lined { IsLined (held window.now) }
         requires left { self.old.rows < self.old.size.height }
-        requires able { IsAble (view_of self.old) }
-        requires tallied { row_count self.old.tally ≤ self.old.in_stripe }
+        requires able { IsAble (view_of self.old learning.old) }
+        requires tallied { row_count learning.old.tally ≤ self.old.in_stripe }
         requires fewer { self.old.in_stripe < self.old.stripe_rows }
-        ensures ok { OnOk result (CodesRow (view_of self.old) (view_of self.new) (held window.now)
+        ensures ok { OnOk result (CodesRow (view_of self.old learning.old)
+            (view_of self.new learning.new) (held window.now) (P.view target.old).text
+            (P.view target.new).text) }
+        ensures cut { OnErr result (CutsCode (view_of self.old learning.old) (held window.now)
             (P.view target.old).text (P.view target.new).text) }
-        ensures cut { OnErr result (CutsCode (view_of self.old) (held window.now)
-            (P.view target.old).text (P.view target.new).text) }
-        ensures few { CodesFew (view_of self.old) (view_of self.new) (P.view target.old).text
-            (P.view target.new).text result }
-        ensures able { OnOk result (IsAble (view_of self.new)) }
-        ensures tallied { OnOk result (row_count self.new.tally ≤ self.new.in_stripe) }
+        ensures few { CodesFew self.old self.new (P.view target.old).text (P.view target.new).text
+            result }
+        ensures able { OnOk result (IsAble (view_of self.new learning.new)) }
+        ensures tallied { OnOk result (row_count learning.new.tally ≤ self.new.in_stripe) }
         ensures rows { self.new.rows ≡ self.old.rows + 1 }
         ensures in_stripe { self.new.in_stripe ≡ self.old.in_stripe + 1 }
         ensures stripe_rows { self.new.stripe_rows ≡ self.old.stripe_rows }
@@ -294,18 +312,18 @@ impl RowEncoder {
             self.shape,
             window,
             &mut self.kept,
-            &mut self.learned,
+            &mut learning.learned,
             &mut self.encoder,
             target,
         )?;
         let counted = self.counted();
-        count_row(counted, self.size.width, window, &mut self.tally);
+        count_row(counted, self.size.width, window, &mut learning.tally);
         Ok(())
     }
 
     /// The offset against which the rows of this stripe are counted, where they are.
     fn counted(&self) -> Option<u8>
-        ensures is { result ≡ counted_of (view_of self.now) }
+        ensures is { (learning : Learning) → result ≡ counted_of (view_of self.now learning) }
         ensures small { self.now.kept.offset ≤ 127 → IfSome result (λ offset. offset ≤ 127) }
     {
         if self.is_counted {
@@ -319,20 +337,22 @@ impl RowEncoder {
     fn end_where_due<P: ByteTarget>(
         &mut self,
         window: &mut Window<'_>,
+        learning: &mut Learning,
         target: &mut P,
     ) -> Result<(), Fault>
         requires width { width_of window.old ≡ self.old.size.width }
         requires lined { IsLined (held window.old) }
         requires some { 0 < self.old.in_stripe }
-        requires able { IsAble (view_of self.old) }
-        requires tallied { row_count self.old.tally ≤ self.old.in_stripe }
-        ensures ok { OnOk result (RunsToStand (view_of self.old) (view_of self.new)
-            (held window.old) (held window.new) (P.view target.old).text (P.view target.new).text) }
-        ensures cut { OnErr result (CutsRunning (view_of self.old) (held window.old)
+        requires able { IsAble (view_of self.old learning.old) }
+        requires tallied { row_count learning.old.tally ≤ self.old.in_stripe }
+        ensures ok { OnOk result (RunsToStand (view_of self.old learning.old)
+            (view_of self.new learning.new) (held window.old) (held window.new)
             (P.view target.old).text (P.view target.new).text) }
-        ensures few { AppendsAtMost (most_code_bytes (view_of self.old) + 2)
-            (P.view target.old).text (P.view target.new).text }
-        ensures ready { OnOk result (MayGoOn (view_of self.new)) }
+        ensures cut { OnErr result (CutsRunning (view_of self.old learning.old) (held window.old)
+            (P.view target.old).text (P.view target.new).text) }
+        ensures few { AppendsAtMost (most_code_bytes self.old + 2) (P.view target.old).text
+            (P.view target.new).text }
+        ensures ready { OnOk result (MayGoOn self.new learning.new) }
         ensures rows { self.new.rows ≡ self.old.rows }
         ensures size { self.new.size ≡ self.old.size }
         ensures same_closed { self.new.is_closed ≡ self.old.is_closed }
@@ -342,7 +362,7 @@ impl RowEncoder {
         ensures writes { WritesOn (P.view target.old) (P.view target.new) result }
     {
         if self.in_stripe == self.stripe_rows {
-            self.end_stripe(window, target)
+            self.end_stripe(window, learning, target)
         } else {
             Ok(())
         }
@@ -352,21 +372,23 @@ impl RowEncoder {
     fn end_stripe<P: ByteTarget>(
         &mut self,
         window: &mut Window<'_>,
+        learning: &mut Learning,
         target: &mut P,
     ) -> Result<(), Fault>
         requires width { width_of window.old ≡ self.old.size.width }
         requires lined { IsLined (held window.old) }
         requires some { 0 < self.old.in_stripe }
-        requires able { IsAble (view_of self.old) }
-        ensures ok { OnOk result (EndsStripe (view_of self.old) (view_of self.new)
-            (held window.old) (held window.new) (P.view target.old).text (P.view target.new).text) }
-        ensures cut { OnErr result (CutsStripe (view_of self.old) (held window.old)
+        requires able { IsAble (view_of self.old learning.old) }
+        ensures ok { OnOk result (EndsStripe (view_of self.old learning.old)
+            (view_of self.new learning.new) (held window.old) (held window.new)
             (P.view target.old).text (P.view target.new).text) }
-        ensures few { AppendsAtMost (most_code_bytes (view_of self.old) + 2)
-            (P.view target.old).text (P.view target.new).text }
+        ensures cut { OnErr result (CutsStripe (view_of self.old learning.old) (held window.old)
+            (P.view target.old).text (P.view target.new).text) }
+        ensures few { AppendsAtMost (most_code_bytes self.old + 2) (P.view target.old).text
+            (P.view target.new).text }
         // No byte of a stripe that is whole waits for the next one.
         ensures sent { OnOk result ((P.view target.new).held ≡ []) }
-        ensures able { OnOk result (IsAble (view_of self.new)) }
+        ensures able { OnOk result (IsAble (view_of self.new learning.new)) }
         ensures none { OnOk result (self.new.in_stripe ≡ 0) }
         ensures rows { self.new.rows ≡ self.old.rows }
         ensures stripe_rows { self.new.stripe_rows ≡ self.old.stripe_rows }
@@ -382,7 +404,7 @@ impl RowEncoder {
         let encoder = std::mem::replace(&mut self.encoder, Encoder::start());
         end_entity(encoder, self.reset, target)?;
         self.in_stripe = 0;
-        go_on(self.reset, window, &mut self.kept, &mut self.learned);
+        go_on(self.reset, window, &mut self.kept, &mut learning.learned);
         target.write_held()
     }
 
@@ -390,35 +412,34 @@ impl RowEncoder {
     pub(crate) fn end<P: ByteTarget>(
         &mut self,
         window: &mut Window<'_>,
+        learning: &mut Learning,
         target: &mut P,
     ) -> Result<(), Fault>
         requires width { width_of window.old ≡ self.old.size.width }
-        requires lined { self.old.is_closed ≡ false → IsLined (held window.old) }
-        requires some { self.old.is_closed ≡ false → 0 < self.old.rows }
-        requires whole { self.old.is_closed ≡ false → self.old.may_end ≡ false →
-            self.old.rows ≡ self.old.size.height }
-        requires ready { self.old.is_closed ≡ false → MayGoOn (view_of self.old) }
-        ensures ok { OnOk result (EndsImage (view_of self.old) (held window.old)
+        requires lined { IsGoing self.old → IsLined (held window.old) }
+        requires some { IsGoing self.old → 0 < self.old.rows }
+        requires whole { IsGoing self.old → self.old.may_end ≡ false → self.old.rows ≡
+            self.old.size.height }
+        requires ready { IsGoing self.old → MayGoOn self.old learning.old }
+        ensures ok { OnOk result (EndsImage (view_of self.old learning.old) (held window.old)
             (P.view target.old).text (P.view target.new).text) }
-        ensures cut { self.old.is_closed ≡ false →
-            OnErr result (CutsImage (view_of self.old) (held window.old)
-            (P.view target.old).text (P.view target.new).text) }
+        ensures cut { IsGoing self.old → OnErr result (CutsImage (view_of self.old learning.old)
+            (held window.old) (P.view target.old).text (P.view target.new).text) }
         ensures closed { self.old.is_closed ≡ true → (result ≡ Err Write) × (self.new ≡ self.old) ×
-            (target.new ≡ target.old) }
-        ensures few { AppendsEnd (view_of self.old) (P.view target.old).text
-            (P.view target.new).text }
+            (learning.new ≡ learning.old) × (target.new ≡ target.old) }
+        ensures few { AppendsEnd self.old (P.view target.old).text (P.view target.new).text }
         ensures is_closed { self.new.is_closed ≡ true }
         ensures size { self.new.size ≡ self.old.size }
         ensures width { width_of window.new ≡ width_of window.old }
         ensures err { IfErr result (λ f. f ≡ Write) }
-        ensures writes { self.old.is_closed ≡ false →
-            WritesOn (P.view target.old) (P.view target.new) result }
+        ensures writes { IsGoing self.old → WritesOn (P.view target.old) (P.view target.new)
+            result }
     {
         if self.is_closed {
             return Err(Fault::Write);
         }
         self.is_closed = true;
-        self.end_last(window, target)?;
+        self.end_last(window, learning, target)?;
         write_ending(self.rows, self.announced, self.reset, target)
     }
 
@@ -426,19 +447,21 @@ impl RowEncoder {
     fn end_last<P: ByteTarget>(
         &mut self,
         window: &mut Window<'_>,
+        learning: &mut Learning,
         target: &mut P,
     ) -> Result<(), Fault>
         requires width { width_of window.old ≡ self.old.size.width }
         requires lined { IsLined (held window.old) }
         requires some { 0 < self.old.rows }
         requires whole { self.old.may_end ≡ false → self.old.rows ≡ self.old.size.height }
-        requires able { IsAble (view_of self.old) }
-        ensures ok { OnOk result (EndsStripes (view_of self.old) (view_of self.new)
-            (held window.old) (P.view target.old).text (P.view target.new).text) }
-        ensures cut { OnErr result (CutsImage (view_of self.old) (held window.old)
+        requires able { IsAble (view_of self.old learning.old) }
+        ensures ok { OnOk result (EndsStripes (view_of self.old learning.old)
+            (view_of self.new learning.new) (held window.old) (P.view target.old).text
+            (P.view target.new).text) }
+        ensures cut { OnErr result (CutsImage (view_of self.old learning.old) (held window.old)
             (P.view target.old).text (P.view target.new).text) }
-        ensures few { AppendsAtMost (most_code_bytes (view_of self.old) + 2)
-            (P.view target.old).text (P.view target.new).text }
+        ensures few { AppendsAtMost (most_code_bytes self.old + 2) (P.view target.old).text
+            (P.view target.new).text }
         ensures rows { self.new.rows ≡ self.old.rows }
         ensures size { self.new.size ≡ self.old.size }
         ensures same_closed { self.new.is_closed ≡ self.old.is_closed }
@@ -449,7 +472,7 @@ impl RowEncoder {
         if self.in_stripe == 0 {
             Ok(())
         } else {
-            self.end_stripe(window, target)
+            self.end_stripe(window, learning, target)
         }
     }
 }
@@ -459,7 +482,6 @@ impl RowEncoder {
     ghost use Rattle.std.specs.Io.KnownBytes.{Appends, Keeps};
     ghost use Rattle.pbm_core.specs.Device.{AppendsBeginning};
     ghost use Rattle.pbm_core.specs.Pbm.{bytes_of_row};
-    ghost use Rattle.pbm_core.specs.Image.{pixels_of};
     ghost use Rattle.raster_core.specs.Window.{held, width_of};
     ghost use Rattle.raster_core.specs.Packed.{Held};
     ghost use Rattle.t85_core.specs.Jbg.{Settings, head_of, is_low};
@@ -467,6 +489,7 @@ impl RowEncoder {
     ghost use Rattle.t85_core.specs.Failures.{CountsWrite, OnlyWrites};
     ghost use Rattle.t85_core.specs.Steps.Buffers.{known_length};
     ghost use Rattle.t85_core.specs.Steps.MostBytes.{AppendsRow, AppendsEnd};
+    ghost use Rattle.t85_core.specs.Steps.RowSteps.{IsGoing, TakesBelow, CutsBelow, given_row};
     ghost use Rattle.t85_core.specs.Steps.Views.{text_taken, writer_of};
     ghost use Rattle.t85_core.specs.declared.fault.Fault.TheVariants.{Write, AnnouncedLow};
     ghost use Rattle.t85_core.specs.Steps.ByRow.{
@@ -482,19 +505,20 @@ impl RowEncoder {
       StreamCut,
     };
 
-    /// Begins a stream: writes its head, and makes the window white.
+    /// Begins a stream: writes its head, and makes the window white. What was learned of another image is forgotten.
     pub fn start<W: Output>(
         size: Size,
         options: &Options<'_>,
         window: &mut Window<'_>,
+        learning: &mut Learning,
         output: &mut W,
     ) -> Result<RowEncoder, Fault>
         requires width { width_of window.old ≡ size.width }
         ensures begun { IfOk result (λ e. Stands (settings_of options.now) size.width size.height []
-            (view_of e) (held window.new) (W.view output.old).contents
+            (view_of e learning.new) (held window.new) (W.view output.old).contents
             (W.view output.new).contents) }
-        ensures ready { IfOk result (λ e. MayGoOn (view_of e)) }
-        ensures going { IfOk result (λ e. e.is_closed ≡ false) }
+        ensures ready { IfOk result (λ e. MayGoOn e learning.new) }
+        ensures going { IfOk result IsGoing }
         ensures none { IfOk result (λ e. e.rows ≡ 0) }
         ensures size { IfOk result (λ e. e.size ≡ size) }
         ensures width { width_of window.new ≡ width_of window.old }
@@ -513,7 +537,7 @@ impl RowEncoder {
             return Err(Fault::AnnouncedLow);
         }
         let mut buffer = OutputBuffer::new(output);
-        start_held(size, options, window, &mut buffer)
+        start_held(size, options, window, learning, &mut buffer)
     }
 
     /// Takes the next row: its pixels, packed, in whole bytes; what is after the last of them is not looked at. After a
@@ -522,62 +546,62 @@ impl RowEncoder {
         &mut self,
         row: &[u8],
         window: &mut Window<'_>,
+        learning: &mut Learning,
         output: &mut W,
     ) -> Result<(), Fault>
         requires width { width_of window.old ≡ self.old.size.width }
-        requires lined { self.old.is_closed ≡ false → IsLined (held window.old) }
+        requires lined { IsGoing self.old → IsLined (held window.old) }
         requires whole { length row.now ≡ bytes_of_row self.old.size.width }
-        requires left { self.old.is_closed ≡ false → self.old.rows < self.old.size.height }
-        requires ready { self.old.is_closed ≡ false → MayGoOn (view_of self.old) }
-        ensures ok { OnOk result (TakesNextRow (pixels_of self.old.size.width row.now)
-            (view_of self.old) (view_of self.new) (held window.old) (held window.new)
-            (W.view output.old).contents (W.view output.new).contents) }
-        ensures cut { self.old.is_closed ≡ false →
-            OnErr result (CutsRow (pixels_of self.old.size.width row.now) (view_of self.old)
-            (held window.old) (W.view output.old).contents (W.view output.new).contents) }
+        requires left { IsGoing self.old → self.old.rows < self.old.size.height }
+        requires ready { IsGoing self.old → MayGoOn self.old learning.old }
+        ensures ok { OnOk result (TakesNextRow (given_row self.old row.now)
+            (view_of self.old learning.old) (view_of self.new learning.new) (held window.old)
+            (held window.new) (W.view output.old).contents (W.view output.new).contents) }
+        ensures cut { IsGoing self.old → OnErr result (CutsRow (given_row self.old row.now)
+            (view_of self.old learning.old) (held window.old) (W.view output.old).contents
+            (W.view output.new).contents) }
         ensures closed { self.old.is_closed ≡ true → (result ≡ Err Write) × (self.new ≡ self.old) ×
-            (output.new ≡ output.old) }
-        ensures few { AppendsRow (view_of self.old) (W.view output.old).contents
+            (learning.new ≡ learning.old) × (output.new ≡ output.old) }
+        ensures few { AppendsRow self.old (W.view output.old).contents
             (W.view output.new).contents }
         ensures closes { self.new.is_closed ≡ is_err result }
-        ensures ready { OnOk result (MayGoOn (view_of self.new)) }
+        ensures ready { OnOk result (MayGoOn self.new learning.new) }
         ensures rows { OnOk result (self.new.rows ≡ self.old.rows + 1) }
         ensures size { self.new.size ≡ self.old.size }
         ensures lined { OnOk result (IsLined (held window.new)) }
         ensures width { width_of window.new ≡ width_of window.old }
         ensures err { IfErr result (λ f. f ≡ Write) }
-        ensures writes { self.old.is_closed ≡ false →
-            OnlyWrites (W.view output.old) (W.view output.new) result }
+        ensures writes { IsGoing self.old → OnlyWrites (W.view output.old) (W.view output.new)
+            result }
     {
         if self.is_closed {
             return Err(Fault::Write);
         }
         take_row(row, self.size, window);
         let mut buffer = OutputBuffer::new(output);
-        self.put_held(window, &mut buffer)
+        self.put_held(window, learning, &mut buffer)
     }
 
     /// Takes the row that the window has, and writes what is held.
     fn put_held<W: Output>(
         &mut self,
         window: &mut Window<'_>,
+        learning: &mut Learning,
         buffer: &mut OutputBuffer<'_, W, ROW_HELD>,
     ) -> Result<(), Fault>
         requires width { width_of window.old ≡ self.old.size.width }
         requires lined { IsLined (held window.old) }
-        requires open_ { self.old.is_closed ≡ false }
+        requires open_ { IsGoing self.old }
         requires left { self.old.rows < self.old.size.height }
-        requires ready { MayGoOn (view_of self.old) }
-        ensures ok { OnOk result ((row : List Bool) (before : Held) → IsBelow row before
-            (held window.old) → TakesNextRow row (view_of self.old) (view_of self.new) before
-            (held window.new) (text_taken buffer.old) (W.view buffer.new.output.now).contents) }
-        ensures cut { OnErr result ((row : List Bool) (before : Held) → IsBelow row before
-            (held window.old) → CutsRow row (view_of self.old) before (text_taken buffer.old)
-            (text_taken buffer.new)) }
-        ensures few { AppendsRow (view_of self.old) (text_taken buffer.old)
-            (text_taken buffer.new) }
+        requires ready { MayGoOn self.old learning.old }
+        ensures ok { OnOk result (TakesBelow (view_of self.old learning.old)
+            (view_of self.new learning.new) (held window.old) (held window.new)
+            (text_taken buffer.old) (W.view buffer.new.output.now).contents) }
+        ensures cut { OnErr result (CutsBelow (view_of self.old learning.old) (held window.old)
+            (text_taken buffer.old) (text_taken buffer.new)) }
+        ensures few { AppendsRow self.old (text_taken buffer.old) (text_taken buffer.new) }
         ensures closes { self.new.is_closed ≡ is_err result }
-        ensures ready { OnOk result (MayGoOn (view_of self.new)) }
+        ensures ready { OnOk result (MayGoOn self.new learning.new) }
         ensures rows { OnOk result (self.new.rows ≡ self.old.rows + 1) }
         ensures size { self.new.size ≡ self.old.size }
         ensures lined { OnOk result (IsLined (held window.new)) }
@@ -591,7 +615,7 @@ impl RowEncoder {
     {
         // What the proof cites of what stands after some rows.
         fronts();
-        self.put_taken(window, buffer)?;
+        self.put_taken(window, learning, buffer)?;
         match buffer.write_held() {
             Ok(()) => Ok(()),
             Err(fault) => {
@@ -605,57 +629,55 @@ impl RowEncoder {
     pub fn finish<W: Output>(
         &mut self,
         window: &mut Window<'_>,
+        learning: &mut Learning,
         output: &mut W,
     ) -> Result<(), Fault>
         requires width { width_of window.old ≡ self.old.size.width }
-        requires lined { self.old.is_closed ≡ false → IsLined (held window.old) }
-        requires some { self.old.is_closed ≡ false → 0 < self.old.rows }
-        requires whole { self.old.is_closed ≡ false → self.old.may_end ≡ false →
-            self.old.rows ≡ self.old.size.height }
-        requires ready { self.old.is_closed ≡ false → MayGoOn (view_of self.old) }
-        ensures ok { OnOk result (EndsImage (view_of self.old) (held window.old)
+        requires lined { IsGoing self.old → IsLined (held window.old) }
+        requires some { IsGoing self.old → 0 < self.old.rows }
+        requires whole { IsGoing self.old → self.old.may_end ≡ false → self.old.rows ≡
+            self.old.size.height }
+        requires ready { IsGoing self.old → MayGoOn self.old learning.old }
+        ensures ok { OnOk result (EndsImage (view_of self.old learning.old) (held window.old)
             (W.view output.old).contents (W.view output.new).contents) }
-        ensures cut { self.old.is_closed ≡ false →
-            OnErr result (CutsImage (view_of self.old) (held window.old)
-            (W.view output.old).contents (W.view output.new).contents) }
+        ensures cut { IsGoing self.old → OnErr result (CutsImage (view_of self.old learning.old)
+            (held window.old) (W.view output.old).contents (W.view output.new).contents) }
         ensures closed { self.old.is_closed ≡ true → (result ≡ Err Write) × (self.new ≡ self.old) ×
-            (output.new ≡ output.old) }
-        ensures few { AppendsEnd (view_of self.old) (W.view output.old).contents
+            (learning.new ≡ learning.old) × (output.new ≡ output.old) }
+        ensures few { AppendsEnd self.old (W.view output.old).contents
             (W.view output.new).contents }
         ensures is_closed { self.new.is_closed ≡ true }
         ensures size { self.new.size ≡ self.old.size }
         ensures width { width_of window.new ≡ width_of window.old }
         ensures err { IfErr result (λ f. f ≡ Write) }
-        ensures writes { self.old.is_closed ≡ false →
-            OnlyWrites (W.view output.old) (W.view output.new) result }
+        ensures writes { IsGoing self.old → OnlyWrites (W.view output.old) (W.view output.new)
+            result }
     {
         if self.is_closed {
             return Err(Fault::Write);
         }
         let mut buffer = OutputBuffer::new(output);
-        self.end_held(window, &mut buffer)
+        self.end_held(window, learning, &mut buffer)
     }
 
     /// Ends the stream, and writes what is held.
     fn end_held<W: Output>(
         &mut self,
         window: &mut Window<'_>,
+        learning: &mut Learning,
         buffer: &mut OutputBuffer<'_, W, ROW_HELD>,
     ) -> Result<(), Fault>
         requires width { width_of window.old ≡ self.old.size.width }
         requires lined { IsLined (held window.old) }
-        requires open_ { self.old.is_closed ≡ false }
+        requires open_ { IsGoing self.old }
         requires some { 0 < self.old.rows }
         requires whole { self.old.may_end ≡ false → self.old.rows ≡ self.old.size.height }
-        requires ready { MayGoOn (view_of self.old) }
-        ensures ok { OnOk result (EndsImage (view_of self.old) (held window.old) (text_taken
-            buffer.old)
-            (W.view buffer.new.output.now).contents) }
-        ensures cut { OnErr result (CutsImage (view_of self.old) (held window.old) (text_taken
-            buffer.old)
-            (text_taken buffer.new)) }
-        ensures few { AppendsEnd (view_of self.old) (text_taken buffer.old)
-            (text_taken buffer.new) }
+        requires ready { MayGoOn self.old learning.old }
+        ensures ok { OnOk result (EndsImage (view_of self.old learning.old) (held window.old)
+            (text_taken buffer.old) (W.view buffer.new.output.now).contents) }
+        ensures cut { OnErr result (CutsImage (view_of self.old learning.old) (held window.old)
+            (text_taken buffer.old) (text_taken buffer.new)) }
+        ensures few { AppendsEnd self.old (text_taken buffer.old) (text_taken buffer.new) }
         ensures is_closed { self.new.is_closed ≡ true }
         ensures size { self.new.size ≡ self.old.size }
         ensures width { width_of window.new ≡ width_of window.old }
@@ -666,7 +688,7 @@ impl RowEncoder {
             (W.view buffer.new.output.now).contents }
         ensures same_writer { writer_of buffer.new ≡ writer_of buffer.old }
     {
-        self.end(window, buffer)?;
+        self.end(window, learning, buffer)?;
         buffer.write_held()
     }
 }

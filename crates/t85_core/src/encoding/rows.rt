@@ -11,9 +11,11 @@ ghost use Rattle.t85_core.specs.Failures.{CountsWrite};
 ghost use Rattle.t85_core.specs.Steps.Buffers.{known_length};
 ghost use Rattle.t85_core.specs.Steps.Views.{text_taken, writer_of};
 ghost use Rattle.t85_core.specs.Steps.ByRow.{view_of, MayGoOn, IsLined, IsBelow, Stands};
+ghost use Rattle.t85_core.specs.Steps.RowSteps.{IsGoing};
 ghost use Rattle.t85_core.specs.declared.fault.Fault.TheVariants.{Write};
 
 use crate::encoding::by_row::RowEncoder;
+use crate::encoding::learning::Learning;
 use crate::encoding::steps::write_head;
 use crate::fault::Fault;
 use crate::options::Options;
@@ -54,15 +56,16 @@ pub fn start_held<W: Output>(
     size: Size,
     options: &Options<'_>,
     window: &mut Window<'_>,
+    learning: &mut Learning,
     buffer: &mut OutputBuffer<'_, W, ROW_HELD>,
 ) -> Result<RowEncoder, Fault>
     requires width { width_of window.old ≡ size.width }
     requires low { is_low (settings_of options.now) size.height ≡ false }
     ensures begun { IfOk result (λ e. Stands (settings_of options.now) size.width size.height []
-        (view_of e) (held window.new) (text_taken buffer.old)
+        (view_of e learning.new) (held window.new) (text_taken buffer.old)
         (W.view buffer.new.output.now).contents) }
-    ensures ready { IfOk result (λ e. MayGoOn (view_of e)) }
-    ensures going { IfOk result (λ e. e.is_closed ≡ false) }
+    ensures ready { IfOk result (λ e. MayGoOn e learning.new) }
+    ensures going { IfOk result IsGoing }
     ensures none { IfOk result (λ e. e.rows ≡ 0) }
     ensures size { IfOk result (λ e. e.size ≡ size) }
     ensures width { width_of window.new ≡ width_of window.old }
@@ -79,5 +82,6 @@ pub fn start_held<W: Output>(
     window.clear();
     write_head(size, options, buffer)?;
     buffer.write_held()?;
+    *learning = Learning::first(size, options);
     Ok(RowEncoder::new(size, options))
 }

@@ -21,9 +21,9 @@ rows-init g c =
     let white = subst (λ w. HasLines (held c.clear.new.self) (white_lines w)) c.requires.width c.clear.ensures.white in
     let put = c.in_ok-write_head.ensures in
     record {
-      come = ([], refl, reads_none c.args.form c.args.size.width _, c.new-encoder.ensures.first (held c.clear.new.self) _ _ white put.ok);
+      come = ([], refl, reads_none c.args.form c.args.size.width _, c.new-encoder.ensures.first _ c.first-learning.ensures (held c.clear.new.self) _ _ white put.ok);
       going = c.new-encoder.ensures.going;
-      ready = c.new-encoder.ensures.ready;
+      ready = c.new-encoder.ensures.ready _;
       many = c.new-encoder.ensures.none;
       size_is = c.new-encoder.ensures.size;
       width = c.clear.ensures.width ∙ c.requires.width;
@@ -46,7 +46,7 @@ returns-in_err-read_next_row-clause-short g c fault is =
     exit_of c.from_residual-in_err-read_next_row.result c.from_residual-in_err-read_next_row.ensures.1 (λ told.
     front_short s c.args.size.width c.args.size.height so.0 _ _ _ _ _ so.2 fault (omega (arith, so.1, c.rows-test.true))
     (subst (λ f. EndsInRow c.args.form c.args.size.width (g.R.Input.view c.rows.source).remaining (g.R.Input.view c.read_next_row.new.source).remaining f) (same_fault short.0 fault _ short.1 told) short.2)
-    (c.fronts.ensures s c.args.size.width c.args.size.height so.0 (view_of c.rows.encoder) (held c.rows.window) _ _ so.3)) is
+    (c.fronts.ensures s c.args.size.width c.args.size.height so.0 (view_of c.rows.encoder c.rows.learning) (held c.rows.window) _ _ so.3)) is
 
 pub put_taken-requires-clause-lined : goal.put_taken-requires-clause-lined
 put_taken-requires-clause-lined g c _ = taken_lined c.args.size.width _ _ (held c.rows.window) (held c.read_next_row.new.window) c.in_ok-read_next_row.ensures.ok c.rows.invariant.lined

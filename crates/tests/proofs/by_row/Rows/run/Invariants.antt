@@ -1,12 +1,12 @@
 use Rattle.std.proofs.Common.{◌≡◌, false}
 use Rattle.raster_core.specs.Window.{held, width_of}
-use Rattle.t85_core.specs.Steps.ByRow.{MayGoOn, IsLined, view_of}
+use Rattle.t85_core.specs.Steps.ByRow.{MayGoOn, IsLined}
 use Rattle.tests.proofs.by_row.Rows.run.Given as goal
 
 abbrev pub invariant-rows : goal.invariant-rows
 invariant-rows l = record {
   going : l.encoder.is_closed ≡ false;
-  ready : MayGoOn (view_of l.encoder);
+  ready : MayGoOn l.encoder l.learning;
   size_is : l.encoder.size ≡ l.self.size;
   width : width_of l.window ≡ l.self.size.width;
   lined : IsLined (held l.window);

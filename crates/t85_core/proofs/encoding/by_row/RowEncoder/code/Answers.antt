@@ -17,18 +17,18 @@ use Rattle.t85_core.proofs.encoding.by_row.RowEncoder.code.Goals as goal
 pub returns-in_err-code_row-clause-cut : goal.returns-in_err-code_row-clause-cut
 returns-in_err-code_row-clause-cut g c =
     exit_all (λ r. OnErr r ((s : Settings) (width limit : ℕ) (rows : List (List Bool)) (row : List Bool) (before : Held) (text : Option (List ℕ)) → IsBelow row before (held c.args.window.now) →
-    Runs s width limit rows (view_of c.args.self.now) before text (g.P.ByteTarget.view c.args.target.now).text → StreamCut s width limit (rows ++ row ∷ []) text (g.P.ByteTarget.view c.code_row.new.target).text)) c.from_residual.result c.from_residual.ensures.1
-    (λ s width limit rows row before text below r. row_cut s width limit rows row (view_of c.args.self.now) before (held c.args.window.now) text _ _ below c.requires.width r c.writing_laws.ensures c.requires.fewer
+    Runs s width limit rows (view_of c.args.self.now c.args.learning.now) before text (g.P.ByteTarget.view c.args.target.now).text → StreamCut s width limit (rows ++ row ∷ []) text (g.P.ByteTarget.view c.code_row.new.target).text)) c.from_residual.result c.from_residual.ensures.1
+    (λ s width limit rows row before text below r. row_cut s width limit rows row (view_of c.args.self.now c.args.learning.now) before (held c.args.window.now) text _ _ below c.requires.width r c.writing_laws.ensures c.requires.fewer
     (c.in_err-code_row.ensures.row (row_start_in s width r.at r.part).state.place r.pushed (lines_with (row_start_in s width r.at r.part) row) r.running.codes
-    (lines_are s width limit rows row (view_of c.args.self.now) before (held c.args.window.now) text (g.P.ByteTarget.view c.args.target.now).text (g.P.ByteTarget.view c.args.target.now).text below c.requires.width r)).cut)
+    (lines_are s width limit rows row (view_of c.args.self.now c.args.learning.now) before (held c.args.window.now) text (g.P.ByteTarget.view c.args.target.now).text (g.P.ByteTarget.view c.args.target.now).text below c.requires.width r)).cut)
 
 pub returns-clause-ok : goal.returns-clause-ok
 returns-clause-ok g c s width limit rows row before text below r =
-    let is = c.counted-counted.ensures.is in
-    row_coded s width limit rows row (view_of c.args.self.now) before (held c.args.window.now) text _ _ below c.requires.width r c.requires.left c.requires.fewer c.code_row.new.kept c.code_row.new.learned c.count_row.new.tally c.code_row.new.encoder _ _ refl refl
+    let is = c.counted-counted.ensures.is c.args.learning.now in
+    row_coded s width limit rows row (view_of c.args.self.now c.args.learning.now) before (held c.args.window.now) text _ _ below c.requires.width r c.requires.left c.requires.fewer c.code_row.new.kept c.code_row.new.learned c.count_row.new.tally c.code_row.new.encoder _ _ refl refl
     (c.in_ok-code_row.ensures.row (row_start_in s width r.at r.part).state.place r.pushed (lines_with (row_start_in s width r.at r.part) row) r.running.codes
-    (lines_are s width limit rows row (view_of c.args.self.now) before (held c.args.window.now) text (g.P.ByteTarget.view c.args.target.now).text (g.P.ByteTarget.view c.args.target.now).text below c.requires.width r)).ok
-    (λ lines l has counted. subst (λ o. IsCountedTo c.args.self.now.size.width o c.count_row.new.tally (lines ++ l ∷ [])) is (c.count_row.ensures.counts lines l has (subst (λ o. IsCountedTo c.args.self.now.size.width o c.args.self.now.tally lines) (sym is) counted)))
+    (lines_are s width limit rows row (view_of c.args.self.now c.args.learning.now) before (held c.args.window.now) text (g.P.ByteTarget.view c.args.target.now).text (g.P.ByteTarget.view c.args.target.now).text below c.requires.width r)).ok
+    (λ lines l has counted. subst (λ o. IsCountedTo c.args.self.now.size.width o c.count_row.new.tally (lines ++ l ∷ [])) is (c.count_row.ensures.counts lines l has (subst (λ o. IsCountedTo c.args.self.now.size.width o c.args.learning.now.tally lines) (sym is) counted)))
     c.count_row.ensures.two_line c.count_row.ensures.most
 
 pub returns-clause-able : goal.returns-clause-able
@@ -53,10 +53,10 @@ returns-clause-able g c =
 pub returns-in_err-code_row-clause-few : goal.returns-in_err-code_row-clause-few
 returns-in_err-code_row-clause-few g c =
     let somewhere = c.requires.able.somewhere in
-    exit_all (CodesFew (view_of c.args.self.now) _ (g.P.ByteTarget.view c.args.target.now).text (g.P.ByteTarget.view c.code_row.new.target).text) c.from_residual.result c.from_residual.ensures.1
+    exit_all (CodesFew c.args.self.now _ (g.P.ByteTarget.view c.args.target.now).text (g.P.ByteTarget.view c.code_row.new.target).text) c.from_residual.result c.from_residual.ensures.1
     (record {
       ok = tt;
-      err = row_cut_few c.writing_laws.ensures c.args.self.now.encoder somewhere.0 c.args.self.now.learned somewhere.1 somewhere.2 _ _ c.args.self.now.shape c.args.self.now.kept c.requires.lined.0 c.args.self.now.size.width (c.requires.lined.1.row_wide ∙ c.requires.width)
+      err = row_cut_few c.writing_laws.ensures c.args.self.now.encoder somewhere.0 c.args.learning.now.learned somewhere.1 somewhere.2 _ _ c.args.self.now.shape c.args.self.now.kept c.requires.lined.0 c.args.self.now.size.width (c.requires.lined.1.row_wide ∙ c.requires.width)
           (c.in_err-code_row.ensures.row somewhere.0 somewhere.1 c.requires.lined.0 somewhere.2 c.requires.lined.1).cut;
     })
 
@@ -64,7 +64,7 @@ pub returns-clause-few : goal.returns-clause-few
 returns-clause-few g c =
     let somewhere = c.requires.able.somewhere in
     record {
-      ok = row_put_few c.writing_laws.ensures c.args.self.now.encoder somewhere.0 c.args.self.now.learned somewhere.1 somewhere.2 _ _ c.args.self.now.shape c.args.self.now.kept c.code_row.new.kept c.requires.lined.0 c.code_row.new.encoder c.code_row.new.learned c.args.self.now.size.width (c.requires.lined.1.row_wide ∙ c.requires.width)
+      ok = row_put_few c.writing_laws.ensures c.args.self.now.encoder somewhere.0 c.args.learning.now.learned somewhere.1 somewhere.2 _ _ c.args.self.now.shape c.args.self.now.kept c.code_row.new.kept c.requires.lined.0 c.code_row.new.encoder c.code_row.new.learned c.args.self.now.size.width (c.requires.lined.1.row_wide ∙ c.requires.width)
           (c.in_ok-code_row.ensures.row somewhere.0 somewhere.1 c.requires.lined.0 somewhere.2 c.requires.lined.1).ok;
       err = tt;
     }

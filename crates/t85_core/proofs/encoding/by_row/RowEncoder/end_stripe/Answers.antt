@@ -20,15 +20,15 @@ use Rattle.t85_core.proofs.encoding.by_row.RowEncoder.end_stripe.Goals as goal
 pub returns-in_err-end_entity-clause-cut : goal.returns-in_err-end_entity-clause-cut
 returns-in_err-end_entity-clause-cut g c =
     exit_all (λ r. OnErr r ((s : Settings) (width limit : ℕ) (rows : List (List Bool)) (text : Option (List ℕ)) →
-    Runs s width limit rows (view_of c.args.self.now) (held c.args.window.now) text (g.P.ByteTarget.view c.args.target.now).text → StripeBegun s width limit c.args.self.now.in_stripe rows text (g.P.ByteTarget.view c.end_entity.new.target).text)) c.from_residual.result c.from_residual.ensures.1
+    Runs s width limit rows (view_of c.args.self.now c.args.learning.now) (held c.args.window.now) text (g.P.ByteTarget.view c.args.target.now).text → StripeBegun s width limit c.args.self.now.in_stripe rows text (g.P.ByteTarget.view c.end_entity.new.target).text)) c.from_residual.result c.from_residual.ensures.1
     (λ s width limit rows text r.
     let e = c.in_err-end_entity.ensures.ended (row_start_in s width r.at r.part).state.place r.pushed (subst (λ e. EncoderIsAt e (row_start_in s width r.at r.part).state.place r.pushed) (sym c.replace-encoder.ensures.value) r.running.codes) in
-    stripe_cut s width limit rows (view_of c.args.self.now) (held c.args.window.now) text _ _ c.requires.some r c.writing_laws.ensures e.code e.more e.is e.all e.cut)
+    stripe_cut s width limit rows (view_of c.args.self.now c.args.learning.now) (held c.args.window.now) text _ _ c.requires.some r c.writing_laws.ensures e.code e.more e.is e.all e.cut)
 
 pub returns-clause-ok : goal.returns-clause-ok
 returns-clause-ok g c = always c.write_held.result (λ s width limit rows text r.
     let e = c.in_ok-end_entity.ensures.ended (row_start_in s width r.at r.part).state.place r.pushed (subst (λ e. EncoderIsAt e (row_start_in s width r.at r.part).state.place r.pushed) (sym c.replace-encoder.ensures.value) r.running.codes) in
-    stripe_ended s width limit rows (view_of c.args.self.now) (held c.args.window.now) text _ _ c.requires.some r c.writing_laws.ensures c.replace-encoder.new.dest c.go_on.new.kept c.go_on.new.learned _ _ _ refl
+    stripe_ended s width limit rows (view_of c.args.self.now c.args.learning.now) (held c.args.window.now) text _ _ c.requires.some r c.writing_laws.ensures c.replace-encoder.new.dest c.go_on.new.kept c.go_on.new.learned _ _ _ refl
     (subst (λ e. EncoderIsAt e start []) (sym c.replace-encoder.ensures.after) c.start.ensures.codes)
     (λ last is. subst (λ w. IsHeldBy None 0 (first_row_start (next_stripe_start w c.args.self.now.reset last)) c.go_on.new.kept c.go_on.new.learned (held c.go_on.new.window)) c.requires.width (c.go_on.ensures.next last is))
     e.code e.more e.is e.all e.ok c.write_held.ensures.text)
@@ -36,7 +36,7 @@ returns-clause-ok g c = always c.write_held.result (λ s width limit rows text r
 pub returns-clause-cut : goal.returns-clause-cut
 returns-clause-cut g c = always_err c.write_held.result (λ s width limit rows text r.
     let e = c.in_ok-end_entity.ensures.ended (row_start_in s width r.at r.part).state.place r.pushed (subst (λ e. EncoderIsAt e (row_start_in s width r.at r.part).state.place r.pushed) (sym c.replace-encoder.ensures.value) r.running.codes) in
-    stripe_cut s width limit rows (view_of c.args.self.now) (held c.args.window.now) text _ _ c.requires.some r c.writing_laws.ensures e.code e.more e.is e.all
+    stripe_cut s width limit rows (view_of c.args.self.now c.args.learning.now) (held c.args.window.now) text _ _ c.requires.some r c.writing_laws.ensures e.code e.more e.is e.all
     (beginning_all _ _ e.more (Appends-keeps _ _ _ e.more e.ok c.write_held.ensures.text)))
 
 pub returns-in_err-end_entity-clause-few : goal.returns-in_err-end_entity-clause-few

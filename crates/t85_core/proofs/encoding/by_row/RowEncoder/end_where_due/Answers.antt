@@ -11,4 +11,4 @@ returns-then-self-clause-ok g c =
 
 pub returns-then-self-clause-cut : goal.returns-then-self-clause-cut
 returns-then-self-clause-cut g c =
-    on_err c.end_stripe.result (λ cut s width limit rows text r. cut_stream s width limit _ rows (view_of c.args.self.now) (held c.args.window.now) text _ r.plan_is.some (c.if-self.true ∙ r.plan_is.stripe_rows_is) (cut s width limit rows text r)) c.end_stripe.ensures.cut
+    on_err c.end_stripe.result (λ cut s width limit rows text r. cut_stream s width limit _ rows (view_of c.args.self.now c.args.learning.now) (held c.args.window.now) text _ r.plan_is.some (c.if-self.true ∙ r.plan_is.stripe_rows_is) (cut s width limit rows text r)) c.end_stripe.ensures.cut

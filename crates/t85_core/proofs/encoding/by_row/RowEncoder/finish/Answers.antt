@@ -23,7 +23,7 @@ returns-clause-ok g c =
     let text_is : text_taken buffer ≡ (g.W.Output.view c.args.output.now).contents = text_unheld buffer.bytes buffer.at buffer.end (g.W.Output.view buffer.output.now).contents c.new-buffer.ensures.empty ∙ ap (λ m. (g.W.Output.view m.now).contents) c.new-buffer.ensures.lent in
     map_ok c.end_held.result (λ all s width limit rows text so.
     moved (λ w. (g.W.Output.view w).contents) (λ z. Appends text z (jbg s (raster_of width rows))) c.end_held.new.buffer.output.now _ (search rules)
-    (all s width limit rows text (subst (λ z. Stands s width limit rows (view_of c.args.self.now) (held c.args.window.now) text z) (sym text_is) so))) c.end_held.ensures.ok
+    (all s width limit rows text (subst (λ z. Stands s width limit rows (view_of c.args.self.now c.args.learning.now) (held c.args.window.now) text z) (sym text_is) so))) c.end_held.ensures.ok
 
 pub returns-clause-cut : goal.returns-clause-cut
 returns-clause-cut g c _ =
@@ -32,11 +32,11 @@ returns-clause-cut g c _ =
     let text_is : text_taken buffer ≡ (g.W.Output.view c.args.output.now).contents = text_unheld buffer.bytes buffer.at buffer.end (g.W.Output.view buffer.output.now).contents c.new-buffer.ensures.empty ∙ ap (λ m. (g.W.Output.view m.now).contents) c.new-buffer.ensures.lent in
     let lent : (g.W.Output.view buffer.output.now).contents ≡ (g.W.Output.view c.args.output.now).contents = ap (λ m. (g.W.Output.view m.now).contents) c.new-buffer.ensures.lent in
     on_err c.end_held.result (λ cut s width limit rows text so.
-    let grown = stands_grown s width limit rows (view_of c.args.self.now) (held c.args.window.now) text (g.W.Output.view c.args.output.now).contents (g.W.Output.view c.args.output.now).contents so in
+    let grown = stands_grown s width limit rows (view_of c.args.self.now c.args.learning.now) (held c.args.window.now) text (g.W.Output.view c.args.output.now).contents (g.W.Output.view c.args.output.now).contents so in
     let more : known_length (g.W.Output.view c.args.output.now).contents ≤ known_length (g.W.Output.view after.output.now).contents = subst (λ z. known_length z ≤ known_length (g.W.Output.view after.output.now).contents) lent c.end_held.ensures.grows in
     moved (λ w. (g.W.Output.view w).contents) (λ z. AppendsBeginning text z (jbg s (raster_of width rows))) after.output.now _ (search rules)
     (beginning_handed text (g.W.Output.view after.output.now).contents (held_of after.bytes after.at after.end) (jbg s (raster_of width rows)) (omega (arith, grown, more))
-    (cut s width limit rows text (subst (λ z. Stands s width limit rows (view_of c.args.self.now) (held c.args.window.now) text z) (sym text_is) so)))) c.end_held.ensures.cut
+    (cut s width limit rows text (subst (λ z. Stands s width limit rows (view_of c.args.self.now c.args.learning.now) (held c.args.window.now) text z) (sym text_is) so)))) c.end_held.ensures.cut
 
 pub returns-clause-few : goal.returns-clause-few
 returns-clause-few g c =

@@ -8,12 +8,11 @@ use Rattle.t85_core.proofs.Theorems.CodeDenotes.{written_bits}
 use Rattle.t85_core.proofs.Encodings.RowSteps.{none_stand}
 use Rattle.t85_core.proofs.encoding.by_row.RowEncoder.new.Goals as goal
 
-pub returns-clause-first : goal.returns-clause-first
-returns-clause-first c window text text' white put =
+pub returns-clause-plan : goal.returns-clause-plan
+returns-clause-plan c =
     let s = settings_of c.args.options.now in
     let mode = c.shape-shape.ensures.mode ∙ ap (λ f. mode_of f.options) c.header.ensures ∙ (written_bits s (are_settings c.args.options.now)).mode in
-    none_stand s c.args.size.width c.args.size.height _ window text text'
-    (record {
+    record {
       width_is = refl;
       limit_is = refl;
       shape_is = record { width_is = c.shape-shape.ensures.width ∙ ap (λ f. f.xd) c.header.ensures; mode_is = mode };
@@ -26,5 +25,9 @@ returns-clause-first c window text text' white put =
       width_from = c.args.size.some_width;
       width_to = c.args.size.not_too_wide;
       limit_to = search rules;
-    })
-    refl refl c.start.ensures.codes refl refl c.new.ensures white (c.new-2.ensures.two_line ∙ ap (λ m. m.two_line) mode) c.new-2.ensures.most c.new-2.ensures.counts put
+    }
+
+pub returns-clause-first : goal.returns-clause-first
+returns-clause-first c learning untaught window text text' white put =
+    none_stand (settings_of c.args.options.now) c.args.size.width c.args.size.height _ window text text' (returns-clause-plan c)
+    refl refl c.start.ensures.codes refl refl untaught.learned_is white untaught.two_line untaught.most untaught.counts put

@@ -14,7 +14,7 @@ Cut v window old new r = OnErr r ((row : List Bool) (before : Held) → IsBelow 
 
 pub returns-in_err-put_taken-clause-cut : goal.returns-in_err-put_taken-clause-cut
 returns-in_err-put_taken-clause-cut g c =
-    exit_all (Cut (view_of c.args.self.now) (held c.args.window.now) (text_taken c.args.buffer.now) (text_taken c.put_taken.new.target)) c.from_residual.result c.from_residual.ensures.1 (c.in_err-put_taken.ensures.cut c.requires.open_)
+    exit_all (Cut (view_of c.args.self.now c.args.learning.now) (held c.args.window.now) (text_taken c.args.buffer.now) (text_taken c.put_taken.new.target)) c.from_residual.result c.from_residual.ensures.1 (c.in_err-put_taken.ensures.cut c.requires.open_)
 
 pub returns-in-Ok-clause-ok : goal.returns-in-Ok-clause-ok
 returns-in-Ok-clause-ok g c row before below s width limit rows text so =

@@ -18,9 +18,9 @@ returns-clause-ok g c =
     let buffer = c.new-buffer.result in
     let text_is : text_taken buffer ≡ (g.W.Output.view c.args.output.now).contents = text_unheld buffer.bytes buffer.at buffer.end (g.W.Output.view buffer.output.now).contents c.new-buffer.ensures.empty ∙ ap (λ m. (g.W.Output.view m.now).contents) c.new-buffer.ensures.lent in
     map_ok c.put_held.result (λ all s width limit rows text so.
-    moved (λ w. (g.W.Output.view w).contents) (Stands s width limit (rows ++ pixels_of c.args.self.now.size.width c.args.row.now ∷ []) (view_of c.put_held.new.self) (held c.put_held.new.window) text) c.put_held.new.buffer.output.now _ (search rules)
+    moved (λ w. (g.W.Output.view w).contents) (Stands s width limit (rows ++ pixels_of c.args.self.now.size.width c.args.row.now ∷ []) (view_of c.put_held.new.self c.put_held.new.learning) (held c.put_held.new.window) text) c.put_held.new.buffer.output.now _ (search rules)
     (all (pixels_of c.args.self.now.size.width c.args.row.now) (held c.args.window.now) c.take_row.ensures.below s width limit rows text
-    (subst (λ z. Stands s width limit rows (view_of c.args.self.now) (held c.args.window.now) text z) (sym text_is) so))) c.put_held.ensures.ok
+    (subst (λ z. Stands s width limit rows (view_of c.args.self.now c.args.learning.now) (held c.args.window.now) text z) (sym text_is) so))) c.put_held.ensures.ok
 
 pub returns-clause-cut : goal.returns-clause-cut
 returns-clause-cut g c _ =
@@ -29,12 +29,12 @@ returns-clause-cut g c _ =
     let text_is : text_taken buffer ≡ (g.W.Output.view c.args.output.now).contents = text_unheld buffer.bytes buffer.at buffer.end (g.W.Output.view buffer.output.now).contents c.new-buffer.ensures.empty ∙ ap (λ m. (g.W.Output.view m.now).contents) c.new-buffer.ensures.lent in
     let lent : (g.W.Output.view buffer.output.now).contents ≡ (g.W.Output.view c.args.output.now).contents = ap (λ m. (g.W.Output.view m.now).contents) c.new-buffer.ensures.lent in
     on_err c.put_held.result (λ cut s width limit rows text so.
-    let grown = stands_grown s width limit rows (view_of c.args.self.now) (held c.args.window.now) text (g.W.Output.view c.args.output.now).contents (g.W.Output.view c.args.output.now).contents so in
+    let grown = stands_grown s width limit rows (view_of c.args.self.now c.args.learning.now) (held c.args.window.now) text (g.W.Output.view c.args.output.now).contents (g.W.Output.view c.args.output.now).contents so in
     let more : known_length (g.W.Output.view c.args.output.now).contents ≤ known_length (g.W.Output.view after.output.now).contents = subst (λ z. known_length z ≤ known_length (g.W.Output.view after.output.now).contents) lent c.put_held.ensures.grows in
     moved (λ w. (g.W.Output.view w).contents) (StreamCut s width limit (rows ++ pixels_of c.args.self.now.size.width c.args.row.now ∷ []) text) after.output.now _ (search rules)
     (cut_written s width limit (rows ++ pixels_of c.args.self.now.size.width c.args.row.now ∷ []) text (g.W.Output.view after.output.now).contents (held_of after.bytes after.at after.end) (omega (arith, grown, more))
     (cut (pixels_of c.args.self.now.size.width c.args.row.now) (held c.args.window.now) c.take_row.ensures.below s width limit rows text
-    (subst (λ z. Stands s width limit rows (view_of c.args.self.now) (held c.args.window.now) text z) (sym text_is) so)))) c.put_held.ensures.cut
+    (subst (λ z. Stands s width limit rows (view_of c.args.self.now c.args.learning.now) (held c.args.window.now) text z) (sym text_is) so)))) c.put_held.ensures.cut
 
 pub returns-clause-few : goal.returns-clause-few
 returns-clause-few g c =

@@ -17,8 +17,8 @@ returns-clause-begun g c =
     let buffer = c.new-buffer.result in
     let text_is : text_taken buffer ≡ (g.W.Output.view c.args.output.now).contents = text_unheld buffer.bytes buffer.at buffer.end (g.W.Output.view buffer.output.now).contents c.new-buffer.ensures.empty ∙ ap (λ m. (g.W.Output.view m.now).contents) c.new-buffer.ensures.lent in
     map_if_ok c.start_held.result (λ e so.
-    moved (λ w. (g.W.Output.view w).contents) (Stands (settings_of c.args.options.now) c.args.size.width c.args.size.height [] (view_of e) (held c.start_held.new.window) (g.W.Output.view c.args.output.now).contents) c.start_held.new.buffer.output.now _ (search rules)
-    (subst (λ z. Stands (settings_of c.args.options.now) c.args.size.width c.args.size.height [] (view_of e) (held c.start_held.new.window) z (g.W.Output.view c.start_held.new.buffer.output.now).contents) text_is so)) c.start_held.ensures.begun
+    moved (λ w. (g.W.Output.view w).contents) (Stands (settings_of c.args.options.now) c.args.size.width c.args.size.height [] (view_of e c.start_held.new.learning) (held c.start_held.new.window) (g.W.Output.view c.args.output.now).contents) c.start_held.new.buffer.output.now _ (search rules)
+    (subst (λ z. Stands (settings_of c.args.options.now) c.args.size.width c.args.size.height [] (view_of e c.start_held.new.learning) (held c.start_held.new.window) z (g.W.Output.view c.start_held.new.buffer.output.now).contents) text_is so)) c.start_held.ensures.begun
 
 pub returns-clause-cut : goal.returns-clause-cut
 returns-clause-cut g c is =
