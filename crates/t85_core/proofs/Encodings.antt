@@ -15,6 +15,7 @@ pub mod RowSteps
 pub mod RowGiven
 pub mod ReadAhead
 pub mod RowCalls
+pub mod RowNumbers
 pub mod FewAppended
 pub mod ImageByRow
 pub mod BufferEncoded

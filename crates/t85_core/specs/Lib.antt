@@ -20,6 +20,7 @@ pub mod Outcomes
 pub mod Lent
 pub mod Pieces
 pub mod Numbers
+pub mod RowNumbers
 pub mod ToPbm
 pub mod Encode
 pub mod ToJbg

@@ -23,6 +23,7 @@ mod sink;
 mod steps;
 
 pub use self::by_row::RowEncoder;
+pub use self::by_row::numbers::RowNumbers;
 pub use self::learning::Learning;
 use self::steps::write_head;
 use crate::fault::Fault;

@@ -20,7 +20,7 @@ mod summary;
 
 pub use conversion::{to_jbg, to_pbm};
 pub use decoding::{decode, decode_in_memory};
-pub use encoding::{Learning, RowEncoder, encode, encode_in_memory};
+pub use encoding::{Learning, RowEncoder, RowNumbers, encode, encode_in_memory};
 pub use fault::Fault;
 pub use header::Header;
 pub use height::find_height;

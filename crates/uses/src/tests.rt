@@ -13,7 +13,7 @@ use pbm_core::trial::{Drip, Pieces};
 use qm_core::{Context, Learned};
 use raster_core::Window;
 use std::alloc::{AllocError, Global};
-use t85_core::{Fault, Header, Learning, Options, Outcome, RowEncoder};
+use t85_core::{Fault, Header, Learning, Options, Outcome, RowEncoder, RowNumbers};
 
 /// Three by two pixels in the plain form.
 const IMAGE: &[u8] = b"P1 3 2 101 010";
@@ -142,6 +142,52 @@ fn put_wide() -> Result<bool, Fault> {
 fn rows_are_put_where_they_have_room(rt: HostRuntime) {
     assert!(rt; put_narrow() == Ok(true));
     assert!(rt; put_wide() == Ok(false));
+}
+
+/// Eight pixels in each of three rows.
+const NARROW: Size = Size {
+    width: 8,
+    height: 3,
+};
+
+/// What a caller keeps of an encoder after one of these rows, in stripes of two.
+fn numbers_of_a_row() -> Result<RowNumbers, Fault> {
+    let options = Options::new(8, 2, 0, None, false, None)?;
+    let mut lent = [0; 3];
+    let mut window = Window::over(&mut lent, 8);
+    let mut room = Room::new();
+    let mut learning = Learning::new();
+    let mut encoder = RowEncoder::start(NARROW, &options, &mut window, &mut learning, &mut room)?;
+    encoder.put_row(b"\x5a", &mut window, &mut learning, &mut room)?;
+    Ok(encoder.numbers())
+}
+
+/// The numbers of the encoder that is made of such numbers, if there is one.
+fn numbers_again(numbers: &RowNumbers) -> Option<RowNumbers> {
+    let options = Options::new(8, 2, 0, None, false, None).ok()?;
+    let encoder = RowEncoder::resume(NARROW, &options, numbers)?;
+    Some(encoder.numbers())
+}
+
+#[test]
+fn encoders_are_numbers(rt: HostRuntime) -> Result<(), Fault> {
+    let numbers = numbers_of_a_row()?;
+    assert!(rt; numbers.rows == 1 && numbers.in_stripe == 1 && numbers.offset == 0);
+    assert!(rt; numbers_again(&numbers) == Some(numbers));
+    let mut other = numbers;
+    other.rows = 4;
+    assert!(rt; numbers_again(&other) == None);
+    other.rows = 2;
+    other.in_stripe = 2;
+    assert!(rt; numbers_again(&other) == None);
+    other.in_stripe = 1;
+    assert!(rt; numbers_again(&other) == Some(other));
+    other.encoder.events = 10;
+    assert!(rt; numbers_again(&other) == None);
+    other = numbers;
+    other.encoder.has_failed = true;
+    assert!(rt; numbers_again(&other) == None);
+    Ok(())
 }
 
 #[test]

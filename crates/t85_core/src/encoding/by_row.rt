@@ -1,5 +1,7 @@
 //! Encoding an image row by row.
 
+pub mod numbers;
+
 use crate::encoding::learning::Learning;
 use crate::encoding::rows::{start_held, take_row};
 use crate::encoding::segments::write_ending;

@@ -1,0 +1,99 @@
+//! An encoder whose rows come one by one, as plain numbers.
+
+ghost use Rattle.std.specs.Prelude.{◌≡◌, true, false, IfSome, IsSomeAnd};
+ghost use Rattle.raster_core.specs.Tally.{row_count};
+ghost use Rattle.t85_core.specs.Jbg.{is_low};
+ghost use Rattle.t85_core.specs.Options.{settings_of};
+ghost use Rattle.t85_core.specs.RowNumbers.{row_numbers};
+
+use crate::encoding::by_row::RowEncoder;
+use crate::options::Options;
+use pbm_core::Size;
+use qm_core::{Encoder, EncoderRegisters};
+use raster_core::Kept;
+
+/// How far an encoder has come that is not closed, as numbers that anyone may keep. Beside them it wants its size and its
+/// options, the window's memory and place, and what was learned.
+#[derive(Clone, Copy, PartialEq, Eq, Debug)]
+pub struct RowNumbers {
+    /// How many rows came.
+    pub rows: u32,
+    /// How many of them are in the stripe that runs.
+    pub in_stripe: u32,
+    /// Whether the rows of this stripe are counted.
+    pub is_counted: bool,
+    /// The offset of the adaptive template pixel.
+    pub offset: u8,
+    /// Whether the row before was typical.
+    pub is_previous_typical: bool,
+    pub encoder: EncoderRegisters,
+}
+
+impl RowNumbers {
+    ghost use Rattle.t85_core.specs.RowNumbers.{AreWithin};
+
+    /// Whether an encoder of this size, with so many rows in a stripe, may have come so far.
+    fn are_within(&self, size: Size, stripe_rows: u32) -> bool
+        ensures within { result ≡ true → AreWithin size.width size.height stripe_rows self.now }
+        ensures all { AreWithin size.width size.height stripe_rows self.now → result ≡ true }
+    {
+        self.offset <= 127
+            && self.in_stripe < stripe_rows
+            && self.in_stripe <= self.rows
+            && self.rows <= size.height
+            && self.encoder.events <= u64::from(self.in_stripe) * (u64::from(size.width) + 1)
+    }
+}
+
+impl RowEncoder {
+    ghost use Rattle.std.specs.Prelude.{◌≤◌, ◌<◌};
+    ghost use Rattle.t85_core.specs.Steps.ByRow.{plan_of, view_of, IsPlan, MayGoOn};
+    ghost use Rattle.t85_core.specs.Steps.RowSteps.{IsGoing};
+    ghost use Rattle.t85_core.specs.declared.encoding.by_row.RowEncoder.{RowEncoder};
+    ghost use Rattle.t85_core.specs.declared.encoding.learning.Learning.{Learning};
+
+    /// How far it has come, as numbers. Whether it is closed is not among them.
+    pub fn numbers(&self) -> RowNumbers
+        ensures { result ≡ row_numbers self.now }
+    {
+        RowNumbers {
+            rows: self.rows,
+            in_stripe: self.in_stripe,
+            is_counted: self.is_counted,
+            offset: self.kept.offset,
+            is_previous_typical: self.kept.previous_typical,
+            encoder: self.encoder.registers(),
+        }
+    }
+
+    /// The encoder of this size and with these options that has these numbers and is not closed, if there is one. The next
+    /// call is to be lent the window and what was learned as the last one left them.
+    pub fn resume(size: Size, options: &Options<'_>, numbers: &RowNumbers) -> Option<RowEncoder>
+        ensures resumes { (e : RowEncoder) (learning : Learning) → is_low (settings_of options.now)
+            size.height ≡ false → IsPlan (settings_of options.now) size.width size.height
+            (plan_of e) → MayGoOn e learning → numbers.now ≡ row_numbers e → IsSomeAnd result (λ r.
+            (l : Learning) → view_of r l ≡ view_of e l) }
+        ensures ready { IfSome result (λ r. (l : Learning) →
+            (0 < r.in_stripe → row_count l.tally ≤ r.in_stripe) → MayGoOn r l) }
+        ensures plan { IfSome result (λ r. IsPlan (settings_of options.now) size.width size.height
+            (plan_of r)) }
+        ensures numbers { IfSome result (λ r. row_numbers r ≡ numbers.now) }
+        ensures size { IfSome result (λ r. r.size ≡ size) }
+        ensures going { IfSome result IsGoing }
+    {
+        if options.is_low(size) || !numbers.are_within(size, options.stripe_rows) {
+            return None;
+        }
+        let encoder = Encoder::from_registers(numbers.encoder)?;
+        let mut resumed = RowEncoder::new(size, options);
+        resumed.kept = Kept {
+            offset: numbers.offset,
+            previous_typical: numbers.is_previous_typical,
+        };
+        resumed.encoder = encoder;
+        resumed.rows = numbers.rows;
+        resumed.in_stripe = numbers.in_stripe;
+        resumed.is_counted = numbers.is_counted;
+        Some(resumed)
+    }
+}
