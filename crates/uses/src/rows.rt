@@ -1,6 +1,6 @@
 //! Rows that are handed one by one.
 
-ghost use Rattle.std.specs.Prelude.{◌≡◌, ◌≢◌, ◌≤◌, ◌<◌, ◌*◌, ◌∷◌, ◌⊎◌, [], length, false, true, Err, Ok, OnOk, OnErr, IfErr};
+ghost use Rattle.std.specs.Prelude.{◌≡◌, ◌≢◌, ◌≤◌, ◌<◌, ◌*◌, ◌∷◌, ◌⊎◌, [], length, false, true, Err, Ok, None, OnOk, OnErr, IfErr, IfSome};
 ghost use Rattle.std.specs.Io.KnownBytes.{Appends};
 ghost use Rattle.pbm_core.specs.Pbm.{bytes_of_row};
 ghost use Rattle.pbm_core.specs.Image.{pixels_of};
@@ -9,15 +9,17 @@ ghost use Rattle.raster_core.specs.Packed.{rows_at, with_current};
 ghost use Rattle.raster_core.specs.Window.{held, turned, width_of, current_place, memory_of};
 ghost use Rattle.t85_core.specs.Encode.{raster_of};
 ghost use Rattle.t85_core.specs.Jbg.{jbg, is_low};
-ghost use Rattle.t85_core.specs.Failures.{OnlyWrites};
+ghost use Rattle.t85_core.specs.Failures.{OnlyWrites, writes_after};
 ghost use Rattle.t85_core.specs.Options.{settings_of};
-ghost use Rattle.t85_core.specs.Steps.ByRow.{view_of, MayGoOn, IsLined, EndsImage, CutsImage};
+ghost use Rattle.t85_core.specs.RowNumbers.{row_numbers};
+ghost use Rattle.t85_core.specs.Steps.ByRow.{plan_of, view_of, IsPlan, MayGoOn, IsLined, TakesNextRow, EndsImage, CutsImage};
 ghost use Rattle.t85_core.specs.Steps.RowSteps.{IsGoing};
+ghost use Rattle.t85_core.specs.declared.encoding.by_row.RowEncoder.{RowEncoder};
 ghost use Rattle.t85_core.specs.declared.fault.Fault.TheVariants.{AnnouncedLow, Write};
 
 use pbm_core::{Output, Size};
 use raster_core::{Window, current_row};
-use t85_core::{Fault, Learning, Options, RowEncoder};
+use t85_core::{Fault, Learning, Options, RowEncoder, RowNumbers};
 
 /// Writes the stream of an image of two rows. What is written is the stream of the whole image.
 #[tactic(auto, using(crate::proofs::Writes::after_ok))]
@@ -86,6 +88,37 @@ pub fn end_where_allowed<W: Output>(
     }
     encoder.finish(window, learning, output)?;
     Ok(true)
+}
+
+/// Puts a row by an encoder that is made of the numbers of another one, and tells its numbers, unless a write fails.
+pub fn put_by_numbers<W: Output>(
+    size: Size,
+    options: &Options<'_>,
+    encoder: &RowEncoder,
+    row: &[u8],
+    window: &mut Window<'_>,
+    learning: &mut Learning,
+    output: &mut W,
+) -> Option<RowNumbers>
+    requires low { is_low (settings_of options.now) size.height ≡ false }
+    requires plan { IsPlan (settings_of options.now) size.width size.height (plan_of encoder.now) }
+    requires width { width_of window.old ≡ size.width }
+    requires lined { IsLined (held window.old) }
+    requires whole { length row.now ≡ bytes_of_row size.width }
+    requires left { encoder.now.rows < size.height }
+    requires ready { MayGoOn encoder.now learning.old }
+    ensures put { IfSome result (λ n. (e : RowEncoder) × (n ≡ row_numbers e) ×
+        TakesNextRow (pixels_of size.width row.now) (view_of encoder.now learning.old)
+        (view_of e learning.new) (held window.old) (held window.new) (W.view output.old).contents
+        (W.view output.new).contents) }
+    ensures failed { result ≡ None →
+        (W.view output.new).failures ≡ writes_after Write (W.view output.old).failures }
+{
+    let mut again = RowEncoder::resume(size, options, &encoder.numbers())?;
+    match again.put_row(row, window, learning, output) {
+        Ok(()) => Some(again.numbers()),
+        Err(_) => None,
+    }
 }
 
 /// Writes a row below the two that memory holds from an earlier call, at the place that was told then. The answer is the
