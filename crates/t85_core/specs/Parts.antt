@@ -114,7 +114,7 @@ pub record TakesPart (stream : List ℕ) (w w' : PartWalk) (from : Passed) (part
   pub stripe_is : part.stripe ≡ entities_in from
 
 -- All parts were passed: the stripes of the height of the stream, and behind them nothing but what gives it, with its empty
--- data entity.
+-- data entity. If a height is given it is among them.
 pub record IsWhole (stream : List ℕ) (len : ℕ) (h : Fields) (stripes : List Stripe) (segments : List Segment) : Type 0 where
   pub height : ℕ
   pub comes_last : Bool
@@ -126,6 +126,7 @@ pub record IsWhole (stream : List ℕ) (len : ℕ) (h : Fields) (stripes : List 
   pub numbers : HasNumbers stream (numbers_of h height stripes)
   pub height_is : IsHeight h (drop 20 stream) height
   pub all : length stripes ≡ stripe_count height h.l0
+  pub given : (late : ℕ) → GivesHeight h (drop 20 stream) late → lengths (all_segments stripes ++ segments) ≡ late ∷ []
 
 abbrev pub EndsAt : List ℕ → Passed → ℕ → Type 0
 EndsAt stream Nothing len = ⊥

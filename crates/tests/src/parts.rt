@@ -15,7 +15,7 @@ struct Case {
     end: Found,
 }
 
-static WHOLE: [Case; 13] = [
+static WHOLE: [Case; 17] = [
     Case {
         stream: "00000100 00000001 00000002 00000001 00 0000 08 E0 FF02 E0 FF03",
         body: &[(DataEntity, 20, 3, 0), (DataEntity, 23, 3, 1)],

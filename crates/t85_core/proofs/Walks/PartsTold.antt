@@ -24,7 +24,7 @@ use Rattle.t85_core.specs.Steps.PartSteps.{ReadsPart, MissesPart, IsSegment, pla
 use Rattle.t85_core.proofs.Bytes.Lists.{All-append}
 use Rattle.t85_core.proofs.Bytes.Lengths.{many_lengths, lengths_append, gives_none, gives_left, gives_right, valid_parts}
 use Rattle.t85_core.proofs.Grammar.Unique.{header_is, accepted}
-use Rattle.t85_core.proofs.Grammar.Heights.{none_left, none_right}
+use Rattle.t85_core.proofs.Grammar.Heights.{none_left, none_right, one_given}
 use Rattle.t85_core.proofs.Grammar.SomeHeight.{never_behind, comments_give_none, comments_make_none}
 use Rattle.t85_core.proofs.Walks.Found.{same_rest}
 use Rattle.t85_core.proofs.Walks.HeightFound.{height_of_skipped, moved_false}
@@ -43,6 +43,12 @@ in_use_zero h w e = let t : nat_eq w.late_height 0 ≡ true = grind (arith, nat_
 
 in_use_given : (h : Fields) (w : PartWalk) → 1 ≤ w.late_height → height_in_use h w ≡ w.late_height
 in_use_given h w e = let t : nat_eq w.late_height 0 ≡ false = grind (arith, nat_tests) in ap (λ b. cond b h.yd w.late_height) t
+
+-- the one height that is given
+single : (ns : List ℕ) (n : ℕ) → length ns ≡ 1 → AllByRecursion (λ m. m ≡ n) ns → ns ≡ n ∷ []
+single [] n one all = absurd (omega (arith, one))
+single (m ∷ []) n one all = ap (λ k. k ∷ []) all.0
+single (m ∷ k ∷ ns) n one all = absurd (omega (arith, one))
 
 -- it is known that a height comes
 abbrev pub known : PartWalk → PartWalk
@@ -215,8 +221,8 @@ module _ {stream : List ℕ} {w : PartWalk} {h : Fields} {ss : List Stripe} {gs 
 
   -- ---- the end
 
-  whole : (height : ℕ) → EndsInHeight w.at_height height gs → IsHeight h (drop 20 stream) height → length ss ≡ stripe_count height h.l0 → GiveOnly height 0 (all_segments ss) → IsDone stream w h ss gs
-  whole height last height_is all gives = record {
+  whole : (height : ℕ) → EndsInHeight w.at_height height gs → IsHeight h (drop 20 stream) height → length ss ≡ stripe_count height h.l0 → GiveOnly height 0 (all_segments ss) → ((n : ℕ) → GivesHeight h (drop 20 stream) n → lengths (all_segments ss ++ gs) ≡ n ∷ []) → IsDone stream w h ss gs
+  whole height last height_is all gives given = record {
     height = height;
     last = last;
     within = (let l : length stream ≡ length T + (length P + length R) = ap length apart ∙ length-append T (P ++ R) ∙ ap (λ n. length T + n) (length-append P R) in let o = p.offset_is in omega (arith, l, o, twenty));
@@ -238,6 +244,7 @@ module _ {stream : List ℕ} {w : PartWalk} {h : Fields} {ss : List Stripe} {gs 
     };
     height_is = height_is;
     all = all;
+    given = given;
   } where
     T : List ℕ
     T = take 20 stream
@@ -260,6 +267,7 @@ module _ {stream : List ℕ} {w : PartWalk} {h : Fields} {ss : List Stripe} {gs 
       let g = given_of_walk is in
       let all : length ss ≡ stripe_count w.late_height h.l0 = (let e = ap (λ n. stripe_count n h.l0) (in_use_given h w (late_of g)) in let n = p.entities_are in let within = g.within in omega (arith, most, e, n, within)) in
       whole w.late_height (g.last all) (inl g.gives) all (gives_left w.late_height 0 (all_segments ss) gs g.only)
+      (λ n other. single (lengths (all_segments ss ++ gs)) w.late_height g.one g.only.this ∙ ap (λ m. m ∷ []) (one_given h p.header_of.accepted (drop 20 stream) w.late_height n g.gives other))
 
   module _ (none : is_given w ≡ false) (most : stripes_in_use h w ≤ w.entities) where
     pub zero_there : w.late_height ≡ 0
@@ -273,6 +281,7 @@ module _ {stream : List ℕ} {w : PartWalk} {h : Fields} {ss : List Stripe} {gs 
         let u = ungiven_of zero_there in
         let all = all_of u most_there in
         whole h.yd (subst (λ b. EndsInHeight b h.yd gs) (sym quiet) (u.quiet all quiet)) (inr (refl, never)) all (gives_none h.yd 0 (all_segments ss) (omega arith) (none_left (all_segments ss) gs u.none))
+        (λ n g. absurd (never n g))
 
     -- none may be
     pub ends_fixed : is_variable h ≡ false → IsDone stream w h ss gs
@@ -302,6 +311,7 @@ module _ {stream : List ℕ} {w : PartWalk} {h : Fields} {ss : List Stripe} {gs 
     numbers = d.numbers;
     height_is = d.height_is;
     all = d.all;
+    given = d.given;
   } where
     tail_taken : take n (drop w.offset stream) ≡ t.0
     tail_taken = ap (λ z. take n z) t.2 ∙ ap (λ k. take k (t.0 ++ t.1)) (sym t.3) ∙ take-append_seam t.0 t.1

@@ -1,5 +1,5 @@
 -- What one step of a walk over the parts of a stream reads and tells.
-use Rattle.std.specs.Prelude.{ℕ, ◌+◌, ◌-◌, ◌^◌, ◌≡◌, ◌≤◌, ◌<◌, ⊤, Bool, true, false, not, ◌==◌, List, ◌++◌, length, take, drop, if◌then◌else◌}
+use Rattle.std.specs.Prelude.{ℕ, ◌+◌, ◌-◌, ◌^◌, ◌≡◌, ◌≤◌, ◌<◌, ⊤, Bool, true, false, not, ◌==◌, List, [], ◌∷◌, ◌++◌, length, take, drop, if◌then◌else◌}
 use Rattle.std.specs.List.{AllByRecursion}
 use Rattle.qm_core.specs.Code.{stuffed}
 use Rattle.t85_core.specs.declared.fault.Fault.{Fault}
@@ -12,7 +12,7 @@ use Rattle.t85_core.specs.declared.parts.Taken.{Taken}
 use Rattle.t85_core.specs.declared.parts.Taken.TheVariants as taken
 use Rattle.t85_core.specs.declared.segments.Place.{Place}
 use Rattle.t85_core.specs.Header.{Fields}
-use Rattle.t85_core.specs.Grammar.{Segment, NewLength, Move, Comment, segment_bytes, Stripe, marker_bytes, stripe_count, is_valid_length, IsLegal}
+use Rattle.t85_core.specs.Grammar.{Segment, NewLength, Move, Comment, segment_bytes, lengths, all_segments, Stripe, marker_bytes, stripe_count, is_valid_length, IsLegal}
 use Rattle.t85_core.specs.Height.{GivesHeight, IsHeight}
 use Rattle.t85_core.specs.Info.{numbers_of, HasNumbers}
 use Rattle.t85_core.specs.Parts.{StandsBehind, Behind, EndsInHeight, IsTail, PartFault, Tells, passed_bytes}
@@ -106,6 +106,7 @@ pub record IsDone (stream : List ℕ) (w : PartWalk) (h : Fields) (stripes : Lis
   pub numbers : HasNumbers stream (numbers_of h height stripes)
   pub height_is : IsHeight h (drop 20 stream) height
   pub all : length stripes ≡ stripe_count height h.l0
+  pub given : (late : ℕ) → GivesHeight h (drop 20 stream) late → lengths (all_segments stripes ++ segments) ≡ late ∷ []
 
 -- so many bytes has what belongs to the stream behind them
 abbrev pub TailIs : PartWalk → List ℕ → ℕ → Type 0
