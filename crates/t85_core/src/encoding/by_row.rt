@@ -45,7 +45,7 @@ impl RowEncoder {
     ghost use Rattle.std.specs.Prelude.{◌≡◌, ◌≤◌, ◌<◌, ◌+◌, ◌-◌, ◌*◌, ◌∷◌, [], ◌++◌, ◌⊎◌, List, Option, Bool, ℕ, OnOk, OnErr, IfOk, IfErr, IfSome, Err, is_err, true, false};
     ghost use Rattle.std.specs.Io.KnownBytes.{Appends};
     ghost use Rattle.pbm_core.specs.Device.{AppendsBeginning};
-    ghost use Rattle.raster_core.specs.Window.{held, width_of};
+    ghost use Rattle.raster_core.specs.Window.{held, width_of, memory_of};
     ghost use Rattle.raster_core.specs.Packed.{Held};
     ghost use Rattle.raster_core.specs.Tally.{row_count};
     ghost use Rattle.t85_core.specs.Jbg.{Settings, head_of, is_low};
@@ -188,6 +188,7 @@ impl RowEncoder {
         ensures size { self.new.size ≡ self.old.size }
         ensures lined { OnOk result (IsLined (held window.new)) }
         ensures width { width_of window.new ≡ width_of window.old }
+        ensures same_memory { memory_of window.new ≡ memory_of window.old }
         ensures err { IfErr result (λ f. f ≡ Write) }
         ensures writes { IsGoing self.old → WritesOn (P.view target.old) (P.view target.new)
             result }
@@ -360,6 +361,7 @@ impl RowEncoder {
         ensures same_closed { self.new.is_closed ≡ self.old.is_closed }
         ensures lined { OnOk result (IsLined (held window.new)) }
         ensures width { width_of window.new ≡ width_of window.old }
+        ensures same_memory { memory_of window.new ≡ memory_of window.old }
         ensures err { IfErr result (λ f. f ≡ Write) }
         ensures writes { WritesOn (P.view target.old) (P.view target.new) result }
     {
@@ -398,6 +400,7 @@ impl RowEncoder {
         ensures same_closed { self.new.is_closed ≡ self.old.is_closed }
         ensures lined { OnOk result (IsLined (held window.new)) }
         ensures width { width_of window.new ≡ width_of window.old }
+        ensures same_memory { memory_of window.new ≡ memory_of window.old }
         ensures err { IfErr result (λ f. f ≡ Write) }
         ensures writes { WritesOn (P.view target.old) (P.view target.new) result }
     {
@@ -433,6 +436,7 @@ impl RowEncoder {
         ensures is_closed { self.new.is_closed ≡ true }
         ensures size { self.new.size ≡ self.old.size }
         ensures width { width_of window.new ≡ width_of window.old }
+        ensures same_memory { memory_of window.new ≡ memory_of window.old }
         ensures err { IfErr result (λ f. f ≡ Write) }
         ensures writes { IsGoing self.old → WritesOn (P.view target.old) (P.view target.new)
             result }
@@ -468,6 +472,7 @@ impl RowEncoder {
         ensures size { self.new.size ≡ self.old.size }
         ensures same_closed { self.new.is_closed ≡ self.old.is_closed }
         ensures width { width_of window.new ≡ width_of window.old }
+        ensures same_memory { memory_of window.new ≡ memory_of window.old }
         ensures err { IfErr result (λ f. f ≡ Write) }
         ensures writes { WritesOn (P.view target.old) (P.view target.new) result }
     {
@@ -484,7 +489,7 @@ impl RowEncoder {
     ghost use Rattle.std.specs.Io.KnownBytes.{Appends, Keeps};
     ghost use Rattle.pbm_core.specs.Device.{AppendsBeginning};
     ghost use Rattle.pbm_core.specs.Pbm.{bytes_of_row};
-    ghost use Rattle.raster_core.specs.Window.{held, width_of};
+    ghost use Rattle.raster_core.specs.Window.{held, width_of, memory_of};
     ghost use Rattle.raster_core.specs.Packed.{Held};
     ghost use Rattle.t85_core.specs.Jbg.{Settings, head_of, is_low};
     ghost use Rattle.t85_core.specs.Options.{settings_of};
@@ -524,6 +529,7 @@ impl RowEncoder {
         ensures none { IfOk result (λ e. e.rows ≡ 0) }
         ensures size { IfOk result (λ e. e.size ≡ size) }
         ensures width { width_of window.new ≡ width_of window.old }
+        ensures same_memory { memory_of window.new ≡ memory_of window.old }
         ensures lined { IfOk result (λ e. IsLined (held window.new)) }
         ensures refused { is_low (settings_of options.now) size.height ≡ true →
             result ≡ Err AnnouncedLow }
@@ -572,6 +578,7 @@ impl RowEncoder {
         ensures size { self.new.size ≡ self.old.size }
         ensures lined { OnOk result (IsLined (held window.new)) }
         ensures width { width_of window.new ≡ width_of window.old }
+        ensures same_memory { memory_of window.new ≡ memory_of window.old }
         ensures err { IfErr result (λ f. f ≡ Write) }
         ensures writes { IsGoing self.old → OnlyWrites (W.view output.old) (W.view output.new)
             result }
@@ -608,6 +615,7 @@ impl RowEncoder {
         ensures size { self.new.size ≡ self.old.size }
         ensures lined { OnOk result (IsLined (held window.new)) }
         ensures width { width_of window.new ≡ width_of window.old }
+        ensures same_memory { memory_of window.new ≡ memory_of window.old }
         ensures err { IfErr result (λ f. f ≡ Write) }
         ensures writes { CountsWrite (W.view buffer.old.output.now).failures
             (W.view buffer.new.output.now).failures result }
@@ -651,6 +659,7 @@ impl RowEncoder {
         ensures is_closed { self.new.is_closed ≡ true }
         ensures size { self.new.size ≡ self.old.size }
         ensures width { width_of window.new ≡ width_of window.old }
+        ensures same_memory { memory_of window.new ≡ memory_of window.old }
         ensures err { IfErr result (λ f. f ≡ Write) }
         ensures writes { IsGoing self.old → OnlyWrites (W.view output.old) (W.view output.new)
             result }
@@ -683,6 +692,7 @@ impl RowEncoder {
         ensures is_closed { self.new.is_closed ≡ true }
         ensures size { self.new.size ≡ self.old.size }
         ensures width { width_of window.new ≡ width_of window.old }
+        ensures same_memory { memory_of window.new ≡ memory_of window.old }
         ensures err { IfErr result (λ f. f ≡ Write) }
         ensures writes { CountsWrite (W.view buffer.old.output.now).failures
             (W.view buffer.new.output.now).failures result }

@@ -4,7 +4,7 @@ ghost use Rattle.std.specs.Prelude.{◌≡◌, ◌≤◌, ◌<◌, ◌-◌, [], 
 ghost use Rattle.pbm_core.specs.Device.{AppendsBeginning};
 ghost use Rattle.pbm_core.specs.Pbm.{bytes_of_row, masked_row};
 ghost use Rattle.pbm_core.specs.Image.{pixels_of};
-ghost use Rattle.raster_core.specs.Window.{held, width_of};
+ghost use Rattle.raster_core.specs.Window.{held, width_of, memory_of};
 ghost use Rattle.t85_core.specs.Jbg.{head_of, is_low};
 ghost use Rattle.t85_core.specs.Options.{settings_of};
 ghost use Rattle.t85_core.specs.Failures.{CountsWrite};
@@ -30,6 +30,7 @@ pub fn take_row(row: &[u8], size: Size, window: &mut Window<'_>)
     requires width { width_of window.old ≡ size.width }
     ensures below { IsBelow (pixels_of size.width row.now) (held window.old) (held window.new) }
     ensures width { width_of window.new ≡ width_of window.old }
+    ensures same_memory { memory_of window.new ≡ memory_of window.old }
 {
     // What the proof cites of rows.
     masks();
@@ -69,6 +70,7 @@ pub fn start_held<W: Output>(
     ensures none { IfOk result (λ e. e.rows ≡ 0) }
     ensures size { IfOk result (λ e. e.size ≡ size) }
     ensures width { width_of window.new ≡ width_of window.old }
+    ensures same_memory { memory_of window.new ≡ memory_of window.old }
     ensures lined { IsLined (held window.new) }
     ensures cut { OnErr result (AppendsBeginning (text_taken buffer.old) (text_taken buffer.new)
         (head_of (settings_of options.now) size.width size.height)) }
