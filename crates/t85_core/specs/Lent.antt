@@ -1,9 +1,9 @@
 -- What decoders are seen as: what they hold, and what they are lent.
-use Rattle.std.specs.Prelude.{ℕ, Bool, List, Option}
+use Rattle.std.specs.Prelude.{ℕ, ◌≡◌, Bool, List, Option}
 use Rattle.qm_core.specs.declared.decoder.Decoder.{Decoder}
 use Rattle.qm_core.specs.Place.{Estimate}
 use Rattle.raster_core.specs.Packed.{Held}
-use Rattle.raster_core.specs.Window.{held}
+use Rattle.raster_core.specs.Window.{held, memory_of, width_of}
 use Rattle.raster_core.specs.declared.shape.Kept.{Kept}
 use Rattle.raster_core.specs.declared.place.RowPlace.{RowPlace}
 use Rattle.raster_core.specs.declared.window.Window.{Window}
@@ -17,6 +17,10 @@ use Rattle.t85_core.specs.declared.pieces.behind.Behind.{Behind}
 use Rattle.t85_core.specs.declared.pieces.walk.Stage.{Stage}
 use Rattle.t85_core.specs.declared.pieces.walk.Walk.{Walk}
 
+-- a window of the same width over the same memory
+abbrev pub KeepsWindow : Window → Window → Type 0
+KeepsWindow old new = (width_of new ≡ width_of old) × (memory_of new ≡ memory_of old)
+
 -- what is carried from row to row and from stripe to stripe
 pub record Carried : Type 0 where
   pub held : Held
@@ -26,8 +30,8 @@ pub record Carried : Type 0 where
 abbrev pub carried_of : CodingState → Carried
 carried_of s = record { held = held s.window.now; kept = s.kept; learned = s.learned.now }
 
-abbrev pub carried_over : Window → Kept → List Estimate → Carried
-carried_over window kept learned = record { held = held window; kept = kept; learned = learned }
+abbrev pub carried_by : Window → Kept → List Estimate → Carried
+carried_by window kept learned = record { held = held window; kept = kept; learned = learned }
 
 -- how far a stream has been decoded, with the rows and the contexts that it was lent
 pub record WalkView : Type 0 where

@@ -4,7 +4,7 @@ ghost use Rattle.std.specs.Prelude.{◌≡◌, ◌<◌, ◌-◌, if◌then◌els
 ghost use Rattle.qm_core.specs.Place.{fresh};
 ghost use Rattle.raster_core.specs.Window.{held, memory_of, width_of};
 ghost use Rattle.t85_core.specs.Steps.State.{RowStart, first_row_start, next_stripe_start};
-ghost use Rattle.t85_core.specs.Lent.{carried_of, carried_over};
+ghost use Rattle.t85_core.specs.Lent.{carried_of, carried_by};
 ghost use Rattle.t85_core.specs.Steps.DecodeRows.{IsCarried, IsFirst};
 
 use qm_core::Learned;
@@ -60,9 +60,9 @@ impl CodingState<'_, '_> {
 /// Goes on after an end marker. All stays, or is as at the top of an image where the marker resets.
 pub fn next_stripe(reset: bool, window: &mut Window<'_>, kept: &mut Kept, learned: &mut Learned)
     ensures next { (last : RowStart) →
-        IsCarried last (carried_over window.old kept.old learned.old) →
+        IsCarried last (carried_by window.old kept.old learned.old) →
         IsCarried (first_row_start (next_stripe_start (width_of window.old) reset last))
-        (carried_over window.new kept.new learned.new) }
+        (carried_by window.new kept.new learned.new) }
     ensures width { width_of window.new ≡ width_of window.old }
     ensures offset { kept.new.offset ≡ if reset then 0 else kept.old.offset }
     ensures same_memory { memory_of window.new ≡ memory_of window.old }
@@ -74,7 +74,7 @@ pub fn next_stripe(reset: bool, window: &mut Window<'_>, kept: &mut Kept, learne
 
 /// Goes to the top of an image. The window is made white, and the contexts forget.
 pub fn restart(window: &mut Window<'_>, kept: &mut Kept, learned: &mut Learned)
-    ensures first { IsFirst (carried_over window.new kept.new learned.new) }
+    ensures first { IsFirst (carried_by window.new kept.new learned.new) }
     ensures width { width_of window.new ≡ width_of window.old }
     ensures offset { kept.new.offset ≡ 0 }
     ensures same_memory { memory_of window.new ≡ memory_of window.old }

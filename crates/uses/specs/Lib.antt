@@ -4,3 +4,4 @@ pub mod Image
 pub mod Line
 pub mod Pieces
 pub mod Kept
+pub mod Rows

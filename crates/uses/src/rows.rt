@@ -14,6 +14,7 @@ ghost use Rattle.t85_core.specs.Options.{settings_of};
 ghost use Rattle.t85_core.specs.RowNumbers.{row_numbers};
 ghost use Rattle.t85_core.specs.Steps.ByRow.{plan_of, view_of, IsPlan, MayGoOn, IsLined, TakesNextRow, EndsImage, CutsImage};
 ghost use Rattle.t85_core.specs.Steps.RowSteps.{IsGoing};
+ghost use Rattle.uses.specs.Rows.{MayTake};
 ghost use Rattle.t85_core.specs.declared.encoding.by_row.RowEncoder.{RowEncoder};
 ghost use Rattle.t85_core.specs.declared.fault.Fault.TheVariants.{AnnouncedLow, Write};
 
@@ -100,13 +101,7 @@ pub fn put_by_numbers<W: Output>(
     learning: &mut Learning,
     output: &mut W,
 ) -> Option<RowNumbers>
-    requires low { is_low (settings_of options.now) size.height ≡ false }
-    requires plan { IsPlan (settings_of options.now) size.width size.height (plan_of encoder.now) }
-    requires width { width_of window.old ≡ size.width }
-    requires lined { IsLined (held window.old) }
-    requires whole { length row.now ≡ bytes_of_row size.width }
-    requires left { encoder.now.rows < size.height }
-    requires ready { MayGoOn encoder.now learning.old }
+    requires { MayTake (settings_of options.now) size encoder.now learning.old window.old row.now }
     ensures put { IfSome result (λ n. (e : RowEncoder) × (n ≡ row_numbers e) ×
         TakesNextRow (pixels_of size.width row.now) (view_of encoder.now learning.old)
         (view_of e learning.new) (held window.old) (held window.new) (W.view output.old).contents

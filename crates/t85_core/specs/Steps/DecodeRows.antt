@@ -12,7 +12,8 @@ use Rattle.qm_core.specs.declared.decoder.Decoder.{Decoder}
 use Rattle.raster_core.specs.Window.{shape_mode}
 use Rattle.raster_core.specs.Packed.{HasLines, packed_row}
 use Rattle.raster_core.specs.declared.shape.Shape.{Shape}
-use Rattle.t85_core.specs.Lent.{Carried}
+use Rattle.t85_core.specs.declared.state.CodingState.{CodingState}
+use Rattle.t85_core.specs.Lent.{Carried, carried_of}
 use Rattle.t85_core.specs.declared.decoding.rows.RowFault.{RowFault}
 use Rattle.t85_core.specs.declared.decoding.rows.RowFault.TheVariants as row_fault
 use Rattle.t85_core.specs.declared.segments.Move.{Move}
@@ -92,18 +93,18 @@ pub record RowsUnwritten {S : Type 0} (pull : S → Pulled → S → Type 0) (fr
   pub appended : AppendsBeginning text text' (flat_map packed_row rows)
 
 -- a row more, in whatever stripe it is
-abbrev pub DecodeRowStep : {S : Type 0} → (S → Pulled → S → Type 0) → S → S → Shape → Option (ℕ × ℕ) → ℕ → Carried → Carried → Decoder → Decoder → Option (List ℕ) → Option (List ℕ) → Type 0
+abbrev pub DecodeRowStep : {S : Type 0} → (S → Pulled → S → Type 0) → S → S → Shape → Option (ℕ × ℕ) → ℕ → CodingState → CodingState → Decoder → Decoder → Option (List ℕ) → Option (List ℕ) → Type 0
 DecodeRowStep {S} pull old new shape move row carried carried' d d' text text' =
     (from : S) (began : Option (List ℕ)) (h : Fields) (c : StripeStart) (segments : List Segment) → move ≡ move_of segments →
-    RowsRead pull from old h shape c segments row carried d began text →
-    RowsRead pull from new h shape c segments (row + 1) carried' d' began text'
+    RowsRead pull from old h shape c segments row (carried_of carried) d began text →
+    RowsRead pull from new h shape c segments (row + 1) (carried_of carried') d' began text'
 
 -- rows more, in whatever stripe
-abbrev pub DecodeRowsStep : {S : Type 0} → (S → Pulled → S → Type 0) → S → S → Shape → Option (ℕ × ℕ) → ℕ → ℕ → Carried → Carried → Decoder → Decoder → Option (List ℕ) → Option (List ℕ) → Type 0
+abbrev pub DecodeRowsStep : {S : Type 0} → (S → Pulled → S → Type 0) → S → S → Shape → Option (ℕ × ℕ) → ℕ → ℕ → CodingState → CodingState → Decoder → Decoder → Option (List ℕ) → Option (List ℕ) → Type 0
 DecodeRowsStep {S} pull old new shape move row row' carried carried' d d' text text' =
     (from : S) (began : Option (List ℕ)) (h : Fields) (c : StripeStart) (segments : List Segment) → move ≡ move_of segments →
-    RowsRead pull from old h shape c segments row carried d began text →
-    RowsRead pull from new h shape c segments row' carried' d' began text'
+    RowsRead pull from old h shape c segments row (carried_of carried) d began text →
+    RowsRead pull from new h shape c segments row' (carried_of carried') d' began text'
 
 -- First rows of a stripe, and then as many as `count` that equal the last of them.
 pub record RowsRepeated (h : Fields) (c : StripeStart) (segments : List Segment) (answers : List Pulled) (rows : List (List Bool)) (flags : List Bool) (before : RowStart) (count : ℕ)
@@ -121,23 +122,23 @@ RepeatsRows shape move row count carried carried' d d' =
     RowsRepeated h c segments answers rows flags last count carried' d'
 
 -- no row more, in whatever stripe
-abbrev pub DecodeRowStepCut : {S : Type 0} → (S → Pulled → S → Type 0) → S → S → Shape → Option (ℕ × ℕ) → ℕ → Carried → Decoder → Option (List ℕ) → Option (List ℕ) → Type 0
+abbrev pub DecodeRowStepCut : {S : Type 0} → (S → Pulled → S → Type 0) → S → S → Shape → Option (ℕ × ℕ) → ℕ → CodingState → Decoder → Option (List ℕ) → Option (List ℕ) → Type 0
 DecodeRowStepCut {S} pull old new shape move row carried d text text' =
     (from : S) (began : Option (List ℕ)) (h : Fields) (c : StripeStart) (segments : List Segment) (count : ℕ) → move ≡ move_of segments → row ≤ count →
-    RowsRead pull from old h shape c segments row carried d began text →
+    RowsRead pull from old h shape c segments row (carried_of carried) d began text →
     RowsCut pull from new h c segments count began text'
 
 -- a row that the target didn't take, in whatever stripe
-abbrev pub DecodeRowStepUnwritten : {S : Type 0} → (S → Pulled → S → Type 0) → S → S → Shape → Option (ℕ × ℕ) → ℕ → Carried → Decoder → Option (List ℕ) → Option (List ℕ) → Type 0
+abbrev pub DecodeRowStepUnwritten : {S : Type 0} → (S → Pulled → S → Type 0) → S → S → Shape → Option (ℕ × ℕ) → ℕ → CodingState → Decoder → Option (List ℕ) → Option (List ℕ) → Type 0
 DecodeRowStepUnwritten {S} pull old new shape move row carried d text text' =
     (from : S) (began : Option (List ℕ)) (h : Fields) (c : StripeStart) (segments : List Segment) (count : ℕ) → move ≡ move_of segments → row + 1 ≤ count →
-    RowsRead pull from old h shape c segments row carried d began text → RowsUnwritten pull from new h c segments count began text'
+    RowsRead pull from old h shape c segments row (carried_of carried) d began text → RowsUnwritten pull from new h c segments count began text'
 
 -- some of the rows up to `until` were decoded, and the target didn't take them, in whatever stripe
-abbrev pub DecodeRowsStepUnwritten : {S : Type 0} → (S → Pulled → S → Type 0) → S → S → Shape → Option (ℕ × ℕ) → ℕ → ℕ → Carried → Decoder → Option (List ℕ) → Option (List ℕ) → Type 0
+abbrev pub DecodeRowsStepUnwritten : {S : Type 0} → (S → Pulled → S → Type 0) → S → S → Shape → Option (ℕ × ℕ) → ℕ → ℕ → CodingState → Decoder → Option (List ℕ) → Option (List ℕ) → Type 0
 DecodeRowsStepUnwritten {S} pull old new shape move row until carried d text text' =
     (from : S) (began : Option (List ℕ)) (h : Fields) (c : StripeStart) (segments : List Segment) (count : ℕ) → move ≡ move_of segments → until ≤ count →
-    RowsRead pull from old h shape c segments row carried d began text → RowsUnwritten pull from new h c segments count began text'
+    RowsRead pull from old h shape c segments row (carried_of carried) d began text → RowsUnwritten pull from new h c segments count began text'
 
 -- the rows of a stripe
 abbrev pub RowsOfStripe : {S : Type 0} → (S → Pulled → S → Type 0) → S → S → Shape → Option (ℕ × ℕ) → ℕ → Carried → Carried → Option (List ℕ) → Option (List ℕ) → Type 0

@@ -12,6 +12,7 @@ use Rattle.raster_core.specs.declared.place.RowPlace.{RowPlace}
 use Rattle.raster_core.specs.declared.shape.Shape.{Shape}
 use Rattle.t85_core.specs.declared.fault.Fault.{Fault}
 use Rattle.t85_core.specs.declared.fault.Fault.TheVariants.{Truncated}
+use Rattle.t85_core.specs.declared.pieces.piece.Piece.{Piece}
 use Rattle.t85_core.specs.declared.segments.Code.{Code}
 use Rattle.t85_core.specs.Lent.{Carried}
 use Rattle.t85_core.specs.Header.{Fields}
@@ -114,8 +115,8 @@ pub record RowState : Type 0 where
   pub marker : Option Bool
   pub piece : List ℕ
 
-abbrev pub row_state : Carried → Decoder → RowPlace → Option Code → Option Bool → List ℕ → RowState
-row_state carried decoder place first marker piece = record { carried = carried; decoder = decoder; place = place; first = first; marker = marker; piece = piece }
+abbrev pub row_state : Carried → Decoder → RowPlace → Option Code → Option Bool → Piece → RowState
+row_state carried decoder place first marker piece = record { carried = carried; decoder = decoder; place = place; first = first; marker = marker; piece = piece.rest.now }
 
 -- what is left of a row that has begun in whatever stripe
 abbrev pub FromRow : Shape → RowState → (Fields → StripeStart → List Segment → ℕ → List ℕ → List ℕ → List ℕ → Type 0) → Type 0

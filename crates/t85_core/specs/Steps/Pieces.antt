@@ -124,9 +124,9 @@ pub record Step (h : Fields) (height : ℕ) (w w' : WalkView) (piece piece' : Li
   pub err : IfErr answer (λ f. StepsOff h height w piece f)
   pub more : IsErrOf answer Truncated → StepsOn h height w w' piece piece' []
 
--- the same of a step that looks neither at the rows nor at the contexts, whatever they are
-abbrev pub StepAlone : Fields → ℕ → Walk → Walk → List ℕ → List ℕ → Result (Unit {0}) Fault → Type 0
-StepAlone h height w w' piece piece' answer = (rows : Held) (learned : List Estimate) → Step h height (walk_view w rows learned) (walk_view w' rows learned) piece piece' answer
+-- what a step leaves that looks neither at the rows nor at the contexts, whatever they are
+abbrev pub Alone : (WalkView → WalkView → Type 0) → Walk → Walk → Type 0
+Alone Leaves w w' = (rows : Held) (learned : List Estimate) → Leaves (walk_view w rows learned) (walk_view w' rows learned)
 
 -- What a step leaves that hands out a row.
 pub record RowStep (h : Fields) (height : ℕ) (w w' : WalkView) (piece piece' : List ℕ) (answer : Result (Unit {0}) Fault) : Type 0 where

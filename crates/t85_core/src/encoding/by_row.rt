@@ -490,6 +490,7 @@ impl RowEncoder {
     ghost use Rattle.pbm_core.specs.Device.{AppendsBeginning};
     ghost use Rattle.pbm_core.specs.Pbm.{bytes_of_row};
     ghost use Rattle.raster_core.specs.Window.{held, width_of, memory_of};
+    ghost use Rattle.t85_core.specs.Lent.{KeepsWindow};
     ghost use Rattle.raster_core.specs.Packed.{Held};
     ghost use Rattle.t85_core.specs.Jbg.{Settings, head_of, is_low};
     ghost use Rattle.t85_core.specs.Options.{settings_of};
@@ -528,8 +529,7 @@ impl RowEncoder {
         ensures going { IfOk result IsGoing }
         ensures none { IfOk result (λ e. e.rows ≡ 0) }
         ensures size { IfOk result (λ e. e.size ≡ size) }
-        ensures width { width_of window.new ≡ width_of window.old }
-        ensures same_memory { memory_of window.new ≡ memory_of window.old }
+        ensures window { KeepsWindow window.old window.new }
         ensures lined { IfOk result (λ e. IsLined (held window.new)) }
         ensures refused { is_low (settings_of options.now) size.height ≡ true →
             result ≡ Err AnnouncedLow }
@@ -577,8 +577,7 @@ impl RowEncoder {
         ensures rows { OnOk result (self.new.rows ≡ self.old.rows + 1) }
         ensures size { self.new.size ≡ self.old.size }
         ensures lined { OnOk result (IsLined (held window.new)) }
-        ensures width { width_of window.new ≡ width_of window.old }
-        ensures same_memory { memory_of window.new ≡ memory_of window.old }
+        ensures window { KeepsWindow window.old window.new }
         ensures err { IfErr result (λ f. f ≡ Write) }
         ensures writes { IsGoing self.old → OnlyWrites (W.view output.old) (W.view output.new)
             result }
@@ -658,8 +657,7 @@ impl RowEncoder {
             (W.view output.new).contents }
         ensures is_closed { self.new.is_closed ≡ true }
         ensures size { self.new.size ≡ self.old.size }
-        ensures width { width_of window.new ≡ width_of window.old }
-        ensures same_memory { memory_of window.new ≡ memory_of window.old }
+        ensures window { KeepsWindow window.old window.new }
         ensures err { IfErr result (λ f. f ≡ Write) }
         ensures writes { IsGoing self.old → OnlyWrites (W.view output.old) (W.view output.new)
             result }

@@ -3,7 +3,7 @@
 ghost use Rattle.std.specs.Prelude.{◌≡◌, ◌≤◌, ◌<◌, ◌∷◌, ◌++◌, [], ℕ, List, None, Some, false, OnOk, IfErr, IfSome, IsErrOf};
 ghost use Rattle.qm_core.specs.Decoder.{has_stopped};
 ghost use Rattle.raster_core.specs.Window.{memory_of, width_of};
-ghost use Rattle.t85_core.specs.Lent.{carried_over};
+ghost use Rattle.t85_core.specs.Lent.{carried_by};
 ghost use Rattle.raster_core.specs.Row.{IsRowStart};
 ghost use Rattle.t85_core.specs.declared.fault.Fault.TheVariants.{Truncated};
 ghost use Rattle.t85_core.specs.Steps.Segments.{IsByteOrMarker};
@@ -37,18 +37,18 @@ pub fn go_on_in_row(
     requires code { IfSome first.old IsByteOrMarker }
     requires behind { IfSome marker.old (λ _. first.old ≡ None) }
     ensures ok { OnOk result (EndsRow shape
-        (row_state (carried_over window.old kept.old learned.old) decoder.old place.old
-        first.old marker.old piece.old.rest.now)
-        (row_state (carried_over window.new kept.new learned.new) decoder.new place.new
-        first.new marker.new piece.new.rest.now)) }
+        (row_state (carried_by window.old kept.old learned.old) decoder.old place.old
+        first.old marker.old piece.old)
+        (row_state (carried_by window.new kept.new learned.new) decoder.new place.new
+        first.new marker.new piece.new)) }
     ensures err { IfErr result (BreaksRow shape
-        (row_state (carried_over window.old kept.old learned.old) decoder.old place.old
-        first.old marker.old piece.old.rest.now)) }
+        (row_state (carried_by window.old kept.old learned.old) decoder.old place.old
+        first.old marker.old piece.old)) }
     ensures more { IsErrOf result Truncated → WaitsInRow shape
-        (row_state (carried_over window.old kept.old learned.old) decoder.old place.old
-        first.old marker.old piece.old.rest.now)
-        (row_state (carried_over window.new kept.new learned.new) decoder.new place.new
-        first.new marker.new piece.new.rest.now) }
+        (row_state (carried_by window.old kept.old learned.old) decoder.old place.old
+        first.old marker.old piece.old)
+        (row_state (carried_by window.new kept.new learned.new) decoder.new place.new
+        first.new marker.new piece.new) }
     ensures width { width_of window.new ≡ width_of window.old }
     ensures offset { kept.new.offset ≤ 127 }
     ensures within { place.new.done < shape.width }

@@ -9,7 +9,7 @@ ghost use Rattle.t85_core.specs.declared.pieces.walk.Stage.TheVariants as stage;
 ghost use Rattle.t85_core.specs.Options.{fields_of};
 ghost use Rattle.t85_core.specs.Steps.Segments.{IsByteOrMarker};
 ghost use Rattle.t85_core.specs.Lent.{walk_view, walk_over};
-ghost use Rattle.t85_core.specs.Steps.Pieces.{WalkStands, SomeStands, RowFits, IsOver, StepAlone, Step, RowStep, RowLeaves, KeepsPlace, MarkerRead, RowIsLeft, StripesOn, IsFirstWalk, Turn};
+ghost use Rattle.t85_core.specs.Steps.Pieces.{WalkStands, SomeStands, RowFits, IsOver, Alone, Step, RowStep, RowLeaves, KeepsPlace, MarkerRead, RowIsLeft, StripesOn, IsFirstWalk, Turn};
 
 use crate::decoding::rows::offset_in;
 use crate::fault::Fault;
@@ -116,8 +116,8 @@ impl Walk {
         requires from { 1 ≤ height }
         requires to { height ≤ header.now.yd }
         requires stage { (self.old.stage ≡ stage.Head) ⊎ (self.old.stage ≡ stage.Comment) }
-        ensures step { StepAlone (fields_of header.now) height self.old self.new
-            piece.old.rest.now piece.new.rest.now result }
+        ensures step { Alone (λ w w'. Step (fields_of header.now) height w w'
+            piece.old.rest.now piece.new.rest.now result) self.old self.new }
         ensures stage { OnOk result (self.new.stage ≡ stage.Head) }
         ensures no_more { length piece.new.rest.now ≤ length piece.old.rest.now }
     {
@@ -138,8 +138,8 @@ impl Walk {
         requires from { 1 ≤ height }
         requires to { height ≤ header.now.yd }
         requires stage { self.old.stage ≡ stage.Comment }
-        ensures step { StepAlone (fields_of header.now) height self.old self.new
-            piece.old.rest.now piece.new.rest.now result }
+        ensures step { Alone (λ w w'. Step (fields_of header.now) height w w'
+            piece.old.rest.now piece.new.rest.now result) self.old self.new }
         ensures stage { OnOk result (self.new.stage ≡ stage.Head) }
         ensures no_more { length piece.new.rest.now ≤ length piece.old.rest.now }
     {
@@ -166,8 +166,8 @@ impl Walk {
         requires from { 1 ≤ height }
         requires to { height ≤ header.now.yd }
         requires stage { self.old.stage ≡ stage.Head }
-        ensures step { StepAlone (fields_of header.now) height self.old self.new
-            piece.old.rest.now piece.new.rest.now result }
+        ensures step { Alone (λ w w'. Step (fields_of header.now) height w w'
+            piece.old.rest.now piece.new.rest.now result) self.old self.new }
         ensures row { OnOk result (self.new.stage ≡ stage.Code → self.new.row ≡ 0) }
         ensures stage { OnOk result (IsOver self.new.stage ⊎ (self.new.stage ≡ stage.Code)
             ⊎ (self.new.stage ≡ stage.Head) ⊎ (self.new.stage ≡ stage.Comment)) }
@@ -191,8 +191,8 @@ impl Walk {
         requires to { height ≤ header.now.yd }
         requires stage { self.old.stage ≡ stage.Head }
         requires comment { (rest : List ℕ) × (piece.old.rest.now ≡ 255 ∷ 7 ∷ rest) }
-        ensures step { StepAlone (fields_of header.now) height self.old self.new
-            piece.old.rest.now piece.new.rest.now result }
+        ensures step { Alone (λ w w'. Step (fields_of header.now) height w w'
+            piece.old.rest.now piece.new.rest.now result) self.old self.new }
         ensures stage { OnOk result (self.new.stage ≡ stage.Comment) }
         ensures lowers { OnOk result (length piece.new.rest.now < length piece.old.rest.now) }
     {
@@ -224,8 +224,8 @@ impl Walk {
         requires from { 1 ≤ height }
         requires to { height ≤ header.now.yd }
         requires stage { self.old.stage ≡ stage.Head }
-        ensures step { StepAlone (fields_of header.now) height self.old self.new
-            piece.old.rest.now piece.new.rest.now result }
+        ensures step { Alone (λ w w'. Step (fields_of header.now) height w w'
+            piece.old.rest.now piece.new.rest.now result) self.old self.new }
         ensures row { OnOk result (self.new.stage ≡ stage.Code → self.new.row ≡ 0) }
         ensures stage { OnOk result (IsOver self.new.stage ⊎ (self.new.stage ≡ stage.Code)
             ⊎ (self.new.stage ≡ stage.Head)) }
@@ -282,8 +282,8 @@ impl Walk {
         requires from { 1 ≤ height }
         requires to { height ≤ header.now.yd }
         requires stage { (self.old.stage ≡ stage.Head) ⊎ (self.old.stage ≡ stage.Comment) }
-        ensures step { StepAlone (fields_of header.now) height self.old self.new
-            piece.old.rest.now piece.new.rest.now result }
+        ensures step { Alone (λ w w'. Step (fields_of header.now) height w w'
+            piece.old.rest.now piece.new.rest.now result) self.old self.new }
         ensures stage { OnOk result (IsOver self.new.stage ⊎ (self.new.stage ≡ stage.Code)) }
         ensures row { OnOk result (self.new.stage ≡ stage.Code → self.new.row ≡ 0) }
     {
@@ -518,8 +518,8 @@ impl Walk {
         requires stage { self.old.stage ≡ stage.Code }
         requires row { min self.old.left header.now.l0 ≤ self.old.row }
         requires unmarked { self.old.marker ≡ None }
-        ensures step { StepAlone (fields_of header.now) height self.old self.new
-            piece.old.rest.now piece.new.rest.now result }
+        ensures step { Alone (λ w w'. Step (fields_of header.now) height w w'
+            piece.old.rest.now piece.new.rest.now result) self.old self.new }
         ensures place { (rows rows' : Held) (learned learned' : List Estimate) →
             KeepsPlace (walk_view self.old rows learned) (walk_view self.new rows' learned') }
         ensures stage { self.new.stage ≡ stage.Code }

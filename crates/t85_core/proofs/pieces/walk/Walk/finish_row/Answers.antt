@@ -5,7 +5,7 @@ use Rattle.t85_core.specs.Steps.DecodeRows.{IsShapeOf}
 use Rattle.raster_core.specs.Window.{held}
 use Rattle.t85_core.specs.Steps.Pieces.{CodeStands, rows_in}
 use Rattle.t85_core.specs.Steps.PieceCode.{row_state, EndsRow, BreaksRow, WaitsInRow}
-use Rattle.t85_core.specs.Lent.{walk_over, carried_over}
+use Rattle.t85_core.specs.Lent.{walk_over, carried_by}
 use Rattle.t85_core.proofs.Decodings.ImagePut.{in_use}
 use Rattle.t85_core.proofs.Decodings.PieceSteps.{on_same, at_stage, put_stage, row_exit, leaves_exit}
 use Rattle.t85_core.proofs.Decodings.PieceEnds.{whole_text, never_breaks, never_changed, stays_marked, before_all}
@@ -21,10 +21,10 @@ returns-in_err-go_on_in_row-clause-step c =
     (λ text out s.
     let k = at_stage c.requires.stage (resumed c.resume.new.self c.requires.stage c.resume.ensures.unchanged s) in
     row_off k c.coder_laws.ensures (in_use c.args.header.now c.args.height c.requires.from c.requires.to) c.args.piece.now.rest.now c.in_err-go_on_in_row.field-0.0
-    (subst (λ z. BreaksRow z (row_state (carried_over c.args.window.now c.args.self.now.kept c.args.learned.now) c.resume.new.self c.args.self.now.place c.args.self.now.first c.args.self.now.marker c.args.piece.now.rest.now) c.in_err-go_on_in_row.field-0.0) (in_row_shape k c.shape.result shape) c.in_err-go_on_in_row.ensures.err (fields_of c.args.header.now) k.head.stripes.next k.head.passed.segments c.args.self.now.row k.began out k.code k.begun k.code_is _ (let few = k.few in omega arith)))
+    (subst (λ z. BreaksRow z (row_state (carried_by c.args.window.now c.args.self.now.kept c.args.learned.now) c.resume.new.self c.args.self.now.place c.args.self.now.first c.args.self.now.marker c.args.piece.now) c.in_err-go_on_in_row.field-0.0) (in_row_shape k c.shape.result shape) c.in_err-go_on_in_row.ensures.err (fields_of c.args.header.now) k.head.stripes.next k.head.passed.segments c.args.self.now.row k.began out k.code k.begun k.code_is _ (let few = k.few in omega arith)))
     (λ e text out s.
     let k = at_stage c.requires.stage (resumed c.resume.new.self c.requires.stage c.resume.ensures.unchanged s) in
-    let m = subst (λ z. WaitsInRow z (row_state (carried_over c.args.window.now c.args.self.now.kept c.args.learned.now) c.resume.new.self c.args.self.now.place c.args.self.now.first c.args.self.now.marker c.args.piece.now.rest.now) (row_state (carried_over c.go_on_in_row.new.window c.go_on_in_row.new.kept c.go_on_in_row.new.learned) c.go_on_in_row.new.decoder c.go_on_in_row.new.place c.go_on_in_row.new.first c.go_on_in_row.new.marker c.go_on_in_row.new.piece.rest.now)) (in_row_shape k c.shape.result shape) (c.in_err-go_on_in_row.ensures.more (ap Err e)) (fields_of c.args.header.now) k.head.stripes.next k.head.passed.segments c.args.self.now.row k.began out k.code k.begun k.code_is in
+    let m = subst (λ z. WaitsInRow z (row_state (carried_by c.args.window.now c.args.self.now.kept c.args.learned.now) c.resume.new.self c.args.self.now.place c.args.self.now.first c.args.self.now.marker c.args.piece.now) (row_state (carried_by c.go_on_in_row.new.window c.go_on_in_row.new.kept c.go_on_in_row.new.learned) c.go_on_in_row.new.decoder c.go_on_in_row.new.place c.go_on_in_row.new.first c.go_on_in_row.new.marker c.go_on_in_row.new.piece)) (in_row_shape k c.shape.result shape) (c.in_err-go_on_in_row.ensures.more (ap Err e)) (fields_of c.args.header.now) k.head.stripes.next k.head.passed.segments c.args.self.now.row k.began out k.code k.begun k.code_is in
     on_same (fields_of c.args.header.now) c.args.height _ text out c.args.piece.now.rest.now c.go_on_in_row.new.piece.rest.now m.given m.taken (record {
       left_is = s.left_is;
       width_is = c.go_on_in_row.ensures.width ∙ s.width_is;
@@ -42,7 +42,7 @@ returns-in_err-go_on_in_row-clause-leaves c =
     λ some.
     let k = at_stage c.requires.stage (resumed c.resume.new.self c.requires.stage c.resume.ensures.unchanged some.2) in
     let m =
-    subst (λ z. BreaksRow z (row_state (carried_over c.args.window.now c.args.self.now.kept c.args.learned.now) c.resume.new.self c.args.self.now.place c.args.self.now.first c.args.self.now.marker c.args.piece.now.rest.now) c.in_err-go_on_in_row.field-0.0) (in_row_shape k c.shape.result shape) c.in_err-go_on_in_row.ensures.err
+    subst (λ z. BreaksRow z (row_state (carried_by c.args.window.now c.args.self.now.kept c.args.learned.now) c.resume.new.self c.args.self.now.place c.args.self.now.first c.args.self.now.marker c.args.piece.now) c.in_err-go_on_in_row.field-0.0) (in_row_shape k c.shape.result shape) c.in_err-go_on_in_row.ensures.err
     (fields_of c.args.header.now) k.head.stripes.next k.head.passed.segments c.args.self.now.row k.began some.1 k.code k.begun k.code_is (rows_in (fields_of c.args.header.now) c.args.height c.args.self.now.entities) (let few = k.few in omega arith) in
     leaves_exit (walk_over c.args.self.now c.args.window.now c.args.learned.now) (walk_over (record c.args.self.now { kept = c.go_on_in_row.new.kept; decoder = c.go_on_in_row.new.decoder; place = c.go_on_in_row.new.place; first = c.go_on_in_row.new.first; marker = c.go_on_in_row.new.marker }) c.go_on_in_row.new.window c.go_on_in_row.new.learned) c.args.piece.now.rest.now c.go_on_in_row.new.piece.rest.now c.from_residual.result c.in_err-go_on_in_row.field-0.0 c.from_residual.ensures.1
     (record { entities = refl; left = refl; given = refl; at = refl }) (refl, c.requires.stage, c.in_err-go_on_in_row.ensures.ahead, c.in_err-go_on_in_row.ensures.marker)
@@ -55,7 +55,7 @@ returns-clause-step c = record {
   ok = λ text out s.
       let shape : IsShapeOf (fields_of c.args.header.now) c.shape.result = record { width_is = c.shape.ensures.width; mode_is = c.shape.ensures.mode } in
       let k = at_stage c.requires.stage (resumed c.resume.new.self c.requires.stage c.resume.ensures.unchanged s) in
-      let m = subst (λ z. EndsRow z (row_state (carried_over c.args.window.now c.args.self.now.kept c.args.learned.now) c.resume.new.self c.args.self.now.place c.args.self.now.first c.args.self.now.marker c.args.piece.now.rest.now) (row_state (carried_over c.go_on_in_row.new.window c.go_on_in_row.new.kept c.go_on_in_row.new.learned) c.go_on_in_row.new.decoder c.go_on_in_row.new.place c.go_on_in_row.new.first c.go_on_in_row.new.marker c.go_on_in_row.new.piece.rest.now)) (in_row_shape k c.shape.result shape) c.in_ok-go_on_in_row.ensures.ok (fields_of c.args.header.now) k.head.stripes.next k.head.passed.segments c.args.self.now.row k.began out k.code k.begun k.code_is in (
+      let m = subst (λ z. EndsRow z (row_state (carried_by c.args.window.now c.args.self.now.kept c.args.learned.now) c.resume.new.self c.args.self.now.place c.args.self.now.first c.args.self.now.marker c.args.piece.now) (row_state (carried_by c.go_on_in_row.new.window c.go_on_in_row.new.kept c.go_on_in_row.new.learned) c.go_on_in_row.new.decoder c.go_on_in_row.new.place c.go_on_in_row.new.first c.go_on_in_row.new.marker c.go_on_in_row.new.piece)) (in_row_shape k c.shape.result shape) c.in_ok-go_on_in_row.ensures.ok (fields_of c.args.header.now) k.head.stripes.next k.head.passed.segments c.args.self.now.row k.began out k.code k.begun k.code_is in (
         m.given,
         m.taken,
         record {
@@ -66,7 +66,7 @@ returns-clause-step c = record {
           code_is = ahead_is c.go_on_in_row.new.first c.go_on_in_row.new.marker m.read.answers [] _ m.code_is;
           behind = behind_is c.go_on_in_row.new.first c.go_on_in_row.new.marker m.read.answers [] _ m.code_is;
           within = (let within = c.go_on_in_row.ensures.within in let width = c.shape.ensures.width in omega arith);
-          stands = put_stage (fields_of c.args.header.now) c.args.height (walk_over (record c.args.self.now { kept = c.go_on_in_row.new.kept; decoder = c.go_on_in_row.new.decoder; stage = stage.Code; row = c.saturating_add-self.result; place = c.go_on_in_row.new.place; first = c.go_on_in_row.new.first; marker = c.go_on_in_row.new.marker }) c.go_on_in_row.new.window c.go_on_in_row.new.learned) (text ++ m.given) _ _ refl (subst (λ z. CodeStands (fields_of c.args.header.now) c.args.height c.args.self.now.entities c.args.self.now.given c.args.self.now.at z c.go_on_in_row.new.first c.go_on_in_row.new.marker (carried_over c.go_on_in_row.new.window c.go_on_in_row.new.kept c.go_on_in_row.new.learned) c.go_on_in_row.new.decoder (text ++ m.given) (out ++ (held c.go_on_in_row.new.window).current)) (let few = k.few in let most = c.ranges.height.fits in let sum = c.saturating_add-self.ensures in omega (arith, few, most, sum)) (row_on k m));
+          stands = put_stage (fields_of c.args.header.now) c.args.height (walk_over (record c.args.self.now { kept = c.go_on_in_row.new.kept; decoder = c.go_on_in_row.new.decoder; stage = stage.Code; row = c.saturating_add-self.result; place = c.go_on_in_row.new.place; first = c.go_on_in_row.new.first; marker = c.go_on_in_row.new.marker }) c.go_on_in_row.new.window c.go_on_in_row.new.learned) (text ++ m.given) _ _ refl (subst (λ z. CodeStands (fields_of c.args.header.now) c.args.height c.args.self.now.entities c.args.self.now.given c.args.self.now.at z c.go_on_in_row.new.first c.go_on_in_row.new.marker (carried_by c.go_on_in_row.new.window c.go_on_in_row.new.kept c.go_on_in_row.new.learned) c.go_on_in_row.new.decoder (text ++ m.given) (out ++ (held c.go_on_in_row.new.window).current)) (let few = k.few in let most = c.ranges.height.fits in let sum = c.saturating_add-self.ensures in omega (arith, few, most, sum)) (row_on k m));
         },
       );
   err = tt;
@@ -78,7 +78,7 @@ returns-clause-leaves c = λ some.
     let shape : IsShapeOf (fields_of c.args.header.now) c.shape.result = record { width_is = c.shape.ensures.width; mode_is = c.shape.ensures.mode } in
     let k = at_stage c.requires.stage (resumed c.resume.new.self c.requires.stage c.resume.ensures.unchanged some.2) in
     let m =
-    subst (λ z. EndsRow z (row_state (carried_over c.args.window.now c.args.self.now.kept c.args.learned.now) c.resume.new.self c.args.self.now.place c.args.self.now.first c.args.self.now.marker c.args.piece.now.rest.now) (row_state (carried_over c.go_on_in_row.new.window c.go_on_in_row.new.kept c.go_on_in_row.new.learned) c.go_on_in_row.new.decoder c.go_on_in_row.new.place c.go_on_in_row.new.first c.go_on_in_row.new.marker c.go_on_in_row.new.piece.rest.now)) (in_row_shape k c.shape.result shape) c.in_ok-go_on_in_row.ensures.ok
+    subst (λ z. EndsRow z (row_state (carried_by c.args.window.now c.args.self.now.kept c.args.learned.now) c.resume.new.self c.args.self.now.place c.args.self.now.first c.args.self.now.marker c.args.piece.now) (row_state (carried_by c.go_on_in_row.new.window c.go_on_in_row.new.kept c.go_on_in_row.new.learned) c.go_on_in_row.new.decoder c.go_on_in_row.new.place c.go_on_in_row.new.first c.go_on_in_row.new.marker c.go_on_in_row.new.piece)) (in_row_shape k c.shape.result shape) c.in_ok-go_on_in_row.ensures.ok
     (fields_of c.args.header.now) k.head.stripes.next k.head.passed.segments c.args.self.now.row k.began some.1 k.code k.begun k.code_is in
     record {
       place = record { entities = refl; left = refl; given = refl; at = refl };

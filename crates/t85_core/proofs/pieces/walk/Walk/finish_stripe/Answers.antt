@@ -1,7 +1,7 @@
 use Rattle.std.proofs.Common.{◌≡◌, ◌+◌, ◌-◌, ◌*◌, ◌++◌, Err, None, inl, ap, sym, subst, ◌∙◌, arith}
 use Rattle.t85_core.specs.declared.pieces.walk.Stage.TheVariants as stage
 use Rattle.t85_core.specs.Steps.Pieces.{WalkStands}
-use Rattle.t85_core.specs.Lent.{walk_over, carried_over}
+use Rattle.t85_core.specs.Lent.{walk_over, carried_by}
 use Rattle.t85_core.proofs.Decodings.PieceFits.{rows_all}
 use Rattle.raster_core.specs.Window.{held}
 use Rattle.t85_core.specs.Options.{fields_of}
@@ -36,7 +36,7 @@ returns-then-self-eq0-clause-step c = record {
   ok = λ text out s.
       let k = at_stage c.requires.stage s in
       let m = c.in_ok-reset.ensures.ok k.read.answers k.extra k.code k.code_is in
-      let next = kept_wide (held c.args.window.now).width (fields_of c.args.header.now).xd c.in_ok-reset.reset (carried_over c.args.window.now c.args.self.now.kept c.args.learned.now) (carried_over c.next_stripe.new.window c.next_stripe.new.kept c.next_stripe.new.learned) s.width_is c.next_stripe.ensures.next k.read.last k.read.is_carried in
+      let next = kept_wide (held c.args.window.now).width (fields_of c.args.header.now).xd c.in_ok-reset.reset (carried_by c.args.window.now c.args.self.now.kept c.args.learned.now) (carried_by c.next_stripe.new.window c.next_stripe.new.kept c.next_stripe.new.learned) s.width_is c.next_stripe.ensures.next k.read.last k.read.is_carried in
       let left : c.args.self.now.left ≡ c.args.height - c.args.self.now.entities * c.args.header.now.l0 = s.left_is in
       let times : (c.args.self.now.entities + 1) * c.args.header.now.l0 ≡ c.args.self.now.entities * c.args.header.now.l0 + c.args.header.now.l0 = omega arith in
       let none : c.args.self.now.left - c.min.result ≡ 0 = c.if-self-eq0.true in
@@ -52,7 +52,7 @@ returns-then-self-eq0-clause-step c = record {
         code_is = tt;
         behind = tt;
         within = s.within;
-        stands = stripe_last k c.coder_laws.ensures (in_use c.args.header.now c.args.height c.requires.from c.requires.to) (rows_all c.requires.stage s c.requires.row) c.args.piece.now.rest.now c.find_marker.new.piece.rest.now c.in_ok-reset.reset m (carried_over c.next_stripe.new.window c.next_stripe.new.kept c.next_stripe.new.learned) next last;
+        stands = stripe_last k c.coder_laws.ensures (in_use c.args.header.now c.args.height c.requires.from c.requires.to) (rows_all c.requires.stage s c.requires.row) c.args.piece.now.rest.now c.find_marker.new.piece.rest.now c.in_ok-reset.reset m (carried_by c.next_stripe.new.window c.next_stripe.new.kept c.next_stripe.new.learned) next last;
       }));
   err = tt;
   more = λ e. absurd (let bot : ⊥ = cc in bot);
@@ -63,7 +63,7 @@ returns-clause-step c = record {
   ok = λ text out s.
       let k = at_stage c.requires.stage s in
       let m = c.in_ok-reset.ensures.ok k.read.answers k.extra k.code k.code_is in
-      let next = kept_wide (held c.args.window.now).width (fields_of c.args.header.now).xd c.in_ok-reset.reset (carried_over c.args.window.now c.args.self.now.kept c.args.learned.now) (carried_over c.next_stripe.new.window c.next_stripe.new.kept c.next_stripe.new.learned) s.width_is c.next_stripe.ensures.next k.read.last k.read.is_carried in
+      let next = kept_wide (held c.args.window.now).width (fields_of c.args.header.now).xd c.in_ok-reset.reset (carried_by c.args.window.now c.args.self.now.kept c.args.learned.now) (carried_by c.next_stripe.new.window c.next_stripe.new.kept c.next_stripe.new.learned) s.width_is c.next_stripe.ensures.next k.read.last k.read.is_carried in
       let left : c.args.self.now.left ≡ c.args.height - c.args.self.now.entities * c.args.header.now.l0 = s.left_is in
       let times : (c.args.self.now.entities + 1) * c.args.header.now.l0 ≡ c.args.self.now.entities * c.args.header.now.l0 + c.args.header.now.l0 = omega arith in
       let min_is = c.min.ensures in
@@ -79,7 +79,7 @@ returns-clause-step c = record {
         code_is = tt;
         behind = tt;
         within = s.within;
-        stands = stripe_on k c.coder_laws.ensures (in_use c.args.header.now c.args.height c.requires.from c.requires.to) (rows_all c.requires.stage s c.requires.row) c.args.piece.now.rest.now c.find_marker.new.piece.rest.now c.in_ok-reset.reset m (carried_over c.next_stripe.new.window c.next_stripe.new.kept c.next_stripe.new.learned) next on;
+        stands = stripe_on k c.coder_laws.ensures (in_use c.args.header.now c.args.height c.requires.from c.requires.to) (rows_all c.requires.stage s c.requires.row) c.args.piece.now.rest.now c.find_marker.new.piece.rest.now c.in_ok-reset.reset m (carried_by c.next_stripe.new.window c.next_stripe.new.kept c.next_stripe.new.learned) next on;
       }));
   err = tt;
   more = λ e. absurd (let bot : ⊥ = cc in bot);
@@ -92,15 +92,15 @@ pub returns-then-self-eq0-clause-read : goal.returns-then-self-eq0-clause-read
 returns-then-self-eq0-clause-read c = λ text out s.
     let k = at_stage c.requires.stage s in
     let m = c.in_ok-reset.ensures.ok k.read.answers k.extra k.code k.code_is in
-    let next = kept_wide (held c.args.window.now).width (fields_of c.args.header.now).xd c.in_ok-reset.reset (carried_over c.args.window.now c.args.self.now.kept c.args.learned.now) (carried_over c.next_stripe.new.window c.next_stripe.new.kept c.next_stripe.new.learned) s.width_is c.next_stripe.ensures.next k.read.last k.read.is_carried in
-    (m.given, m.taken, whole k c.coder_laws.ensures (in_use c.args.header.now c.args.height c.requires.from c.requires.to) (rows_all c.requires.stage s c.requires.row) c.args.piece.now.rest.now c.find_marker.new.piece.rest.now c.in_ok-reset.reset m (carried_over c.next_stripe.new.window c.next_stripe.new.kept c.next_stripe.new.learned) next)
+    let next = kept_wide (held c.args.window.now).width (fields_of c.args.header.now).xd c.in_ok-reset.reset (carried_by c.args.window.now c.args.self.now.kept c.args.learned.now) (carried_by c.next_stripe.new.window c.next_stripe.new.kept c.next_stripe.new.learned) s.width_is c.next_stripe.ensures.next k.read.last k.read.is_carried in
+    (m.given, m.taken, whole k c.coder_laws.ensures (in_use c.args.header.now c.args.height c.requires.from c.requires.to) (rows_all c.requires.stage s c.requires.row) c.args.piece.now.rest.now c.find_marker.new.piece.rest.now c.in_ok-reset.reset m (carried_by c.next_stripe.new.window c.next_stripe.new.kept c.next_stripe.new.learned) next)
 
 pub returns-clause-read : goal.returns-clause-read
 returns-clause-read c = λ text out s.
     let k = at_stage c.requires.stage s in
     let m = c.in_ok-reset.ensures.ok k.read.answers k.extra k.code k.code_is in
-    let next = kept_wide (held c.args.window.now).width (fields_of c.args.header.now).xd c.in_ok-reset.reset (carried_over c.args.window.now c.args.self.now.kept c.args.learned.now) (carried_over c.next_stripe.new.window c.next_stripe.new.kept c.next_stripe.new.learned) s.width_is c.next_stripe.ensures.next k.read.last k.read.is_carried in
-    (m.given, m.taken, whole k c.coder_laws.ensures (in_use c.args.header.now c.args.height c.requires.from c.requires.to) (rows_all c.requires.stage s c.requires.row) c.args.piece.now.rest.now c.find_marker.new.piece.rest.now c.in_ok-reset.reset m (carried_over c.next_stripe.new.window c.next_stripe.new.kept c.next_stripe.new.learned) next)
+    let next = kept_wide (held c.args.window.now).width (fields_of c.args.header.now).xd c.in_ok-reset.reset (carried_by c.args.window.now c.args.self.now.kept c.args.learned.now) (carried_by c.next_stripe.new.window c.next_stripe.new.kept c.next_stripe.new.learned) s.width_is c.next_stripe.ensures.next k.read.last k.read.is_carried in
+    (m.given, m.taken, whole k c.coder_laws.ensures (in_use c.args.header.now c.args.height c.requires.from c.requires.to) (rows_all c.requires.stage s c.requires.row) c.args.piece.now.rest.now c.find_marker.new.piece.rest.now c.in_ok-reset.reset m (carried_by c.next_stripe.new.window c.next_stripe.new.kept c.next_stripe.new.learned) next)
 
 pub returns-then-self-eq0-clause-entities : goal.returns-then-self-eq0-clause-entities
 returns-then-self-eq0-clause-entities c = λ some.

@@ -1,6 +1,6 @@
 use Rattle.std.proofs.Common.{◌*◌, ◌≡◌, ◌∙◌, refl, arith}
 use Rattle.t85_core.specs.Options.{fields_of}
-use Rattle.t85_core.specs.Lent.{carried_over}
+use Rattle.t85_core.specs.Lent.{carried_by}
 use Rattle.t85_core.proofs.Decodings.PieceSteps.{head_first}
 use Rattle.t85_core.proofs.pieces.walk.Walk.start.Goals as goal
 
@@ -13,7 +13,7 @@ returns-clause-stands c = record {
   code_is = tt;
   behind = tt;
   within = omega (arith, c.start-2.ensures.done, c.args.header.now.some_width);
-  stands = head_first (fields_of c.args.header.now) c.args.height _ (carried_over c.restart.new.window c.restart.new.kept c.restart.new.learned) c.requires.from c.args.header.now.some_rows (c.restart.ensures.width ∙ c.requires.width) c.restart.ensures.first;
+  stands = head_first (fields_of c.args.header.now) c.args.height _ (carried_by c.restart.new.window c.restart.new.kept c.restart.new.learned) c.requires.from c.args.header.now.some_rows (c.restart.ensures.width ∙ c.requires.width) c.restart.ensures.first;
 }
 
 pub returns-clause-first : goal.returns-clause-first
