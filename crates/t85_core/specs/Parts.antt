@@ -74,9 +74,9 @@ abbrev pub start_walk : PartWalk
 start_walk = record { offset = 0; entities = 0; late_height = 0; moved = false; at_height = false }
 
 -- A walk stands in a stream behind these parts.
-abbrev pub Stands : List ℕ → PartWalk → Passed → Type 0
-Stands stream w Nothing = w.offset ≡ 0
-Stands stream w (Behind h stripes segments) = StandsBehind stream w h stripes segments
+abbrev pub IsBehind : List ℕ → PartWalk → Passed → Type 0
+IsBehind stream w Nothing = w.offset ≡ 0
+IsBehind stream w (Behind h stripes segments) = StandsBehind stream w h stripes segments
 
 -- The next part is this segment.
 abbrev pub AddsSegment : Segment → Passed → Passed → List ℕ → Type 0
@@ -107,7 +107,7 @@ pub record TakesPart (stream : List ℕ) (w w' : PartWalk) (from : Passed) (part
   pub to : Passed
   pub bytes : List ℕ
   pub adds : Adds part.kind from to bytes
-  pub stands : Stands stream w' to
+  pub stands : IsBehind stream w' to
   pub offset_is : part.offset ≡ w.offset
   pub len_is : part.len ≡ length bytes
   pub there : take part.len (drop part.offset stream) ≡ bytes
@@ -115,7 +115,7 @@ pub record TakesPart (stream : List ℕ) (w w' : PartWalk) (from : Passed) (part
 
 -- All parts were passed: the stripes of the height of the stream, and behind them nothing but what gives it, with its empty
 -- data entity. If a height is given it is among them.
-pub record IsWhole (stream : List ℕ) (len : ℕ) (h : Fields) (stripes : List Stripe) (segments : List Segment) : Type 0 where
+pub record IsWholeStream (stream : List ℕ) (len : ℕ) (h : Fields) (stripes : List Stripe) (segments : List Segment) : Type 0 where
   pub height : ℕ
   pub comes_last : Bool
   pub last : EndsInHeight comes_last height segments
@@ -130,11 +130,11 @@ pub record IsWhole (stream : List ℕ) (len : ℕ) (h : Fields) (stripes : List 
 
 abbrev pub EndsAt : List ℕ → Passed → ℕ → Type 0
 EndsAt stream Nothing len = ⊥
-EndsAt stream (Behind h stripes segments) len = IsWhole stream len h stripes segments
+EndsAt stream (Behind h stripes segments) len = IsWholeStream stream len h stripes segments
 
 -- These bytes are no whole part, after so many data entities and heights, and so many moves in the stripe: after bytes of
 -- a code, if some come, stands what has this fault.
-pub record PartFault (h : Fields) (entities heights moves : ℕ) (bytes : List ℕ) (fault : Fault) : Type 0 where
+pub record HasPartFault (h : Fields) (entities heights moves : ℕ) (bytes : List ℕ) (fault : Fault) : Type 0 where
   pub code : List ℕ
   pub rest : List ℕ
   pub bytes_are : bytes ≡ stuffed code ++ rest
@@ -142,22 +142,22 @@ pub record PartFault (h : Fields) (entities heights moves : ℕ) (bytes : List �
   pub rest_has : (height : ℕ) → rest_fault h (record { height = height; entities = entities; heights = heights }) moves (not (is_nil code)) rest ≡ Some fault
 
 -- Behind these parts the next one breaks.
-abbrev pub BreaksBehind : Passed → List ℕ → Fault → Type 0
-BreaksBehind Nothing rest fault = header_fault rest ≡ Some fault
-BreaksBehind (Behind h stripes segments) rest fault = PartFault h (length stripes) (length (lengths (all_segments stripes ++ segments))) (count_by is_move segments) rest fault
+abbrev pub BreaksNext : Passed → List ℕ → Fault → Type 0
+BreaksNext Nothing rest fault = header_fault rest ≡ Some fault
+BreaksNext (Behind h stripes segments) rest fault = HasPartFault h (length stripes) (length (lengths (all_segments stripes ++ segments))) (count_by is_move segments) rest fault
 
 -- The stream is broken in its next part.
 pub record BreaksAt (stream : List ℕ) (w : PartWalk) (from : Passed) (fault : Fault) (offset stripe : ℕ) : Type 0 where
   pub offset_is : offset ≡ w.offset
   pub stripe_is : stripe ≡ entities_in from
-  pub breaks : BreaksBehind from (drop offset stream) fault
+  pub breaks : BreaksNext from (drop offset stream) fault
   pub stream_has : StreamFault stream fault
 
 -- What a walk tells that stands behind these parts.
-abbrev pub Tells : List ℕ → PartWalk → PartWalk → Passed → Found → Type 0
-Tells stream w w' from (found.Part part) = TakesPart stream w w' from part
-Tells stream w w' from (found.End len) = EndsAt stream from len × (w' ≡ w)
-Tells stream w w' from (found.Broken fault offset stripe) = BreaksAt stream w from fault offset stripe × (w' ≡ w)
+abbrev pub TellsNext : List ℕ → PartWalk → PartWalk → Passed → Found → Type 0
+TellsNext stream w w' from (found.Part part) = TakesPart stream w w' from part
+TellsNext stream w w' from (found.End len) = EndsAt stream from len × (w' ≡ w)
+TellsNext stream w w' from (found.Broken fault offset stripe) = BreaksAt stream w from fault offset stripe × (w' ≡ w)
 
 -- What a walk tells whatever its numbers are: a part has a byte at least, and ends within the stream; a fault is one that
 -- a stream may have.

@@ -243,7 +243,8 @@ fn decode_code<S: ByteSource, P: ByteTarget>(
     requires some { 1 ≤ shape.width }
     requires offset { carried.old.kept.offset ≤ 127 }
     requires to { IfSome at (λ to. to.offset ≤ 127) }
-    requires begun { CodeBegun shape (option_map pair_of at) (carried_of carried.old) (entity_view entity.old) }
+    requires begun { CodeBegun shape (option_map pair_of at) (carried_of carried.old)
+        (entity_view entity.old) }
     ensures outcome { DecodeCodeOutcome (entity_view entity.old) (entity_view entity.new) (S.view
         entity.new.stream.now).known shape (option_map pair_of at) rows (carried_of carried.old)
         (carried_of carried.new)

@@ -4,11 +4,11 @@ ghost use Rattle.std.specs.Prelude.{◌≡◌, ◌≢◌, ◌≤◌, ◌<◌, �
 ghost use Rattle.t85_core.specs.Options.{fields_of};
 ghost use Rattle.t85_core.specs.Header.{HeaderOf, header_fault, is_variable};
 ghost use Rattle.t85_core.specs.Info.{IsWalkFault};
-ghost use Rattle.t85_core.specs.Parts.{Passed, start_walk, Stands, Tells, TellsOfAny};
+ghost use Rattle.t85_core.specs.Parts.{Passed, start_walk, IsBehind, TellsNext, TellsOfAny};
 ghost use Rattle.t85_core.specs.Steps.HeightWalk.{LookEnds};
 ghost use Rattle.t85_core.specs.declared.fault.Fault.TheVariants.{Read};
 ghost use Rattle.t85_core.specs.declared.parts.Found.TheVariants as found;
-ghost use Rattle.t85_core.specs.Steps.PartSteps.{ReadsPart, MissesPart, IsSegment, place_before, CanPass, kind_of, part_told, walk_behind, header_part, header_walk, height_in_use, is_given, TellsThere, TellsInStripe, TellsBehind, TellsBefore, SeesHeight, TailIs};
+ghost use Rattle.t85_core.specs.Steps.PartSteps.{ReadsPart, MissesPart, IsSegment, place_before, CanPass, kind_of, part_told, walk_behind, header_part, header_walk, height_told, is_given, TellsThere, TellsInStripe, TellsBehind, TellsBefore, SeesHeight, TailIs};
 
 use crate::fault::Fault;
 use crate::header::Header;
@@ -99,15 +99,15 @@ impl PartWalk {
         }
     }
 
-    /// Tells the next part of a stream that is all there, from its first header byte on, and goes behind it. Where there is
+    /// TellsNext the next part of a stream that is all there, from its first header byte on, and goes behind it. Where there is
     /// none, because all were told or the next one breaks, the walk stays where it is.
     ///
     /// The faults are those of `summarize`, but for a failed read. A height behind the last data entity and the comments
     /// before it are parts; nothing else is that stands there. Any numbers are safe; what is told is true of a walk that
     /// began at `start` and went on in the same stream.
     pub fn next(&mut self, stream: &[u8]) -> Found
-        ensures told { (from : Passed) → Stands stream.now self.old from →
-            Tells stream.now self.old self.new from result }
+        ensures told { (from : Passed) → IsBehind stream.now self.old from →
+            TellsNext stream.now self.old self.new from result }
         ensures any { TellsOfAny stream.now self.old self.new result }
     {
         let header = match read_header(stream) {
@@ -126,7 +126,7 @@ impl PartWalk {
         self.next_in_body(&header, stream)
     }
 
-    /// Tells the next part behind the header.
+    /// TellsNext the next part behind the header.
     fn next_in_body(&mut self, header: &Header, stream: &[u8]) -> Found
         ensures told { TellsThere (fields_of header.now) stream.now self.old self.new result }
         ensures any { TellsOfAny stream.now self.old self.new result }
@@ -141,7 +141,7 @@ impl PartWalk {
 
     /// The height that a segment gave, or else the header's.
     fn height_in_use(&self, header: &Header) -> u32
-        ensures { result ≡ height_in_use (fields_of header.now) self.now }
+        ensures { result ≡ height_told (fields_of header.now) self.now }
     {
         if self.late_height == 0 {
             header.yd
@@ -157,7 +157,7 @@ impl PartWalk {
         self.late_height != 0
     }
 
-    /// Tells the next part of a stripe.
+    /// TellsNext the next part of a stripe.
     fn next_in_stripe(&mut self, header: &Header, stream: &[u8]) -> Found
         requires few { self.old.entities < 2 ^ 32 - 1 }
         ensures told { TellsInStripe (fields_of header.now) stream.now self.old self.new result }
@@ -180,7 +180,7 @@ impl PartWalk {
         }
     }
 
-    /// Tells what comes behind the last stripe.
+    /// TellsNext what comes behind the last stripe.
     fn next_behind(&mut self, header: &Header, stream: &[u8]) -> Found
         ensures told { TellsBehind (fields_of header.now) stream.now self.old self.new result }
         ensures any { TellsOfAny stream.now self.old self.new result }
@@ -230,7 +230,7 @@ impl PartWalk {
         }
     }
 
-    /// Tells a comment behind the last stripe, or the height there, where it is known that one comes.
+    /// TellsNext a comment behind the last stripe, or the height there, where it is known that one comes.
     fn next_before_height(&mut self, header: &Header, stream: &[u8]) -> Found
         ensures told { TellsBefore (fields_of header.now) stream.now self.old self.new result }
         ensures any { TellsOfAny stream.now self.old self.new result }

@@ -13,7 +13,7 @@ use Rattle.t85_core.specs.Lent.{decoder_over, decoder_view}
 use Rattle.t85_core.specs.Numbers.{piece_numbers}
 use Rattle.t85_core.specs.Options.{fields_of}
 use Rattle.t85_core.specs.Pieces.{HasDecoded, HandsOut, HoldsImage, IsCall, StreamGoesOn, call_of, given_with}
-use Rattle.uses.specs.Kept.{Between, IsKept, KeptOn, between, row_in}
+use Rattle.uses.specs.Kept.{Between, IsKept, KeptOn, between_calls, row_kept}
 use Rattle.uses.specs.declared.kept.KeptDecoder.{KeptDecoder}
 
 -- the rows that the memory has
@@ -32,7 +32,7 @@ module _ (old new : Between) (d d' : PieceDecoder) (piece : List ℕ) (is_all : 
   kept_of : {text out : List ℕ} → HasDecoded (decoder_view d' (rows_in new) new.learned) text out → IsKept new text out
   kept_of h = record { decoder = d'; stream_is = call.same ∙ stream_is ∙ ap fields_of (sym header_is); numbers_are = numbers_are; has = h }
 
-  goes_on : (o : Outcome) → progress.outcome ≡ o → StreamGoesOn o → (text out : List ℕ) → IsKept old text out → IsKept new (text ++ take progress.taken piece) (out ++ given_with o (row_in new))
+  goes_on : (o : Outcome) → progress.outcome ≡ o → StreamGoesOn o → (text out : List ℕ) → IsKept old text out → IsKept new (text ++ take progress.taken piece) (out ++ given_with o (row_kept new))
   goes_on outcome.Row e goes text out k = kept_of (call.row e text out (has k))
   goes_on outcome.More e goes text out k = subst (IsKept new (text ++ take progress.taken piece)) (sym (append-nil out)) (kept_of (call.more e text out (has k)).0)
   goes_on (outcome.Done height) e goes text out k = absurd goes
@@ -55,7 +55,7 @@ window_rows window place width memory at wide is =
 
 -- before the first byte
 pub kept_first : (header : Header) (kept : KeptDecoder) (memory : List ℕ) (learned : List Estimate) (d : PieceDecoder) (window : Window) → d.header ≡ header → kept.numbers ≡ piece_numbers d → kept.place ≡ current_place window → width_of window ≡ header.xd → memory ≡ window.rows.now →
-    HasDecoded (decoder_over d window learned) [] [] → IsKept (between header kept memory learned) [] []
+    HasDecoded (decoder_over d window learned) [] [] → IsKept (between_calls header kept memory learned) [] []
 kept_first header kept memory learned d window header_is numbers place wide is has = record {
   decoder = d;
   stream_is = ap fields_of header_is;
@@ -68,8 +68,8 @@ pub kept_call : (header : Header) (kept kept' : KeptDecoder) (memory memory' : L
     d.header ≡ header → held window ≡ rows_at kept.place header.xd memory →
     ((e : PieceDecoder) (rows : Held) (learned : List Estimate) (text out : List ℕ) → HasDecoded (decoder_view e rows learned) text out → fields_of e.header ≡ fields_of header → kept.numbers ≡ piece_numbers e → HasDecoded (decoder_view d rows learned) text out) →
     kept'.numbers ≡ piece_numbers d' → kept'.place ≡ current_place window' → width_of window' ≡ header.xd → memory' ≡ window'.rows.now →
-    IsCall (decoder_over d window learned) (call_of piece is_all progress (decoder_over d' window' learned')) → KeptOn (between header kept memory learned) (between header kept' memory' learned') piece is_all progress
+    IsCall (decoder_over d window learned) (call_of piece is_all progress (decoder_over d' window' learned')) → KeptOn (between_calls header kept memory learned) (between_calls header kept' memory' learned') piece is_all progress
 kept_call header kept kept' memory memory' learned learned' d d' window window' piece is_all progress header_is before resumes numbers place wide is call =
-    kept_on (between header kept memory learned) (between header kept' memory' learned') d d' piece is_all progress (ap fields_of header_is) (λ e text out has stream n. resumes e _ _ text out has stream n) refl numbers
+    kept_on (between_calls header kept memory learned) (between_calls header kept' memory' learned') d d' piece is_all progress (ap fields_of header_is) (λ e text out has stream n. resumes e _ _ text out has stream n) refl numbers
     (subst (λ rows. IsCall (decoder_view d rows learned) (call_of piece is_all progress (decoder_view d' (rows_at kept'.place header.xd memory') learned'))) before
     (subst (λ rows. IsCall (decoder_over d window learned) (call_of piece is_all progress (decoder_view d' rows learned'))) (window_rows window' kept'.place header.xd memory' (sym place) wide is) call))

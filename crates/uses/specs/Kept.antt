@@ -13,15 +13,15 @@ use Rattle.t85_core.specs.Options.{fields_of}
 use Rattle.t85_core.specs.Pieces.{HasDecoded, HandsOut, HoldsImage, MayFollow, StreamGoesOn, given_with}
 use Rattle.uses.specs.declared.kept.KeptDecoder.{KeptDecoder}
 
--- what there is between two calls
+-- what there is between_calls two calls
 pub record Between : Type 0 where
   pub header : Header
   pub kept : KeptDecoder
   pub memory : List ℕ
   pub learned : List Estimate
 
-abbrev pub between : Header → KeptDecoder → List ℕ → List Estimate → Between
-between header kept memory learned = record { header = header; kept = kept; memory = memory; learned = learned }
+abbrev pub between_calls : Header → KeptDecoder → List ℕ → List Estimate → Between
+between_calls header kept memory learned = record { header = header; kept = kept; memory = memory; learned = learned }
 
 -- They are those of a decoder that goes on. It has taken these bytes, and has given these rows, packed.
 pub record IsKept (b : Between) (text out : List ℕ) : Type 0 where
@@ -31,12 +31,12 @@ pub record IsKept (b : Between) (text out : List ℕ) : Type 0 where
   pub has : HasDecoded (decoder_view decoder (rows_at b.kept.place b.header.xd b.memory) b.learned) text out
 
 -- the current row of the memory
-abbrev pub row_in : Between → List ℕ
-row_in b = (rows_at b.kept.place b.header.xd b.memory).current
+abbrev pub row_kept : Between → List ℕ
+row_kept b = (rows_at b.kept.place b.header.xd b.memory).current
 
 -- What a call leaves: the next numbers, or what the image is, whatever comes after the piece.
 pub record KeptOn (old new : Between) (piece : List ℕ) (is_all : Bool) (progress : Progress) : Type 0 where
   pub bound : progress.taken ≤ length piece
-  pub goes_on : StreamGoesOn progress.outcome → (text out : List ℕ) → IsKept old text out → IsKept new (text ++ take progress.taken piece) (out ++ given_with progress.outcome (row_in new))
+  pub goes_on : StreamGoesOn progress.outcome → (text out : List ℕ) → IsKept old text out → IsKept new (text ++ take progress.taken piece) (out ++ given_with progress.outcome (row_kept new))
   pub done : (height : ℕ) → progress.outcome ≡ outcome.Done height → (text out rest : List ℕ) → IsKept old text out → MayFollow is_all rest → HoldsImage (fields_of old.header) ((text ++ piece) ++ rest) height out
   pub broken : (fault : Fault) → progress.outcome ≡ outcome.Broken fault → (text out rest : List ℕ) → IsKept old text out → MayFollow is_all rest → HandsOut (fields_of old.header) ((text ++ piece) ++ rest) new.kept.numbers.height fault out

@@ -2,7 +2,7 @@
 
 ghost use Rattle.std.specs.Prelude.{◌≡◌, ◌<◌, ◌*◌, [], length};
 ghost use Rattle.std.specs.Int.{div_ceil};
-ghost use Rattle.uses.specs.Kept.{IsKept, KeptOn, between};
+ghost use Rattle.uses.specs.Kept.{IsKept, KeptOn, between_calls};
 
 use crate::pieces::next_row;
 use qm_core::Learned;
@@ -20,7 +20,7 @@ pub struct KeptDecoder {
 /// Before the first byte after the header. The memory is made white, and the contexts forget.
 pub fn first_kept(header: Header, memory: &mut [u8], learned: &mut Learned) -> KeptDecoder
     requires { length memory.old ≡ 3 * div_ceil header.xd 8 }
-    ensures kept { IsKept (between header result memory.new learned.new) [] [] }
+    ensures kept { IsKept (between_calls header result memory.new learned.new) [] [] }
     ensures place { result.place < 3 }
 {
     let mut window = Window::over(memory, header.xd);
@@ -43,8 +43,8 @@ pub fn next_of_kept(
     requires long { length memory.old ≡ 3 * div_ceil header.xd 8 }
     requires place { kept.old.place < 3 }
     ensures place { kept.new.place < 3 }
-    ensures on { KeptOn (between header kept.old memory.old learned.old)
-        (between header kept.new memory.new learned.new) piece.now is_all result }
+    ensures on { KeptOn (between_calls header kept.old memory.old learned.old)
+        (between_calls header kept.new memory.new learned.new) piece.now is_all result }
 {
     let mut window = Window::resume(memory, header.xd, kept.place);
     let mut decoder = PieceDecoder::resume(header, &kept.numbers);

@@ -1,11 +1,10 @@
 -- A decoder that is made of another one's numbers.
-use Rattle.std.proofs.Common.{◌≡◌, ◌≢◌, ◌++◌, ◌%◌, ◌≤◌, ℕ, Bool, true, false, List, Option, Some, None, refl, sym, ap, ◌∙◌, subst, arith}
+use Rattle.std.proofs.Common.{◌≡◌, ◌≢◌, ◌%◌, ℕ, Bool, true, false, List, Option, Some, None, refl, sym, ap, ◌∙◌, subst, arith}
 use Rattle.std.specs.Prelude.{IfSome}
 use Rattle.qm_core.specs.Source.{is_stopped}
 use Rattle.qm_core.specs.Decoder.{DecoderIsAt}
 use Rattle.qm_core.specs.declared.source.Heard.{Heard}
 use Rattle.qm_core.specs.declared.source.Heard.TheVariants.{More, Ended, Stopped}
-use Rattle.qm_core.specs.declared.source.Pulled.{Pulled}
 use Rattle.qm_core.specs.declared.decoder.Decoder.{Decoder}
 use Rattle.qm_core.specs.Place.{Estimate}
 use Rattle.raster_core.specs.Packed.{Held}

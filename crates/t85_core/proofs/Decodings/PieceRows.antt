@@ -11,7 +11,6 @@ use Rattle.qm_core.specs.declared.decoder.Decoder.{Decoder}
 use Rattle.qm_core.specs.declared.decoder.Stop.{Stop}
 use Rattle.raster_core.specs.Lines.{Lines}
 use Rattle.raster_core.specs.Row.{RowIs, RowDecoded, RowPasses, StandsInRow, IsRowUndecided}
-use Rattle.raster_core.specs.Window.{held}
 use Rattle.raster_core.specs.declared.place.RowPlace.{RowPlace}
 use Rattle.raster_core.specs.declared.shape.Shape.{Shape}
 use Rattle.t85_core.specs.declared.fault.Fault as fault

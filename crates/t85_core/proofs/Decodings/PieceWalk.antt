@@ -11,7 +11,7 @@ use Rattle.qm_core.specs.declared.source.Pulled.{Pulled}
 use Rattle.qm_core.specs.declared.decoder.Decoder.{Decoder}
 use Rattle.raster_core.specs.Packed.{packed_row}
 use Rattle.raster_core.specs.Row.{IsRowStart, HasAbove, StandsInRow}
-use Rattle.raster_core.specs.Window.{held, turned}
+use Rattle.raster_core.specs.Window.{turned}
 use Rattle.raster_core.specs.declared.place.RowPlace.{RowPlace}
 use Rattle.raster_core.specs.declared.shape.Shape.{Shape}
 use Rattle.t85_core.specs.declared.fault.Fault.{Fault}

@@ -16,7 +16,7 @@ use Rattle.qm_core.specs.declared.decoder.Decoder.{Decoder}
 use Rattle.raster_core.specs.Lines.{Mode, pseudo_event}
 use Rattle.raster_core.specs.Packed.{HasLines, packed_row}
 use Rattle.raster_core.specs.Row.{RowsSkipped}
-use Rattle.raster_core.specs.Window.{held, repeated, shape_mode, width_of}
+use Rattle.raster_core.specs.Window.{repeated, shape_mode}
 use Rattle.raster_core.specs.declared.shape.Shape.{Shape}
 use Rattle.t85_core.specs.Header.{Fields}
 use Rattle.t85_core.specs.Grammar.{Segment}

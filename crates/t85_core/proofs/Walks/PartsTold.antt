@@ -19,8 +19,8 @@ use Rattle.t85_core.specs.Grammar.{Segment, NewLength, Move, Comment, segment_by
 use Rattle.t85_core.specs.Refusal.{BodyFault, rest_fault}
 use Rattle.t85_core.specs.Height.{GivesHeight, IsHeight}
 use Rattle.t85_core.specs.Steps.HeightWalk.{moved_behind, IsAlone, SkipsFault, LooksTo, LookEnds}
-use Rattle.t85_core.specs.Parts.{Passed, Nothing, Behind, Tells, TellsOfAny, passed_bytes, EndsInHeight, IsTail, IsUngiven, IsGiven, StandsBehind, Adds, Stands, TakesPart, IsWhole, BreaksAt}
-use Rattle.t85_core.specs.Steps.PartSteps.{ReadsPart, MissesPart, IsSegment, place_before, kind_of, part_told, walk_behind, is_given, height_in_use, stripes_in_use, header_part, header_walk, CanPass, TellsThere, TellsBehind, TellsBefore, SeesHeight, ComesOrEnds, IsDone, TailIs}
+use Rattle.t85_core.specs.Parts.{Passed, Nothing, Behind, TellsNext, TellsOfAny, passed_bytes, EndsInHeight, IsTail, IsUngiven, IsGiven, StandsBehind, Adds, IsBehind, TakesPart, IsWholeStream, BreaksAt}
+use Rattle.t85_core.specs.Steps.PartSteps.{ReadsPart, MissesPart, IsSegment, place_before, kind_of, part_told, walk_behind, is_given, height_told, stripes_in_use, header_part, header_walk, CanPass, TellsThere, TellsBehind, TellsBefore, SeesHeight, ComesOrEnds, IsDone, TailIs}
 use Rattle.t85_core.proofs.Bytes.Lists.{All-append}
 use Rattle.t85_core.proofs.Bytes.Lengths.{many_lengths, lengths_append, gives_none, gives_left, gives_right, valid_parts}
 use Rattle.t85_core.proofs.Grammar.Unique.{header_is, accepted}
@@ -38,10 +38,10 @@ given_of n one = grind (arith, nat_tests)
 zero_of : (n : ℕ) → not (nat_eq n 0) ≡ false → n ≡ 0
 zero_of n e = grind (arith, nat_tests)
 
-in_use_zero : (h : Fields) (w : PartWalk) → w.late_height ≡ 0 → height_in_use h w ≡ h.yd
+in_use_zero : (h : Fields) (w : PartWalk) → w.late_height ≡ 0 → height_told h w ≡ h.yd
 in_use_zero h w e = let t : nat_eq w.late_height 0 ≡ true = grind (arith, nat_tests) in ap (λ b. cond b h.yd w.late_height) t
 
-in_use_given : (h : Fields) (w : PartWalk) → 1 ≤ w.late_height → height_in_use h w ≡ w.late_height
+in_use_given : (h : Fields) (w : PartWalk) → 1 ≤ w.late_height → height_told h w ≡ w.late_height
 in_use_given h w e = let t : nat_eq w.late_height 0 ≡ false = grind (arith, nat_tests) in ap (λ b. cond b h.yd w.late_height) t
 
 -- the one height that is given
@@ -82,7 +82,7 @@ module _ {stream : List ℕ} {w : PartWalk} {h : Fields} {ss : List Stripe} {gs 
     len_of : (bytes : List ℕ) → drop w.offset stream ≡ bytes ++ left → len ≡ length bytes
     len_of bytes there = let l : length (drop w.offset stream) ≡ length bytes + length left = ap length there ∙ length-append bytes left in omega (arith, len_is, l)
 
-    pub told : (t : Taken) (w' : PartWalk) (to : Passed) (bytes : List ℕ) → drop w.offset stream ≡ bytes ++ left → Adds (kind_of t) (Behind h ss gs) to bytes → Stands stream w' to → TakesPart stream w w' (Behind h ss gs) (part_told t w len)
+    pub told : (t : Taken) (w' : PartWalk) (to : Passed) (bytes : List ℕ) → drop w.offset stream ≡ bytes ++ left → Adds (kind_of t) (Behind h ss gs) to bytes → IsBehind stream w' to → TakesPart stream w w' (Behind h ss gs) (part_told t w len)
     told t w' to bytes there adds stands = record {
       to = to;
       bytes = bytes;
@@ -299,7 +299,7 @@ module _ {stream : List ℕ} {w : PartWalk} {h : Fields} {ss : List Stripe} {gs 
     comes_known e = ((ungiven_of zero_there).comes e).2
 
   -- with what belongs to it behind its parts
-  pub whole_there : (n : ℕ) → IsDone stream w h ss gs → TailIs w stream n → IsWhole stream (w.offset + n) h ss gs
+  pub whole_there : (n : ℕ) → IsDone stream w h ss gs → TailIs w stream n → IsWholeStream stream (w.offset + n) h ss gs
   whole_there n d t = record {
     height = d.height;
     comes_last = w.at_height;
@@ -419,8 +419,8 @@ module _ {stream : List ℕ} {w : PartWalk} {h : Fields} {ss : List Stripe} {gs 
 -- ---- steps
 
 -- a part was taken
-pub tells_taken : {stream : List ℕ} {w w' v : PartWalk} {from : Passed} {told : Found} {part : Part} → told ≡ found.Part part → w' ≡ v → TakesPart stream w v from part → Tells stream w w' from told
-tells_taken {stream} {w} {w'} {v} {from} {told} {part} e k t = subst (λ r. Tells stream w w' from r) (sym e) (subst (λ z. TakesPart stream w z from part) (sym k) t)
+pub tells_taken : {stream : List ℕ} {w w' v : PartWalk} {from : Passed} {told : Found} {part : Part} → told ≡ found.Part part → w' ≡ v → TakesPart stream w v from part → TellsNext stream w w' from told
+tells_taken {stream} {w} {w'} {v} {from} {told} {part} e k t = subst (λ r. TellsNext stream w w' from r) (sym e) (subst (λ z. TakesPart stream w z from part) (sym k) t)
 
 -- whatever the numbers are
 offset_behind : (t : Taken) (w : PartWalk) (len : ℕ) → (walk_behind t w len).offset ≡ w.offset + len
@@ -467,14 +467,14 @@ can_pass_segment taken.Move w is = tt
 can_pass_segment (taken.NewHeight n) w is = tt
 
 -- what is told of each header, is told of the one that the stream has
-pub tells_behind : (stream : List ℕ) (h : Fields) (w w' : PartWalk) (found : Found) → HeaderOf stream h → w.offset ≢ 0 → TellsThere h stream w w' found → (from : Passed) → Stands stream w from → Tells stream w w' from found
+pub tells_behind : (stream : List ℕ) (h : Fields) (w w' : PartWalk) (found : Found) → HeaderOf stream h → w.offset ≢ 0 → TellsThere h stream w w' found → (from : Passed) → IsBehind stream w from → TellsNext stream w w' from found
 tells_behind stream h w w' found header some told Nothing p = absurd (some p)
 tells_behind stream h w w' found header some told (Behind k ss gs) p =
     let same : h ≡ k = header_is stream h k header p.header_of in
     subst (λ z. TellsThere z stream w w' found) same told ss gs p
 
 -- the header is told
-pub tells_header : (stream : List ℕ) (h : Fields) (w : PartWalk) → HeaderOf stream h → w.offset ≡ 0 → (from : Passed) → Stands stream w from → TakesPart stream w header_walk from header_part
+pub tells_header : (stream : List ℕ) (h : Fields) (w : PartWalk) → HeaderOf stream h → w.offset ≡ 0 → (from : Passed) → IsBehind stream w from → TakesPart stream w header_walk from header_part
 tells_header stream h w header zero Nothing p = record {
   to = Behind h [] [];
   bytes = take 20 stream;
@@ -497,7 +497,7 @@ tells_header stream h w header zero Nothing p = record {
 tells_header stream h w header zero (Behind k ss gs) p = absurd (let o = p.offset_is in omega (arith, o, zero))
 
 -- it is refused
-pub tells_refused : (stream : List ℕ) (f : Fault) (w : PartWalk) → header_fault stream ≡ Some f → (from : Passed) → Stands stream w from → BreaksAt stream w from f 0 0
+pub tells_refused : (stream : List ℕ) (f : Fault) (w : PartWalk) → header_fault stream ≡ Some f → (from : Passed) → IsBehind stream w from → BreaksAt stream w from f 0 0
 tells_refused stream f w refused Nothing p = record { offset_is = sym p; stripe_is = refl; breaks = refused; stream_has = inl refused }
 tells_refused stream f w refused (Behind k ss gs) p = absurd (let e : None ≡ Some f = sym (accepted stream k p.header_of) ∙ refused in let bot : ⊥ = cc in bot)
 

@@ -15,7 +15,7 @@ use Rattle.t85_core.specs.Header.{Fields}
 use Rattle.t85_core.specs.Grammar.{Segment, NewLength, Move, Comment, segment_bytes, lengths, all_segments, Stripe, marker_bytes, stripe_count, is_valid_length, IsLegal}
 use Rattle.t85_core.specs.Height.{GivesHeight, IsHeight}
 use Rattle.t85_core.specs.Info.{numbers_of, HasNumbers}
-use Rattle.t85_core.specs.Parts.{StandsBehind, Behind, EndsInHeight, IsTail, PartFault, Tells, passed_bytes}
+use Rattle.t85_core.specs.Parts.{StandsBehind, Behind, EndsInHeight, IsTail, HasPartFault, TellsNext, passed_bytes}
 
 -- A legal segment is at the front of the bytes.
 abbrev pub ReadsSegment : Fields → Segment → List ℕ → List ℕ → Type 0
@@ -31,7 +31,7 @@ ReadsPart h place moved old new taken.DataEntity = (code : List ℕ) × (reset :
 
 -- none is
 abbrev pub MissesPart : Fields → Place → Bool → List ℕ → Fault → Type 0
-MissesPart h place moved bytes fault = PartFault h place.entities (if place.given then 1 else 0) (if moved then 1 else 0) bytes fault
+MissesPart h place moved bytes fault = HasPartFault h place.entities (if place.given then 1 else 0) (if moved then 1 else 0) bytes fault
 
 -- where no height came yet
 abbrev pub place_before : ℕ → Place
@@ -74,16 +74,16 @@ abbrev pub is_given : PartWalk → Bool
 is_given w = not (w.late_height == 0)
 
 -- that height, or the header's
-abbrev pub height_in_use : Fields → PartWalk → ℕ
-height_in_use h w = if w.late_height == 0 then h.yd else w.late_height
+abbrev pub height_told : Fields → PartWalk → ℕ
+height_told h w = if w.late_height == 0 then h.yd else w.late_height
 
 -- the stripes that it makes
 abbrev pub stripes_in_use : Fields → PartWalk → ℕ
-stripes_in_use h w = stripe_count (height_in_use h w) h.l0
+stripes_in_use h w = stripe_count (height_told h w) h.l0
 
 -- What is told behind this header, wherever the walk stands there.
 abbrev pub TellsThere : Fields → List ℕ → PartWalk → PartWalk → Found → Type 0
-TellsThere h stream w w' found = (stripes : List Stripe) (segments : List Segment) → StandsBehind stream w h stripes segments → Tells stream w w' (Behind h stripes segments) found
+TellsThere h stream w w' found = (stripes : List Stripe) (segments : List Segment) → StandsBehind stream w h stripes segments → TellsNext stream w w' (Behind h stripes segments) found
 
 -- in a stripe
 abbrev pub TellsInStripe : Fields → List ℕ → PartWalk → PartWalk → Found → Type 0

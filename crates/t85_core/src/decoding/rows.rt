@@ -143,7 +143,8 @@ fn skip_same(
     requires width { width_of carried.old.window.now ≡ shape.width }
     ensures none { result ≡ 0 → carried.new ≡ carried.old }
     ensures unskipped { result ≡ 0 → decoder.new ≡ decoder.old }
-    ensures all { 0 < result → RepeatsRows shape (option_map pair_of at) row result (carried_of carried.old)
+    ensures all { 0 < result → RepeatsRows shape (option_map pair_of at) row result
+        (carried_of carried.old)
         (carried_of carried.new) decoder.old decoder.new }
     ensures within { result ≤ left }
     ensures current { (held carried.new.window.now).current ≡

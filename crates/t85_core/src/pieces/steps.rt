@@ -60,7 +60,9 @@ impl PieceDecoder {
         ensures leaves { StepLeaves is_all (decoder_over self.old window.old learned.old)
             (decoder_over self.new window.new learned.new) piece.old.rest.now piece.new.rest.now
             result }
-        ensures lowers { result ≡ None → steps_left self.new.waits piece.new.rest.now < steps_left self.old.waits piece.old.rest.now }
+        ensures lowers { result ≡ None →
+            steps_left self.new.waits piece.new.rest.now < steps_left self.old.waits
+            piece.old.rest.now }
         ensures same_memory { memory_of window.new ≡ memory_of window.old }
         ensures same_width { width_of window.new ≡ width_of window.old }
     {
@@ -112,7 +114,9 @@ impl PieceDecoder {
         ensures leaves { StepLeaves is_all (decoder_over self.old window.old learned.old)
             (decoder_over self.new window.new learned.new) piece.old.rest.now piece.new.rest.now
             result }
-        ensures lowers { result ≡ None → steps_left self.new.waits piece.new.rest.now < steps_left self.old.waits piece.old.rest.now }
+        ensures lowers { result ≡ None →
+            steps_left self.new.waits piece.new.rest.now < steps_left self.old.waits
+            piece.old.rest.now }
         ensures same_memory { memory_of window.new ≡ memory_of window.old }
         ensures same_width { width_of window.new ≡ width_of window.old }
     {
@@ -139,9 +143,12 @@ impl PieceDecoder {
         requires stage { self.old.walk.stage ≡ stage.Code }
         requires all { min self.old.walk.left self.old.header.l0 ≤ self.old.walk.row }
         ensures leaves { (rows : Held) (learned : List Estimate) →
-            StepLeaves is_all (decoder_view self.old rows learned) (decoder_view self.new rows learned)
+            StepLeaves is_all (decoder_view self.old rows learned)
+            (decoder_view self.new rows learned)
             piece.old.rest.now piece.new.rest.now result }
-        ensures lowers { result ≡ None → steps_left self.new.waits piece.new.rest.now < steps_left self.old.waits piece.old.rest.now }
+        ensures lowers { result ≡ None →
+            steps_left self.new.waits piece.new.rest.now < steps_left self.old.waits
+            piece.old.rest.now }
     {
         let header = self.header;
         match self.walk.find_end(&header, header.yd, piece) {
@@ -170,7 +177,9 @@ impl PieceDecoder {
         ensures leaves { StepLeaves is_all (decoder_over self.old window.old learned.old)
             (decoder_over self.new window.new learned.new) piece.old.rest.now piece.new.rest.now
             result }
-        ensures lowers { result ≡ None → steps_left self.new.waits piece.new.rest.now < steps_left self.old.waits piece.old.rest.now }
+        ensures lowers { result ≡ None →
+            steps_left self.new.waits piece.new.rest.now < steps_left self.old.waits
+            piece.old.rest.now }
         ensures same_memory { memory_of window.new ≡ memory_of window.old }
         ensures same_width { width_of window.new ≡ width_of window.old }
     {

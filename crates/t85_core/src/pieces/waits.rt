@@ -38,7 +38,9 @@ impl PieceDecoder {
         ensures leaves { StepLeaves is_all (decoder_over self.old window.old learned.old)
             (decoder_over self.new window.new learned.new) piece.old.rest.now piece.new.rest.now
             result }
-        ensures lowers { result ≡ None → steps_left self.new.waits piece.new.rest.now < steps_left self.old.waits piece.old.rest.now }
+        ensures lowers { result ≡ None →
+            steps_left self.new.waits piece.new.rest.now < steps_left self.old.waits
+            piece.old.rest.now }
         ensures same_memory { memory_of window.new ≡ memory_of window.old }
         ensures same_width { width_of window.new ≡ width_of window.old }
     {
@@ -71,13 +73,17 @@ impl PieceDecoder {
         requires late { self.old.is_open ≡ true }
         requires waits { self.old.waits ≡ true }
         requires between { self.old.behind.comment ≡ None }
-        requires last { is_last ≡ last_behind (fields_of self.old.header) self.old.walk.stage self.old.walk.left }
+        requires last { is_last ≡ last_behind
+            (fields_of self.old.header) self.old.walk.stage self.old.walk.left }
         requires comes { ComesBehind (fields_of self.old.header) (place_behind (fields_of
-            self.old.header) self.old.walk.stage self.old.walk.entities) coming.next piece.old.rest.now coming.rest.now }
+            self.old.header) self.old.walk.stage self.old.walk.entities) coming.next
+            piece.old.rest.now coming.rest.now }
         ensures leaves { StepLeaves is_all (decoder_over self.old window.old learned.old)
             (decoder_over self.new window.new learned.new) piece.old.rest.now piece.new.rest.now
             result }
-        ensures lowers { result ≡ None → steps_left self.new.waits piece.new.rest.now < steps_left self.old.waits piece.old.rest.now }
+        ensures lowers { result ≡ None →
+            steps_left self.new.waits piece.new.rest.now < steps_left self.old.waits
+            piece.old.rest.now }
         ensures same_memory { memory_of window.new ≡ memory_of window.old }
         ensures same_width { width_of window.new ≡ width_of window.old }
     {
@@ -104,10 +110,12 @@ impl PieceDecoder {
     ) -> Outcome
         requires late { self.old.is_open ≡ true }
         requires waits { self.old.waits ≡ true }
-        requires last { is_last ≡ last_behind (fields_of self.old.header) self.old.walk.stage self.old.walk.left }
+        requires last { is_last ≡ last_behind
+            (fields_of self.old.header) self.old.walk.stage self.old.walk.left }
         requires end { fault ≡ Truncated → is_all ≡ true }
         requires stops { StopsBehind (fields_of self.old.header) (place_behind (fields_of
-            self.old.header) self.old.walk.stage self.old.walk.entities) is_last self.old.behind piece.now.rest.now fault }
+            self.old.header) self.old.walk.stage self.old.walk.entities) is_last self.old.behind
+            piece.now.rest.now fault }
         ensures leaves { StepLeaves is_all (decoder_over self.old window.old learned.old)
             (decoder_over self.new window.new learned.new) piece.now.rest.now piece.now.rest.now
             (Some result) }
@@ -123,7 +131,8 @@ impl PieceDecoder {
     /// Where what comes behind stands: how many data entities are before it.
     fn place_behind(&self) -> Place
         requires few { self.now.walk.entities < 2 ^ 32 - 1 }
-        ensures { result ≡ place_behind (fields_of self.now.header) self.now.walk.stage self.now.walk.entities }
+        ensures { result ≡ place_behind
+            (fields_of self.now.header) self.now.walk.stage self.now.walk.entities }
     {
         let entities = match self.walk.stage {
             Stage::Code | Stage::Row => self.walk.entities + 1,
@@ -138,7 +147,8 @@ impl PieceDecoder {
 
     /// Whether the last stripe is over there that the header's height makes.
     fn is_last(&self) -> bool
-        ensures { result ≡ last_behind (fields_of self.now.header) self.now.walk.stage self.now.walk.left }
+        ensures { result ≡ last_behind
+            (fields_of self.now.header) self.now.walk.stage self.now.walk.left }
     {
         match self.walk.stage {
             Stage::Code | Stage::Row => self.walk.left <= self.header.l0,
@@ -173,7 +183,8 @@ impl PieceDecoder {
         requires limit { limit ≤ min self.old.walk.left self.old.header.l0 }
         ensures keeps { KeepsDecoder (decoder_over self.old window.old learned.old)
             (decoder_over self.new window.new learned.new) }
-        ensures gives { result ≡ true → SomeStand (decoder_over self.old window.old learned.old) → GivesBelow (decoder_over self.old window.old learned.old)
+        ensures gives { result ≡ true → SomeStand (decoder_over self.old window.old learned.old) →
+            GivesBelow (decoder_over self.old window.old learned.old)
             (decoder_over self.new window.new learned.new) limit }
         ensures stays { result ≡ false → StaysAbove (decoder_over self.old window.old learned.old)
             (decoder_over self.new window.new learned.new) limit }
@@ -199,8 +210,10 @@ impl PieceDecoder {
         requires all { RowsAreGiven (decoder_over self.old window.old learned.old) }
         ensures keeps { KeepsDecoder (decoder_over self.old window.old learned.old)
             (decoder_over self.new window.new learned.new) }
-        ensures head { last_behind (fields_of self.old.header) self.old.walk.stage self.old.walk.left ≡ false →
-            SomeStand (decoder_over self.old window.old learned.old) → HeadEntered (decoder_over self.old window.old learned.old)
+        ensures head { last_behind
+            (fields_of self.old.header) self.old.walk.stage self.old.walk.left ≡ false →
+            SomeStand (decoder_over self.old window.old learned.old) → HeadEntered
+            (decoder_over self.old window.old learned.old)
             (decoder_over self.new window.new learned.new) }
         ensures same_memory { memory_of window.new ≡ memory_of window.old }
         ensures same_width { width_of window.new ≡ width_of window.old }
@@ -221,8 +234,10 @@ impl PieceDecoder {
         requires all { RowsAreGiven (decoder_over self.old window.old learned.old) }
         ensures keeps { KeepsDecoder (decoder_over self.old window.old learned.old)
             (decoder_over self.new window.new learned.new) }
-        ensures closes { last_behind (fields_of self.old.header) self.old.walk.stage self.old.walk.left ≡ false →
-            SomeStand (decoder_over self.old window.old learned.old) → StripeClosed (decoder_over self.old window.old learned.old)
+        ensures closes { last_behind
+            (fields_of self.old.header) self.old.walk.stage self.old.walk.left ≡ false →
+            SomeStand (decoder_over self.old window.old learned.old) → StripeClosed
+            (decoder_over self.old window.old learned.old)
             (decoder_over self.new window.new learned.new) }
         ensures same_memory { memory_of window.new ≡ memory_of window.old }
         ensures same_width { width_of window.new ≡ width_of window.old }
@@ -240,7 +255,8 @@ impl PieceDecoder {
         requires all { RowsAreGiven (decoder_over self.old window.old learned.old) }
         ensures keeps { KeepsDecoder (decoder_over self.old window.old learned.old)
             (decoder_over self.new window.new learned.new) }
-        ensures ends { IsInCode self.old.walk.stage → SomeStand (decoder_over self.old window.old learned.old) →
+        ensures ends { IsInCode self.old.walk.stage → SomeStand
+            (decoder_over self.old window.old learned.old) →
             StripeLeft (decoder_over self.old window.old learned.old)
             (decoder_over self.new window.new learned.new) }
         ensures same_memory { memory_of window.new ≡ memory_of window.old }
@@ -276,7 +292,9 @@ impl PieceDecoder {
             (decoder_over self.old window.old learned.old)
             (decoder_over self.new window.new learned.new) piece.old.rest.now piece.new.rest.now
             result }
-        ensures lowers { result ≡ None → steps_left self.new.waits piece.new.rest.now < steps_left self.old.waits piece.old.rest.now }
+        ensures lowers { result ≡ None →
+            steps_left self.new.waits piece.new.rest.now < steps_left self.old.waits
+            piece.old.rest.now }
         ensures same_memory { memory_of window.new ≡ memory_of window.old }
         ensures same_width { width_of window.new ≡ width_of window.old }
     {
@@ -313,14 +331,17 @@ impl PieceDecoder {
         requires late { self.old.is_open ≡ true }
         requires waits { self.old.waits ≡ true }
         requires between { self.old.behind.comment ≡ None }
-        requires more { last_behind (fields_of self.old.header) self.old.walk.stage self.old.walk.left ≡ false }
+        requires more { last_behind
+            (fields_of self.old.header) self.old.walk.stage self.old.walk.left ≡ false }
         requires code { IsByteOrMarker code }
         requires comes { piece.old.rest.now ≡ code_bytes code ++ rest.now }
         ensures leaves { (is_all : Bool) → StepLeaves is_all
             (decoder_over self.old window.old learned.old)
             (decoder_over self.new window.new learned.new) piece.old.rest.now piece.new.rest.now
             result }
-        ensures lowers { result ≡ None → steps_left self.new.waits piece.new.rest.now < steps_left self.old.waits piece.old.rest.now }
+        ensures lowers { result ≡ None →
+            steps_left self.new.waits piece.new.rest.now < steps_left self.old.waits
+            piece.old.rest.now }
         ensures same_memory { memory_of window.new ≡ memory_of window.old }
         ensures same_width { width_of window.new ≡ width_of window.old }
     {
@@ -349,10 +370,12 @@ impl PieceDecoder {
     ) -> Outcome
         requires late { self.old.is_open ≡ true }
         requires waits { self.old.waits ≡ true }
-        requires more { last_behind (fields_of self.old.header) self.old.walk.stage self.old.walk.left ≡ false }
+        requires more { last_behind
+            (fields_of self.old.header) self.old.walk.stage self.old.walk.left ≡ false }
         requires end { fault ≡ Truncated → is_all ≡ true }
         requires stops { StopsBehind (fields_of self.old.header) (place_behind (fields_of
-            self.old.header) self.old.walk.stage self.old.walk.entities) false self.old.behind piece.now.rest.now fault }
+            self.old.header) self.old.walk.stage self.old.walk.entities) false self.old.behind
+            piece.now.rest.now fault }
         ensures leaves { StepLeaves is_all (decoder_over self.old window.old learned.old)
             (decoder_over self.new window.new learned.new) piece.now.rest.now piece.now.rest.now
             (Some result) }
@@ -378,7 +401,8 @@ impl PieceDecoder {
     ) -> Outcome
         requires late { self.old.is_open ≡ true }
         requires waits { self.old.waits ≡ true }
-        requires last { last_behind (fields_of self.old.header) self.old.walk.stage self.old.walk.left ≡ true }
+        requires last { last_behind
+            (fields_of self.old.header) self.old.walk.stage self.old.walk.left ≡ true }
         requires over { SomeStand (decoder_over self.old window.old learned.old) → LookIsOver is_all
             (decoder_over self.old window.old learned.old) piece.now.rest.now }
         ensures leaves { StepLeaves is_all (decoder_over self.old window.old learned.old)

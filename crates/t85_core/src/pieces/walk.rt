@@ -316,8 +316,10 @@ impl Walk {
         requires row { self.old.row < min self.old.left header.now.l0 }
         requires fits { RowFits header.now.xd self.old (held window.old) }
         ensures enters { (learned : List Estimate) (text out : List ℕ) →
-            WalkStands (fields_of header.now) height (walk_over self.old window.old learned) text out →
-            WalkStands (fields_of header.now) height (walk_over self.new window.new learned) text out }
+            WalkStands (fields_of header.now) height
+            (walk_over self.old window.old learned) text out →
+            WalkStands (fields_of header.now) height
+            (walk_over self.new window.new learned) text out }
         ensures fits { RowFits header.now.xd self.new (held window.new) }
         ensures stage { self.new.stage ≡ stage.Row }
         ensures place { (rows rows' : Held) (learned learned' : List Estimate) →

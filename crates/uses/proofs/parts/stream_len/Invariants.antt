@@ -1,10 +1,10 @@
 use Rattle.std.proofs.Common.{◌-◌, length}
-use Rattle.t85_core.specs.Parts.{Passed, Stands}
+use Rattle.t85_core.specs.Parts.{Passed, IsBehind}
 use Rattle.uses.proofs.parts.stream_len.Given as goal
 
 -- the walk stands somewhere in the stream
 abbrev pub invariant-parts : goal.invariant-parts
-invariant-parts l = (passed : Passed) × Stands l.bytes l.walk passed
+invariant-parts l = (passed : Passed) × IsBehind l.bytes l.walk passed
 
 abbrev pub decreases-parts : goal.decreases-parts
 decreases-parts l = length l.bytes - l.walk.offset

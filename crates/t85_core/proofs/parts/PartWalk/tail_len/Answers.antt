@@ -1,4 +1,4 @@
-use Rattle.std.proofs.Common.{sym, ◌∙◌, rules}
+use Rattle.std.proofs.Common.{sym, ◌∙◌}
 use Rattle.t85_core.proofs.Walks.PartsTold.{tail_none, tail_marker}
 use Rattle.t85_core.proofs.parts.PartWalk.tail_len.Goals as goal
 
