@@ -35,10 +35,9 @@ pub fn to_pbm<R: Input, Second: Input, W: Output>(
     max_rows: u32,
     output: &mut W,
 ) -> Result<(), Fault>
-    ensures outcome { ToPbm max_rows (input_change R.view first.old first.new)
-        (is_some again.old) (again.new ≡ again.old)
-        (again_change Second.view again.old again.new)
-        (output_change W.view output.old output.new) (W.view output.new).flushed result }
+    ensures outcome { ToPbm max_rows (input_change R.view first.old first.new) (is_some again.old)
+        (again.new ≡ again.old) (again_change Second.view again.old again.new) (output_change W.view
+        output.old output.new) (W.view output.new).flushed result }
     ensures flushes { FlushesOnce (W.view output.old).flushes (W.view output.new).flushes result }
     ensures same_target { (W.view output.new).target ≡ (W.view output.old).target }
 {
@@ -64,9 +63,8 @@ fn convert_again<R: Input, Second: Input, W: Output>(
     output: &mut W,
 ) -> Result<(), Fault>
     requires variable { is_variable (fields_of header.now) ≡ true }
-    ensures outcome { ToPbmBehind (fields_of header.now) max_rows
-        (input_change R.view first.old first.new)
-        (again.new ≡ again.old) (input_change Second.view again.old again.new)
+    ensures outcome { ToPbmBehind (fields_of header.now) max_rows (input_change R.view first.old
+        first.new) (again.new ≡ again.old) (input_change Second.view again.old again.new)
         (output_change W.view output.old output.new) (W.view output.new).flushed result }
     ensures flushes { FlushesOnce (W.view output.old).flushes (W.view output.new).flushes result }
     ensures same_target { (W.view output.new).target ≡ (W.view output.old).target }
@@ -108,9 +106,8 @@ fn convert<R: Input, W: Output>(
 ) -> Result<(), Fault>
     requires from { 1 ≤ height }
     requires to { height ≤ header.now.yd }
-    ensures outcome { ToPbmAt (fields_of header.now) height max_rows
-        (input_change R.view input.old input.new)
-        (output_change W.view output.old output.new) (W.view output.new).flushed result }
+    ensures outcome { ToPbmAt (fields_of header.now) height max_rows (input_change R.view input.old
+        input.new) (output_change W.view output.old output.new) (W.view output.new).flushed result }
     ensures flushes { FlushesOnce (W.view output.old).flushes (W.view output.new).flushes result }
     ensures same_target { (W.view output.new).target ≡ (W.view output.old).target }
 {
@@ -138,8 +135,7 @@ pub fn to_jbg<R: Input, W: Output>(
     output: &mut W,
     options: &Options<'_>,
 ) -> Result<(), Fault>
-    ensures outcome { ToJbgAhead (settings_of options.now)
-        (input_change R.view input.old input.new)
+    ensures outcome { ToJbgAhead (settings_of options.now) (input_change R.view input.old input.new)
         (output_change W.view output.old output.new) (W.view output.new).flushed result }
     ensures flushes { FlushesOnce (W.view output.old).flushes (W.view output.new).flushes result }
     ensures same_target { (W.view output.new).target ≡ (W.view output.old).target }
@@ -155,8 +151,7 @@ fn to_jbg_from<R: Input, W: Output>(
     output: &mut W,
     options: &Options<'_>,
 ) -> Result<(), Fault>
-    ensures outcome { ToJbg (settings_of options.now)
-        (input_change R.view input.old input.new)
+    ensures outcome { ToJbg (settings_of options.now) (input_change R.view input.old input.new)
         (output_change W.view output.old output.new) (W.view output.new).flushed result }
     ensures same_input { SameInput (R.view input.old) (R.view input.new) }
     ensures flushes { FlushesOnce (W.view output.old).flushes (W.view output.new).flushes result }

@@ -45,8 +45,7 @@ pub fn decode<R: Input, W: Output>(
     requires width { width_of window.old ≡ header.now.xd }
     requires from { 1 ≤ height }
     requires to { height ≤ header.now.yd }
-    ensures outcome { Decode (fields_of header.now) height
-        (input_change R.view input.old input.new)
+    ensures outcome { Decode (fields_of header.now) height (input_change R.view input.old input.new)
         (output_change W.view output.old output.new) result }
     ensures no_flush { (W.view output.new).flushes ≡ (W.view output.old).flushes }
     ensures same_target { (W.view output.new).target ≡ (W.view output.old).target }
@@ -70,8 +69,7 @@ pub fn decode_in_memory<R: Input, W: Output>(
     requires width { width_of window.old ≡ header.now.xd }
     requires from { 1 ≤ height }
     requires to { height ≤ header.now.yd }
-    ensures outcome { Decode (fields_of header.now) height
-        (input_change R.view input.old input.new)
+    ensures outcome { Decode (fields_of header.now) height (input_change R.view input.old input.new)
         (output_change W.view output.old output.new) result }
     ensures no_flush { (W.view output.new).flushes ≡ (W.view output.old).flushes }
     ensures same_target { (W.view output.new).target ≡ (W.view output.old).target }
@@ -94,8 +92,7 @@ fn decode_by<R: Input, W: Output, const AHEAD: usize, const HELD: usize>(
     requires few_held { HELD ≤ 4096 }
     requires from { 1 ≤ height }
     requires to { height ≤ header.now.yd }
-    ensures outcome { Decode (fields_of header.now) height
-        (input_change R.view input.old input.new)
+    ensures outcome { Decode (fields_of header.now) height (input_change R.view input.old input.new)
         (output_change W.view output.old output.new) result }
     ensures no_flush { (W.view output.new).flushes ≡ (W.view output.old).flushes }
     ensures same_target { (W.view output.new).target ≡ (W.view output.old).target }
@@ -216,8 +213,7 @@ fn decode_stripe<S: ByteSource, P: ByteTarget>(
     requires carried { SomeStripeStart (carried_of carried.old) }
     ensures outcome { DecodeStripeOutcome (fields_of header.now) (spot_at place) (if given.new then
         1 else 0) (S.view stream.old).known (S.view stream.new).known rows (carried_of carried.old)
-        (carried_of carried.new)
-        (P.view target.old).text (P.view target.new).text result }
+        (carried_of carried.new) (P.view target.old).text (P.view target.new).text result }
     ensures width { OnOk result (width_of carried.new.window.now ≡
         width_of carried.old.window.now) }
     ensures offset { OnOk result (carried.new.kept.offset ≤ 127) }
@@ -247,8 +243,7 @@ fn decode_code<S: ByteSource, P: ByteTarget>(
         (entity_view entity.old) }
     ensures outcome { DecodeCodeOutcome (entity_view entity.old) (entity_view entity.new) (S.view
         entity.new.stream.now).known shape (option_map pair_of at) rows (carried_of carried.old)
-        (carried_of carried.new)
-        (P.view target.old).text (P.view target.new).text result }
+        (carried_of carried.new) (P.view target.old).text (P.view target.new).text result }
     ensures width { OnOk result (width_of carried.new.window.now ≡
         width_of carried.old.window.now) }
     ensures offset { OnOk result (carried.new.kept.offset ≤ 127) }

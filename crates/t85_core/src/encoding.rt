@@ -46,9 +46,8 @@ pub fn encode<R: Input, W: Output>(
     output: &mut W,
 ) -> Result<(), Fault>
     requires width { width_of window.old ≡ size.width }
-    ensures outcome { Encode (settings_of options.now) form size.width size.height
-        (input_change R.view input.old input.new)
-        (output_change W.view output.old output.new) result }
+    ensures outcome { Encode (settings_of options.now) form size.width size.height (input_change
+        R.view input.old input.new) (output_change W.view output.old output.new) result }
     ensures same_input { SameInput (R.view input.old) (R.view input.new) }
     ensures no_flush { (W.view output.new).flushes ≡ (W.view output.old).flushes }
     ensures same_target { (W.view output.new).target ≡ (W.view output.old).target }
@@ -66,9 +65,8 @@ pub fn encode_in_memory<R: Input, W: Output>(
     output: &mut W,
 ) -> Result<(), Fault>
     requires width { width_of window.old ≡ size.width }
-    ensures outcome { Encode (settings_of options.now) form size.width size.height
-        (input_change R.view input.old input.new)
-        (output_change W.view output.old output.new) result }
+    ensures outcome { Encode (settings_of options.now) form size.width size.height (input_change
+        R.view input.old input.new) (output_change W.view output.old output.new) result }
     ensures same_input { SameInput (R.view input.old) (R.view input.new) }
     ensures no_flush { (W.view output.new).flushes ≡ (W.view output.old).flushes }
     ensures same_target { (W.view output.new).target ≡ (W.view output.old).target }
@@ -88,9 +86,8 @@ fn encode_by<R: Input, W: Output, const HELD: usize>(
     requires width { width_of window.old ≡ size.width }
     requires held { 0 < HELD }
     requires few_held { HELD ≤ 4096 }
-    ensures outcome { Encode (settings_of options.now) form size.width size.height
-        (input_change R.view input.old input.new)
-        (output_change W.view output.old output.new) result }
+    ensures outcome { Encode (settings_of options.now) form size.width size.height (input_change
+        R.view input.old input.new) (output_change W.view output.old output.new) result }
     ensures same_input { SameInput (R.view input.old) (R.view input.new) }
     ensures no_flush { (W.view output.new).flushes ≡ (W.view output.old).flushes }
     ensures same_target { (W.view output.new).target ≡ (W.view output.old).target }

@@ -49,8 +49,7 @@ pub struct Reached {
 /// Where the header says that the height may change, the segments are read up to the first valid height; where none
 /// comes, or the stream breaks before it, the height is the header's.
 pub fn find_height<R: Input>(header: &Header, input: &mut R) -> Result<u32, Fault>
-    ensures { FindHeight (fields_of header.now) (input_change R.view input.old input.new)
-        result }
+    ensures { FindHeight (fields_of header.now) (input_change R.view input.old input.new) result }
 {
     if !header.is_variable() {
         return Ok(header.yd);
@@ -78,9 +77,8 @@ pub fn find<S: ByteSource>(header: &Header, stream: &mut S) -> Result<Reached, F
     ensures err { IfErr result (λ f. f ≢ Read → Ends Truncated (S.view stream.old).known
         (S.view stream.new).known (SkipsFault (fields_of header.now) 0
         (stripe_count header.now.yd header.now.l0) false false) f) }
-    ensures unread { IsErrOf result Read → (given : List ℕ) ×
-        Consumes (S.view stream.old).known (S.view stream.new).known given ×
-        FindsOpen (fields_of header.now) given }
+    ensures unread { IsErrOf result Read → (given : List ℕ) × Consumes (S.view stream.old).known
+        (S.view stream.new).known given × FindsOpen (fields_of header.now) given }
     ensures among { IfErr result IsWalkFault }
     ensures reads { ReadsOn (S.view stream.old) (S.view stream.new) result }
 {
@@ -116,9 +114,8 @@ pub fn look<S: ByteSource>(
     ensures none { IfOk result (λ height. height ≡ None →
         IfSome (S.view stream.old).known (LookEnds (fields_of header.now) entities)) }
     ensures among { IfErr result (λ f. f ≡ Read) }
-    ensures unread { IsErrOf result Read → (given : List ℕ) ×
-        Consumes (S.view stream.old).known (S.view stream.new).known given ×
-        LookOpen (fields_of header.now) entities given }
+    ensures unread { IsErrOf result Read → (given : List ℕ) × Consumes (S.view stream.old).known
+        (S.view stream.new).known given × LookOpen (fields_of header.now) entities given }
     ensures reads { ReadsOn (S.view stream.old) (S.view stream.new) result }
 {
     let place = Place {

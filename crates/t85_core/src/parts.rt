@@ -355,8 +355,7 @@ fn read_part(
 ) -> Result<Taken, Fault>
     ensures ok { IfOk result (ReadsPart (fields_of header.now) place moved source.old.rest.now
         source.new.rest.now) }
-    ensures err { IfErr result (MissesPart (fields_of header.now) place moved
-        source.old.rest.now) }
+    ensures err { IfErr result (MissesPart (fields_of header.now) place moved source.old.rest.now) }
     ensures among { IfErr result (λ f. IsWalkFault f × (f ≢ Read)) }
     ensures lowers { OnOk result (length source.new.rest.now < length source.old.rest.now) }
 {
@@ -378,8 +377,7 @@ fn read_before_height(header: &Header, entities: u32, source: &mut Piece<'_>) ->
     ensures segment { IfSome result IsSegment }
     ensures none { result ≡ None → is_variable (fields_of header.now) ≡ true →
         LookEnds (fields_of header.now) entities source.old.rest.now }
-    ensures lowers { IfSome result (λ _. length source.new.rest.now <
-        length source.old.rest.now) }
+    ensures lowers { IfSome result (λ _. length source.new.rest.now < length source.old.rest.now) }
 {
     let place = Place {
         height: 0,

@@ -59,10 +59,9 @@ impl CodingState<'_, '_> {
 
 /// Goes on after an end marker. All stays, or is as at the top of an image where the marker resets.
 pub fn next_stripe(reset: bool, window: &mut Window<'_>, kept: &mut Kept, learned: &mut Learned)
-    ensures next { (last : RowStart) →
-        IsCarried last (carried_by window.old kept.old learned.old) →
-        IsCarried (first_row_start (next_stripe_start (width_of window.old) reset last))
-        (carried_by window.new kept.new learned.new) }
+    ensures next { (last : RowStart) → IsCarried last (carried_by window.old kept.old learned.old) →
+        IsCarried (first_row_start (next_stripe_start (width_of window.old) reset last)) (carried_by
+        window.new kept.new learned.new) }
     ensures width { width_of window.new ≡ width_of window.old }
     ensures offset { kept.new.offset ≡ if reset then 0 else kept.old.offset }
     ensures same_memory { memory_of window.new ≡ memory_of window.old }

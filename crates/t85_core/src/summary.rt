@@ -83,9 +83,8 @@ fn summarize_body<S: ByteSource>(header: &Header, stream: &mut S) -> Result<Summ
         (BodyNumbers (fields_of header.now) (numbers_in found))) }
     ensures err { IfErr result (λ f. f ≢ Read → IfSome (S.view stream.old).known
         (BodyRefused (fields_of header.now) f)) }
-    ensures unread { IsErrOf result Read → (given : List ℕ) ×
-        Consumes (S.view stream.old).known (S.view stream.new).known given ×
-        BodyUnfinished (fields_of header.now) given }
+    ensures unread { IsErrOf result Read → (given : List ℕ) × Consumes (S.view stream.old).known
+        (S.view stream.new).known given × BodyUnfinished (fields_of header.now) given }
     ensures among { IfErr result IsWalkFault }
     ensures reads { ReadsOn (S.view stream.old) (S.view stream.new) result }
 {
@@ -140,9 +139,8 @@ fn walk_on<S: ByteSource>(
 
 /// The summary of a header, of a height and a count of data entities, and of what was skipped in them.
 fn summary_of(header: &Header, height: u32, entities: u32, passed: Passed) -> Summary
-    ensures { let h = header.now in numbers_in result ≡
-        h.xd ∷ h.yd ∷ h.l0 ∷ h.mx ∷ h.options ∷ height ∷ entities ∷ passed.moves ∷ passed.comments
-        ∷ [] }
+    ensures { let h = header.now in numbers_in result ≡ h.xd ∷ h.yd ∷ h.l0 ∷ h.mx ∷ h.options ∷
+        height ∷ entities ∷ passed.moves ∷ passed.comments ∷ [] }
 {
     Summary {
         width: header.xd,

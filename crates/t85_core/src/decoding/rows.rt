@@ -44,16 +44,14 @@ pub fn decode_rows<C: CodeBytes, P: ByteTarget>(
     requires offset { carried.old.kept.offset ≤ 127 }
     requires to { IfSome at (λ to. to.offset ≤ 127) }
     ensures ok { OnOk result (RowsOfStripe (Pulls C.gives C.failed) source.old source.new shape
-        (option_map pair_of at) rows
-        (carried_of carried.old)
-        (carried_of carried.new) (P.view target.old).text (P.view target.new).text) }
+        (option_map pair_of at) rows (carried_of carried.old) (carried_of carried.new) (P.view
+        target.old).text (P.view target.new).text) }
     ensures stopped { IsErrOf result row_fault.Stopped →
         RowsOfCut (Pulls C.gives C.failed) source.old source.new shape (option_map pair_of at) rows
         (carried_of carried.old) (P.view target.old).text (P.view target.new).text }
-    ensures unwritten { IsErrOf result row_fault.Write →
-        RowsOfUnwritten (Pulls C.gives C.failed) source.old source.new shape (option_map pair_of at)
-        rows
-        (carried_of carried.old) (P.view target.old).text (P.view target.new).text }
+    ensures unwritten { IsErrOf result row_fault.Write → RowsOfUnwritten (Pulls C.gives C.failed)
+        source.old source.new shape (option_map pair_of at) rows (carried_of carried.old) (P.view
+        target.old).text (P.view target.new).text }
     ensures width { OnOk result (width_of carried.new.window.now ≡ width_of
         carried.old.window.now) }
     ensures offset { OnOk result (carried.new.kept.offset ≤ 127) }
@@ -95,18 +93,15 @@ fn decode_next_rows<C: CodeBytes, P: ByteTarget>(
     requires to { IfSome at (λ to. to.offset ≤ 127) }
     requires left { row.old < rows }
     ensures ok { OnOk result (DecodeRowsStep (Pulls C.gives C.failed) source.old source.new shape
-        (option_map pair_of at) row.old row.new carried.old
-        carried.new decoder.old decoder.new
+        (option_map pair_of at) row.old row.new carried.old carried.new decoder.old decoder.new
         (P.view target.old).text (P.view target.new).text) }
     ensures more { OnOk result ((row.old < row.new) × (row.new ≤ rows)) }
-    ensures stopped { IsErrOf result row_fault.Stopped →
-        DecodeRowStepCut (Pulls C.gives C.failed) source.old source.new shape
-        (option_map pair_of at) row.old
-        carried.old decoder.old (P.view target.old).text (P.view target.new).text }
-    ensures unwritten { IsErrOf result row_fault.Write →
-        DecodeRowsStepUnwritten (Pulls C.gives C.failed) source.old source.new shape
-        (option_map pair_of at) row.old rows
-        carried.old decoder.old (P.view target.old).text (P.view target.new).text }
+    ensures stopped { IsErrOf result row_fault.Stopped → DecodeRowStepCut (Pulls C.gives C.failed)
+        source.old source.new shape (option_map pair_of at) row.old carried.old decoder.old (P.view
+        target.old).text (P.view target.new).text }
+    ensures unwritten { IsErrOf result row_fault.Write → DecodeRowsStepUnwritten (Pulls C.gives
+        C.failed) source.old source.new shape (option_map pair_of at) row.old rows carried.old
+        decoder.old (P.view target.old).text (P.view target.new).text }
     ensures width { OnOk result (width_of carried.new.window.now ≡ width_of
         carried.old.window.now) }
     ensures offset { OnOk result (carried.new.kept.offset ≤ 127) }
@@ -143,9 +138,8 @@ fn skip_same(
     requires width { width_of carried.old.window.now ≡ shape.width }
     ensures none { result ≡ 0 → carried.new ≡ carried.old }
     ensures unskipped { result ≡ 0 → decoder.new ≡ decoder.old }
-    ensures all { 0 < result → RepeatsRows shape (option_map pair_of at) row result
-        (carried_of carried.old)
-        (carried_of carried.new) decoder.old decoder.new }
+    ensures all { 0 < result → RepeatsRows shape (option_map pair_of at) row result (carried_of
+        carried.old) (carried_of carried.new) decoder.old decoder.new }
     ensures within { result ≤ left }
     ensures current { (held carried.new.window.now).current ≡
         (held carried.old.window.now).current }
@@ -250,17 +244,14 @@ fn decode_next_row<C: CodeBytes, P: ByteTarget>(
     requires offset { carried.old.kept.offset ≤ 127 }
     requires to { IfSome at (λ to. to.offset ≤ 127) }
     ensures ok { OnOk result (DecodeRowStep (Pulls C.gives C.failed) source.old source.new shape
-        (option_map pair_of at) row carried.old
-        carried.new decoder.old decoder.new (P.view
+        (option_map pair_of at) row carried.old carried.new decoder.old decoder.new (P.view
         target.old).text (P.view target.new).text) }
-    ensures stopped { IsErrOf result row_fault.Stopped →
-        DecodeRowStepCut (Pulls C.gives C.failed) source.old source.new shape
-        (option_map pair_of at) row
-        carried.old decoder.old (P.view target.old).text (P.view target.new).text }
-    ensures unwritten { IsErrOf result row_fault.Write →
-        DecodeRowStepUnwritten (Pulls C.gives C.failed) source.old source.new shape
-        (option_map pair_of at) row
-        carried.old decoder.old (P.view target.old).text (P.view target.new).text }
+    ensures stopped { IsErrOf result row_fault.Stopped → DecodeRowStepCut (Pulls C.gives C.failed)
+        source.old source.new shape (option_map pair_of at) row carried.old decoder.old (P.view
+        target.old).text (P.view target.new).text }
+    ensures unwritten { IsErrOf result row_fault.Write → DecodeRowStepUnwritten (Pulls C.gives
+        C.failed) source.old source.new shape (option_map pair_of at) row carried.old decoder.old
+        (P.view target.old).text (P.view target.new).text }
     ensures width { OnOk result (width_of carried.new.window.now ≡ width_of
         carried.old.window.now) }
     ensures offset { OnOk result (carried.new.kept.offset ≤ 127) }

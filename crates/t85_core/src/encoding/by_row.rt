@@ -216,9 +216,8 @@ impl RowEncoder {
             self.old.in_stripe }
         ensures ok { OnOk result (StandsToRun (view_of self.old learning.old)
             (view_of self.new learning.new) (P.view target.old).text (P.view target.new).text) }
-        ensures cut { OnErr result ((row : List Bool) (before : Held) → CutsRow row
-            (view_of self.old learning.old) before (P.view target.old).text
-            (P.view target.new).text) }
+        ensures cut { OnErr result ((row : List Bool) (before : Held) → CutsRow row (view_of
+            self.old learning.old) before (P.view target.old).text (P.view target.new).text) }
         ensures few { AppendsAtMost 8 (P.view target.old).text (P.view target.new).text }
         ensures same_encoder { self.new.encoder ≡ self.old.encoder }
         ensures able { OnOk result (IsAble (view_of self.new learning.new)) }
@@ -290,9 +289,8 @@ impl RowEncoder {
         requires able { IsAble (view_of self.old learning.old) }
         requires tallied { row_count learning.old.tally ≤ self.old.in_stripe }
         requires fewer { self.old.in_stripe < self.old.stripe_rows }
-        ensures ok { OnOk result (CodesRow (view_of self.old learning.old)
-            (view_of self.new learning.new) (held window.now) (P.view target.old).text
-            (P.view target.new).text) }
+        ensures ok { OnOk result (CodesRow (view_of self.old learning.old) (view_of self.new
+            learning.new) (held window.now) (P.view target.old).text (P.view target.new).text) }
         ensures cut { OnErr result (CutsCode (view_of self.old learning.old) (held window.now)
             (P.view target.old).text (P.view target.new).text) }
         ensures few { CodesFew self.old self.new (P.view target.old).text (P.view target.new).text
@@ -461,9 +459,8 @@ impl RowEncoder {
         requires some { 0 < self.old.rows }
         requires whole { self.old.may_end ≡ false → self.old.rows ≡ self.old.size.height }
         requires able { IsAble (view_of self.old learning.old) }
-        ensures ok { OnOk result (EndsStripes (view_of self.old learning.old)
-            (view_of self.new learning.new) (held window.old) (P.view target.old).text
-            (P.view target.new).text) }
+        ensures ok { OnOk result (EndsStripes (view_of self.old learning.old) (view_of self.new
+            learning.new) (held window.old) (P.view target.old).text (P.view target.new).text) }
         ensures cut { OnErr result (CutsImage (view_of self.old learning.old) (held window.old)
             (P.view target.old).text (P.view target.new).text) }
         ensures few { AppendsAtMost (most_code_bytes self.old + 2) (P.view target.old).text
@@ -535,9 +532,8 @@ impl RowEncoder {
             result ≡ Err AnnouncedLow }
         ensures low { IsErrOf result AnnouncedLow → (is_low (settings_of options.now) size.height ≡
             true) × Keeps (W.view output.old).contents (W.view output.new).contents }
-        ensures cut { IsErrOf result Write → AppendsBeginning (W.view output.old).contents
-            (W.view output.new).contents
-            (head_of (settings_of options.now) size.width size.height) }
+        ensures cut { IsErrOf result Write → AppendsBeginning (W.view output.old).contents (W.view
+            output.new).contents (head_of (settings_of options.now) size.width size.height) }
         ensures err { IfErr result (λ f. (f ≡ Write) ⊎ (f ≡ AnnouncedLow)) }
         ensures writes { OnlyWrites (W.view output.old) (W.view output.new) result }
     {

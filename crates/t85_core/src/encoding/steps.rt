@@ -189,9 +189,8 @@ pub fn count_row(counted: Option<u8>, width: u32, window: &Window<'_>, tally: &m
     requires width { width_of window.now ≡ width }
     requires offset { IfSome counted (λ offset. offset ≤ 127) }
     requires rows { row_count tally.old < 2 ^ 32 - 1 }
-    ensures counts { (lines : List Lines) (l : Lines) → HasLines (held window.now) l →
-        IsCountedTo width counted tally.old lines →
-        IsCountedTo width counted tally.new (lines ++ l ∷ []) }
+    ensures counts { (lines : List Lines) (l : Lines) → HasLines (held window.now) l → IsCountedTo
+        width counted tally.old lines → IsCountedTo width counted tally.new (lines ++ l ∷ []) }
     ensures rows { row_count tally.new ≤ row_count tally.old + 1 }
     ensures two_line { is_two_line tally.new ≡ is_two_line tally.old }
     ensures most { most_of tally.new ≡ most_of tally.old }
@@ -203,8 +202,7 @@ pub fn count_row(counted: Option<u8>, width: u32, window: &Window<'_>, tally: &m
 
 /// Goes on after an end marker. All stays, or is as at the top of an image where the marker resets.
 pub fn go_on(reset: bool, window: &mut Window<'_>, kept: &mut Kept, learned: &mut Learned)
-    ensures next { (last : RowStart) →
-        IsHeldBy None 0 last kept.old learned.old (held window.old) →
+    ensures next { (last : RowStart) → IsHeldBy None 0 last kept.old learned.old (held window.old) →
         IsHeldBy None 0 (first_row_start (next_stripe_start (width_of window.old) reset last))
         kept.new learned.new (held window.new) }
     ensures offset { kept.old.offset ≤ 127 → kept.new.offset ≤ 127 }

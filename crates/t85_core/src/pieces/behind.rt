@@ -56,9 +56,8 @@ impl Behind {
         requires none { place.given ≡ false }
         ensures on { BehindOn (fields_of header.now) place is_last self.old self.new
             piece.old.rest.now piece.new.rest.now }
-        ensures ok { IfOk result (λ coming. (self.new.comment ≡ None) ×
-            ComesBehind (fields_of header.now) place coming.next piece.new.rest.now
-            coming.rest.now) }
+        ensures ok { IfOk result (λ coming. (self.new.comment ≡ None) × ComesBehind (fields_of
+            header.now) place coming.next piece.new.rest.now coming.rest.now) }
         ensures err { IfErr result (StopsBehind (fields_of header.now) place is_last self.new
             piece.new.rest.now) }
         ensures no_more { length piece.new.rest.now ≤ length piece.old.rest.now }

@@ -36,19 +36,15 @@ pub fn go_on_in_row(
     requires offset { kept.old.offset ≤ 127 }
     requires code { IfSome first.old IsByteOrMarker }
     requires behind { IfSome marker.old (λ _. first.old ≡ None) }
-    ensures ok { OnOk result (EndsRow shape
-        (row_state (carried_by window.old kept.old learned.old) decoder.old place.old
-        first.old marker.old piece.old)
-        (row_state (carried_by window.new kept.new learned.new) decoder.new place.new
-        first.new marker.new piece.new)) }
-    ensures err { IfErr result (BreaksRow shape
-        (row_state (carried_by window.old kept.old learned.old) decoder.old place.old
-        first.old marker.old piece.old)) }
-    ensures more { IsErrOf result Truncated → WaitsInRow shape
-        (row_state (carried_by window.old kept.old learned.old) decoder.old place.old
-        first.old marker.old piece.old)
-        (row_state (carried_by window.new kept.new learned.new) decoder.new place.new
-        first.new marker.new piece.new) }
+    ensures ok { OnOk result (EndsRow shape (row_state (carried_by window.old kept.old learned.old)
+        decoder.old place.old first.old marker.old piece.old) (row_state (carried_by window.new
+        kept.new learned.new) decoder.new place.new first.new marker.new piece.new)) }
+    ensures err { IfErr result (BreaksRow shape (row_state (carried_by window.old kept.old
+        learned.old) decoder.old place.old first.old marker.old piece.old)) }
+    ensures more { IsErrOf result Truncated → WaitsInRow shape (row_state (carried_by window.old
+        kept.old learned.old) decoder.old place.old first.old marker.old piece.old) (row_state
+        (carried_by window.new kept.new learned.new) decoder.new place.new first.new marker.new
+        piece.new) }
     ensures width { width_of window.new ≡ width_of window.old }
     ensures offset { kept.new.offset ≤ 127 }
     ensures within { place.new.done < shape.width }

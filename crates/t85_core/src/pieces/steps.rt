@@ -60,9 +60,8 @@ impl PieceDecoder {
         ensures leaves { StepLeaves is_all (decoder_over self.old window.old learned.old)
             (decoder_over self.new window.new learned.new) piece.old.rest.now piece.new.rest.now
             result }
-        ensures lowers { result ≡ None →
-            steps_left self.new.waits piece.new.rest.now < steps_left self.old.waits
-            piece.old.rest.now }
+        ensures lowers { result ≡ None → steps_left self.new.waits piece.new.rest.now < steps_left
+            self.old.waits piece.old.rest.now }
         ensures same_memory { memory_of window.new ≡ memory_of window.old }
         ensures same_width { width_of window.new ≡ width_of window.old }
     {
@@ -114,9 +113,8 @@ impl PieceDecoder {
         ensures leaves { StepLeaves is_all (decoder_over self.old window.old learned.old)
             (decoder_over self.new window.new learned.new) piece.old.rest.now piece.new.rest.now
             result }
-        ensures lowers { result ≡ None →
-            steps_left self.new.waits piece.new.rest.now < steps_left self.old.waits
-            piece.old.rest.now }
+        ensures lowers { result ≡ None → steps_left self.new.waits piece.new.rest.now < steps_left
+            self.old.waits piece.old.rest.now }
         ensures same_memory { memory_of window.new ≡ memory_of window.old }
         ensures same_width { width_of window.new ≡ width_of window.old }
     {
@@ -142,13 +140,11 @@ impl PieceDecoder {
         requires unmarked { self.old.walk.marker ≡ None }
         requires stage { self.old.walk.stage ≡ stage.Code }
         requires all { min self.old.walk.left self.old.header.l0 ≤ self.old.walk.row }
-        ensures leaves { (rows : Held) (learned : List Estimate) →
-            StepLeaves is_all (decoder_view self.old rows learned)
-            (decoder_view self.new rows learned)
-            piece.old.rest.now piece.new.rest.now result }
-        ensures lowers { result ≡ None →
-            steps_left self.new.waits piece.new.rest.now < steps_left self.old.waits
-            piece.old.rest.now }
+        ensures leaves { (rows : Held) (learned : List Estimate) → StepLeaves is_all (decoder_view
+            self.old rows learned) (decoder_view self.new rows learned) piece.old.rest.now
+            piece.new.rest.now result }
+        ensures lowers { result ≡ None → steps_left self.new.waits piece.new.rest.now < steps_left
+            self.old.waits piece.old.rest.now }
     {
         let header = self.header;
         match self.walk.find_end(&header, header.yd, piece) {
@@ -177,9 +173,8 @@ impl PieceDecoder {
         ensures leaves { StepLeaves is_all (decoder_over self.old window.old learned.old)
             (decoder_over self.new window.new learned.new) piece.old.rest.now piece.new.rest.now
             result }
-        ensures lowers { result ≡ None →
-            steps_left self.new.waits piece.new.rest.now < steps_left self.old.waits
-            piece.old.rest.now }
+        ensures lowers { result ≡ None → steps_left self.new.waits piece.new.rest.now < steps_left
+            self.old.waits piece.old.rest.now }
         ensures same_memory { memory_of window.new ≡ memory_of window.old }
         ensures same_width { width_of window.new ≡ width_of window.old }
     {
@@ -219,17 +214,15 @@ impl PieceDecoder {
         requires going { self.old.waits ≡ false }
         ensures header { self.new.header ≡ self.old.header }
         ensures end { self.new.end ≡ self.old.end }
-        ensures on { self.old.walk.first ≡ None → self.old.walk.marker ≡ None →
-            IsInCode self.old.walk.stage →
-            (rows : Held) (learned : List Estimate) →
-            DecoderOn (decoder_view self.old rows learned) (decoder_view self.new rows learned)
-            piece.old.rest.now piece.new.rest.now [] }
+        ensures on { self.old.walk.first ≡ None → self.old.walk.marker ≡ None → IsInCode
+            self.old.walk.stage → (rows : Held) (learned : List Estimate) → DecoderOn (decoder_view
+            self.old rows learned) (decoder_view self.new rows learned) piece.old.rest.now
+            piece.new.rest.now [] }
         ensures stays { ((reset : Bool) (rest : List ℕ) →
             piece.old.rest.now ≡ marker_bytes reset ++ rest → ⊥) → self.new.waits ≡ false }
         ensures no_more { length piece.new.rest.now ≤ length piece.old.rest.now }
-        ensures marked { (reset : Bool) (rest : List ℕ) →
-            piece.old.rest.now ≡ marker_bytes reset ++ rest →
-            length piece.new.rest.now < length piece.old.rest.now }
+        ensures marked { (reset : Bool) (rest : List ℕ) → piece.old.rest.now ≡ marker_bytes reset ++
+            rest → length piece.new.rest.now < length piece.old.rest.now }
     {
         if let Some(reset) = marker_at(piece.rest) {
             let (_, rest) = piece.rest.split_at(2);

@@ -38,9 +38,8 @@ impl PieceDecoder {
         ensures leaves { StepLeaves is_all (decoder_over self.old window.old learned.old)
             (decoder_over self.new window.new learned.new) piece.old.rest.now piece.new.rest.now
             result }
-        ensures lowers { result ≡ None →
-            steps_left self.new.waits piece.new.rest.now < steps_left self.old.waits
-            piece.old.rest.now }
+        ensures lowers { result ≡ None → steps_left self.new.waits piece.new.rest.now < steps_left
+            self.old.waits piece.old.rest.now }
         ensures same_memory { memory_of window.new ≡ memory_of window.old }
         ensures same_width { width_of window.new ≡ width_of window.old }
     {
@@ -81,9 +80,8 @@ impl PieceDecoder {
         ensures leaves { StepLeaves is_all (decoder_over self.old window.old learned.old)
             (decoder_over self.new window.new learned.new) piece.old.rest.now piece.new.rest.now
             result }
-        ensures lowers { result ≡ None →
-            steps_left self.new.waits piece.new.rest.now < steps_left self.old.waits
-            piece.old.rest.now }
+        ensures lowers { result ≡ None → steps_left self.new.waits piece.new.rest.now < steps_left
+            self.old.waits piece.old.rest.now }
         ensures same_memory { memory_of window.new ≡ memory_of window.old }
         ensures same_width { width_of window.new ≡ width_of window.old }
     {
@@ -210,11 +208,10 @@ impl PieceDecoder {
         requires all { RowsAreGiven (decoder_over self.old window.old learned.old) }
         ensures keeps { KeepsDecoder (decoder_over self.old window.old learned.old)
             (decoder_over self.new window.new learned.new) }
-        ensures head { last_behind
-            (fields_of self.old.header) self.old.walk.stage self.old.walk.left ≡ false →
-            SomeStand (decoder_over self.old window.old learned.old) → HeadEntered
-            (decoder_over self.old window.old learned.old)
-            (decoder_over self.new window.new learned.new) }
+        ensures head { last_behind (fields_of self.old.header) self.old.walk.stage
+            self.old.walk.left ≡ false → SomeStand (decoder_over self.old window.old learned.old) →
+            HeadEntered (decoder_over self.old window.old learned.old) (decoder_over self.new
+            window.new learned.new) }
         ensures same_memory { memory_of window.new ≡ memory_of window.old }
         ensures same_width { width_of window.new ≡ width_of window.old }
     {
@@ -234,11 +231,10 @@ impl PieceDecoder {
         requires all { RowsAreGiven (decoder_over self.old window.old learned.old) }
         ensures keeps { KeepsDecoder (decoder_over self.old window.old learned.old)
             (decoder_over self.new window.new learned.new) }
-        ensures closes { last_behind
-            (fields_of self.old.header) self.old.walk.stage self.old.walk.left ≡ false →
-            SomeStand (decoder_over self.old window.old learned.old) → StripeClosed
-            (decoder_over self.old window.old learned.old)
-            (decoder_over self.new window.new learned.new) }
+        ensures closes { last_behind (fields_of self.old.header) self.old.walk.stage
+            self.old.walk.left ≡ false → SomeStand (decoder_over self.old window.old learned.old) →
+            StripeClosed (decoder_over self.old window.old learned.old) (decoder_over self.new
+            window.new learned.new) }
         ensures same_memory { memory_of window.new ≡ memory_of window.old }
         ensures same_width { width_of window.new ≡ width_of window.old }
     {
@@ -255,10 +251,9 @@ impl PieceDecoder {
         requires all { RowsAreGiven (decoder_over self.old window.old learned.old) }
         ensures keeps { KeepsDecoder (decoder_over self.old window.old learned.old)
             (decoder_over self.new window.new learned.new) }
-        ensures ends { IsInCode self.old.walk.stage → SomeStand
-            (decoder_over self.old window.old learned.old) →
-            StripeLeft (decoder_over self.old window.old learned.old)
-            (decoder_over self.new window.new learned.new) }
+        ensures ends { IsInCode self.old.walk.stage → SomeStand (decoder_over self.old window.old
+            learned.old) → StripeLeft (decoder_over self.old window.old learned.old) (decoder_over
+            self.new window.new learned.new) }
         ensures same_memory { memory_of window.new ≡ memory_of window.old }
         ensures same_width { width_of window.new ≡ width_of window.old }
     {
@@ -285,16 +280,13 @@ impl PieceDecoder {
         requires late { self.old.is_open ≡ true }
         requires waits { self.old.waits ≡ true }
         requires between { self.old.behind.comment ≡ None }
-        requires comes { HeightComes (fields_of self.old.header)
-            (walk_over self.old.walk window.old learned.old) height
-            piece.old.rest.now rest.now }
-        ensures leaves { (is_all : Bool) → StepLeaves is_all
-            (decoder_over self.old window.old learned.old)
-            (decoder_over self.new window.new learned.new) piece.old.rest.now piece.new.rest.now
-            result }
-        ensures lowers { result ≡ None →
-            steps_left self.new.waits piece.new.rest.now < steps_left self.old.waits
-            piece.old.rest.now }
+        requires comes { HeightComes (fields_of self.old.header) (walk_over self.old.walk window.old
+            learned.old) height piece.old.rest.now rest.now }
+        ensures leaves { (is_all : Bool) → StepLeaves is_all (decoder_over self.old window.old
+            learned.old) (decoder_over self.new window.new learned.new) piece.old.rest.now
+            piece.new.rest.now result }
+        ensures lowers { result ≡ None → steps_left self.new.waits piece.new.rest.now < steps_left
+            self.old.waits piece.old.rest.now }
         ensures same_memory { memory_of window.new ≡ memory_of window.old }
         ensures same_width { width_of window.new ≡ width_of window.old }
     {
@@ -335,13 +327,11 @@ impl PieceDecoder {
             (fields_of self.old.header) self.old.walk.stage self.old.walk.left ≡ false }
         requires code { IsByteOrMarker code }
         requires comes { piece.old.rest.now ≡ code_bytes code ++ rest.now }
-        ensures leaves { (is_all : Bool) → StepLeaves is_all
-            (decoder_over self.old window.old learned.old)
-            (decoder_over self.new window.new learned.new) piece.old.rest.now piece.new.rest.now
-            result }
-        ensures lowers { result ≡ None →
-            steps_left self.new.waits piece.new.rest.now < steps_left self.old.waits
-            piece.old.rest.now }
+        ensures leaves { (is_all : Bool) → StepLeaves is_all (decoder_over self.old window.old
+            learned.old) (decoder_over self.new window.new learned.new) piece.old.rest.now
+            piece.new.rest.now result }
+        ensures lowers { result ≡ None → steps_left self.new.waits piece.new.rest.now < steps_left
+            self.old.waits piece.old.rest.now }
         ensures same_memory { memory_of window.new ≡ memory_of window.old }
         ensures same_width { width_of window.new ≡ width_of window.old }
     {

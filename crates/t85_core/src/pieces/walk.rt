@@ -315,11 +315,9 @@ impl Walk {
         requires stage { self.old.stage ≡ stage.Code }
         requires row { self.old.row < min self.old.left header.now.l0 }
         requires fits { RowFits header.now.xd self.old (held window.old) }
-        ensures enters { (learned : List Estimate) (text out : List ℕ) →
-            WalkStands (fields_of header.now) height
-            (walk_over self.old window.old learned) text out →
-            WalkStands (fields_of header.now) height
-            (walk_over self.new window.new learned) text out }
+        ensures enters { (learned : List Estimate) (text out : List ℕ) → WalkStands (fields_of
+            header.now) height (walk_over self.old window.old learned) text out → WalkStands
+            (fields_of header.now) height (walk_over self.new window.new learned) text out }
         ensures fits { RowFits header.now.xd self.new (held window.new) }
         ensures stage { self.new.stage ≡ stage.Row }
         ensures place { (rows rows' : Held) (learned learned' : List Estimate) →
@@ -353,11 +351,9 @@ impl Walk {
         ensures step { RowStep (fields_of header.now) height
             (walk_over self.old window.old learned.old) (walk_over self.new window.new learned.new)
             piece.old.rest.now piece.new.rest.now result }
-        ensures leaves { SomeStands (fields_of header.now) height
-            (walk_over self.old window.old learned.old) →
-            RowLeaves (walk_over self.old window.old learned.old)
-            (walk_over self.new window.new learned.new) piece.old.rest.now piece.new.rest.now
-            result }
+        ensures leaves { SomeStands (fields_of header.now) height (walk_over self.old window.old
+            learned.old) → RowLeaves (walk_over self.old window.old learned.old) (walk_over self.new
+            window.new learned.new) piece.old.rest.now piece.new.rest.now result }
         ensures same_memory { memory_of window.new ≡ memory_of window.old }
         ensures same_width { width_of window.new ≡ width_of window.old }
     {
@@ -397,11 +393,9 @@ impl Walk {
         ensures step { RowStep (fields_of header.now) height
             (walk_over self.old window.old learned.old) (walk_over self.new window.new learned.new)
             piece.old.rest.now piece.new.rest.now result }
-        ensures leaves { SomeStands (fields_of header.now) height
-            (walk_over self.old window.old learned.old) →
-            RowLeaves (walk_over self.old window.old learned.old)
-            (walk_over self.new window.new learned.new) piece.old.rest.now piece.new.rest.now
-            result }
+        ensures leaves { SomeStands (fields_of header.now) height (walk_over self.old window.old
+            learned.old) → RowLeaves (walk_over self.old window.old learned.old) (walk_over self.new
+            window.new learned.new) piece.old.rest.now piece.new.rest.now result }
         ensures same_memory { memory_of window.new ≡ memory_of window.old }
         ensures same_width { width_of window.new ≡ width_of window.old }
     {
@@ -425,11 +419,9 @@ impl Walk {
         ensures step { RowStep (fields_of header.now) height
             (walk_over self.old window.old learned.old) (walk_over self.new window.new learned.new)
             piece.old.rest.now piece.new.rest.now result }
-        ensures leaves { SomeStands (fields_of header.now) height
-            (walk_over self.old window.old learned.old) →
-            RowLeaves (walk_over self.old window.old learned.old)
-            (walk_over self.new window.new learned.new) piece.old.rest.now piece.new.rest.now
-            result }
+        ensures leaves { SomeStands (fields_of header.now) height (walk_over self.old window.old
+            learned.old) → RowLeaves (walk_over self.old window.old learned.old) (walk_over self.new
+            window.new learned.new) piece.old.rest.now piece.new.rest.now result }
         ensures same_memory { memory_of window.new ≡ memory_of window.old }
         ensures same_width { width_of window.new ≡ width_of window.old }
     {
@@ -527,9 +519,8 @@ impl Walk {
         ensures stage { self.new.stage ≡ stage.Code }
         ensures marked { OnOk result (MarkerRead self.new.marker self.new.first) }
         ensures no_more { length piece.new.rest.now ≤ length piece.old.rest.now }
-        ensures other { (rows : Held) (learned : List Estimate) →
-            SomeStands (fields_of header.now) height (walk_view self.old rows learned) →
-            IfErr result (λ f. f ≢ Changed) }
+        ensures other { (rows : Held) (learned : List Estimate) → SomeStands (fields_of header.now)
+            height (walk_view self.old rows learned) → IfErr result (λ f. f ≢ Changed) }
     {
         // What the proof cites of the coder.
         coder_laws();
@@ -563,9 +554,8 @@ impl Walk {
         ensures left { OnOk result (header.now.l0 < self.old.left → self.new.stage ≡ stage.Head) }
         ensures next { OnOk result ((self.new.left ≡ self.old.left - header.now.l0)
             × (self.new.given ≡ self.old.given) × (self.new.at ≡ None)) }
-        ensures entities { SomeStands (fields_of header.now) height
-            (walk_over self.old window.old learned.old) →
-            OnOk result (self.new.entities ≡ self.old.entities + 1) }
+        ensures entities { SomeStands (fields_of header.now) height (walk_over self.old window.old
+            learned.old) → OnOk result (self.new.entities ≡ self.old.entities + 1) }
         ensures same_memory { memory_of window.new ≡ memory_of window.old }
         ensures same_width { width_of window.new ≡ width_of window.old }
     {
