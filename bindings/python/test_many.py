@@ -258,6 +258,11 @@ class Commands(Folder):
             self.assertIn("none.jbg: No such file or directory\n", messages.getvalue())
 
 
+def heed_interrupts():
+    """A shell that runs the tests in the background has them ignore interrupts."""
+    signal.signal(signal.SIGINT, signal.SIG_DFL)
+
+
 class Stopped(Folder):
     """A run that is ended in the middle, and another that does what is left."""
 
@@ -270,7 +275,8 @@ class Stopped(Folder):
             os.unlink(names[number])
             os.mkfifo(names[number])
         words = [sys.executable, "-m", "t85", "decode", *words, "--names", self.keep("list", "\n".join(names).encode())]
-        running = subprocess.Popen(words, env={**os.environ, "PYTHONPATH": HERE}, stderr=subprocess.PIPE, text=True)
+        running = subprocess.Popen(words, env={**os.environ, "PYTHONPATH": HERE}, stderr=subprocess.PIPE, text=True,
+                                   preexec_fn=heed_interrupts)
         while len(self.made()) < self.BEFORE and running.poll() is None:
             time.sleep(0.01)
         return running, names
