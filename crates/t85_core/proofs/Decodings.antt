@@ -18,6 +18,7 @@ pub mod Converted
 pub mod LowerHeight
 pub mod PieceCode
 pub mod PieceEnds
+pub mod PieceFew
 pub mod PieceFits
 pub mod PieceRows
 pub mod PieceMarker

@@ -122,6 +122,8 @@ pub record IsCall (old : PieceView) (call : Call) : Type 0 where
   pub same : stream_of call.new ≡ stream_of old
   pub bound : call.taken ≤ length call.piece
   pub ends : call.is_all ≡ true → call.answer ≢ outcome.More
+  -- what is not taken begins an escape or a segment
+  pub few_left : call.answer ≡ outcome.More → length call.piece ≤ call.taken + 7
   pub again : EndsAgain old call.new call.taken call.answer
   pub row : GivesRow old call.new call.piece call.taken call.answer
   pub waits : RowsWait call.is_all old call.new call.piece call.answer

@@ -17,7 +17,7 @@ use Rattle.t85_core.specs.Steps.State.{image_start, first_row_start}
 use Rattle.t85_core.specs.Steps.DecodeRows.{IsCarried}
 use Rattle.t85_core.specs.declared.segments.Code.TheVariants as code
 use Rattle.t85_core.specs.Steps.PieceCode.{EndsInNoEscape}
-use Rattle.t85_core.specs.Steps.Pieces.{CutOff, HeadStands, WalkStands, StageStands, StepsOn, StepsOff, Step, RowStep, RowLeaves, KeepsPlace, HasMarker, Turn, IsOver, CodeStands, IsInCode, rows_in}
+use Rattle.t85_core.specs.Steps.Pieces.{CutOff, HeadStands, WalkStands, StageStands, StepsOn, StepsOff, StepsToEnd, Step, RowStep, RowLeaves, KeepsPlace, HasMarker, Turn, IsOver, CodeStands, IsInCode, rows_in}
 use Rattle.t85_core.proofs.Walks.Passed.{passed_none}
 use Rattle.t85_core.proofs.Decodings.ImagePut.{stripes_start}
 
@@ -122,11 +122,11 @@ head_first h height width carried one some wide first = record {
 
 -- ---- exits
 
-pub step_exit : (h : Fields) (height : ℕ) (w w' : WalkView) (p p' : List ℕ) (r : Result (Unit {0}) Fault) (e : Fault) → IsErrAnd r (λ y. y ≡ e) → StepsOff h height w p e → (e ≡ Truncated → StepsOn h height w w' p p' []) → Step h height w w' p p' r
+pub step_exit : (h : Fields) (height : ℕ) (w w' : WalkView) (p p' : List ℕ) (r : Result (Unit {0}) Fault) (e : Fault) → IsErrAnd r (λ y. y ≡ e) → StepsOff h height w p e → (e ≡ Truncated → StepsToEnd h height w w' p p') → Step h height w w' p p' r
 step_exit h height w w' p p' (Ok x) e a off on = absurd a
 step_exit h height w w' p p' (Err y) e a off on = record { ok = tt; err = subst (StepsOff h height w p) (sym a) off; more = λ is. on (sym a ∙ (let same : y ≡ Truncated = cc in same)) }
 
-pub row_exit : (h : Fields) (height : ℕ) (w w' : WalkView) (p p' : List ℕ) (r : Result (Unit {0}) Fault) (e : Fault) → IsErrAnd r (λ y. y ≡ e) → StepsOff h height w p e → (e ≡ Truncated → StepsOn h height w w' p p' []) → RowStep h height w w' p p' r
+pub row_exit : (h : Fields) (height : ℕ) (w w' : WalkView) (p p' : List ℕ) (r : Result (Unit {0}) Fault) (e : Fault) → IsErrAnd r (λ y. y ≡ e) → StepsOff h height w p e → (e ≡ Truncated → StepsToEnd h height w w' p p') → RowStep h height w w' p p' r
 row_exit h height w w' p p' (Ok x) e a off on = absurd a
 row_exit h height w w' p p' (Err y) e a off on = record { ok = tt; err = subst (StepsOff h height w p) (sym a) off; more = λ is. on (sym a ∙ (let same : y ≡ Truncated = cc in same)) }
 
@@ -183,7 +183,7 @@ offset_low false old new low e = omega (arith, e, low)
 -- a step, and then a row
 pub row_then : (h : Fields) (height : ℕ) (w w1 w2 : WalkView) (p p1 p2 : List ℕ) → StepsOn h height w w1 p p1 [] → (r : Result (Unit {0}) Fault) → RowStep h height w1 w2 p1 p2 r → RowStep h height w w2 p p2 r
 row_then h height w w1 w2 p p1 p2 on (Ok x) s = record { ok = on_then h height w w1 p p1 on w2 p2 w2.carried.held.current s.ok; err = tt; more = λ e. absurd (let bot : ⊥ = cc in bot) }
-row_then h height w w1 w2 p p1 p2 on (Err f) s = record { ok = tt; err = off_then h height w w1 p p1 on f s.err; more = λ e. on_then h height w w1 p p1 on w2 p2 [] (s.more e) }
+row_then h height w w1 w2 p p1 p2 on (Err f) s = record { ok = tt; err = off_then h height w w1 p p1 on f s.err; more = λ e. (on_then h height w w1 p p1 on w2 p2 [] (s.more e).0, (s.more e).1) }
 
 -- a row, as a turn
 pub turn_row : (h : Fields) (height : ℕ) (w w' : WalkView) (p p' : List ℕ) → StepsOn h height w w' p p' w'.carried.held.current → Turn h height w w' p p' (Ok true)
@@ -193,7 +193,7 @@ turn_row h height w w' p p' on = record { row = λ _. on; done = λ e. absurd (l
 pub turn_done : (h : Fields) (height : ℕ) (w w' : WalkView) (p p' : List ℕ) → StepsOn h height w w' p p' [] → IsOver w'.stage → Turn h height w w' p p' (Ok false)
 turn_done h height w w' p p' on is = record { row = λ e. absurd (let bot : ⊥ = cc in bot); done = λ _. (on, is); err = tt; more = λ e. absurd (let bot : ⊥ = cc in bot) }
 
-pub turn_exit : (h : Fields) (height : ℕ) (w w' : WalkView) (p p' : List ℕ) (r : Result Bool Fault) (e : Fault) → IsErrAnd r (λ y. y ≡ e) → StepsOff h height w p e → (e ≡ Truncated → StepsOn h height w w' p p' []) → Turn h height w w' p p' r
+pub turn_exit : (h : Fields) (height : ℕ) (w w' : WalkView) (p p' : List ℕ) (r : Result Bool Fault) (e : Fault) → IsErrAnd r (λ y. y ≡ e) → StepsOff h height w p e → (e ≡ Truncated → StepsToEnd h height w w' p p') → Turn h height w w' p p' r
 turn_exit h height w w' p p' (Ok x) e a off on = absurd a
 turn_exit h height w w' p p' (Err y) e a off on = record {
   row = λ is. absurd (let bot : ⊥ = cc in bot);
@@ -214,7 +214,7 @@ turn_then h height w w1 w2 p p1 p2 on (Err f) t = record {
   row = λ e. absurd (let bot : ⊥ = cc in bot);
   done = λ e. absurd (let bot : ⊥ = cc in bot);
   err = off_then h height w w1 p p1 on f t.err;
-  more = λ e. on_then h height w w1 p p1 on w2 p2 [] (t.more e);
+  more = λ e. (on_then h height w w1 p p1 on w2 p2 [] (t.more e).0, (t.more e).1);
 }
 
 -- which stage it is

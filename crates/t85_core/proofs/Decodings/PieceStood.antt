@@ -149,7 +149,7 @@ pub record Comes (fault : Fault) (is_all : Bool) (r : Outcome) : Type 0 where
 some_is : {r s : Outcome} → Some r ≡ Some s → r ≡ s
 some_is e = cc
 
-pub leaves_stop : (is_all : Bool) (d d' : PieceView) (p p' : List ℕ) (fault : Fault) (r : Outcome) → Comes fault is_all r → d'.header ≡ d.header → d'.end ≡ d.end → (fault ≡ Truncated → DecoderOn d d' p p' []) →
+pub leaves_stop : (is_all : Bool) (d d' : PieceView) (p p' : List ℕ) (fault : Fault) (r : Outcome) → Comes fault is_all r → d'.header ≡ d.header → d'.end ≡ d.end → (fault ≡ Truncated → DecoderOn d d' p p' [] × (length p' ≤ 7)) →
     ((is_all : Bool) → (fault ≡ Truncated → is_all ≡ true) → EndsBroken is_all d p d'.height fault) → StepLeaves is_all d d' p p' (Some r)
 leaves_stop is_all d d' p p' fault r c header going on broken = record {
   header = header;
@@ -157,7 +157,7 @@ leaves_stop is_all d d' p p' fault r c header going on broken = record {
   on = λ e. absurd (none_some (sym e));
   row = λ e. absurd (c.row (some_is e));
   waits = λ e. absurd (c.row (some_is e));
-  more = λ e. let k = c.more (some_is e) in (k.1, on k.0, λ _. subst (EndsBroken true d p d'.height) k.0 (broken true (λ _. refl)));
+  more = λ e. let k = c.more (some_is e) in (k.1, (on k.0).0, (λ _. subst (EndsBroken true d p d'.height) k.0 (broken true (λ _. refl))), (on k.0).1);
   done = λ n e. absurd (c.done n (some_is e));
   broken = λ f e. let k = c.broken f (some_is e) in subst (EndsBroken is_all d p d'.height) (sym k.0) (broken is_all (λ t. k.1 (k.0 ∙ t)));
 }
@@ -325,7 +325,7 @@ module _ (is_all : Bool) (d e d' : PieceView) (p p1 p' : List ℕ) (header : e.h
     on = λ is. on_compose d e d' p p1 p' [] on (k.on is);
     row = λ is. on_compose d e d' p p1 p' (row_held d') on (k.row is);
     waits = λ is. waits_after (k.waits is);
-    more = λ is. let m = k.more is in (m.0, on_compose d e d' p p1 p' [] on m.1, λ w. broken_after true d'.height Truncated (m.2 w));
+    more = λ is. let m = k.more is in (m.0, on_compose d e d' p p1 p' [] on m.1, (λ w. broken_after true d'.height Truncated (m.2 w)), m.3);
     done = λ n is. let m = k.done n is in (m.0, whole_after n m.1);
     broken = λ f is. broken_after is_all d'.height f (k.broken f is);
   }
@@ -646,14 +646,14 @@ module _ (d : PieceView) (known : d.is_open ≡ false) where
       cut_hands (fields_of d.header) d.height (text ++ p) out rest f (subst (λ z. HasHeight (fields_of d.header) z d.height) (sym (append_assoc text p rest)) (known_of text (p ++ rest) s.height)) (λ t. follows (all t)) (off text out (walks_of d text out known s))
 
 -- more is wanted behind a marker
-pub leaves_more : (is_all : Bool) (d d' : PieceView) (p p' : List ℕ) → d'.header ≡ d.header → d'.end ≡ d.end → is_all ≡ false → d'.waits ≡ true → DecoderOn d d' p p' [] → StepLeaves is_all d d' p p' (Some outcome.More)
-leaves_more is_all d d' p p' header going open_ waits on = record {
+pub leaves_more : (is_all : Bool) (d d' : PieceView) (p p' : List ℕ) → d'.header ≡ d.header → d'.end ≡ d.end → is_all ≡ false → d'.waits ≡ true → DecoderOn d d' p p' [] → length p' ≤ 7 → StepLeaves is_all d d' p p' (Some outcome.More)
+leaves_more is_all d d' p p' header going open_ waits on few = record {
   header = header;
   going = going;
   on = λ e. absurd (none_some (sym e));
   row = λ e. absurd (let bot : ⊥ = cc in bot);
   waits = λ e. absurd (let bot : ⊥ = cc in bot);
-  more = λ _. (open_, on, λ w. absurd (true≢false (sym waits ∙ w)));
+  more = λ _. (open_, on, (λ w. absurd (true≢false (sym waits ∙ w))), few);
   done = λ n e. absurd (let bot : ⊥ = cc in bot);
   broken = λ f e. absurd (let bot : ⊥ = cc in bot);
 }
@@ -723,14 +723,14 @@ some_waits d late waits some = let w = waits_of d some.0 some.1 late waits some.
 
 -- what a step leaves is told of such a decoder alone
 module _ (is_all : Bool) (d d' : PieceView) (p p' : List ℕ) (header : d'.header ≡ d.header) (going : d'.end ≡ d.end) where
-  leaves_where : (r : Option Outcome) → (r ≡ Some outcome.More → is_all ≡ false) → ((n : ℕ) → r ≡ Some (outcome.Done n) → d'.height ≡ n) → (SomeStand d → StepLeaves is_all d d' p p' r) → StepLeaves is_all d d' p p' r
+  leaves_where : (r : Option Outcome) → (r ≡ Some outcome.More → (is_all ≡ false) × (length p' ≤ 7)) → ((n : ℕ) → r ≡ Some (outcome.Done n) → d'.height ≡ n) → (SomeStand d → StepLeaves is_all d d' p p' r) → StepLeaves is_all d d' p p' r
   leaves_where r cut done there = record {
     header = header;
     going = going;
     on = λ e text out s. (there (text, out, s)).on e text out s;
     row = λ e text out s. (there (text, out, s)).row e text out s;
     waits = λ e late marked text out rest n s. (there (text, out, s)).waits e late marked text out rest n s;
-    more = λ e. (cut e, (λ text out s. ((there (text, out, s)).more e).1 text out s), (λ w text out rest s. ((there (text, out, s)).more e).2 w text out rest s));
+    more = λ e. ((cut e).0, (λ text out s. ((there (text, out, s)).more e).1 text out s), (λ w text out rest s. ((there (text, out, s)).more e).2 w text out rest s), (cut e).1);
     done = λ n e. (done n e, (λ text out rest s. ((there (text, out, s)).done n e).1 text out rest s));
     broken = λ f e text out rest s. (there (text, out, s)).broken f e text out rest s;
   }

@@ -46,4 +46,5 @@ BreaksBehind h place last b (Some left) piece fault = (length piece < left) × (
 
 pub record StopsBehind (h : Fields) (place : Place) (last : Bool) (b : Behind) (piece : List ℕ) (fault : Fault) : Type 0 where
   pub counted : counted_as Truncated fault ≡ fault
+  pub few : fault ≡ Truncated → length piece ≤ 7
   pub breaks : BreaksBehind h place last b b.comment piece fault

@@ -137,6 +137,10 @@ WaitsInRow shape s t = FromRow shape s (λ h c segments row began out text. RowW
 abbrev pub EndsInNoEscape : List ℕ → Type 0
 EndsInNoEscape bytes = (front : List ℕ) → bytes ≡ front ++ 255 ∷ [] → ⊥
 
+-- of bytes the FF of an escape is left, if they end in one
+abbrev pub LeavesEscape : List ℕ → List ℕ → Type 0
+LeavesEscape bytes rest = (length rest ≤ 1) × (EndsInNoEscape bytes → rest ≡ [])
+
 -- bytes in which no code reaches an end marker
 abbrev pub HasNoMarker : List ℕ → Type 0
 HasNoMarker bytes = (code rest : List ℕ) (reset : Bool) → bytes ≡ stuffed code ++ (marker_bytes reset ++ rest) → ⊥

@@ -114,6 +114,10 @@ SomeStands h height w = (text : List ℕ) × (out : List ℕ) × WalkStands h he
 abbrev pub StepsOn : Fields → ℕ → WalkView → WalkView → List ℕ → List ℕ → List ℕ → Type 0
 StepsOn h height w w' piece piece' row = (text out : List ℕ) → WalkStands h height w text out → (given : List ℕ) × (piece ≡ given ++ piece') × WalkStands h height w' (text ++ given) (out ++ row)
 
+-- A step comes to the end of the piece: what it leaves begins an escape or a segment.
+abbrev pub StepsToEnd : Fields → ℕ → WalkView → WalkView → List ℕ → List ℕ → Type 0
+StepsToEnd h height w w' piece piece' = StepsOn h height w w' piece piece' [] × (length piece' ≤ 7)
+
 -- What came is broken, or ends too early, and fixes what was handed out.
 abbrev pub StepsOff : Fields → ℕ → WalkView → List ℕ → Fault → Type 0
 StepsOff h height w piece fault = (text out : List ℕ) → WalkStands h height w text out → CutOff h height (text ++ piece) out fault
@@ -122,7 +126,7 @@ StepsOff h height w piece fault = (text out : List ℕ) → WalkStands h height 
 pub record Step (h : Fields) (height : ℕ) (w w' : WalkView) (piece piece' : List ℕ) (answer : Result (Unit {0}) Fault) : Type 0 where
   pub ok : OnOk answer (StepsOn h height w w' piece piece' [])
   pub err : IfErr answer (λ f. StepsOff h height w piece f)
-  pub more : IsErrOf answer Truncated → StepsOn h height w w' piece piece' []
+  pub more : IsErrOf answer Truncated → StepsToEnd h height w w' piece piece'
 
 -- what a step leaves that looks neither at the rows nor at the contexts, whatever they are
 abbrev pub Alone : (WalkView → WalkView → Type 0) → Walk → Walk → Type 0
@@ -132,7 +136,7 @@ Alone Leaves w w' = (rows : Held) (learned : List Estimate) → Leaves (walk_vie
 pub record RowStep (h : Fields) (height : ℕ) (w w' : WalkView) (piece piece' : List ℕ) (answer : Result (Unit {0}) Fault) : Type 0 where
   pub ok : OnOk answer (StepsOn h height w w' piece piece' w'.carried.held.current)
   pub err : IfErr answer (λ f. StepsOff h height w piece f)
-  pub more : IsErrOf answer Truncated → StepsOn h height w w' piece piece' []
+  pub more : IsErrOf answer Truncated → StepsToEnd h height w w' piece piece'
 
 -- a walk before the first byte
 pub record IsFirstWalk (w : WalkView) : Type 0 where
@@ -193,4 +197,4 @@ pub record Turn (h : Fields) (height : ℕ) (w w' : WalkView) (piece piece' : Li
   pub row : answer ≡ Ok true → StepsOn h height w w' piece piece' w'.carried.held.current
   pub done : answer ≡ Ok false → StepsOn h height w w' piece piece' [] × IsOver w'.stage
   pub err : IfErr answer (λ f. StepsOff h height w piece f)
-  pub more : IsErrOf answer Truncated → StepsOn h height w w' piece piece' []
+  pub more : IsErrOf answer Truncated → StepsToEnd h height w w' piece piece'

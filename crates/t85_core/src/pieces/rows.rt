@@ -1,13 +1,13 @@
 //! Decoding a row of which not all bytes may have come.
 
-ghost use Rattle.std.specs.Prelude.{◌≡◌, ◌≤◌, ◌<◌, ◌∷◌, ◌++◌, [], ℕ, List, None, Some, false, OnOk, IfErr, IfSome, IsErrOf};
+ghost use Rattle.std.specs.Prelude.{◌≡◌, ◌≤◌, ◌<◌, ◌∷◌, ◌++◌, [], ℕ, List, None, Some, false, length, OnOk, IfErr, IfSome, IsErrOf};
 ghost use Rattle.qm_core.specs.Decoder.{has_stopped};
 ghost use Rattle.raster_core.specs.Window.{memory_of, width_of};
 ghost use Rattle.t85_core.specs.Lent.{carried_by};
 ghost use Rattle.raster_core.specs.Row.{IsRowStart};
 ghost use Rattle.t85_core.specs.declared.fault.Fault.TheVariants.{Truncated};
 ghost use Rattle.t85_core.specs.Steps.Segments.{IsByteOrMarker};
-ghost use Rattle.t85_core.specs.Steps.PieceCode.{row_state, EndsRow, BreaksRow, WaitsInRow, EndsInNoEscape};
+ghost use Rattle.t85_core.specs.Steps.PieceCode.{row_state, EndsRow, BreaksRow, WaitsInRow, LeavesEscape};
 
 use crate::fault::Fault;
 use crate::input_buffer::ESCAPE;
@@ -51,8 +51,7 @@ pub fn go_on_in_row(
     ensures start { OnOk result (IsRowStart place.new) }
     ensures ahead { IfErr result (λ _. first.new ≡ None) }
     ensures marker { IfErr result (λ _. marker.new ≡ marker.old) }
-    ensures drained { IfErr result (λ _. EndsInNoEscape piece.old.rest.now →
-        piece.new.rest.now ≡ []) }
+    ensures drained { IfErr result (λ _. LeavesEscape piece.old.rest.now piece.new.rest.now) }
     ensures same_memory { memory_of window.new ≡ memory_of window.old }
 {
     // What the proof cites of the coder.
@@ -84,6 +83,7 @@ pub fn go_on_in_row(
 fn begun_escape(bytes: &[u8]) -> &[u8]
     ensures escape { (given : List ℕ) → bytes.now ≡ given ++ 255 ∷ [] → result.now ≡ 255 ∷ [] }
     ensures none { ((given : List ℕ) → bytes.now ≡ given ++ 255 ∷ [] → ⊥) → result.now ≡ [] }
+    ensures few { length result.now ≤ 1 }
 {
     if bytes.is_empty() {
         return bytes;

@@ -224,6 +224,7 @@ impl Walk {
         requires from { 1 ≤ height }
         requires to { height ≤ header.now.yd }
         requires stage { self.old.stage ≡ stage.Head }
+        requires other { (rest : List ℕ) → piece.old.rest.now ≡ 255 ∷ 7 ∷ rest → ⊥ }
         ensures step { Alone (λ w w'. Step (fields_of header.now) height w w'
             piece.old.rest.now piece.new.rest.now result) self.old self.new }
         ensures row { OnOk result (self.new.stage ≡ stage.Code → self.new.row ≡ 0) }
@@ -426,6 +427,7 @@ impl Walk {
         ensures same_width { width_of window.new ≡ width_of window.old }
     {
         if !self.has_row_that_fits(header, window) {
+            piece.rest = &[];
             return Err(Fault::Truncated);
         }
         match self.stage {
@@ -601,6 +603,7 @@ impl Walk {
         self.read_head(header, height, piece)?;
         if let Stage::Code = self.stage {
             if !self.wants_row(header) {
+                piece.rest = &[];
                 return Err(Fault::Truncated);
             }
             self.give_row(header, height, window, learned, piece)?;
@@ -671,7 +674,8 @@ impl Walk {
 
 /// Whether a comment comes next.
 pub fn is_comment(bytes: &[u8]) -> bool
-    ensures { result ≡ true → (rest : List ℕ) × (bytes.now ≡ 255 ∷ 7 ∷ rest) }
+    ensures yes { result ≡ true → (rest : List ℕ) × (bytes.now ≡ 255 ∷ 7 ∷ rest) }
+    ensures no { result ≡ false → (rest : List ℕ) → bytes.now ≡ 255 ∷ 7 ∷ rest → ⊥ }
 {
     bytes.len() >= 2 && bytes[0] == ESCAPE && bytes[1] == COMMENT
 }

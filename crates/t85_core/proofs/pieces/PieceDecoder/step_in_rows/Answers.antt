@@ -22,14 +22,17 @@ returns-then-front-bytes-clause-leaves c =
     let all : c.split_at.result.0.now ≡ c.args.piece.now.rest.now = sym (append-nil c.split_at.result.0.now) ∙ ap (λ z. c.split_at.result.0.now ++ z) (sym none) ∙ sym (split_is c.args.piece.now.rest.now c.split_at.result.0.now c.split_at.result.1.now c.code_len.result c.split_at.ensures.front c.split_at.ensures.back) in
     leaves_stop c.args.is_all (decoder_over c.args.self.now c.args.window.now c.args.learned.now) _ c.args.piece.now.rest.now c.give_row.new.piece.rest.now c.in-Err.fault c.outcome_of.result
     (record { more = c.outcome_of.ensures.more; broken = c.outcome_of.ensures.broken; row = c.outcome_of.ensures.row; done = c.outcome_of.ensures.done }) refl refl
-    (λ e. code_on (decoder_over c.args.self.now c.args.window.now c.args.learned.now) _ c.args.piece.now.rest.now c.split_at.result.0.now c.split_at.result.1.now c.give_row.new.piece.rest.now c.give_row.new.piece.rest.now [] c.requires.late c.requires.going (record { header = refl; height = refl; is_open = refl; waits = refl; behind = refl; going = refl }) (split_is c.args.piece.now.rest.now c.split_at.result.0.now c.split_at.result.1.now c.code_len.result c.split_at.ensures.front c.split_at.ensures.back)
-    (λ _ g is. sym (append-nil c.give_row.new.piece.rest.now) ∙ ap (λ z. c.give_row.new.piece.rest.now ++ z) (sym none))
-    (c.in-Err.ensures.step.more (ap Err e)) (λ some. (inr (c.in-Err.ensures.leaves (some_code (decoder_over c.args.self.now c.args.window.now c.args.learned.now) c.requires.late c.requires.going some)).same_row.1, (c.in-Err.ensures.leaves (some_code (decoder_over c.args.self.now c.args.window.now c.args.learned.now) c.requires.late c.requires.going some)).place.given)))
+    (λ e. let m = c.in-Err.ensures.step.more (ap Err e) in (
+      code_on (decoder_over c.args.self.now c.args.window.now c.args.learned.now) _ c.args.piece.now.rest.now c.split_at.result.0.now c.split_at.result.1.now c.give_row.new.piece.rest.now c.give_row.new.piece.rest.now [] c.requires.late c.requires.going (record { header = refl; height = refl; is_open = refl; waits = refl; behind = refl; going = refl }) (split_is c.args.piece.now.rest.now c.split_at.result.0.now c.split_at.result.1.now c.code_len.result c.split_at.ensures.front c.split_at.ensures.back)
+          (λ _ g is. sym (append-nil c.give_row.new.piece.rest.now) ∙ ap (λ z. c.give_row.new.piece.rest.now ++ z) (sym none))
+          m.0 (λ some. (inr (c.in-Err.ensures.leaves (some_code (decoder_over c.args.self.now c.args.window.now c.args.learned.now) c.requires.late c.requires.going some)).same_row.1, (c.in-Err.ensures.leaves (some_code (decoder_over c.args.self.now c.args.window.now c.args.learned.now) c.requires.late c.requires.going some)).place.given)),
+      m.1,
+    ))
     (code_broken (decoder_over c.args.self.now c.args.window.now c.args.learned.now) c.args.piece.now.rest.now c.in-Err.fault c.requires.late c.requires.going (subst (λ z. StepsOff (fields_of c.args.self.now.header) c.args.self.now.header.yd (walk_over c.args.self.now.walk c.args.window.now c.args.learned.now) z c.in-Err.fault) all c.in-Err.ensures.step.err) (λ some. (c.in-Err.ensures.leaves (some_code (decoder_over c.args.self.now c.args.window.now c.args.learned.now) c.requires.late c.requires.going some)).other))
 
 pub returns-in-Truncated-clause-leaves : goal.returns-in-Truncated-clause-leaves
 returns-in-Truncated-clause-leaves c = on_where c.args.is_all (decoder_over c.args.self.now c.args.window.now c.args.learned.now) (decoder_over c.wait_at_marker.new.self c.give_row.new.window c.give_row.new.learned) c.args.piece.now.rest.now c.wait_at_marker.new.piece.rest.now c.wait_at_marker.ensures.header c.wait_at_marker.ensures.end (λ some. leaves_on c.args.is_all (decoder_over c.args.self.now c.args.window.now c.args.learned.now) (decoder_over c.wait_at_marker.new.self c.give_row.new.window c.give_row.new.learned) c.args.piece.now.rest.now c.wait_at_marker.new.piece.rest.now c.wait_at_marker.ensures.header c.wait_at_marker.ensures.end
-    (on_compose (decoder_over c.args.self.now c.args.window.now c.args.learned.now) _ (decoder_over c.wait_at_marker.new.self c.give_row.new.window c.give_row.new.learned) c.args.piece.now.rest.now c.split_at.result.1.now c.wait_at_marker.new.piece.rest.now [] (code_on (decoder_over c.args.self.now c.args.window.now c.args.learned.now) _ c.args.piece.now.rest.now c.split_at.result.0.now c.split_at.result.1.now c.give_row.new.piece.rest.now c.split_at.result.1.now [] c.requires.late c.requires.going (record { header = refl; height = refl; is_open = refl; waits = refl; behind = refl; going = refl }) (split_is c.args.piece.now.rest.now c.split_at.result.0.now c.split_at.result.1.now c.code_len.result c.split_at.ensures.front c.split_at.ensures.back) (λ some g e. ap (λ z. z ++ c.split_at.result.1.now) (sym ((c.in-Err.ensures.leaves (some_code (decoder_over c.args.self.now c.args.window.now c.args.learned.now) c.requires.late c.requires.going some)).drained (subst EndsInNoEscape (sym c.split_at.ensures.front) (c.code_len.ensures.escape (omega (arith, c.code_len.ensures.bound, c.split_at.ensures.front_len, c.if-front-bytes.false))))))) (c.in-Err.ensures.step.more (ap Err c.in-Truncated.is)) (λ some. (inr (c.in-Err.ensures.leaves (some_code (decoder_over c.args.self.now c.args.window.now c.args.learned.now) c.requires.late c.requires.going some)).same_row.1, (c.in-Err.ensures.leaves (some_code (decoder_over c.args.self.now c.args.window.now c.args.learned.now) c.requires.late c.requires.going some)).place.given))) (c.wait_at_marker.ensures.on (c.in-Err.ensures.leaves (some_code (decoder_over c.args.self.now c.args.window.now c.args.learned.now) c.requires.late c.requires.going some)).same_row.2 ((c.in-Err.ensures.leaves (some_code (decoder_over c.args.self.now c.args.window.now c.args.learned.now) c.requires.late c.requires.going some)).same_row.3 ∙ c.requires.unmarked) (inr (c.in-Err.ensures.leaves (some_code (decoder_over c.args.self.now c.args.window.now c.args.learned.now) c.requires.late c.requires.going some)).same_row.1) (held c.give_row.new.window) c.give_row.new.learned)))
+    (on_compose (decoder_over c.args.self.now c.args.window.now c.args.learned.now) _ (decoder_over c.wait_at_marker.new.self c.give_row.new.window c.give_row.new.learned) c.args.piece.now.rest.now c.split_at.result.1.now c.wait_at_marker.new.piece.rest.now [] (code_on (decoder_over c.args.self.now c.args.window.now c.args.learned.now) _ c.args.piece.now.rest.now c.split_at.result.0.now c.split_at.result.1.now c.give_row.new.piece.rest.now c.split_at.result.1.now [] c.requires.late c.requires.going (record { header = refl; height = refl; is_open = refl; waits = refl; behind = refl; going = refl }) (split_is c.args.piece.now.rest.now c.split_at.result.0.now c.split_at.result.1.now c.code_len.result c.split_at.ensures.front c.split_at.ensures.back) (λ some g e. ap (λ z. z ++ c.split_at.result.1.now) (sym ((c.in-Err.ensures.leaves (some_code (decoder_over c.args.self.now c.args.window.now c.args.learned.now) c.requires.late c.requires.going some)).drained (subst EndsInNoEscape (sym c.split_at.ensures.front) (c.code_len.ensures.escape (omega (arith, c.code_len.ensures.bound, c.split_at.ensures.front_len, c.if-front-bytes.false))))))) (c.in-Err.ensures.step.more (ap Err c.in-Truncated.is)).0 (λ some. (inr (c.in-Err.ensures.leaves (some_code (decoder_over c.args.self.now c.args.window.now c.args.learned.now) c.requires.late c.requires.going some)).same_row.1, (c.in-Err.ensures.leaves (some_code (decoder_over c.args.self.now c.args.window.now c.args.learned.now) c.requires.late c.requires.going some)).place.given))) (c.wait_at_marker.ensures.on (c.in-Err.ensures.leaves (some_code (decoder_over c.args.self.now c.args.window.now c.args.learned.now) c.requires.late c.requires.going some)).same_row.2 ((c.in-Err.ensures.leaves (some_code (decoder_over c.args.self.now c.args.window.now c.args.learned.now) c.requires.late c.requires.going some)).same_row.3 ∙ c.requires.unmarked) (inr (c.in-Err.ensures.leaves (some_code (decoder_over c.args.self.now c.args.window.now c.args.learned.now) c.requires.late c.requires.going some)).same_row.1) (held c.give_row.new.window) c.give_row.new.learned)))
 
 pub returns-in-Truncated-clause-lowers : goal.returns-in-Truncated-clause-lowers
 returns-in-Truncated-clause-lowers c = λ _. fewer_bytes c.args.self.now.waits c.wait_at_marker.new.self.waits c.args.piece.now.rest.now c.wait_at_marker.new.piece.rest.now

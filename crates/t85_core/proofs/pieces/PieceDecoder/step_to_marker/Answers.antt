@@ -20,12 +20,15 @@ returns-in-Ok-clause-lowers c = λ _. begins_to_wait c.args.self.now.waits true 
 pub returns-in-Err-clause-leaves : goal.returns-in-Err-clause-leaves
 returns-in-Err-clause-leaves c = λ rows learned. leaves_stop c.args.is_all (decoder_view c.args.self.now rows learned) _ c.args.piece.now.rest.now c.find_end.new.piece.rest.now c.in-Err.fault c.outcome_of.result
     (record { more = c.outcome_of.ensures.more; broken = c.outcome_of.ensures.broken; row = c.outcome_of.ensures.row; done = c.outcome_of.ensures.done }) refl refl
-    (λ e text out s.
-    let w = code_of (decoder_view c.args.self.now rows learned) text out c.requires.late c.requires.going s in
-    let k = (c.in-Err.ensures.step rows learned).more (ap Err e) text out w.walk in (
-      k.0,
-      k.1,
-      put_code _ _ _ c.requires.late c.requires.going (known_more (fields_of c.args.self.now.header) c.args.self.now.height c.args.self.now.is_open text k.0 s.height)
-          (record { walk = k.2; in_code = inl c.in-Err.ensures.stage; ungiven = (c.in-Err.ensures.place rows rows learned learned).given ∙ w.ungiven }),
+    (λ e. (
+      (λ text out s.
+          let w = code_of (decoder_view c.args.self.now rows learned) text out c.requires.late c.requires.going s in
+          let k = ((c.in-Err.ensures.step rows learned).more (ap Err e)).0 text out w.walk in (
+            k.0,
+            k.1,
+            put_code _ _ _ c.requires.late c.requires.going (known_more (fields_of c.args.self.now.header) c.args.self.now.height c.args.self.now.is_open text k.0 s.height)
+                (record { walk = k.2; in_code = inl c.in-Err.ensures.stage; ungiven = (c.in-Err.ensures.place rows rows learned learned).given ∙ w.ungiven }),
+          )),
+      ((c.in-Err.ensures.step rows learned).more (ap Err e)).1,
     ))
     (code_broken (decoder_view c.args.self.now rows learned) c.args.piece.now.rest.now c.in-Err.fault c.requires.late c.requires.going (c.in-Err.ensures.step rows learned).err (λ some. c.in-Err.ensures.other rows learned (some_code (decoder_view c.args.self.now rows learned) c.requires.late c.requires.going some)))

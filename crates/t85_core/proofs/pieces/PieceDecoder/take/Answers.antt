@@ -12,6 +12,7 @@ returns-clause-call c = record {
   same = ap fields_of c.go_on-outcome.ensures.leaves.header;
   bound = omega (arith, c.saturating_sub.ensures);
   ends = λ all is. absurd (true≢false (sym all ∙ (c.go_on-outcome.ensures.leaves.more (ap Some is)).0));
+  few_left = λ is. let few = (c.go_on-outcome.ensures.leaves.more (ap Some is)).3 in let sum = c.saturating_sub.ensures in omega (arith, few, sum);
   again = λ end is. absurd (c.in_default.not-Some end is);
   row = λ is. call_on (decoder_over c.args.self.now c.args.window.now c.args.learned.now) (decoder_over c.go_on-outcome.new.self c.go_on-outcome.new.window c.go_on-outcome.new.learned) _ c.args.piece.now c.go_on-outcome.new.piece.rest.now (row_held (decoder_over c.go_on-outcome.new.self c.go_on-outcome.new.window c.go_on-outcome.new.learned)) _ c.saturating_sub.ensures refl refl refl refl refl refl (c.end_of-self.ensures ∙ ap end_in is) (c.go_on-outcome.ensures.leaves.row (ap Some is));
   waits = λ is late marked text out rest n s follows i. c.go_on-outcome.ensures.leaves.waits (ap Some is) late marked text out rest n s.stands follows i;

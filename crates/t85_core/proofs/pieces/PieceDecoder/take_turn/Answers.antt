@@ -17,4 +17,4 @@ pub returns-in-Err-clause-leaves : goal.returns-in-Err-clause-leaves
 returns-in-Err-clause-leaves c =
     leaves_stop c.args.is_all (decoder_over c.args.self.now c.args.window.now c.args.learned.now) _ c.args.piece.now.rest.now c.next.new.piece.rest.now c.in-Err.fault c.outcome_of.result
     (record { more = c.outcome_of.ensures.more; broken = c.outcome_of.ensures.broken; row = c.outcome_of.ensures.row; done = c.outcome_of.ensures.done }) refl refl
-    (λ e. turn_on (decoder_over c.args.self.now c.args.window.now c.args.learned.now) c.requires.known _ c.args.piece.now.rest.now c.next.new.piece.rest.now [] (record { header = refl; height = refl; is_open = refl; waits = refl; behind = refl; going = refl }) (c.in-Err.ensures.step.more (ap Err e))) (turn_broken (decoder_over c.args.self.now c.args.window.now c.args.learned.now) c.requires.known c.args.piece.now.rest.now c.in-Err.fault c.in-Err.ensures.step.err)
+    (λ e. let m = c.in-Err.ensures.step.more (ap Err e) in (turn_on (decoder_over c.args.self.now c.args.window.now c.args.learned.now) c.requires.known _ c.args.piece.now.rest.now c.next.new.piece.rest.now [] (record { header = refl; height = refl; is_open = refl; waits = refl; behind = refl; going = refl }) m.0, m.1)) (turn_broken (decoder_over c.args.self.now c.args.window.now c.args.learned.now) c.requires.known c.args.piece.now.rest.now c.in-Err.fault c.in-Err.ensures.step.err)

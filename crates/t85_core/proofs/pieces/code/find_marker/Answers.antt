@@ -2,6 +2,7 @@ use Rattle.std.proofs.Common.{◌≡◌, Some, sym, ap, ◌∙◌}
 use Rattle.t85_core.specs.declared.segments.Code.TheVariants as code
 use Rattle.t85_core.proofs.Decodings.Entities.{none_of}
 use Rattle.t85_core.proofs.Decodings.PieceMarker.{found_before, found_ahead, none_ahead, byte_ahead, finds_on, misses_on, keeps_on}
+use Rattle.t85_core.proofs.Decodings.PieceFew.{skip_few}
 use Rattle.t85_core.proofs.pieces.code.find_marker.Goals as goal
 
 pub returns-in-Some-clause-ok : goal.returns-in-Some-clause-ok
@@ -26,6 +27,12 @@ pub returns-in-Some-Byte-clause-more : goal.returns-in-Some-Byte-clause-more
 returns-in-Some-Byte-clause-more c =
     let is : c.args.first.now ≡ Some (code.Byte c.in-Some-Byte.field-0-0) = sym c.take.ensures.value ∙ c.in-Some-Byte.is ∙ ap Some c.in-Some-Byte.field-0-is in
     keeps_on c.args.first.now c.args.marker (none_of _ c.in_default.not-Some) (byte_ahead _ _ is) _ _ c.take.new.self c.take.ensures.after c.skip_some.result c.skip_some.ensures.err
+
+pub returns-in-Some-Byte-clause-few : goal.returns-in-Some-Byte-clause-few
+returns-in-Some-Byte-clause-few c = skip_few _ c.skip_some.new.piece.rest.now c.skip_some.result c.skip_some.ensures.err
+
+pub returns-in-None-clause-few : goal.returns-in-None-clause-few
+returns-in-None-clause-few c = skip_few _ c.skip_some-in-None.new.piece.rest.now c.skip_some-in-None.result c.skip_some-in-None.ensures.err
 
 pub returns-in-None-clause-ok : goal.returns-in-None-clause-ok
 returns-in-None-clause-ok c =

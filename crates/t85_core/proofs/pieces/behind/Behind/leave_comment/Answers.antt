@@ -14,7 +14,7 @@ returns-then-len-left-clause-on c = λ back s.
 pub returns-then-len-left-clause-err : goal.returns-then-len-left-clause-err
 returns-then-len-left-clause-err c =
     let all : c.min-len.result ≡ length c.args.piece.now.rest.now = omega (arith, c.min-len.ensures, c.if-len-left.true) in
-    record { counted = refl; breaks = (omega (arith, c.split_at.ensures.back_len, all, c.if-len-left.true), refl) }
+    record { counted = refl; few = λ _. omega (arith, c.split_at.ensures.back_len, all); breaks = (omega (arith, c.split_at.ensures.back_len, all, c.if-len-left.true), refl) }
 
 pub returns-clause-on : goal.returns-clause-on
 returns-clause-on c = λ back s.

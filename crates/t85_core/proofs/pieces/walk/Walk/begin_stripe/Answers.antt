@@ -1,4 +1,4 @@
-use Rattle.std.proofs.Common.{[], List, ℕ, Err, ap, inl, inr, rules, arith}
+use Rattle.std.proofs.Common.{◌≡◌, [], List, ℕ, length, Err, ap, inl, inr, refl, rules, arith}
 use Rattle.t85_core.specs.Steps.Pieces.{WalkStands}
 use Rattle.raster_core.specs.Window.{held}
 use Rattle.t85_core.specs.Options.{fields_of}
@@ -19,14 +19,14 @@ returns-then-not-wants_row-clause-step c =
       row = λ e. absurd (let bot : ⊥ = cc in bot);
       done = λ e. absurd (let bot : ⊥ = cc in bot);
       err = λ text out s. absurd (none text out s);
-      more = λ _ text out s. absurd (none text out s);
+      more = λ _. ((λ text out s. absurd (none text out s)), (let z : length {A = ℕ} [] ≡ 0 = refl in omega (arith, z)));
     }
 
 pub returns-in_err-give_row-clause-step : goal.returns-in_err-give_row-clause-step
 returns-in_err-give_row-clause-step c =
     turn_exit (fields_of c.args.header.now) c.args.height (walk_over c.args.self.now c.args.window.now c.args.learned.now) (walk_over c.give_row.new.self c.give_row.new.window c.give_row.new.learned) c.args.piece.now.rest.now c.give_row.new.piece.rest.now c.from_residual-in_err-give_row.result _ c.from_residual-in_err-give_row.ensures.1
     (off_then (fields_of c.args.header.now) c.args.height (walk_over c.args.self.now c.args.window.now c.args.learned.now) (walk_over c.read_head.new.self c.args.window.now c.args.learned.now) c.args.piece.now.rest.now c.read_head.new.piece.rest.now (c.in_ok-read_head.ensures.step (held c.args.window.now) c.args.learned.now).ok _ c.in_err-give_row.ensures.step.err)
-    (λ e. on_then (fields_of c.args.header.now) c.args.height (walk_over c.args.self.now c.args.window.now c.args.learned.now) (walk_over c.read_head.new.self c.args.window.now c.args.learned.now) c.args.piece.now.rest.now c.read_head.new.piece.rest.now (c.in_ok-read_head.ensures.step (held c.args.window.now) c.args.learned.now).ok (walk_over c.give_row.new.self c.give_row.new.window c.give_row.new.learned) c.give_row.new.piece.rest.now [] (c.in_err-give_row.ensures.step.more (ap Err e)))
+    (λ e. let m = c.in_err-give_row.ensures.step.more (ap Err e) in (on_then (fields_of c.args.header.now) c.args.height (walk_over c.args.self.now c.args.window.now c.args.learned.now) (walk_over c.read_head.new.self c.args.window.now c.args.learned.now) c.args.piece.now.rest.now c.read_head.new.piece.rest.now (c.in_ok-read_head.ensures.step (held c.args.window.now) c.args.learned.now).ok (walk_over c.give_row.new.self c.give_row.new.window c.give_row.new.learned) c.give_row.new.piece.rest.now [] m.0, m.1))
 
 pub returns-in-Code-clause-step : goal.returns-in-Code-clause-step
 returns-in-Code-clause-step c =

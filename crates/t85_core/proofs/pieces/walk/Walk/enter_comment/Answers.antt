@@ -1,10 +1,12 @@
 use Rattle.std.proofs.Common.{◌≡◌, ◌∷◌, ◌++◌, List, ℕ, drop, sym, ap, ◌∙◌, arith}
 use Rattle.byteorder.specs.Endian.{big_bytes}
+use Rattle.t85_core.specs.declared.fault.Fault.TheVariants.{Truncated}
 use Rattle.t85_core.specs.Options.{fields_of}
 use Rattle.t85_core.specs.Lent.{walk_view}
 use Rattle.t85_core.proofs.Decodings.ImagePut.{in_use}
 use Rattle.t85_core.proofs.Decodings.PieceHead.{head_enters, head_cut, length_breaks, counted_of}
 use Rattle.t85_core.proofs.Decodings.PieceSteps.{on_same, stays, at_stage}
+use Rattle.t85_core.proofs.Decodings.PieceFew.{comment_few}
 use Rattle.t85_core.proofs.pieces.walk.Walk.enter_comment.Goals as goal
 
 pub returns-in-Ok-clause-step : goal.returns-in-Ok-clause-step
@@ -35,5 +37,5 @@ returns-in-Err-clause-step c =
       err = λ text out s.
           head_cut (at_stage c.requires.stage s) c.coder_laws.ensures (in_use c.args.header.now c.args.height c.requires.from c.requires.to) c.args.piece.now.rest.now c.number.new.stream.rest.now c.in-Err.fault (counted_of c.in-Err.fault c.in-Err.ensures.reads.counts)
           (length_breaks (fields_of c.args.header.now) (record { height = c.args.height; entities = c.args.self.now.entities; given = c.args.self.now.given }) _ c.args.piece.now.rest.now c.split_at.result.1.now c.number.new.stream.rest.now c.in-Err.fault is c.in-Err.ensures.err);
-      more = λ _. stays (fields_of c.args.header.now) c.args.height (walk_view c.args.self.now rows learned) c.args.piece.now.rest.now;
+      more = λ e. (stays (fields_of c.args.header.now) c.args.height (walk_view c.args.self.now rows learned) c.args.piece.now.rest.now, comment_few c.args.piece.now.rest.now c.split_at.result.1.now c.number.new.stream.rest.now c.in-Err.fault is c.in-Err.ensures.err (let same : c.in-Err.fault ≡ Truncated = cc in same));
     }

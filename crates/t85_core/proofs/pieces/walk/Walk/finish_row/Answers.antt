@@ -22,19 +22,22 @@ returns-in_err-go_on_in_row-clause-step c =
     let k = at_stage c.requires.stage (resumed c.resume.new.self c.requires.stage c.resume.ensures.unchanged s) in
     row_off k c.coder_laws.ensures (in_use c.args.header.now c.args.height c.requires.from c.requires.to) c.args.piece.now.rest.now c.in_err-go_on_in_row.field-0.0
     (subst (λ z. BreaksRow z (row_state (carried_by c.args.window.now c.args.self.now.kept c.args.learned.now) c.resume.new.self c.args.self.now.place c.args.self.now.first c.args.self.now.marker c.args.piece.now) c.in_err-go_on_in_row.field-0.0) (in_row_shape k c.shape.result shape) c.in_err-go_on_in_row.ensures.err (fields_of c.args.header.now) k.head.stripes.next k.head.passed.segments c.args.self.now.row k.began out k.code k.begun k.code_is _ (let few = k.few in omega arith)))
-    (λ e text out s.
-    let k = at_stage c.requires.stage (resumed c.resume.new.self c.requires.stage c.resume.ensures.unchanged s) in
-    let m = subst (λ z. WaitsInRow z (row_state (carried_by c.args.window.now c.args.self.now.kept c.args.learned.now) c.resume.new.self c.args.self.now.place c.args.self.now.first c.args.self.now.marker c.args.piece.now) (row_state (carried_by c.go_on_in_row.new.window c.go_on_in_row.new.kept c.go_on_in_row.new.learned) c.go_on_in_row.new.decoder c.go_on_in_row.new.place c.go_on_in_row.new.first c.go_on_in_row.new.marker c.go_on_in_row.new.piece)) (in_row_shape k c.shape.result shape) (c.in_err-go_on_in_row.ensures.more (ap Err e)) (fields_of c.args.header.now) k.head.stripes.next k.head.passed.segments c.args.self.now.row k.began out k.code k.begun k.code_is in
-    on_same (fields_of c.args.header.now) c.args.height _ text out c.args.piece.now.rest.now c.go_on_in_row.new.piece.rest.now m.given m.taken (record {
-      left_is = s.left_is;
-      width_is = c.go_on_in_row.ensures.width ∙ s.width_is;
-      offset_is = c.go_on_in_row.ensures.offset;
-      at_is = s.at_is;
-      code_is = ahead_is c.go_on_in_row.new.first c.go_on_in_row.new.marker _ [] _ m.code_is;
-      behind = behind_is c.go_on_in_row.new.first c.go_on_in_row.new.marker _ [] _ m.code_is;
-      within = (let within = c.go_on_in_row.ensures.within in let width = c.shape.ensures.width in omega arith);
-      stands = put_stage (fields_of c.args.header.now) c.args.height (walk_over (record c.args.self.now { kept = c.go_on_in_row.new.kept; decoder = c.go_on_in_row.new.decoder; place = c.go_on_in_row.new.place; first = c.go_on_in_row.new.first; marker = c.go_on_in_row.new.marker }) c.go_on_in_row.new.window c.go_on_in_row.new.learned) (text ++ m.given) out _ c.requires.stage (row_kept k m);
-    }))
+    (λ e. (
+      (λ text out s.
+          let k = at_stage c.requires.stage (resumed c.resume.new.self c.requires.stage c.resume.ensures.unchanged s) in
+          let m = subst (λ z. WaitsInRow z (row_state (carried_by c.args.window.now c.args.self.now.kept c.args.learned.now) c.resume.new.self c.args.self.now.place c.args.self.now.first c.args.self.now.marker c.args.piece.now) (row_state (carried_by c.go_on_in_row.new.window c.go_on_in_row.new.kept c.go_on_in_row.new.learned) c.go_on_in_row.new.decoder c.go_on_in_row.new.place c.go_on_in_row.new.first c.go_on_in_row.new.marker c.go_on_in_row.new.piece)) (in_row_shape k c.shape.result shape) (c.in_err-go_on_in_row.ensures.more (ap Err e)) (fields_of c.args.header.now) k.head.stripes.next k.head.passed.segments c.args.self.now.row k.began out k.code k.begun k.code_is in
+          on_same (fields_of c.args.header.now) c.args.height _ text out c.args.piece.now.rest.now c.go_on_in_row.new.piece.rest.now m.given m.taken (record {
+            left_is = s.left_is;
+            width_is = c.go_on_in_row.ensures.width ∙ s.width_is;
+            offset_is = c.go_on_in_row.ensures.offset;
+            at_is = s.at_is;
+            code_is = ahead_is c.go_on_in_row.new.first c.go_on_in_row.new.marker _ [] _ m.code_is;
+            behind = behind_is c.go_on_in_row.new.first c.go_on_in_row.new.marker _ [] _ m.code_is;
+            within = (let within = c.go_on_in_row.ensures.within in let width = c.shape.ensures.width in omega arith);
+            stands = put_stage (fields_of c.args.header.now) c.args.height (walk_over (record c.args.self.now { kept = c.go_on_in_row.new.kept; decoder = c.go_on_in_row.new.decoder; place = c.go_on_in_row.new.place; first = c.go_on_in_row.new.first; marker = c.go_on_in_row.new.marker }) c.go_on_in_row.new.window c.go_on_in_row.new.learned) (text ++ m.given) out _ c.requires.stage (row_kept k m);
+          })),
+      (let few = c.in_err-go_on_in_row.ensures.drained.0 in omega (arith, few)),
+    ))
 
 pub returns-in_err-go_on_in_row-clause-leaves : goal.returns-in_err-go_on_in_row-clause-leaves
 returns-in_err-go_on_in_row-clause-leaves c =
@@ -47,7 +50,7 @@ returns-in_err-go_on_in_row-clause-leaves c =
     leaves_exit (walk_over c.args.self.now c.args.window.now c.args.learned.now) (walk_over (record c.args.self.now { kept = c.go_on_in_row.new.kept; decoder = c.go_on_in_row.new.decoder; place = c.go_on_in_row.new.place; first = c.go_on_in_row.new.first; marker = c.go_on_in_row.new.marker }) c.go_on_in_row.new.window c.go_on_in_row.new.learned) c.args.piece.now.rest.now c.go_on_in_row.new.piece.rest.now c.from_residual.result c.in_err-go_on_in_row.field-0.0 c.from_residual.ensures.1
     (record { entities = refl; left = refl; given = refl; at = refl }) (refl, c.requires.stage, c.in_err-go_on_in_row.ensures.ahead, c.in_err-go_on_in_row.ensures.marker)
     (λ marked. never_breaks (fields_of c.args.header.now) before_all k.code c.args.piece.now.rest.now m.bytes c.in_err-go_on_in_row.field-0.0 (whole_text c.args.self.now.first c.args.self.now.marker _ [] _ k.code_is marked) m.breaks)
-    c.in_err-go_on_in_row.ensures.drained
+    c.in_err-go_on_in_row.ensures.drained.1
     (λ e. never_changed (fields_of c.args.header.now) before_all m.breaks.rest (subst (RestFault m.breaks.rest) e m.breaks.broken))
 
 pub returns-clause-step : goal.returns-clause-step

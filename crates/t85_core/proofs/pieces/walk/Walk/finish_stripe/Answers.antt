@@ -17,19 +17,22 @@ returns-in_err-reset-clause-step c =
     (λ text out s.
     let k = at_stage c.requires.stage s in
     marker_off k c.coder_laws.ensures (in_use c.args.header.now c.args.height c.requires.from c.requires.to) (rows_all c.requires.stage s c.requires.row) c.args.piece.now.rest.now c.in_err-reset.field-0.0 (c.in_err-reset.ensures.err k.read.answers k.extra k.code k.code_is))
-    (λ e text out s.
-    let k = at_stage c.requires.stage s in
-    let m = c.in_err-reset.ensures.more (ap Err e) k.read.answers k.extra k.code k.code_is in
-    on_same (fields_of c.args.header.now) c.args.height _ text out c.args.piece.now.rest.now c.find_marker.new.piece.rest.now m.given m.taken (record {
-      left_is = s.left_is;
-      width_is = s.width_is;
-      offset_is = s.offset_is;
-      at_is = s.at_is;
-      code_is = ahead_is c.find_marker.new.first c.args.self.now.marker k.read.answers m.extra _ m.code_is;
-      behind = behind_is c.find_marker.new.first c.args.self.now.marker k.read.answers m.extra _ m.code_is;
-      within = s.within;
-      stands = put_stage (fields_of c.args.header.now) c.args.height (walk_over (record c.args.self.now { first = c.find_marker.new.first }) c.args.window.now c.args.learned.now) (text ++ m.given) out _ c.requires.stage (code_kept k (rows_all c.requires.stage s c.requires.row) c.args.piece.now.rest.now c.find_marker.new.piece.rest.now m);
-    }))
+    (λ e. (
+      (λ text out s.
+          let k = at_stage c.requires.stage s in
+          let m = c.in_err-reset.ensures.more (ap Err e) k.read.answers k.extra k.code k.code_is in
+          on_same (fields_of c.args.header.now) c.args.height _ text out c.args.piece.now.rest.now c.find_marker.new.piece.rest.now m.given m.taken (record {
+            left_is = s.left_is;
+            width_is = s.width_is;
+            offset_is = s.offset_is;
+            at_is = s.at_is;
+            code_is = ahead_is c.find_marker.new.first c.args.self.now.marker k.read.answers m.extra _ m.code_is;
+            behind = behind_is c.find_marker.new.first c.args.self.now.marker k.read.answers m.extra _ m.code_is;
+            within = s.within;
+            stands = put_stage (fields_of c.args.header.now) c.args.height (walk_over (record c.args.self.now { first = c.find_marker.new.first }) c.args.window.now c.args.learned.now) (text ++ m.given) out _ c.requires.stage (code_kept k (rows_all c.requires.stage s c.requires.row) c.args.piece.now.rest.now c.find_marker.new.piece.rest.now m);
+          })),
+      (let few = c.in_err-reset.ensures.few (ap Err e) in omega (arith, few)),
+    ))
 
 pub returns-then-self-eq0-clause-step : goal.returns-then-self-eq0-clause-step
 returns-then-self-eq0-clause-step c = record {

@@ -17,16 +17,19 @@ returns-then-self-gt0-clause-step c =
     λ rows learned. record {
       ok = tt;
       err = λ text out s. comment_off (at_stage c.requires.stage s) c.coder_laws.ensures (in_use c.args.header.now c.args.height c.requires.from c.requires.to) c.args.piece.now.rest.now few;
-      more = λ _ text out s. on_same (fields_of c.args.header.now) c.args.height _ text out c.args.piece.now.rest.now c.split_at.result.1.now c.args.piece.now.rest.now taken (record {
-        left_is = s.left_is;
-        width_is = s.width_is;
-        offset_is = s.offset_is;
-        at_is = s.at_is;
-        code_is = s.code_is;
-        behind = s.behind;
-        within = s.within;
-        stands = put_stage (fields_of c.args.header.now) c.args.height (walk_view (record c.args.self.now { comment = c.args.self.now.comment - c.min-len.result }) rows learned) (text ++ c.args.piece.now.rest.now) out _ c.requires.stage (comment_more (at_stage c.requires.stage s) c.args.piece.now.rest.now (c.args.self.now.comment - c.min-len.result) (omega (arith, all, few)));
-      });
+      more = λ _. (
+        (λ text out s. on_same (fields_of c.args.header.now) c.args.height _ text out c.args.piece.now.rest.now c.split_at.result.1.now c.args.piece.now.rest.now taken (record {
+          left_is = s.left_is;
+          width_is = s.width_is;
+          offset_is = s.offset_is;
+          at_is = s.at_is;
+          code_is = s.code_is;
+          behind = s.behind;
+          within = s.within;
+          stands = put_stage (fields_of c.args.header.now) c.args.height (walk_view (record c.args.self.now { comment = c.args.self.now.comment - c.min-len.result }) rows learned) (text ++ c.args.piece.now.rest.now) out _ c.requires.stage (comment_more (at_stage c.requires.stage s) c.args.piece.now.rest.now (c.args.self.now.comment - c.min-len.result) (omega (arith, all, few)));
+        })),
+        omega (arith, c.split_at.ensures.back_len, all),
+      );
     }
 
 pub returns-clause-step : goal.returns-clause-step

@@ -1,4 +1,4 @@
-use Rattle.std.proofs.Common.{◌++◌, Some, sym, ◌∙◌, subst, arith, true}
+use Rattle.std.proofs.Common.{◌≡◌, ◌++◌, Some, sym, ◌∙◌, subst, arith, true}
 use Rattle.t85_core.specs.declared.fault.Fault.TheVariants.{Truncated}
 use Rattle.t85_core.specs.Options.{fields_of}
 use Rattle.t85_core.specs.Failures.{Ends}
@@ -8,6 +8,7 @@ use Rattle.t85_core.specs.Lent.{walk_view}
 use Rattle.t85_core.proofs.Decodings.ImagePut.{in_use}
 use Rattle.t85_core.proofs.Decodings.PieceHead.{head_length, head_move, head_comment, head_code, head_cut, head_other, counted_of}
 use Rattle.t85_core.proofs.Decodings.PieceSteps.{on_same, stays, at_stage, put_stage}
+use Rattle.t85_core.proofs.Decodings.PieceFew.{piece_few}
 use Rattle.t85_core.proofs.pieces.walk.Walk.pass_segment.Goals as goal
 
 pub returns-in-Err-clause-step : goal.returns-in-Err-clause-step
@@ -16,7 +17,7 @@ returns-in-Err-clause-step c = λ rows learned. record {
   err = λ text out s.
       head_cut (at_stage c.requires.stage s) c.coder_laws.ensures (in_use c.args.header.now c.args.height c.requires.from c.requires.to) c.args.piece.now.rest.now c.next_piece.new.stream.rest.now c.in-Err.fault (counted_of c.in-Err.fault c.in-Err.ensures.reads.counts)
       (subst (λ m. Ends Truncated (Some c.args.piece.now.rest.now) (Some c.next_piece.new.stream.rest.now) (PieceFault (fields_of c.args.header.now) (record { height = c.args.height; entities = c.args.self.now.entities; given = c.args.self.now.given }) m) c.in-Err.fault) c.is_some.ensures c.in-Err.ensures.err);
-  more = λ _. stays (fields_of c.args.header.now) c.args.height (walk_view c.args.self.now rows learned) c.args.piece.now.rest.now;
+  more = λ e. (stays (fields_of c.args.header.now) c.args.height (walk_view c.args.self.now rows learned) c.args.piece.now.rest.now, piece_few (fields_of c.args.header.now) (record { height = c.args.height; entities = c.args.self.now.entities; given = c.args.self.now.given }) c.is_some.result c.args.piece.now.rest.now c.next_piece.new.stream.rest.now c.in-Err.fault c.in-Err.ensures.err c.requires.other (let same : c.in-Err.fault ≡ Truncated = cc in same));
 }
 
 pub returns-then-other-height-clause-step : goal.returns-then-other-height-clause-step
