@@ -31,6 +31,7 @@ pub mod PieceBehind
 pub mod PieceAhead
 pub mod PieceLate
 pub mod PieceStood
+pub mod PieceFeeds
 pub mod PieceNumbers
 pub mod PieceLook
 pub mod PieceCertain

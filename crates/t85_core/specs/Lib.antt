@@ -19,6 +19,7 @@ pub mod Decode
 pub mod Outcomes
 pub mod Lent
 pub mod Pieces
+pub mod Feeds
 pub mod Numbers
 pub mod RowNumbers
 pub mod ToPbm

@@ -65,48 +65,9 @@ pub record HoldsImage (h : Fields) (body : List ℕ) (height : ℕ) (out : List 
 abbrev pub MayFollow : Bool → List ℕ → Type 0
 MayFollow is_all rest = is_all ≡ true → rest ≡ []
 
--- ---- a call with a piece, of which so many bytes were taken
+-- ---- a call with a piece
 
--- a row more was given
-abbrev pub GivesRow : PieceView → PieceView → List ℕ → ℕ → Outcome → Type 0
-GivesRow old new piece taken answer =
-    answer ≡ outcome.Row → (text out : List ℕ) → HasDecoded old text out → HasDecoded new (text ++ take taken piece) (out ++ row_held new)
-
--- how many rows it gave, up to the last one of a stripe whose code it is in
-abbrev pub rows_given : PieceView → ℕ
-rows_given d = d.walk.entities * d.header.l0 + d.walk.row
-
--- A row that the end marker of its code decides waits for what comes behind the marker, while a height may come: none
--- that comes then is below the rows that were given.
-abbrev pub RowsWait : Bool → PieceView → PieceView → List ℕ → Outcome → Type 0
-RowsWait is_all old new piece answer =
-    answer ≡ outcome.Row → new.is_open ≡ true → HasMarker new.walk → (text out rest : List ℕ) (height : ℕ) → HasDecoded old text out → MayFollow is_all rest → IsHeight (stream_of old) ((text ++ piece) ++ rest) height →
-    rows_given new ≤ height
-
--- No row is given. If nothing waits, and nothing comes after the piece, the stream ends too early, and what was given is
--- what it fixes.
-abbrev pub WantsMore : PieceView → PieceView → List ℕ → ℕ → Outcome → Type 0
-WantsMore old new piece taken answer =
-    answer ≡ outcome.More → (text out : List ℕ) → HasDecoded old text out →
-    HasDecoded new (text ++ take taken piece) out × (new.waits ≡ false → HandsOut (stream_of old) (text ++ piece) new.height Truncated out)
-
--- the image is whole at this height, whatever comes after the piece
-abbrev pub IsWhole : Bool → PieceView → PieceView → List ℕ → Outcome → Type 0
-IsWhole is_all old new piece answer =
-    (height : ℕ) → answer ≡ outcome.Done height → (new.height ≡ height) × ((text out rest : List ℕ) → HasDecoded old text out → MayFollow is_all rest → HoldsImage (stream_of old) ((text ++ piece) ++ rest) height out)
-
--- what was given is what the stream fixes, whatever comes after the piece
-abbrev pub IsBroken : Bool → PieceView → PieceView → List ℕ → Outcome → Type 0
-IsBroken is_all old new piece answer =
-    (fault : Fault) → answer ≡ outcome.Broken fault → (text out rest : List ℕ) → HasDecoded old text out → MayFollow is_all rest → HandsOut (stream_of old) ((text ++ piece) ++ rest) new.height fault out
-
--- after an end all stays as it is
-abbrev pub EndsAgain : PieceView → PieceView → ℕ → Outcome → Type 0
-EndsAgain old new taken answer = (end : End) → old.end ≡ Some end → (answer ≡ end_told end old.height) × (taken ≡ 0) × (new ≡ old)
-
--- ---- calls one after another
-
--- a call: the piece, whether it is the last, how many of its bytes were taken, the answer, and the decoder after it
+-- the piece, whether it is the last, how many of its bytes were taken, the answer, and the decoder after it
 pub record Call : Type 0 where
   pub piece : List ℕ
   pub is_all : Bool
@@ -117,19 +78,63 @@ pub record Call : Type 0 where
 abbrev pub call_of : List ℕ → Bool → Progress → PieceView → Call
 call_of piece is_all progress new = record { piece = piece; is_all = is_all; taken = progress.taken; answer = progress.outcome; new = new }
 
--- what a call of `next_row` or `next_of_last` leaves
-pub record IsCall (old : PieceView) (call : Call) : Type 0 where
+-- ---- what it leaves, where `Before` and `After` say which bytes were taken, and which rows given, before it and with it
+
+-- a row more was given
+abbrev pub GivesRow : (Before After : List ℕ → List ℕ → Type 0) → Call → Type 0
+GivesRow Before After call =
+    call.answer ≡ outcome.Row → (text out : List ℕ) → Before text out → After (text ++ take call.taken call.piece) (out ++ row_held call.new)
+
+-- how many rows it gave, up to the last one of a stripe whose code it is in
+abbrev pub rows_given : PieceView → ℕ
+rows_given d = d.walk.entities * d.header.l0 + d.walk.row
+
+-- A row that the end marker of its code decides waits for what comes behind the marker, while a height may come: none
+-- that comes then is below the rows that were given.
+abbrev pub RowsWait : (Before : List ℕ → List ℕ → Type 0) → PieceView → Call → Type 0
+RowsWait Before old call =
+    call.answer ≡ outcome.Row → call.new.is_open ≡ true → HasMarker call.new.walk → (text out rest : List ℕ) (height : ℕ) → Before text out → MayFollow call.is_all rest → IsHeight (stream_of old) ((text ++ call.piece) ++ rest) height →
+    rows_given call.new ≤ height
+
+-- No row is given. If nothing waits, and nothing comes after the piece, the stream ends too early, and what was given is
+-- what it fixes.
+abbrev pub WantsMore : (Before After : List ℕ → List ℕ → Type 0) → PieceView → Call → Type 0
+WantsMore Before After old call =
+    call.answer ≡ outcome.More → (text out : List ℕ) → Before text out →
+    After (text ++ take call.taken call.piece) out × (call.new.waits ≡ false → HandsOut (stream_of old) (text ++ call.piece) call.new.height Truncated out)
+
+-- the image is whole at this height, whatever comes after the piece
+abbrev pub IsWhole : (Before : List ℕ → List ℕ → Type 0) → PieceView → Call → Type 0
+IsWhole Before old call =
+    (height : ℕ) → call.answer ≡ outcome.Done height → (call.new.height ≡ height) × ((text out rest : List ℕ) → Before text out → MayFollow call.is_all rest → HoldsImage (stream_of old) ((text ++ call.piece) ++ rest) height out)
+
+-- what was given is what the stream fixes, whatever comes after the piece
+abbrev pub IsBroken : (Before : List ℕ → List ℕ → Type 0) → PieceView → Call → Type 0
+IsBroken Before old call =
+    (fault : Fault) → call.answer ≡ outcome.Broken fault → (text out rest : List ℕ) → Before text out → MayFollow call.is_all rest → HandsOut (stream_of old) ((text ++ call.piece) ++ rest) call.new.height fault out
+
+-- after an end all stays as it is
+abbrev pub EndsAgain : PieceView → Call → Type 0
+EndsAgain old call = (end : End) → old.end ≡ Some end → (call.answer ≡ end_told end old.height) × (call.taken ≡ 0) × (call.new ≡ old)
+
+pub record IsCallBy (Before After : List ℕ → List ℕ → Type 0) (old : PieceView) (call : Call) : Type 0 where
   pub same : stream_of call.new ≡ stream_of old
   pub bound : call.taken ≤ length call.piece
   pub ends : call.is_all ≡ true → call.answer ≢ outcome.More
   -- what is not taken begins an escape or a segment
   pub few_left : call.answer ≡ outcome.More → length call.piece ≤ call.taken + 7
-  pub again : EndsAgain old call.new call.taken call.answer
-  pub row : GivesRow old call.new call.piece call.taken call.answer
-  pub waits : RowsWait call.is_all old call.new call.piece call.answer
-  pub more : WantsMore old call.new call.piece call.taken call.answer
-  pub done : IsWhole call.is_all old call.new call.piece call.answer
-  pub broken : IsBroken call.is_all old call.new call.piece call.answer
+  pub again : EndsAgain old call
+  pub row : GivesRow Before After call
+  pub waits : RowsWait Before old call
+  pub more : WantsMore Before After old call
+  pub done : IsWhole Before old call
+  pub broken : IsBroken Before old call
+
+-- what a call of `next_row` or `next_of_last` leaves
+abbrev pub IsCall : PieceView → Call → Type 0
+IsCall old call = IsCallBy (HasDecoded old) (HasDecoded call.new) old call
+
+-- ---- calls one after another
 
 -- the bytes that were taken in a call, and the row that it gave, if it gave one
 abbrev pub bytes_taken : Call → List ℕ

@@ -15,6 +15,7 @@ pub mod Pieces
 pub mod Behind
 pub mod PieceStands
 pub mod PieceSteps
+pub mod Feeds
 pub mod Written
 pub mod Looked
 pub mod ByRow

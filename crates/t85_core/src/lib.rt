@@ -26,6 +26,7 @@ pub use header::Header;
 pub use height::find_height;
 pub use options::Options;
 pub use parts::{Found, Part, PartKind, PartWalk};
+pub use pieces::held::HeldBytes;
 pub use pieces::numbers::{MoveNumbers, PieceNumbers};
 pub use pieces::{Outcome, PieceDecoder, Progress};
 pub use summary::{Summary, info, summarize};

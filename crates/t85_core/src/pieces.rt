@@ -8,6 +8,7 @@ ghost use Rattle.t85_core.specs.Outcomes.{end_in};
 
 pub mod behind;
 pub mod code;
+pub mod held;
 pub mod numbers;
 pub mod piece;
 pub mod rows;
