@@ -1,7 +1,7 @@
 -- What a decoder leaves that is fed: it takes all that comes, and holds what it can't decode yet.
-use Rattle.std.specs.Prelude.{ℕ, ◌≡◌, List, ◌++◌, length, take, IfSome}
+use Rattle.std.specs.Prelude.{⊤, ℕ, ◌≡◌, List, [], ◌∷◌, ◌++◌, length, take, flat_map, IfSome}
 use Rattle.t85_core.specs.Lent.{PieceView}
-use Rattle.t85_core.specs.Pieces.{HasDecoded, Call, IsCallBy}
+use Rattle.t85_core.specs.Pieces.{HasDecoded, Call, IsCallBy, StreamGoesOn, bytes_taken, row_given}
 use Rattle.t85_core.specs.declared.pieces.Outcome.TheVariants as outcome
 use Rattle.t85_core.specs.declared.pieces.held.HeldBytes.{HeldBytes}
 
@@ -23,3 +23,29 @@ pub record IsFeed (old : PieceView) (held held' : List ℕ) (call : Call) : Type
   pub all : call.answer ≡ outcome.More → call.taken ≡ length call.piece
   -- after an end all stays as it is
   pub stays : IfSome old.end (λ _. held' ≡ held)
+
+-- a call that feeds, and what is held after it
+pub record Feed : Type 0 where
+  pub call : Call
+  pub held : List ℕ
+
+-- calls one after another, whatever their pieces are, up to the end
+abbrev pub AreFeeds : PieceView → List ℕ → List Feed → Type 0
+AreFeeds d held [] = ⊤
+AreFeeds d held (feed ∷ feeds) = IsFeed d held feed.held feed.call × StreamGoesOn feed.call.answer × AreFeeds feed.call.new feed.held feeds
+
+-- the decoder after them, and what is held
+abbrev pub decoder_fed : PieceView → List Feed → PieceView
+decoder_fed d [] = d
+decoder_fed d (feed ∷ feeds) = decoder_fed feed.call.new feeds
+
+abbrev pub held_after : List ℕ → List Feed → List ℕ
+held_after held [] = held
+held_after held (feed ∷ feeds) = held_after feed.held feeds
+
+-- However a stream is cut: after any calls a decoder that is fresh was fed all bytes that they took, and has given their
+-- rows.
+abbrev pub FeedsTaken : Type 0
+FeedsTaken =
+    (d : PieceView) (feeds : List Feed) → HasDecoded d [] [] → AreFeeds d [] feeds →
+    HasFed (decoder_fed d feeds) (held_after [] feeds) (flat_map (λ feed. bytes_taken feed.call) feeds) (flat_map (λ feed. row_given feed.call) feeds)

@@ -6,17 +6,18 @@ use Rattle.t85_core.specs.Lent.{PieceView}
 use Rattle.t85_core.specs.declared.pieces.Outcome.{Outcome}
 use Rattle.t85_core.specs.declared.pieces.Outcome.TheVariants as outcome
 use Rattle.t85_core.specs.Height.{IsHeight}
-use Rattle.t85_core.specs.Pieces.{stream_of, row_held, HasDecoded, HandsOut, HoldsImage, PiecesTaken, PiecesWait, PiecesMore, PiecesWhole, PiecesBroken, Call, IsCall, StreamGoesOn, bytes_taken, given_with, row_given, AreCalls, decoder_after}
+use Rattle.t85_core.specs.Pieces.{stream_of, row_held, HasDecoded, HandsOut, HoldsImage, PiecesTaken, PiecesWait, PiecesMore, PiecesWhole, PiecesBroken, Call, IsCallBy, StreamGoesOn, bytes_taken, given_with, row_given, AreCalls, decoder_after}
+use Rattle.t85_core.specs.Feeds.{HasFed, Feed, AreFeeds, FeedsTaken, decoder_fed, held_after}
 
 -- a call more
-call_on : (d : PieceView) (call : Call) → IsCall d call → StreamGoesOn call.answer → (text out : List ℕ) → HasDecoded d text out → HasDecoded call.new (text ++ bytes_taken call) (out ++ row_given call)
-call_on d call is on text out s = by_answer call.answer refl where
-  same : (row : List ℕ) → row_given call ≡ row → HasDecoded call.new (text ++ bytes_taken call) (out ++ row) → HasDecoded call.new (text ++ bytes_taken call) (out ++ row_given call)
-  same row e k = subst (λ z. HasDecoded call.new (text ++ bytes_taken call) (out ++ z)) (sym e) k
+call_on : (Before After : List ℕ → List ℕ → Type 0) (d : PieceView) (call : Call) → IsCallBy Before After d call → StreamGoesOn call.answer → (text out : List ℕ) → Before text out → After (text ++ bytes_taken call) (out ++ row_given call)
+call_on Before After d call is on text out s = by_answer call.answer refl where
+  same : (row : List ℕ) → row_given call ≡ row → After (text ++ bytes_taken call) (out ++ row) → After (text ++ bytes_taken call) (out ++ row_given call)
+  same row e k = subst (λ z. After (text ++ bytes_taken call) (out ++ z)) (sym e) k
 
-  by_answer : (o : Outcome) → call.answer ≡ o → HasDecoded call.new (text ++ bytes_taken call) (out ++ row_given call)
+  by_answer : (o : Outcome) → call.answer ≡ o → After (text ++ bytes_taken call) (out ++ row_given call)
   by_answer outcome.Row e = same (row_held call.new) (ap (λ z. given_with z (row_held call.new)) e) (is.row e text out s)
-  by_answer outcome.More e = same [] (ap (λ z. given_with z (row_held call.new)) e) (subst (HasDecoded call.new (text ++ bytes_taken call)) (sym (append-nil out)) (is.more e text out s).0)
+  by_answer outcome.More e = same [] (ap (λ z. given_with z (row_held call.new)) e) (subst (After (text ++ bytes_taken call)) (sym (append-nil out)) (is.more e text out s).0)
   by_answer (outcome.Done height) e = absurd (subst StreamGoesOn e on)
   by_answer (outcome.Broken fault) e = absurd (subst StreamGoesOn e on)
 
@@ -26,7 +27,19 @@ calls_on d [] are text out s = subst (λ z. HasDecoded d z (out ++ [])) (sym (ap
 calls_on d (call ∷ calls) are text out s =
     subst (λ z. HasDecoded (decoder_after call.new calls) z (out ++ flat_map row_given (call ∷ calls))) (append_assoc text (bytes_taken call) (flat_map bytes_taken calls))
     (subst (HasDecoded (decoder_after call.new calls) ((text ++ bytes_taken call) ++ flat_map bytes_taken calls)) (append_assoc out (row_given call) (flat_map row_given calls))
-    (calls_on call.new calls are.2 (text ++ bytes_taken call) (out ++ row_given call) (call_on d call are.0 are.1 text out s)))
+    (calls_on call.new calls are.2 (text ++ bytes_taken call) (out ++ row_given call) (call_on (HasDecoded d) (HasDecoded call.new) d call are.0 are.1 text out s)))
+
+-- where bytes are held
+feeds_on : (d : PieceView) (held : List ℕ) (feeds : List Feed) → AreFeeds d held feeds → (text out : List ℕ) → HasFed d held text out →
+    HasFed (decoder_fed d feeds) (held_after held feeds) (text ++ flat_map (λ feed. bytes_taken feed.call) feeds) (out ++ flat_map (λ feed. row_given feed.call) feeds)
+feeds_on d held [] are text out s = subst (λ z. HasFed d held z (out ++ [])) (sym (append-nil text)) (subst (HasFed d held text) (sym (append-nil out)) s)
+feeds_on d held (feed ∷ feeds) are text out s =
+    subst (λ z. HasFed (decoder_fed feed.call.new feeds) (held_after feed.held feeds) z (out ++ flat_map (λ feed. row_given feed.call) (feed ∷ feeds))) (append_assoc text (bytes_taken feed.call) (flat_map (λ feed. bytes_taken feed.call) feeds))
+    (subst (HasFed (decoder_fed feed.call.new feeds) (held_after feed.held feeds) ((text ++ bytes_taken feed.call) ++ flat_map (λ feed. bytes_taken feed.call) feeds)) (append_assoc out (row_given feed.call) (flat_map (λ feed. row_given feed.call) feeds))
+    (feeds_on feed.call.new feed.held feeds are.2 (text ++ bytes_taken feed.call) (out ++ row_given feed.call) (call_on (HasFed d held) (HasFed feed.call.new feed.held) d feed.call are.0.fed are.1 text out s)))
+
+pub fed_at : FeedsTaken
+fed_at d feeds s are = feeds_on d [] feeds are [] [] (record { decoded = []; text_is = refl; has = s })
 
 pub taken_at : PiecesTaken
 taken_at d calls s are = calls_on d calls are [] [] s

@@ -1,8 +1,11 @@
-use Rattle.t85_core.proofs.Theorems.InPieces.{taken_at, wait_at, more_at, whole_at, broken_at}
+use Rattle.t85_core.proofs.Theorems.InPieces.{taken_at, fed_at, wait_at, more_at, whole_at, broken_at}
 use Rattle.t85_core.proofs.laws.pieces.Goals as goal
 
 pub returns-clause-taken : goal.returns-clause-taken
 returns-clause-taken c = taken_at
+
+pub returns-clause-fed : goal.returns-clause-fed
+returns-clause-fed c = fed_at
 
 pub returns-clause-wait : goal.returns-clause-wait
 returns-clause-wait c = wait_at
