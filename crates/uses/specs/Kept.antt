@@ -10,10 +10,11 @@ use Rattle.t85_core.specs.declared.pieces.Progress.{Progress}
 use Rattle.t85_core.specs.Lent.{decoder_view}
 use Rattle.t85_core.specs.Numbers.{piece_numbers}
 use Rattle.t85_core.specs.Options.{fields_of}
-use Rattle.t85_core.specs.Pieces.{HasDecoded, HandsOut, HoldsImage, MayFollow, StreamGoesOn, given_with}
+use Rattle.t85_core.specs.Feeds.{HasFed, held_bytes}
+use Rattle.t85_core.specs.Pieces.{HandsOut, HoldsImage, MayFollow, StreamGoesOn, given_with}
 use Rattle.uses.specs.declared.kept.KeptDecoder.{KeptDecoder}
 
--- what there is between_calls two calls
+-- what there is between two calls
 pub record Between : Type 0 where
   pub header : Header
   pub kept : KeptDecoder
@@ -23,12 +24,12 @@ pub record Between : Type 0 where
 abbrev pub between_calls : Header → KeptDecoder → List ℕ → List Estimate → Between
 between_calls header kept memory learned = record { header = header; kept = kept; memory = memory; learned = learned }
 
--- They are those of a decoder that goes on. It has taken these bytes, and has given these rows, packed.
+-- They are those of a decoder that goes on. It was fed these bytes, and has given these rows, packed.
 pub record IsKept (b : Between) (text out : List ℕ) : Type 0 where
   pub decoder : PieceDecoder
   pub stream_is : fields_of decoder.header ≡ fields_of b.header
   pub numbers_are : b.kept.numbers ≡ piece_numbers decoder
-  pub has : HasDecoded (decoder_view decoder (rows_at b.kept.place b.header.xd b.memory) b.learned) text out
+  pub has : HasFed (decoder_view decoder (rows_at b.kept.place b.header.xd b.memory) b.learned) (held_bytes b.kept.held) text out
 
 -- the current row of the memory
 abbrev pub row_kept : Between → List ℕ
@@ -37,6 +38,7 @@ row_kept b = (rows_at b.kept.place b.header.xd b.memory).current
 -- What a call leaves: the next numbers, or what the image is, whatever comes after the piece.
 pub record KeptOn (old new : Between) (piece : List ℕ) (is_all : Bool) (progress : Progress) : Type 0 where
   pub bound : progress.taken ≤ length piece
+  pub all : progress.outcome ≡ outcome.More → progress.taken ≡ length piece
   pub goes_on : StreamGoesOn progress.outcome → (text out : List ℕ) → IsKept old text out → IsKept new (text ++ take progress.taken piece) (out ++ given_with progress.outcome (row_kept new))
   pub done : (height : ℕ) → progress.outcome ≡ outcome.Done height → (text out rest : List ℕ) → IsKept old text out → MayFollow is_all rest → HoldsImage (fields_of old.header) ((text ++ piece) ++ rest) height out
   pub broken : (fault : Fault) → progress.outcome ≡ outcome.Broken fault → (text out rest : List ℕ) → IsKept old text out → MayFollow is_all rest → HandsOut (fields_of old.header) ((text ++ piece) ++ rest) new.kept.numbers.height fault out

@@ -1,18 +1,23 @@
-//! A decoder in pieces of which nothing but numbers is kept from call to call.
+//! A decoder in pieces of which nothing but numbers is kept from call to call. It takes all that comes.
 
 ghost use Rattle.std.specs.Prelude.{◌≡◌, ◌<◌, ◌*◌, [], length};
 ghost use Rattle.std.specs.Int.{div_ceil};
+ghost use Rattle.raster_core.specs.Window.{memory_of, width_of};
+ghost use Rattle.t85_core.specs.Lent.{decoder_over};
+ghost use Rattle.t85_core.specs.Feeds.{IsFeed, held_bytes};
+ghost use Rattle.t85_core.specs.Pieces.{call_of};
 ghost use Rattle.uses.specs.Kept.{IsKept, KeptOn, between_calls};
 
-use crate::pieces::next_row;
 use qm_core::Learned;
 use raster_core::Window;
-use t85_core::{Header, PieceDecoder, PieceNumbers, Progress};
+use t85_core::{Header, HeldBytes, PieceDecoder, PieceNumbers, Progress};
 
 /// What is kept of a decoder from call to call, beside its header, the memory of its window and the contexts.
 #[derive(Clone, Copy)]
 pub struct KeptDecoder {
     pub numbers: PieceNumbers,
+    /// What it has taken and not decoded yet.
+    pub held: HeldBytes,
     /// Where the memory has the row that was decoded last.
     pub place: u8,
 }
@@ -27,6 +32,7 @@ pub fn first_kept(header: Header, memory: &mut [u8], learned: &mut Learned) -> K
     let decoder = PieceDecoder::start(header, &mut window, learned);
     KeptDecoder {
         numbers: decoder.numbers(),
+        held: HeldBytes::none(),
         place: window.place(),
     }
 }
@@ -48,10 +54,34 @@ pub fn next_of_kept(
 {
     let mut window = Window::resume(memory, header.xd, kept.place);
     let mut decoder = PieceDecoder::resume(header, &kept.numbers);
-    let progress = next_row(&mut decoder, &mut window, learned, piece, is_all);
+    let mut held = kept.held;
+    let progress = feed(&mut decoder, &mut window, learned, &mut held, piece, is_all);
     *kept = KeptDecoder {
         numbers: decoder.numbers(),
+        held,
         place: window.place(),
     };
     progress
+}
+
+/// Goes on with a piece, which may be the last.
+fn feed(
+    decoder: &mut PieceDecoder,
+    window: &mut Window<'_>,
+    learned: &mut Learned,
+    held: &mut HeldBytes,
+    piece: &[u8],
+    is_all: bool,
+) -> Progress
+    ensures feed { IsFeed (decoder_over decoder.old window.old learned.old) (held_bytes held.old)
+        (held_bytes held.new)
+        (call_of piece.now is_all result (decoder_over decoder.new window.new learned.new)) }
+    ensures same_memory { memory_of window.new ≡ memory_of window.old }
+    ensures same_width { width_of window.new ≡ width_of window.old }
+{
+    if is_all {
+        decoder.feed_last(window, learned, held, piece)
+    } else {
+        decoder.feed(window, learned, held, piece)
+    }
 }
