@@ -1,8 +1,9 @@
 -- A decoder that holds what it can't decode yet.
-use Rattle.std.proofs.Common.{◌≡◌, ◌≢◌, ◌≤◌, ◌+◌, ◌-◌, ℕ, Bool, true, false, List, [], ◌++◌, length, take, drop, Option, None, Some, refl, sym, ap, ◌∙◌, subst, append_assoc, append-nil, length-append, arith}
+use Rattle.std.proofs.Common.{◌≡◌, ◌≢◌, ◌⊎◌, inl, inr, ◌<◌, ◌≤◌, min, ◌+◌, ◌-◌, ℕ, Bool, true, false, List, [], ◌++◌, length, take, drop, Option, None, Some, refl, sym, ap, ◌∙◌, subst, append_assoc, append-nil, length-append, arith}
 use Rattle.std.specs.Prelude.{IfSome}
-use Rattle.std.proofs.lemmas.List.{append_cancel_right, take-append-drop, take-append-le, length-take-le, length-drop}
-use Rattle.std.proofs.Math.Seq.{take-append_seam, drop-append_seam, take-append-add}
+use Rattle.std.proofs.lemmas.Bool.{cases_lt}
+use Rattle.std.proofs.lemmas.List.{append_cancel_right, drop-append-le, drop_all, take-append-drop, take-append-le, length-take-le, length-drop}
+use Rattle.std.proofs.Math.Seq.{take-append_seam, drop-append_seam, take-append-add, drop-append-add}
 use Rattle.t85_core.specs.declared.fault.Fault.TheVariants.{Truncated}
 use Rattle.t85_core.specs.declared.pieces.End.{End}
 use Rattle.t85_core.specs.declared.pieces.End.TheVariants as end_type
@@ -25,6 +26,32 @@ joined_is n a b x y held front long same back =
     ∙ ap (λ z. a ++ take (length front) (z ++ y)) back
     ∙ ap (λ z. a ++ z) (take-append_seam front y)
     ∙ ap (λ z. z ++ front) same
+
+-- all that a call left is held
+pub settled_all : (bytes left : List ℕ) (count taken : ℕ) → left ≡ drop taken bytes → left ++ drop (length bytes - count) (drop count bytes) ≡ drop taken bytes
+settled_all bytes left count taken e = ap (λ z. left ++ z) (drop_all (length bytes - count) (drop count bytes) (let long = length-drop count bytes in omega (arith, long))) ∙ append-nil left ∙ e
+
+-- of the first bytes what it left is held
+pub settled_first : (bytes left : List ℕ) (count taken : ℕ) → count ≤ length bytes → left ≡ drop (min taken count) (take count bytes) → left ++ drop (taken - count) (drop count bytes) ≡ drop taken bytes
+settled_first bytes left count taken within e = went (cases_lt taken count) where
+  long : length (take count bytes) ≡ count
+  long = length-take-le count bytes within
+
+  went : (taken < count) ⊎ (count ≤ taken) → left ++ drop (taken - count) (drop count bytes) ≡ drop taken bytes
+  went (inl fewer) =
+      let low : min taken count ≡ taken = omega (arith, fewer) in
+      let none : taken - count ≡ 0 = omega (arith, fewer) in
+      ap (λ n. left ++ drop n (drop count bytes)) none
+      ∙ ap (λ z. z ++ drop count bytes) (e ∙ ap (λ n. drop n (take count bytes)) low)
+      ∙ sym (drop-append-le taken (take count bytes) (drop count bytes) (omega (arith, fewer, long)))
+      ∙ ap (drop taken) (take-append-drop count bytes)
+  went (inr all) =
+      let low : min taken count ≡ count = omega (arith, all) in
+      let sum : length (take count bytes) + (taken - count) ≡ taken = omega (arith, all, long) in
+      ap (λ z. z ++ drop (taken - count) (drop count bytes)) (e ∙ ap (λ n. drop n (take count bytes)) low ∙ drop_all count (take count bytes) (omega (arith, long)))
+      ∙ sym (drop-append-add (take count bytes) (drop count bytes) (taken - count))
+      ∙ ap (λ z. drop (length (take count bytes) + (taken - count)) z) (take-append-drop count bytes)
+      ∙ ap (λ n. drop n bytes) sum
 
 -- an end wants no more
 told_no_more : (end : End) (n : ℕ) → end_told end n ≢ outcome.More

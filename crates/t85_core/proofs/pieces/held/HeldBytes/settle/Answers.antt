@@ -1,0 +1,26 @@
+use Rattle.std.proofs.Common.{◌≡◌, ◌++◌, ◌-◌, min, take, drop, refl, sym, ap, ◌∙◌, arith}
+use Rattle.t85_core.specs.Feeds.{held_bytes}
+use Rattle.t85_core.proofs.Decodings.PieceFeeds.{settled_all, settled_first}
+use Rattle.t85_core.proofs.pieces.held.HeldBytes.settle.Goals as goal
+
+pub returns-in-More : goal.returns-in-More
+returns-in-More c = record {
+  outcome_is = sym c.in-More.is;
+  bound = omega arith;
+  rest = settled_all c.args.bytes.now (held_bytes c.keep.new.self) c.args.count c.args.call.taken (c.keep.ensures ∙ c.split_at.ensures.back);
+  all = λ _. refl;
+  none = λ z other. absurd (other c.in-More.is);
+}
+
+pub returns-in_default : goal.returns-in_default
+returns-in_default c =
+    let held : held_bytes c.keep-in_default.new.self ≡ drop (min c.args.call.taken c.args.count) (take c.args.count c.args.bytes.now) = c.keep-in_default.ensures ∙ c.split_at-in_default-2.ensures.back ∙ ap (drop c.min.result) c.split_at-in_default.ensures.front ∙ ap (λ n. drop n (take c.args.count c.args.bytes.now)) c.min.ensures in
+    record {
+      outcome_is = refl;
+      bound = omega (arith, c.saturating_sub.ensures, c.requires.bound);
+      rest = ap (λ n. held_bytes c.keep-in_default.new.self ++ drop n (drop c.args.count c.args.bytes.now)) c.saturating_sub.ensures ∙ settled_first c.args.bytes.now (held_bytes c.keep-in_default.new.self) c.args.count c.args.call.taken c.requires.within held;
+      all = λ e. absurd (c.in_default.not-More e);
+      none = λ z _.
+          let first : min c.args.call.taken c.args.count ≡ 0 = omega (arith, z) in
+          let none : c.args.call.taken - c.args.count ≡ 0 = omega (arith, z) in (held ∙ ap (λ n. drop n (take c.args.count c.args.bytes.now)) first, c.saturating_sub.ensures ∙ none);
+    }
