@@ -1,3 +1,4 @@
+pub mod DecoderCalls
 pub mod Bytes
 pub mod Delivery
 pub mod Digits

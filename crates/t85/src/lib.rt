@@ -3,10 +3,12 @@
 //! A call keeps nothing, takes no memory of its own, and leaves nothing behind but what it writes.
 #![tactic(auto)]
 
+mod decoder;
 mod decoding;
 mod decoding_rows;
 mod devices;
 mod encoding;
+mod facts;
 mod header;
 pub mod laws;
 mod lined_input;
@@ -14,6 +16,7 @@ mod lined_output;
 mod message;
 mod opened;
 mod options;
+mod parts;
 mod summary;
 #[cfg(test)]
 mod tests;
@@ -21,12 +24,15 @@ mod tests;
 ghost use Rattle.std.specs.Prelude.{◌≡◌};
 ghost use Rattle.t85.specs.Decoded.{window_bytes};
 
+pub use crate::decoder::{T85Decoder, t85_decode_bytes, t85_decode_end, t85_decode_start};
 pub use crate::decoding::t85_decode;
 pub use crate::decoding_rows::t85_decode_rows;
 pub use crate::encoding::{t85_encode, t85_encode_bound};
+pub use crate::facts::{T85Facts, t85_stream_facts};
 pub use crate::header::{T85Header, t85_header};
 pub use crate::message::t85_message;
 pub use crate::options::T85Options;
+pub use crate::parts::{T85Part, t85_next_part};
 pub use crate::summary::{T85Summary, t85_info};
 
 /// The version of the library: a byte each for the first, second and third number.

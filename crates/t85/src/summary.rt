@@ -54,7 +54,7 @@ pub extern "C" fn t85_info(stream: &[u8], summary: &mut T85Summary) -> u8
 }
 
 /// The numbers of a stream in memory.
-fn numbers_of(stream: &[u8]) -> Result<Summary, Fault>
+pub fn numbers_of(stream: &[u8]) -> Result<Summary, Fault>
     ensures numbers { IfOk result (λ s. HasNumbers stream.now (numbers_in s)) }
     ensures refused { IfErr result (λ f. StreamFault stream.now f) }
 {

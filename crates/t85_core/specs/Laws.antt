@@ -1,6 +1,6 @@
 -- The laws of streams, in which height' is the height in use: from 1 to the header's.
 pub mod Worked
-use Rattle.std.specs.Prelude.{ℕ, ◌≡◌, ◌≤◌, ◌⊎◌, Bool, List, ◌∷◌, ◌++◌, length, take, Option, ◌+◌, ◌*◌, unwrap_or, []}
+use Rattle.std.specs.Prelude.{ℕ, ◌≡◌, ◌≤◌, ◌⊎◌, Bool, List, ◌∷◌, ◌++◌, length, take, Option, None, ◌+◌, ◌*◌, unwrap_or, []}
 use Rattle.qm_core.specs.Code.{IsBytes}
 use Rattle.raster_core.specs.Raster.{Raster, IsRaster, height}
 use Rattle.t85_core.specs.declared.fault.Fault.{Fault}
@@ -23,6 +23,8 @@ pub record IsInUse (h : Fields) (height' : ℕ) : Type 0 where
 pub record HeaderLaws : Type 0 where
   pub stands : (bytes more : List ℕ) (h : Fields) → HeaderOf bytes h → HeaderOf (bytes ++ more) h
   pub refusal_stands : (bytes more : List ℕ) → 20 ≤ length bytes → header_fault (bytes ++ more) ≡ header_fault bytes
+  -- what is a header is not refused
+  pub not_refused : (bytes : List ℕ) (h : Fields) → HeaderOf bytes h → header_fault bytes ≡ None
   -- bytes are the header of one list of fields at most
   pub one : (bytes : List ℕ) (h other : Fields) → HeaderOf bytes h → HeaderOf bytes other → h ≡ other
   -- the header that is written is that of its fields

@@ -1,7 +1,7 @@
 use Rattle.std.proofs.Common.{[], subst, append-nil}
 use Rattle.t85_core.specs.Header.{HeaderOf, header_bytes}
 use Rattle.t85_core.proofs.Bytes.Known.{HeaderOf-append, header_fault-append}
-use Rattle.t85_core.proofs.Grammar.Unique.{header_is}
+use Rattle.t85_core.proofs.Grammar.Unique.{accepted, header_is}
 use Rattle.t85_core.proofs.Theorems.CodeDenotes.{header_begins}
 use Rattle.t85_core.proofs.laws.headers.Goals as goal
 
@@ -9,6 +9,7 @@ pub returns : goal.returns
 returns c = record {
   stands = HeaderOf-append;
   refusal_stands = header_fault-append;
+  not_refused = accepted;
   one = λ bytes h other p q. header_is bytes h other p q;
   written = λ h ok. subst (λ bytes. HeaderOf bytes h) (append-nil (header_bytes h)) (header_begins h [] ok);
 }

@@ -1,0 +1,430 @@
+-- A decoder that a C caller holds.
+use Rattle.std.proofs.Common.{◌≡◌, ◌≤◌, ◌<◌, ◌+◌, ◌*◌, ◌⊎◌, inl, inr, ℕ, suc, ◌==◌, Bool, true, false, not, List, [], ◌++◌, length, take, drop, None, Some, refl, sym, ap, subst, ◌∙◌, arith, append_assoc, append-nil, length-take, take_all, take-append-drop}
+use Rattle.std.proofs.lemmas.Bool.Decides.{nat_tests}
+use Rattle.std.proofs.lemmas.List.{length-drop, length-take-le, take-append-le}
+use Rattle.std.proofs.Math.Nat.{mul-le-mul_right, suc-mul}
+use Rattle.std.proofs.Math.Seq.{drop-append_seam}
+use Rattle.std.specs.Int.{div_ceil, from_bool}
+use Rattle.qm_core.specs.Place.{Estimate}
+use Rattle.raster_core.specs.Packed.{Held, rows_at}
+use Rattle.raster_core.specs.Window.{current_place, held, width_of}
+use Rattle.raster_core.specs.declared.window.Window.{Window}
+use Rattle.t85_core.specs.declared.fault.Fault.{Fault}
+use Rattle.t85_core.specs.declared.fault.Fault.TheVariants.{ShortHeader}
+use Rattle.t85_core.specs.declared.header.Header.{Header}
+use Rattle.t85_core.specs.declared.pieces.Outcome.{Outcome}
+use Rattle.t85_core.specs.declared.pieces.Outcome.TheVariants as outcome
+use Rattle.t85_core.specs.declared.pieces.PieceDecoder.{PieceDecoder}
+use Rattle.t85_core.specs.declared.pieces.Progress.{Progress}
+use Rattle.t85_core.specs.Header.{HeaderOf, header_fault}
+use Rattle.t85_core.specs.Laws.{HeaderLaws}
+use Rattle.t85_core.specs.Lent.{decoder_over, decoder_view}
+use Rattle.t85_core.specs.Numbers.{piece_numbers}
+use Rattle.t85_core.specs.Options.{fields_of}
+use Rattle.t85_core.specs.Pieces.{HasDecoded, HandsOut, HoldsImage, IsCall}
+use Rattle.t85_core.specs.Pieces.{call_of as piece_call}
+use Rattle.t85.specs.Decoded.{window_bytes}
+use Rattle.t85.specs.Decoder.{AnnouncesMore, Answers, BehindHeader, Call, GivesRow, HasRead, Hold, InHeader, InRows, IsBroken, IsImage, IsShort, StandAt, bytes_taken, call_of, hold_of, numbers_in}
+use Rattle.t85.specs.DecoderSteps.{IsAwaited, IsFilled, IsJudged, IsOfEngine, IsToldOf}
+use Rattle.t85.specs.declared.decoder.T85Decoder.{T85Decoder}
+use Rattle.t85.specs.declared.decoder.Told.{Told}
+use Rattle.t85.specs.declared.decoder.Answer.{Answer}
+use Rattle.t85.specs.declared.decoder.Answer.TheVariants as answer
+
+-- a byte that says whether something is so
+pub flag : (byte : ℕ) (b : Bool) → byte ≡ from_bool b → not (byte == 0) ≡ b
+flag byte true e = subst (λ n. not (n == 0) ≡ true) (sym e) refl
+flag byte false e = subst (λ n. not (n == 0) ≡ false) (sym e) refl
+
+not_some : (fault : Fault) → None ≡ Some fault → ⊥
+not_some fault e = cc
+
+-- ---- where a decoder stands, by what comes next
+
+pub in_header : (hold : Hold) (stream out : List ℕ) → hold.decoder.next ≡ 0 → HasRead hold stream out → InHeader hold.decoder stream out
+in_header hold stream out e (inl h) = h
+in_header hold stream out e (inr (inl h)) = absurd (omega (arith, e, h.next_is))
+in_header hold stream out e (inr (inr h)) = absurd (omega (arith, e, h.next_is))
+
+pub behind_header : (hold : Hold) (stream out : List ℕ) → hold.decoder.next ≡ 1 → HasRead hold stream out → BehindHeader hold.decoder stream out
+behind_header hold stream out e (inl h) = absurd (omega (arith, e, h.next_is))
+behind_header hold stream out e (inr (inl h)) = h
+behind_header hold stream out e (inr (inr h)) = absurd (omega (arith, e, h.next_is))
+
+pub in_rows : (hold : Hold) (stream out : List ℕ) → hold.decoder.next ≡ 2 → HasRead hold stream out → InRows hold stream out
+in_rows hold stream out e (inl h) = absurd (omega (arith, e, h.next_is))
+in_rows hold stream out e (inr (inl h)) = absurd (omega (arith, e, h.next_is))
+in_rows hold stream out e (inr (inr h)) = h
+
+-- ---- answers, where less is known
+
+pub answers_from : {Has Has' : List ℕ → List ℕ → Type 0} (old mid new : Hold) (call : Call) (what : Answer) → ((stream out : List ℕ) → Has stream out → Has' stream out) → IsOfEngine what → Answers Has' mid new call what → Answers Has old new call what
+answers_from old mid new call answer.Row k of a = record { bound = a.bound; tells = λ s o h. a.tells s o (k s o h) }
+answers_from old mid new call answer.More k of a = record { bound = a.bound; tells = λ s o h. a.tells s o (k s o h) }
+answers_from old mid new call answer.Done k of a = record { bound = a.bound; tells = (a.tells.0, λ s o r h m. a.tells.1 s o r (k s o h) m) }
+answers_from old mid new call (answer.Broken fault) k of a = record { bound = a.bound; tells = (a.tells.0, λ s o r h m. a.tells.1 s o r (k s o h) m) }
+answers_from old mid new call answer.Header k of a = absurd of
+answers_from old mid new call answer.TooManyRows k of a = absurd of
+answers_from old mid new call answer.ShortWindow k of a = absurd of
+answers_from old mid new call answer.NotBegun k of a = absurd of
+answers_from old mid new call (answer.Ended status) k of a = absurd of
+
+-- ---- the header
+
+take_few : (n : ℕ) (xs : List ℕ) → n < 20 → length (take n xs) < 20
+take_few n xs few = subst (λ k. k < 20) (sym (length-take n xs)) (omega (arith, few))
+
+short_fault : (bytes : List ℕ) → length bytes < 20 → header_fault bytes ≡ Some ShortHeader
+short_fault bytes few = grind (arith, nat_tests)
+
+-- it has not come as a whole
+pub header_waits : (d mid new : T85Decoder) (bytes window : List ℕ) (count : ℕ) (is_all : Bool) (what : Answer) → d.version ≡ 1 → d.next ≡ 0 → IsFilled d mid bytes count → mid.header_len < 20 → IsAwaited mid new is_all what →
+    Answers (HasRead (hold_of d window)) (hold_of d window) (hold_of new window) (call_of bytes is_all count 0) what
+header_waits d mid new bytes window count is_all answer.More version next fill few (all, same) = record {
+  bound = omega (arith, fill.count_is);
+  tells = λ stream out has.
+      let was = in_header (hold_of d window) stream out next has in
+      inl (subst (λ z. InHeader z (stream ++ take count bytes) out) (sym same)
+      (record {
+        version_is = fill.version_is ∙ version;
+        next_is = fill.next_is ∙ next;
+        few = few;
+        stream_is = ap (λ s. s ++ take count bytes) was.stream_is ∙ sym fill.filled;
+        out_is = was.out_is;
+      }));
+}
+header_waits d mid new bytes window count is_all (answer.Broken fault) version next fill few (all, is, ended) = record {
+  bound = omega (arith, fill.count_is);
+  tells = (
+    ended,
+    λ stream out rest has follows.
+        let was = in_header (hold_of d window) stream out next has in
+        let none : rest ≡ [] = follows all in
+        let whole : take count bytes ≡ bytes = take_all count bytes (omega (arith, fill.count_is, fill.len_is, few)) in
+        let is_short : length (stream ++ bytes) < 20 = subst (λ s. length s < 20) (fill.filled ∙ ap (λ s. s ++ take count bytes) (sym was.stream_is) ∙ ap (λ b. stream ++ b) whole) (take_few mid.header_len mid.header few) in
+        inl (ap header_fault (ap (λ r. (stream ++ bytes) ++ r) none ∙ append-nil (stream ++ bytes)) ∙ short_fault (stream ++ bytes) is_short ∙ ap Some (sym is), was.out_is),
+  );
+}
+header_waits d mid new bytes window count is_all answer.Header version next fill few none = absurd none
+header_waits d mid new bytes window count is_all answer.Row version next fill few none = absurd none
+header_waits d mid new bytes window count is_all answer.Done version next fill few none = absurd none
+header_waits d mid new bytes window count is_all answer.TooManyRows version next fill few none = absurd none
+header_waits d mid new bytes window count is_all answer.ShortWindow version next fill few none = absurd none
+header_waits d mid new bytes window count is_all answer.NotBegun version next fill few none = absurd none
+header_waits d mid new bytes window count is_all (answer.Ended status) version next fill few none = absurd none
+
+-- what was filled is the stream so far
+module _ (laws : HeaderLaws) (d mid new : T85Decoder) (bytes window : List ℕ) (count : ℕ) (is_all : Bool) (version : d.version ≡ 1) (next : d.next ≡ 0) (few : d.header_len < 20) (fill : IsFilled d mid bytes count) (full : 20 ≤ mid.header_len) where
+  length_is : mid.header_len ≡ 20
+  length_is = omega (arith, fill.count_is, fill.len_is, few, full)
+
+  stream_is : (stream out : List ℕ) → HasRead (hold_of d window) stream out → stream ++ take count bytes ≡ mid.header
+  stream_is stream out has =
+      let was = in_header (hold_of d window) stream out next has in
+      ap (λ s. s ++ take count bytes) was.stream_is ∙ sym fill.filled ∙ take_all mid.header_len mid.header (omega (arith, fill.long, full))
+
+  out_is : (stream out : List ℕ) → HasRead (hold_of d window) stream out → out ≡ []
+  out_is stream out has = (in_header (hold_of d window) stream out next has).out_is
+
+  goes_on : (stream out rest : List ℕ) → HasRead (hold_of d window) stream out → (stream ++ bytes) ++ rest ≡ mid.header ++ (drop count bytes ++ rest)
+  goes_on stream out rest has =
+      ap (λ b. (stream ++ b) ++ rest) (sym (take-append-drop count bytes)) ∙ ap (λ s. s ++ rest) (sym (append_assoc stream (take count bytes) (drop count bytes)))
+      ∙ ap (λ s. (s ++ drop count bytes) ++ rest) (stream_is stream out has) ∙ append_assoc mid.header (drop count bytes) rest
+
+  -- and it is judged
+  pub header_judged : (what : Answer) → IsJudged mid new what → Answers (HasRead (hold_of d window)) (hold_of d window) (hold_of new window) (call_of bytes is_all count 0) what
+  header_judged answer.Header is = record {
+    bound = omega (arith, fill.count_is);
+    tells = λ stream out has.
+        subst (λ s. BehindHeader new s out) (sym (stream_is stream out has)) (subst (λ o. BehindHeader new mid.header o) (sym (out_is stream out has)) is);
+  }
+  header_judged answer.TooManyRows is = record {
+    bound = omega (arith, fill.count_is);
+    tells = (is.0, λ stream out has. subst (λ s. AnnouncesMore s new.max_rows) (sym (stream_is stream out has)) is.1);
+  }
+  header_judged (answer.Broken fault) is = record {
+    bound = omega (arith, fill.count_is);
+    tells = (
+      is.0,
+      λ stream out rest has follows.
+          inl (ap header_fault (goes_on stream out rest has) ∙ laws.refusal_stands mid.header (drop count bytes ++ rest) (omega (arith, fill.long)) ∙ is.1, out_is stream out has),
+    );
+  }
+  header_judged answer.Row is = absurd is
+  header_judged answer.More is = absurd is
+  header_judged answer.Done is = absurd is
+  header_judged answer.ShortWindow is = absurd is
+  header_judged answer.NotBegun is = absurd is
+  header_judged (answer.Ended status) is = absurd is
+
+-- ---- the rows
+
+-- those of a window are those of its memory, at its place
+window_rows : (window : Window) (place width : ℕ) (memory : List ℕ) → current_place window ≡ place → width_of window ≡ width → memory ≡ window.rows.now → held window ≡ rows_at place width memory
+window_rows window place width memory at wide is =
+    ap (λ p. rows_at p window.width window.rows.now) at ∙ ap (λ n. rows_at place n window.rows.now) wide ∙ ap (λ m. rows_at place width m) (sym is)
+
+-- they begin behind the header
+pub rows_entered : (old new : T85Decoder) (memory memory' : List ℕ) (header : Header) (e : PieceDecoder) (window : Window) (learned : List Estimate) (stream out : List ℕ) → old.next ≡ 1 → HeaderOf old.header (fields_of header) → length memory' ≡ window_bytes header.xd →
+    e.header ≡ header → HasDecoded (decoder_over e window learned) [] [] → new.version ≡ 1 → new.next ≡ 2 → new.header ≡ old.header → new.place < 3 → current_place window ≡ new.place → width_of window ≡ header.xd → memory' ≡ window.rows.now → new.learned ≡ learned → numbers_in new ≡ piece_numbers e →
+    HasRead (hold_of old memory) stream out → InRows (hold_of new memory') stream out
+rows_entered old new memory memory' header e window learned stream out next header_of long header_is has version next' head small at wide is learned_is numbers read =
+    let was = behind_header (hold_of old memory) stream out next read in
+    record {
+      version_is = version;
+      next_is = next';
+      place_to = small;
+      decoder = e;
+      header_of = subst (λ h. HeaderOf h (fields_of e.header)) (sym head) (subst (λ h. HeaderOf old.header (fields_of h)) (sym header_is) header_of);
+      numbers_are = numbers;
+      text = [];
+      stream_is = was.stream_is ∙ sym head ∙ sym (append-nil new.header);
+      has = subst (λ o. HasDecoded (decoder_view e (rows_at new.place e.header.xd (take (window_bytes e.header.xd) memory')) new.learned) [] o) (sym was.out_is)
+          (subst (λ h. HasDecoded (decoder_view e (rows_at new.place h.xd (take (window_bytes h.xd) memory')) new.learned) [] []) (sym header_is)
+          (subst (λ m. HasDecoded (decoder_view e (rows_at new.place header.xd m) new.learned) [] []) (sym (take_all (window_bytes header.xd) memory' (omega (arith, long))))
+          (subst (λ l. HasDecoded (decoder_view e (rows_at new.place header.xd memory') l) [] []) (sym learned_is)
+          (subst (λ rows. HasDecoded (decoder_view e rows learned) [] []) (window_rows window new.place header.xd memory' at wide is) has))));
+    }
+
+-- a call with windows over the memory
+pub call_in : (e e' : PieceDecoder) (window window' : Window) (learned learned' : List Estimate) (place place' width : ℕ) (memory memory' bytes : List ℕ) (is_all : Bool) (progress : Progress) → held window ≡ rows_at place width memory → current_place window' ≡ place' → width_of window' ≡ width → memory' ≡ window'.rows.now →
+    IsCall (decoder_over e window learned) (piece_call bytes is_all progress (decoder_over e' window' learned')) → IsCall (decoder_view e (rows_at place width memory) learned) (piece_call bytes is_all progress (decoder_view e' (rows_at place' width memory') learned'))
+call_in e e' window window' learned learned' place place' width memory memory' bytes is_all progress before at wide is call =
+    subst (λ rows. IsCall (decoder_view e rows learned) (piece_call bytes is_all progress (decoder_view e' (rows_at place' width memory') learned'))) before
+    (subst (λ rows. IsCall (decoder_over e window learned) (piece_call bytes is_all progress (decoder_view e' rows learned'))) (window_rows window' place' width memory' at wide is) call)
+
+-- behind a header that is refused no decoder stands
+pub none_refused : HeaderLaws → (hold : Hold) (fault : Fault) (stream out : List ℕ) → (hold.decoder.next ≡ 1) ⊎ (hold.decoder.next ≡ 2) → header_fault hold.decoder.header ≡ Some fault → HasRead hold stream out → ⊥
+none_refused laws hold fault stream out (inl e) refused has =
+    let was = behind_header hold stream out e has in
+    not_some fault (sym (laws.not_refused hold.decoder.header was.header was.header_of) ∙ refused)
+none_refused laws hold fault stream out (inr e) refused has =
+    let was = in_rows hold stream out e has in
+    not_some fault (sym (laws.not_refused hold.decoder.header (fields_of was.decoder.header) was.header_of) ∙ refused)
+
+-- and the stream of one that stands behind its header begins with that
+pub short_of : HeaderLaws → (hold : Hold) (header : Header) (stream out : List ℕ) → (hold.decoder.next ≡ 1) ⊎ (hold.decoder.next ≡ 2) → HeaderOf hold.decoder.header (fields_of header) → length hold.window < window_bytes header.xd → HasRead hold stream out → IsShort hold.window stream
+short_of laws hold header stream out (inl e) header_of short has =
+    record { header = fields_of header; header_of = subst (λ s. HeaderOf s (fields_of header)) (sym (behind_header hold stream out e has).stream_is) header_of; short = short }
+short_of laws hold header stream out (inr e) header_of short has =
+    let was = in_rows hold stream out e has in
+    record { header = fields_of header; header_of = subst (λ s. HeaderOf s (fields_of header)) (sym was.stream_is) (laws.stands hold.decoder.header was.text (fields_of header) header_of); short = short }
+
+-- the row at a place of a window's memory
+placed_fits : (long place : ℕ) (memory : List ℕ) → place < 3 → length memory ≡ 3 * long → place * long + long ≤ length memory
+placed_fits long place memory small whole = subst (λ n. place * long + long ≤ n) (sym whole) (subst (λ n. n ≤ 3 * long) (suc-mul place long) (mul-le-mul_right {m = suc place} {n = 3} long small))
+
+placed_within : (long place : ℕ) (memory : List ℕ) → place < 3 → length memory ≡ 3 * long → length (take long (drop (place * long) memory)) ≡ long
+placed_within long place memory small whole = length-take-le long (drop (place * long) memory) (subst (λ n. long ≤ n) (sym (length-drop (place * long) memory)) (omega (arith, placed_fits long place memory small whole)))
+
+stands_placed : (long place at : ℕ) (memory : List ℕ) → place < 3 → length memory ≡ 3 * long → at ≡ place * long → StandAt at (take long (drop (place * long) memory)) memory
+stands_placed long place at memory small whole is = record {
+  front = take (place * long) memory;
+  back = drop long (drop (place * long) memory);
+  others_are = sym (take-append-drop (place * long) memory) ∙ ap (λ m. take (place * long) memory ++ m) (sym (take-append-drop long (drop (place * long) memory)));
+  place_is = length-take-le (place * long) memory (omega (arith, placed_fits long place memory small whole)) ∙ sym is;
+}
+
+module _ (laws : HeaderLaws) (old kept new : T85Decoder) (memory memory' : List ℕ) (header : Header) (e e' : PieceDecoder) (learned' : List Estimate) (bytes : List ℕ) (is_all : Bool) (progress : Progress) (told : Told)
+    (long : length memory ≡ window_bytes header.xd) (long' : length memory' ≡ window_bytes header.xd) (head : length old.header ≡ 20) (header_of : HeaderOf old.header (fields_of header)) (version : old.version ≡ 1) (next : old.next ≡ 2)
+    (resumes : (d : PieceDecoder) (rows : Held) (learned : List Estimate) (text out : List ℕ) → HasDecoded (decoder_view d rows learned) text out → fields_of d.header ≡ fields_of header → numbers_in old ≡ piece_numbers d → HasDecoded (decoder_view e rows learned) text out)
+    (header_is : e.header ≡ header) (numbers : numbers_in kept ≡ piece_numbers e') (small : kept.place < 3) (header_kept : kept.header ≡ old.header) (version_kept : kept.version ≡ old.version) (next_kept : kept.next ≡ old.next) (learned_kept : kept.learned ≡ learned')
+    (call : IsCall (decoder_view e (rows_at old.place header.xd memory) old.learned) (piece_call bytes is_all progress (decoder_view e' (rows_at kept.place header.xd memory') learned')))
+    (taken : told.taken ≡ progress.taken) where
+  fields_same : fields_of e'.header ≡ fields_of header
+  fields_same = call.same ∙ ap fields_of header_is
+
+  -- what the engine has, in whatever stream
+  has_of : (stream out : List ℕ) (k : InRows (hold_of old memory) stream out) → HasDecoded (decoder_view e (rows_at old.place header.xd memory) old.learned) k.text out
+  has_of stream out k =
+      let same = laws.one old.header (fields_of k.decoder.header) (fields_of header) k.header_of header_of in
+      let wide : k.decoder.header.xd ≡ header.xd = ap (λ f. f.xd) same in
+      resumes k.decoder (rows_at old.place header.xd memory) old.learned k.text out
+      (subst (λ m. HasDecoded (decoder_view k.decoder (rows_at old.place header.xd m) old.learned) k.text out) (take_all (window_bytes header.xd) memory (omega (arith, long)))
+      (subst (λ w. HasDecoded (decoder_view k.decoder (rows_at old.place w (take (window_bytes w) memory)) old.learned) k.text out) wide k.has)) same k.numbers_are
+
+  rows_of : (stream out text out' : List ℕ) → stream ≡ old.header ++ text → HasDecoded (decoder_view e' (rows_at kept.place header.xd memory') learned') text out' → InRows (hold_of kept memory') stream out'
+  rows_of stream out text out' is has =
+      let wide : e'.header.xd ≡ header.xd = ap (λ f. f.xd) fields_same in
+      record {
+        version_is = version_kept ∙ version;
+        next_is = next_kept ∙ next;
+        place_to = small;
+        decoder = e';
+        header_of = subst (λ h. HeaderOf h (fields_of e'.header)) (sym header_kept) (subst (λ f. HeaderOf old.header f) (sym fields_same) header_of);
+        numbers_are = numbers;
+        text = text;
+        stream_is = is ∙ ap (λ h. h ++ text) (sym header_kept);
+        has = subst (λ w. HasDecoded (decoder_view e' (rows_at kept.place w (take (window_bytes w) memory')) kept.learned) text out') (sym wide)
+            (subst (λ m. HasDecoded (decoder_view e' (rows_at kept.place header.xd m) kept.learned) text out') (sym (take_all (window_bytes header.xd) memory' (omega (arith, long'))))
+            (subst (λ l. HasDecoded (decoder_view e' (rows_at kept.place header.xd memory') l) text out') (sym learned_kept) has));
+      }
+
+  further : (stream out : List ℕ) (k : InRows (hold_of old memory) stream out) → stream ++ take told.taken bytes ≡ old.header ++ (k.text ++ take progress.taken bytes)
+  further stream out k = ap (λ n. stream ++ take n bytes) taken ∙ ap (λ s. s ++ take progress.taken bytes) k.stream_is ∙ append_assoc old.header k.text (take progress.taken bytes)
+
+  all_of : (stream out rest : List ℕ) (k : InRows (hold_of old memory) stream out) → (stream ++ bytes) ++ rest ≡ old.header ++ ((k.text ++ bytes) ++ rest)
+  all_of stream out rest k = ap (λ s. (s ++ bytes) ++ rest) k.stream_is ∙ ap (λ s. s ++ rest) (append_assoc old.header k.text bytes) ∙ append_assoc old.header (k.text ++ bytes) rest
+
+  behind : (more : List ℕ) → drop 20 (old.header ++ more) ≡ more
+  behind more = ap (λ n. drop n (old.header ++ more)) (sym head) ∙ drop-append_seam old.header more
+
+  bound : told.taken ≤ length bytes
+  bound = subst (λ n. n ≤ length bytes) (sym taken) call.bound
+
+  height_of : kept.height ≡ e'.height
+  height_of = ap (λ n. n.height) numbers
+
+  pub row_told : (what : Outcome) → progress.outcome ≡ what → IsToldOf what header kept new told → IsOfEngine told.answer × Answers (InRows (hold_of old memory)) (hold_of old memory) (hold_of new memory') (call_of bytes is_all told.taken told.row) told.answer
+  unfolding rows_of
+  row_told outcome.Row e1 (is, same, at) =
+      subst (λ a. IsOfEngine a × Answers (InRows (hold_of old memory)) (hold_of old memory) (hold_of new memory') (call_of bytes is_all told.taken told.row) a) (sym is) (
+        tt,
+        record {
+          bound = bound;
+          tells = λ stream out k.
+              subst (λ d. GivesRow (hold_of d memory') (call_of bytes is_all told.taken told.row) (stream ++ take told.taken bytes) out) (sym same)
+              (let has = rows_of (stream ++ take told.taken bytes) out (k.text ++ take progress.taken bytes) (out ++ (rows_at kept.place header.xd memory').current) (further stream out k) (call.row e1 k.text out (has_of stream out k)) in
+              let wide = placed_within (div_ceil header.xd 8) kept.place memory' small long' in
+              record {
+                row = (rows_at kept.place header.xd memory').current;
+                stands = stands_placed (div_ceil header.xd 8) kept.place told.row memory' small long' at;
+                has = has;
+                whole = wide ∙ ap (λ f. div_ceil f.xd 8) (sym fields_same);
+              });
+        },
+      )
+  row_told outcome.More e1 (is, same) =
+      subst (λ a. IsOfEngine a × Answers (InRows (hold_of old memory)) (hold_of old memory) (hold_of new memory') (call_of bytes is_all told.taken told.row) a) (sym is) (
+        tt,
+        record {
+          bound = bound;
+          tells = λ stream out k.
+              subst (λ d. HasRead (hold_of d memory') (stream ++ take told.taken bytes) out) (sym same)
+              (inr (inr (rows_of (stream ++ take told.taken bytes) out (k.text ++ take progress.taken bytes) out (further stream out k) (call.more e1 k.text out (has_of stream out k)).0)));
+        },
+      )
+  row_told (outcome.Done height) e1 (is, ended, same) =
+      subst (λ a. IsOfEngine a × Answers (InRows (hold_of old memory)) (hold_of old memory) (hold_of new memory') (call_of bytes is_all told.taken told.row) a) (sym is) (
+        tt,
+        record {
+          bound = bound;
+          tells = (
+            ended,
+            λ stream out rest k follows.
+                let high : height ≡ new.height = sym (same ∙ height_of ∙ (call.done height e1).0) in
+                subst (λ s. IsImage s new.height out) (sym (all_of stream out rest k))
+                (record {
+                  header = fields_of header;
+                  header_of = laws.stands old.header ((k.text ++ bytes) ++ rest) (fields_of header) header_of;
+                  holds = subst (λ b. HoldsImage (fields_of header) b new.height out) (sym (behind ((k.text ++ bytes) ++ rest)))
+                      (subst (λ n. HoldsImage (fields_of header) ((k.text ++ bytes) ++ rest) n out) high
+                      (subst (λ h. HoldsImage (fields_of h) ((k.text ++ bytes) ++ rest) height out) header_is ((call.done height e1).1 k.text out rest (has_of stream out k) follows)));
+                }),
+          );
+        },
+      )
+  row_told (outcome.Broken fault) e1 (is, ended, same) =
+      subst (λ a. IsOfEngine a × Answers (InRows (hold_of old memory)) (hold_of old memory) (hold_of new memory') (call_of bytes is_all told.taken told.row) a) (sym is) (
+        tt,
+        record {
+          bound = bound;
+          tells = (
+            ended,
+            λ stream out rest k follows.
+                let high : e'.height ≡ new.height = sym (same ∙ height_of) in
+                subst (λ s. IsBroken s new.height fault out) (sym (all_of stream out rest k))
+                (inr (record {
+                  header = fields_of header;
+                  header_of = laws.stands old.header ((k.text ++ bytes) ++ rest) (fields_of header) header_of;
+                  hands = subst (λ b. HandsOut (fields_of header) b new.height fault out) (sym (behind ((k.text ++ bytes) ++ rest)))
+                      (subst (λ n. HandsOut (fields_of header) ((k.text ++ bytes) ++ rest) n fault out) high
+                      (subst (λ h. HandsOut (fields_of h) ((k.text ++ bytes) ++ rest) e'.height fault out) header_is (call.broken fault e1 k.text out rest (has_of stream out k) follows)));
+                })),
+          );
+        },
+      )
+
+-- ---- nothing taken
+
+pub not_begun : (hold : Hold) (bytes : List ℕ) (is_all : Bool) (told : Told) → told.answer ≡ answer.NotBegun → told.taken ≡ 0 → ((stream out : List ℕ) → HasRead hold stream out → ⊥) → Answers (HasRead hold) hold hold (call_of bytes is_all told.taken told.row) told.answer
+not_begun hold bytes is_all told is none never =
+    subst (λ a. Answers (HasRead hold) hold hold (call_of bytes is_all told.taken told.row) a) (sym is)
+    (record { bound = omega (arith, none); tells = (record { same = refl; none = none }, never) })
+
+pub short_window : (hold : Hold) (bytes : List ℕ) (is_all : Bool) (told : Told) → told.answer ≡ answer.ShortWindow → told.taken ≡ 0 → ((stream out : List ℕ) → HasRead hold stream out → IsShort hold.window stream) → Answers (HasRead hold) hold hold (call_of bytes is_all told.taken told.row) told.answer
+short_window hold bytes is_all told is none short =
+    subst (λ a. Answers (HasRead hold) hold hold (call_of bytes is_all told.taken told.row) a) (sym is)
+    (record { bound = omega (arith, none); tells = (record { same = refl; none = none }, short) })
+
+-- ---- a window that is longer than three rows
+
+take_long : (n : ℕ) (xs : List ℕ) → length (take n xs) ≤ n
+take_long n xs = subst (λ k. k ≤ n) (sym (length-take n xs)) (omega arith)
+
+module _ (laws : HeaderLaws) (d d' : T85Decoder) (window memory' rest : List ℕ) (needed : ℕ) (header : Header) (header_of : HeaderOf d.header (fields_of header)) (same : d'.header ≡ d.header) (needed_is : needed ≡ window_bytes header.xd) (long' : length memory' ≡ needed) where
+  wide : (hold : Hold) (stream out : List ℕ) → hold.decoder.header ≡ d.header → (k : InRows hold stream out) → window_bytes k.decoder.header.xd ≡ needed
+  wide hold stream out is k = ap (λ f. window_bytes f.xd) (laws.one d.header (fields_of k.decoder.header) (fields_of header) (subst (λ h. HeaderOf h (fields_of k.decoder.header)) is k.header_of) header_of) ∙ sym needed_is
+
+  rows_lent : (stream out : List ℕ) → InRows (hold_of d window) stream out → InRows (hold_of d (take needed window)) stream out
+  rows_lent stream out k = record {
+    version_is = k.version_is;
+    next_is = k.next_is;
+    place_to = k.place_to;
+    decoder = k.decoder;
+    header_of = k.header_of;
+    numbers_are = k.numbers_are;
+    text = k.text;
+    stream_is = k.stream_is;
+    has = subst (λ m. HasDecoded (decoder_view k.decoder (rows_at d.place k.decoder.header.xd m) d.learned) k.text out)
+        (subst (λ n. take n window ≡ take n (take needed window)) (sym (wide (hold_of d window) stream out refl k)) (sym (take_all needed (take needed window) (take_long needed window)))) k.has;
+  }
+
+  lent : (stream out : List ℕ) → HasRead (hold_of d window) stream out → HasRead (hold_of d (take needed window)) stream out
+  lent stream out (inl h) = inl h
+  lent stream out (inr (inl h)) = inr (inl h)
+  lent stream out (inr (inr k)) = inr (inr (rows_lent stream out k))
+
+  rows_back : (stream out : List ℕ) → InRows (hold_of d' memory') stream out → InRows (hold_of d' (memory' ++ rest)) stream out
+  rows_back stream out k = record {
+    version_is = k.version_is;
+    next_is = k.next_is;
+    place_to = k.place_to;
+    decoder = k.decoder;
+    header_of = k.header_of;
+    numbers_are = k.numbers_are;
+    text = k.text;
+    stream_is = k.stream_is;
+    has = subst (λ m. HasDecoded (decoder_view k.decoder (rows_at d'.place k.decoder.header.xd m) d'.learned) k.text out)
+        (sym (take-append-le (window_bytes k.decoder.header.xd) memory' rest (omega (arith, wide (hold_of d' memory') stream out same k, long')))) k.has;
+  }
+
+  back : (stream out : List ℕ) → HasRead (hold_of d' memory') stream out → HasRead (hold_of d' (memory' ++ rest)) stream out
+  back stream out (inl h) = inl h
+  back stream out (inr (inl h)) = inr (inl h)
+  back stream out (inr (inr k)) = inr (inr (rows_back stream out k))
+
+  row_back : (call : Call) (stream out : List ℕ) → GivesRow (hold_of d' memory') call stream out → GivesRow (hold_of d' (memory' ++ rest)) call stream out
+  unfolding rows_back
+  row_back call stream out g = record {
+    row = g.row;
+    stands = record {
+      front = g.stands.front;
+      back = g.stands.back ++ rest;
+      others_are = ap (λ m. m ++ rest) g.stands.others_are ∙ append_assoc g.stands.front (g.row ++ g.stands.back) rest ∙ ap (λ m. g.stands.front ++ m) (append_assoc g.row g.stands.back rest);
+      place_is = g.stands.place_is;
+    };
+    has = rows_back stream (out ++ g.row) g.has;
+    whole = g.whole;
+  }
+
+  pub window_cut : (call : Call) (what : Answer) → IsOfEngine what → Answers (HasRead (hold_of d (take needed window))) (hold_of d (take needed window)) (hold_of d' memory') call what → Answers (HasRead (hold_of d window)) (hold_of d window) (hold_of d' (memory' ++ rest)) call what
+  window_cut call answer.Row of a = record { bound = a.bound; tells = λ s o h. row_back call (s ++ bytes_taken call) o (a.tells s o (lent s o h)) }
+  window_cut call answer.More of a = record { bound = a.bound; tells = λ s o h. back (s ++ bytes_taken call) o (a.tells s o (lent s o h)) }
+  window_cut call answer.Done of a = record { bound = a.bound; tells = (a.tells.0, λ s o r h m. a.tells.1 s o r (lent s o h) m) }
+  window_cut call (answer.Broken fault) of a = record { bound = a.bound; tells = (a.tells.0, λ s o r h m. a.tells.1 s o r (lent s o h) m) }
+  window_cut call answer.Header of a = absurd of
+  window_cut call answer.TooManyRows of a = absurd of
+  window_cut call answer.ShortWindow of a = absurd of
+  window_cut call answer.NotBegun of a = absurd of
+  window_cut call (answer.Ended status) of a = absurd of

@@ -1,0 +1,205 @@
+-- A decoder that a C caller holds, and what its calls leave.
+use Rattle.std.specs.Prelude.{ℕ, ◌≡◌, ◌≢◌, ◌≤◌, ◌<◌, ◌⊎◌, ◌==◌, not, Bool, List, [], ◌++◌, length, take, drop, Some}
+use Rattle.std.specs.Int.{div_ceil}
+use Rattle.raster_core.specs.Packed.{rows_at}
+use Rattle.t85_core.specs.declared.fault.Fault.{Fault}
+use Rattle.t85_core.specs.declared.pieces.PieceDecoder.{PieceDecoder}
+use Rattle.t85_core.specs.declared.pieces.numbers.PieceNumbers.{PieceNumbers}
+use Rattle.t85_core.specs.Fault.{fault_number}
+use Rattle.t85_core.specs.Header.{Fields, HeaderOf, header_fault}
+use Rattle.t85_core.specs.Lent.{decoder_view}
+use Rattle.t85_core.specs.Numbers.{piece_numbers}
+use Rattle.t85_core.specs.Options.{fields_of}
+use Rattle.t85_core.specs.Pieces.{HasDecoded, HandsOut, HoldsImage, MayFollow}
+use Rattle.t85.specs.Decoded.{window_bytes}
+use Rattle.t85.specs.declared.decoder.T85Decoder.{T85Decoder}
+use Rattle.t85.specs.declared.decoder.Answer.{Answer}
+use Rattle.t85.specs.declared.decoder.Answer.TheVariants as answer
+
+-- the numbers of the engine's decoder that the struct has
+abbrev pub numbers_in : T85Decoder → PieceNumbers
+numbers_in d = record {
+  height = d.height;
+  is_open = not (d.is_open == 0);
+  waits = not (d.waits == 0);
+  move_behind = record { is_there = not (d.has_move_behind == 0); row = d.move_behind_row; offset = d.move_behind_offset };
+  has_comment_behind = not (d.has_comment_behind == 0);
+  comment_behind = d.comment_behind;
+  stage = d.stage;
+  entities = d.entities;
+  left = d.left;
+  is_given = not (d.is_given == 0);
+  move_here = record { is_there = not (d.has_move == 0); row = d.move_row; offset = d.move_offset };
+  comment = d.comment;
+  row = d.row;
+  place = record { is_begun = not (d.is_begun == 0); done = d.done; past_high = d.past_high; past_low = d.past_low };
+  ahead = d.ahead;
+  marker = d.marker;
+  offset = d.offset;
+  is_previous_typical = not (d.is_previous_typical == 0);
+  decoder = record { code = d.code; span = d.span; bits = d.bits; has_ended = not (d.has_ended == 0) };
+}
+
+-- what there is between two calls: the struct, and the bytes of the window
+pub record Hold : Type 0 where
+  pub decoder : T85Decoder
+  pub window : List ℕ
+
+abbrev pub hold_of : T85Decoder → List ℕ → Hold
+hold_of decoder window = record { decoder = decoder; window = window }
+
+-- a call: the bytes, whether they are the last, how many of them were taken, and where the window has the row
+pub record Call : Type 0 where
+  pub bytes : List ℕ
+  pub is_all : Bool
+  pub taken : ℕ
+  pub row : ℕ
+
+abbrev pub call_of : List ℕ → Bool → ℕ → ℕ → Call
+call_of bytes is_all taken row = record { bytes = bytes; is_all = is_all; taken = taken; row = row }
+
+abbrev pub bytes_taken : Call → List ℕ
+bytes_taken call = take call.taken call.bytes
+
+-- ---- where a decoder stands that was given this stream so far, and has given these rows, packed
+
+-- in the header
+pub record InHeader (d : T85Decoder) (stream out : List ℕ) : Type 0 where
+  pub version_is : d.version ≡ 1
+  pub next_is : d.next ≡ 0
+  pub few : d.header_len < 20
+  pub stream_is : stream ≡ take d.header_len d.header
+  pub out_is : out ≡ []
+
+-- behind the header, of which no more rows are announced than the caller takes
+pub record BehindHeader (d : T85Decoder) (stream out : List ℕ) : Type 0 where
+  pub version_is : d.version ≡ 1
+  pub next_is : d.next ≡ 1
+  pub header : Fields
+  pub header_of : HeaderOf d.header header
+  pub within : header.yd ≤ d.max_rows
+  pub stream_is : stream ≡ d.header
+  pub out_is : out ≡ []
+
+-- among the rows: what is kept are the numbers of a decoder that has decoded so far
+pub record InRows (hold : Hold) (stream out : List ℕ) : Type 0 where
+  pub version_is : hold.decoder.version ≡ 1
+  pub next_is : hold.decoder.next ≡ 2
+  pub place_to : hold.decoder.place < 3
+  pub decoder : PieceDecoder
+  pub header_of : HeaderOf hold.decoder.header (fields_of decoder.header)
+  pub numbers_are : numbers_in hold.decoder ≡ piece_numbers decoder
+  pub text : List ℕ
+  pub stream_is : stream ≡ hold.decoder.header ++ text
+  pub has : HasDecoded (decoder_view decoder (rows_at hold.decoder.place decoder.header.xd (take (window_bytes decoder.header.xd) hold.window)) hold.decoder.learned) text out
+
+-- The struct and the window are as calls leave them that were given this stream so far, and have given these rows, packed.
+abbrev pub HasRead : Hold → List ℕ → List ℕ → Type 0
+HasRead hold stream out = InHeader hold.decoder stream out ⊎ BehindHeader hold.decoder stream out ⊎ InRows hold stream out
+
+-- ---- what a call leaves
+
+-- the stream has ended, with this status
+pub record HasEnded (d : T85Decoder) (status : ℕ) : Type 0 where
+  pub version_is : d.version ≡ 1
+  pub next_is : d.next ≡ 3
+  pub status_is : d.status ≡ status
+
+-- nothing was taken or changed
+pub record IsKept (old new : Hold) (call : Call) : Type 0 where
+  pub same : new ≡ old
+  pub none : call.taken ≡ 0
+
+-- bytes stand in others behind so many of them
+pub record StandAt (place : ℕ) (bytes others : List ℕ) : Type 0 where
+  pub front : List ℕ
+  pub back : List ℕ
+  pub others_are : others ≡ front ++ (bytes ++ back)
+  pub place_is : length front ≡ place
+
+-- A row more was given. It stands in the window, packed.
+pub record GivesRow (new : Hold) (call : Call) (stream out : List ℕ) : Type 0 where
+  pub row : List ℕ
+  pub stands : StandAt call.row row new.window
+  pub has : InRows new stream (out ++ row)
+  pub whole : length row ≡ div_ceil has.decoder.header.xd 8
+
+-- a stream whose image is whole, with this height and these rows
+pub record IsImage (stream : List ℕ) (height : ℕ) (out : List ℕ) : Type 0 where
+  pub header : Fields
+  pub header_of : HeaderOf stream header
+  pub holds : HoldsImage header (drop 20 stream) height out
+
+-- A stream that is broken or ends too early, in its header or behind it. These are the rows that it fixes.
+pub record BreaksBehind (stream : List ℕ) (height : ℕ) (fault : Fault) (out : List ℕ) : Type 0 where
+  pub header : Fields
+  pub header_of : HeaderOf stream header
+  pub hands : HandsOut header (drop 20 stream) height fault out
+
+abbrev pub IsBroken : List ℕ → ℕ → Fault → List ℕ → Type 0
+IsBroken stream height fault out = ((header_fault stream ≡ Some fault) × (out ≡ [])) ⊎ BreaksBehind stream height fault out
+
+-- a stream's header announces more rows than these
+pub record AnnouncesMore (stream : List ℕ) (rows : ℕ) : Type 0 where
+  pub header : Fields
+  pub header_of : HeaderOf stream header
+  pub more : rows < header.yd
+
+-- a window is shorter than three rows of a stream
+pub record IsShort (window stream : List ℕ) : Type 0 where
+  pub header : Fields
+  pub header_of : HeaderOf stream header
+  pub short : length window < window_bytes header.xd
+
+abbrev pub status_of : Answer → ℕ
+status_of answer.Done = 0
+status_of (answer.Broken fault) = fault_number fault
+status_of answer.ShortWindow = 19
+status_of answer.TooManyRows = 24
+status_of answer.NotBegun = 53
+status_of answer.Header = 60
+status_of answer.Row = 61
+status_of answer.More = 62
+status_of (answer.Ended status) = status
+
+-- What an answer says, where `Has` holds of each stream that a decoder may have been given, and the rows that it gave.
+abbrev pub Tells : (Has : List ℕ → List ℕ → Type 0) → Hold → Hold → Call → Answer → Type 0
+Tells Has old new call answer.Header = (stream out : List ℕ) → Has stream out → BehindHeader new.decoder (stream ++ bytes_taken call) out
+Tells Has old new call answer.Row = (stream out : List ℕ) → Has stream out → GivesRow new call (stream ++ bytes_taken call) out
+Tells Has old new call answer.More = (stream out : List ℕ) → Has stream out → HasRead new (stream ++ bytes_taken call) out
+Tells Has old new call answer.Done =
+    HasEnded new.decoder 0 × ((stream out rest : List ℕ) → Has stream out → MayFollow call.is_all rest → IsImage ((stream ++ call.bytes) ++ rest) new.decoder.height out)
+Tells Has old new call (answer.Broken fault) =
+    HasEnded new.decoder (fault_number fault) × ((stream out rest : List ℕ) → Has stream out → MayFollow call.is_all rest → IsBroken ((stream ++ call.bytes) ++ rest) new.decoder.height fault out)
+Tells Has old new call answer.TooManyRows = HasEnded new.decoder 24 × ((stream out : List ℕ) → Has stream out → AnnouncesMore (stream ++ bytes_taken call) new.decoder.max_rows)
+Tells Has old new call answer.ShortWindow = IsKept old new call × ((stream out : List ℕ) → Has stream out → IsShort old.window stream)
+Tells Has old new call answer.NotBegun = IsKept old new call × ((stream out : List ℕ) → Has stream out → ⊥)
+Tells Has old new call (answer.Ended status) = IsKept old new call × HasEnded old.decoder status
+
+-- what a call leaves that answers so
+pub record Answers (Has : List ℕ → List ℕ → Type 0) (old new : Hold) (call : Call) (what : Answer) : Type 0 where
+  pub bound : call.taken ≤ length call.bytes
+  pub tells : Tells Has old new call what
+
+-- what a call leaves, and its status
+pub record IsAnswered (old new : Hold) (call : Call) (status : ℕ) : Type 0 where
+  pub what : Answer
+  pub status_is : status ≡ status_of what
+  pub answers : Answers (HasRead old) old new call what
+
+-- ---- the beginning
+
+-- It has read nothing yet.
+pub record Begins (max_rows : ℕ) (new : T85Decoder) (status : ℕ) : Type 0 where
+  pub status_is : status ≡ 0
+  pub limit_is : new.max_rows ≡ max_rows
+  pub none : InHeader new [] []
+
+-- The caller's struct is of another size.
+pub record IsOfAnotherSize (size : ℕ) (old new : T85Decoder) (status : ℕ) : Type 0 where
+  pub other : size ≢ 1280
+  pub status_is : status ≡ 50
+  pub kept : new ≡ old
+
+abbrev pub IsBegun : ℕ → ℕ → T85Decoder → T85Decoder → ℕ → Type 0
+IsBegun size max_rows old new status = ((size ≡ 1280) × Begins max_rows new status) ⊎ IsOfAnotherSize size old new status

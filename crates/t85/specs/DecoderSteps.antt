@@ -1,0 +1,89 @@
+-- What the steps of a decoder leave that a C caller holds.
+use Rattle.std.specs.Prelude.{ℕ, ◌+◌, ◌-◌, ◌≡◌, ◌*◌, ◌<◌, ◌++◌, ⊤, length, min, take, ◌⊎◌, Bool, true, false, List, [], Some}
+use Rattle.std.specs.Int.{div_ceil}
+use Rattle.t85_core.specs.declared.fault.Fault.TheVariants.{ShortHeader}
+use Rattle.t85_core.specs.declared.pieces.Outcome.{Outcome}
+use Rattle.t85_core.specs.declared.pieces.Outcome.TheVariants as outcome
+use Rattle.t85_core.specs.Fault.{fault_number}
+use Rattle.t85_core.specs.Header.{HeaderOf, header_fault}
+use Rattle.t85_core.specs.Options.{fields_of}
+use Rattle.t85_core.specs.declared.header.Header.{Header}
+use Rattle.t85.specs.Decoder.{AnnouncesMore, BehindHeader, HasEnded}
+use Rattle.t85.specs.declared.decoder.T85Decoder.{T85Decoder}
+use Rattle.t85.specs.declared.decoder.Answer.{Answer}
+use Rattle.t85.specs.declared.decoder.Told.{Told}
+use Rattle.t85.specs.declared.decoder.Answer.TheVariants as answer
+
+-- all but the numbers of the engine and the place of the row
+pub record KeepsRest (d d' : T85Decoder) : Type 0 where
+  pub version : d'.version ≡ d.version
+  pub next : d'.next ≡ d.next
+  pub limit : d'.max_rows ≡ d.max_rows
+  pub header : d'.header ≡ d.header
+  pub learned : d'.learned ≡ d.learned
+
+-- What twenty bytes are judged to be.
+abbrev pub IsJudged : T85Decoder → T85Decoder → Answer → Type 0
+IsJudged d d' answer.Header = BehindHeader d' d.header []
+IsJudged d d' answer.TooManyRows = HasEnded d' 24 × AnnouncesMore d.header d'.max_rows
+IsJudged d d' (answer.Broken fault) = HasEnded d' (fault_number fault) × (header_fault d.header ≡ Some fault)
+IsJudged d d' answer.Row = ⊥
+IsJudged d d' answer.More = ⊥
+IsJudged d d' answer.Done = ⊥
+IsJudged d d' answer.ShortWindow = ⊥
+IsJudged d d' answer.NotBegun = ⊥
+IsJudged d d' (answer.Ended status) = ⊥
+
+-- A decoder among the rows of the stream that has this header, where it may be that rows are taken.
+pub record MayTakeRows (header : Header) (d : T85Decoder) : Type 0 where
+  pub version_is : d.version ≡ 1
+  pub next_is : d.next ≡ 2
+  pub place_to : d.place < 3
+  pub header_of : HeaderOf d.header (fields_of header)
+
+-- It is behind the header, or there.
+pub record MayEnterRows (header : Header) (d : T85Decoder) : Type 0 where
+  pub version_is : d.version ≡ 1
+  pub next_is : (d.next ≡ 1) ⊎ ((d.next ≡ 2) × (d.place < 3))
+  pub header_of : HeaderOf d.header (fields_of header)
+
+-- The header has not come as a whole.
+abbrev pub IsAwaited : T85Decoder → T85Decoder → Bool → Answer → Type 0
+IsAwaited d d' is_all answer.More = (is_all ≡ false) × (d' ≡ d)
+IsAwaited d d' is_all (answer.Broken fault) = (is_all ≡ true) × (fault ≡ ShortHeader) × HasEnded d' (fault_number fault)
+IsAwaited d d' is_all answer.Header = ⊥
+IsAwaited d d' is_all answer.Row = ⊥
+IsAwaited d d' is_all answer.Done = ⊥
+IsAwaited d d' is_all answer.TooManyRows = ⊥
+IsAwaited d d' is_all answer.ShortWindow = ⊥
+IsAwaited d d' is_all answer.NotBegun = ⊥
+IsAwaited d d' is_all (answer.Ended status) = ⊥
+
+-- What is told of an answer of the engine. After an end the height stays.
+abbrev pub IsToldOf : Outcome → Header → T85Decoder → T85Decoder → Told → Type 0
+IsToldOf outcome.Row h d d' told = (told.answer ≡ answer.Row) × (d' ≡ d) × (told.row ≡ d.place * div_ceil h.xd 8)
+IsToldOf outcome.More h d d' told = (told.answer ≡ answer.More) × (d' ≡ d)
+IsToldOf (outcome.Done height) h d d' told = (told.answer ≡ answer.Done) × HasEnded d' 0 × (d'.height ≡ d.height)
+IsToldOf (outcome.Broken fault) h d d' told = (told.answer ≡ answer.Broken fault) × HasEnded d' (fault_number fault) × (d'.height ≡ d.height)
+
+-- so many of these bytes were added to those of the header
+pub record IsFilled (d d' : T85Decoder) (bytes : List ℕ) (count : ℕ) : Type 0 where
+  pub version_is : d'.version ≡ d.version
+  pub next_is : d'.next ≡ d.next
+  pub limit_is : d'.max_rows ≡ d.max_rows
+  pub count_is : count ≡ min (length bytes) (20 - d.header_len)
+  pub len_is : d'.header_len ≡ d.header_len + count
+  pub long : length d'.header ≡ 20
+  pub filled : take d'.header_len d'.header ≡ take d.header_len d.header ++ take count bytes
+
+-- an answer that the engine has
+abbrev pub IsOfEngine : Answer → Type 0
+IsOfEngine answer.Row = ⊤
+IsOfEngine answer.More = ⊤
+IsOfEngine answer.Done = ⊤
+IsOfEngine (answer.Broken fault) = ⊤
+IsOfEngine answer.Header = ⊥
+IsOfEngine answer.TooManyRows = ⊥
+IsOfEngine answer.ShortWindow = ⊥
+IsOfEngine answer.NotBegun = ⊥
+IsOfEngine (answer.Ended status) = ⊥

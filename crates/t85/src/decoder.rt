@@ -1,0 +1,563 @@
+//! A decoder that a C caller holds, and hands a stream in pieces.
+
+ghost use Rattle.std.specs.Prelude.{◌≡◌, ◌≤◌, ◌<◌, ◌*◌, ◌⊎◌, List, ℕ, length, false, true};
+ghost use Rattle.std.specs.Int.{div_ceil};
+ghost use Rattle.t85_core.specs.Header.{HeaderOf};
+ghost use Rattle.t85_core.specs.Lent.{decoder_over};
+ghost use Rattle.t85_core.specs.Options.{fields_of};
+ghost use Rattle.t85_core.specs.Pieces.{IsCall, call_of as piece_call};
+ghost use Rattle.raster_core.specs.Window.{memory_of, width_of};
+ghost use Rattle.t85.specs.Decoded.{window_bytes as window_of};
+ghost use Rattle.t85.specs.Decoder.{Answers, Begins, HasEnded, HasRead, InHeader, InRows, IsAnswered, IsBegun, call_of, hold_of, numbers_in, status_of};
+ghost use Rattle.t85.specs.DecoderSteps.{IsAwaited, IsFilled, IsJudged, IsOfEngine, IsToldOf, KeepsRest, MayEnterRows, MayTakeRows};
+
+use crate::opened::read_header;
+use pbm_core::row_bytes;
+use qm_core::{DecoderRegisters, Learned};
+use raster_core::{RowPlaceNumbers, Window, window_bytes};
+use t85_core::laws::headers;
+use t85_core::{Fault, Header, MoveNumbers, Outcome, PieceDecoder, PieceNumbers, Progress};
+
+/// The version of `T85Decoder`, and its size in bytes.
+const VERSION: u32 = 1;
+
+const SIZE: usize = 1280;
+/// The bytes of a header.
+const HEADER_LEN: usize = 20;
+/// What comes next: the header, the first row, another row, or nothing more.
+const HEADER: u32 = 0;
+
+const FIRST_ROW: u32 = 1;
+
+const ROWS: u32 = 2;
+
+const ENDED: u32 = 3;
+/// The status of a struct of another version.
+const OTHER_VERSION: u8 = 50;
+
+/// What a caller holds of a decoder. Whatever its bytes are, a call is safe.
+#[repr(C)]
+#[derive(Drop)]
+pub struct T85Decoder {
+    pub version: u32,
+    /// What comes next.
+    pub next: u32,
+    /// The most rows that a header may announce.
+    pub max_rows: u32,
+    pub spare: u32,
+    pub header: [u8; 20],
+    // What `PieceNumbers` has. What is true is not 0.
+    pub height: u32,
+    pub move_behind_row: u32,
+    pub comment_behind: u32,
+    pub entities: u32,
+    pub left: u32,
+    pub move_row: u32,
+    pub comment: u32,
+    pub row: u32,
+    pub done: u32,
+    pub code: u32,
+    pub span: u32,
+    pub bits: u32,
+    pub ahead: u16,
+    /// How the stream has ended, where it has.
+    pub status: u8,
+    /// At which of the three places of the window the last row is.
+    pub place: u8,
+    /// How many bytes of the header came.
+    pub header_len: u8,
+    pub is_open: u8,
+    pub waits: u8,
+    pub has_move_behind: u8,
+    pub move_behind_offset: u8,
+    pub has_comment_behind: u8,
+    pub stage: u8,
+    pub is_given: u8,
+    pub has_move: u8,
+    pub move_offset: u8,
+    pub is_begun: u8,
+    pub marker: u8,
+    pub offset: u8,
+    pub is_previous_typical: u8,
+    pub has_ended: u8,
+    pub spare_byte: u8,
+    pub past_high: u64,
+    pub past_low: u64,
+    pub reserved: [u64; 17],
+    pub learned: Learned,
+}
+
+/// What a call answers.
+#[derive(Clone, Copy)]
+pub enum Answer {
+    /// The header was read.
+    Header,
+    Row,
+    More,
+    Done,
+    Broken(Fault),
+    TooManyRows,
+    /// The window is shorter than three rows.
+    ShortWindow,
+    /// The struct was not begun, or is of another version.
+    NotBegun,
+    /// The stream had ended, with this status.
+    Ended(u8),
+}
+
+/// What a call answers, how many bytes it has taken, and where the window has the row.
+#[derive(Clone, Copy)]
+pub struct Told {
+    pub answer: Answer,
+    pub taken: usize,
+    pub row: usize,
+}
+
+/// Begins. `size` is the size of the caller's struct. Answers 0, or 50 where that is another one, and then `decoder` stays as it
+/// was.
+pub fn t85_decode_start(decoder: &mut T85Decoder, size: usize, max_rows: u32) -> u8
+    ensures { IsBegun size max_rows decoder.old decoder.new result }
+{
+    if size != SIZE {
+        return OTHER_VERSION;
+    }
+    *decoder = T85Decoder::first(max_rows);
+    0
+}
+
+/// Takes bytes of the stream, up to the end of its header, to the end of the next row, or as far as they go.
+pub fn t85_decode_bytes(
+    decoder: &mut T85Decoder,
+    bytes: &[u8],
+    window: &mut [u8],
+    taken: &mut usize,
+    row: &mut usize,
+) -> u8
+    ensures { IsAnswered (hold_of decoder.old window.old) (hold_of decoder.new window.new)
+        (call_of bytes.now false taken.new row.new) result }
+{
+    let told = decoder.go_on(bytes, window, false);
+    *taken = told.taken;
+    *row = told.row;
+    told.answer.status()
+}
+
+/// Takes the last bytes of the stream, or what is left of them, up to the end of the next row, or to the end of the stream.
+pub fn t85_decode_end(
+    decoder: &mut T85Decoder,
+    bytes: &[u8],
+    window: &mut [u8],
+    taken: &mut usize,
+    row: &mut usize,
+) -> u8
+    ensures { IsAnswered (hold_of decoder.old window.old) (hold_of decoder.new window.new)
+        (call_of bytes.now true taken.new row.new) result }
+{
+    let told = decoder.go_on(bytes, window, true);
+    *taken = told.taken;
+    *row = told.row;
+    told.answer.status()
+}
+
+impl Answer {
+    fn status(self) -> u8
+        ensures { result ≡ status_of self }
+    {
+        match self {
+            Answer::Done => 0,
+            Answer::Broken(fault) => fault.number(),
+            Answer::ShortWindow => 19,
+            Answer::TooManyRows => 24,
+            Answer::NotBegun => 53,
+            Answer::Header => 60,
+            Answer::Row => 61,
+            Answer::More => 62,
+            Answer::Ended(status) => status,
+        }
+    }
+
+    /// Nothing is taken.
+    fn alone(self) -> Told
+        ensures answer { result.answer ≡ self }
+        ensures taken { result.taken ≡ 0 }
+    {
+        Told {
+            answer: self,
+            taken: 0,
+            row: 0,
+        }
+    }
+}
+
+impl T85Decoder {
+    /// Before the first byte.
+    fn first(max_rows: u32) -> T85Decoder
+        ensures { Begins max_rows result 0 }
+    {
+        T85Decoder {
+            version: VERSION,
+            next: HEADER,
+            max_rows,
+            spare: 0,
+            header: [0; 20],
+            height: 0,
+            move_behind_row: 0,
+            comment_behind: 0,
+            entities: 0,
+            left: 0,
+            move_row: 0,
+            comment: 0,
+            row: 0,
+            done: 0,
+            code: 0,
+            span: 0,
+            bits: 0,
+            ahead: 0,
+            status: 0,
+            place: 0,
+            header_len: 0,
+            is_open: 0,
+            waits: 0,
+            has_move_behind: 0,
+            move_behind_offset: 0,
+            has_comment_behind: 0,
+            stage: 0,
+            is_given: 0,
+            has_move: 0,
+            move_offset: 0,
+            is_begun: 0,
+            marker: 0,
+            offset: 0,
+            is_previous_typical: 0,
+            has_ended: 0,
+            spare_byte: 0,
+            past_high: 0,
+            past_low: 0,
+            reserved: [0; 17],
+            learned: Learned::new(),
+        }
+    }
+
+    /// The engine's numbers.
+    fn numbers(&self) -> PieceNumbers
+        ensures { result ≡ numbers_in self.now }
+    {
+        PieceNumbers {
+            height: self.height,
+            is_open: self.is_open != 0,
+            waits: self.waits != 0,
+            move_behind: MoveNumbers {
+                is_there: self.has_move_behind != 0,
+                row: self.move_behind_row,
+                offset: self.move_behind_offset,
+            },
+            has_comment_behind: self.has_comment_behind != 0,
+            comment_behind: self.comment_behind,
+            stage: self.stage,
+            entities: self.entities,
+            left: self.left,
+            is_given: self.is_given != 0,
+            move_here: MoveNumbers {
+                is_there: self.has_move != 0,
+                row: self.move_row,
+                offset: self.move_offset,
+            },
+            comment: self.comment,
+            row: self.row,
+            place: RowPlaceNumbers {
+                is_begun: self.is_begun != 0,
+                done: self.done,
+                past_high: self.past_high,
+                past_low: self.past_low,
+            },
+            ahead: self.ahead,
+            marker: self.marker,
+            offset: self.offset,
+            is_previous_typical: self.is_previous_typical != 0,
+            decoder: DecoderRegisters {
+                code: self.code,
+                span: self.span,
+                bits: self.bits,
+                has_ended: self.has_ended != 0,
+            },
+        }
+    }
+
+    /// Notes the engine's numbers, and where the window has its row.
+    fn keep(&mut self, numbers: PieceNumbers, place: u8)
+        ensures numbers { numbers_in self.new ≡ numbers }
+        ensures place { self.new.place ≡ place }
+        ensures same { KeepsRest self.old self.new }
+    {
+        self.place = place;
+        self.height = numbers.height;
+        self.is_open = u8::from(numbers.is_open);
+        self.waits = u8::from(numbers.waits);
+        self.has_move_behind = u8::from(numbers.move_behind.is_there);
+        self.move_behind_row = numbers.move_behind.row;
+        self.move_behind_offset = numbers.move_behind.offset;
+        self.has_comment_behind = u8::from(numbers.has_comment_behind);
+        self.comment_behind = numbers.comment_behind;
+        self.stage = numbers.stage;
+        self.entities = numbers.entities;
+        self.left = numbers.left;
+        self.is_given = u8::from(numbers.is_given);
+        self.has_move = u8::from(numbers.move_here.is_there);
+        self.move_row = numbers.move_here.row;
+        self.move_offset = numbers.move_here.offset;
+        self.comment = numbers.comment;
+        self.row = numbers.row;
+        self.is_begun = u8::from(numbers.place.is_begun);
+        self.done = numbers.place.done;
+        self.past_high = numbers.place.past_high;
+        self.past_low = numbers.place.past_low;
+        self.ahead = numbers.ahead;
+        self.marker = numbers.marker;
+        self.offset = numbers.offset;
+        self.is_previous_typical = u8::from(numbers.is_previous_typical);
+        self.code = numbers.decoder.code;
+        self.span = numbers.decoder.span;
+        self.bits = numbers.decoder.bits;
+        self.has_ended = u8::from(numbers.decoder.has_ended);
+    }
+
+    /// Notes how the stream has ended.
+    fn end(&mut self, status: u8)
+        ensures ended { HasEnded self.new status }
+        ensures height { self.new.height ≡ self.old.height }
+        ensures limit { self.new.max_rows ≡ self.old.max_rows }
+        ensures same_header { self.new.header ≡ self.old.header }
+    {
+        self.version = VERSION;
+        self.next = ENDED;
+        self.status = status;
+    }
+
+    /// Goes on with these bytes; whether they are the last is `is_all`.
+    fn go_on(&mut self, bytes: &[u8], window: &mut [u8], is_all: bool) -> Told
+        ensures { Answers (HasRead (hold_of self.old window.old)) (hold_of self.old window.old)
+            (hold_of self.new window.new) (call_of bytes.now is_all result.taken result.row)
+            result.answer }
+    {
+        if self.version != VERSION {
+            return Answer::NotBegun.alone();
+        }
+        match self.next {
+            HEADER => self.take_header(bytes, is_all),
+            FIRST_ROW => self.take_rows(bytes, window, is_all),
+            ROWS => self.take_rows(bytes, window, is_all),
+            ENDED => Answer::Ended(self.status).alone(),
+            _ => Answer::NotBegun.alone(),
+        }
+    }
+
+    /// Takes bytes of the header.
+    fn take_header(&mut self, bytes: &[u8], is_all: bool) -> Told
+        requires version { self.old.version ≡ 1 }
+        requires next { self.old.next ≡ 0 }
+        ensures { (window : List ℕ) → Answers (HasRead (hold_of self.old window))
+            (hold_of self.old window) (hold_of self.new window)
+            (call_of bytes.now is_all result.taken result.row) result.answer }
+    {
+        // What the proof cites of headers.
+        headers();
+        if usize::from(self.header_len) >= HEADER_LEN {
+            return Answer::NotBegun.alone();
+        }
+        let taken = self.fill_header(bytes);
+        let answer = if usize::from(self.header_len) < HEADER_LEN {
+            self.wait_for_header(is_all)
+        } else {
+            self.judge_header()
+        };
+        Told {
+            answer,
+            taken,
+            row: 0,
+        }
+    }
+
+    /// Adds bytes to those of the header, as many as are missing there, and answers how many.
+    fn fill_header(&mut self, bytes: &[u8]) -> usize
+        requires few { self.old.header_len < 20 }
+        ensures filled { IsFilled self.old self.new bytes.now result }
+    {
+        let len = usize::from(self.header_len);
+        let taken = bytes.len().min(HEADER_LEN - len);
+        self.header[len..len + taken].copy_from_slice(&bytes[..taken]);
+        self.header_len = (len + taken) as u8;
+        taken
+    }
+
+    /// The bytes of the header.
+    fn header_bytes(&self) -> &[u8]
+        ensures bytes { result.now ≡ self.now.header }
+        ensures long { length result.now ≡ 20 }
+    {
+        &self.header
+    }
+
+    /// Judges the header, which is whole.
+    fn judge_header(&mut self) -> Answer
+        requires version { self.old.version ≡ 1 }
+        ensures { IsJudged self.old self.new result }
+    {
+        match read_header(&self.header) {
+            Ok(header) => {
+                if header.yd > self.max_rows {
+                    self.end(24);
+                    return Answer::TooManyRows;
+                }
+                self.next = FIRST_ROW;
+                Answer::Header
+            }
+            Err(fault) => {
+                self.end(fault.number());
+                Answer::Broken(fault)
+            }
+        }
+    }
+
+    /// Waits for the rest of the header, unless no bytes come.
+    fn wait_for_header(&mut self, is_all: bool) -> Answer
+        requires version { self.old.version ≡ 1 }
+        ensures { IsAwaited self.old self.new is_all result }
+    {
+        if is_all {
+            let fault = Fault::ShortHeader;
+            self.end(fault.number());
+            Answer::Broken(fault)
+        } else {
+            Answer::More
+        }
+    }
+
+    /// Takes bytes behind the header.
+    fn take_rows(&mut self, bytes: &[u8], window: &mut [u8], is_all: bool) -> Told
+        requires version { self.old.version ≡ 1 }
+        requires next { (self.old.next ≡ 1) ⊎ (self.old.next ≡ 2) }
+        ensures { Answers (HasRead (hold_of self.old window.old)) (hold_of self.old window.old)
+            (hold_of self.new window.new) (call_of bytes.now is_all result.taken result.row)
+            result.answer }
+    {
+        // What the proof cites of headers.
+        headers();
+        let header = match read_header(&self.header) {
+            Ok(header) => header,
+            Err(_) => return Answer::NotBegun.alone(),
+        };
+        if self.next == ROWS && self.place >= 3 {
+            return Answer::NotBegun.alone();
+        }
+        let needed = window_bytes(header.xd);
+        if window.len() < needed {
+            return Answer::ShortWindow.alone();
+        }
+        self.go_on_in_rows(&header, &mut window[..needed], bytes, is_all)
+    }
+
+    /// Goes on with a window of just three rows.
+    fn go_on_in_rows(
+        &mut self,
+        header: &Header,
+        memory: &mut [u8],
+        bytes: &[u8],
+        is_all: bool,
+    ) -> Told
+        requires long { length memory.old ≡ window_of header.now.xd }
+        requires may { MayEnterRows header.now self.old }
+        ensures answers { Answers (HasRead (hold_of self.old memory.old))
+            (hold_of self.old memory.old) (hold_of self.new memory.new)
+            (call_of bytes.now is_all result.taken result.row) result.answer }
+        ensures engine { IsOfEngine result.answer }
+        ensures same_header { self.new.header ≡ self.old.header }
+    {
+        if self.next != FIRST_ROW {
+            return self.take_row(header, memory, bytes, is_all);
+        }
+        self.enter_rows(header, memory);
+        self.take_row(header, memory, bytes, is_all)
+    }
+
+    /// Begins to decode the rows: the window is made white, and the contexts forget.
+    fn enter_rows(&mut self, header: &Header, memory: &mut [u8])
+        requires long { length memory.old ≡ window_of header.now.xd }
+        requires may { MayEnterRows header.now self.old }
+        requires next { self.old.next ≡ 1 }
+        ensures may { MayTakeRows header.now self.new }
+        ensures has { (stream out : List ℕ) → HasRead (hold_of self.old memory.old) stream out →
+            InRows (hold_of self.new memory.new) stream out }
+        ensures same_header { self.new.header ≡ self.old.header }
+    {
+        let mut window = Window::over(memory, header.xd);
+        let decoder = PieceDecoder::start(*header, &mut window, &mut self.learned);
+        self.keep(decoder.numbers(), window.place());
+        self.next = ROWS;
+    }
+
+    /// Goes on up to the end of the next row, or as far as the bytes go.
+    fn take_row(&mut self, header: &Header, memory: &mut [u8], bytes: &[u8], is_all: bool) -> Told
+        requires long { length memory.old ≡ window_of header.now.xd }
+        requires may { MayTakeRows header.now self.old }
+        ensures answers { Answers (InRows (hold_of self.old memory.old))
+            (hold_of self.old memory.old) (hold_of self.new memory.new)
+            (call_of bytes.now is_all result.taken result.row) result.answer }
+        ensures engine { IsOfEngine result.answer }
+        ensures same_header { self.new.header ≡ self.old.header }
+    {
+        // What the proof cites of headers.
+        headers();
+        let _header = self.header_bytes();
+        let mut window = Window::resume(memory, header.xd, self.place);
+        let mut decoder = PieceDecoder::resume(*header, &self.numbers());
+        let progress = next_row(&mut decoder, &mut window, &mut self.learned, bytes, is_all);
+        self.keep(decoder.numbers(), window.place());
+        self.tell(header, progress)
+    }
+
+    /// Tells what the engine has answered.
+    fn tell(&mut self, header: &Header, progress: Progress) -> Told
+        requires version { self.old.version ≡ 1 }
+        ensures taken { result.taken ≡ progress.taken }
+        ensures told { IsToldOf progress.outcome header.now self.old self.new result }
+        ensures same_header { self.new.header ≡ self.old.header }
+    {
+        let answer = match progress.outcome {
+            Outcome::Row => Answer::Row,
+            Outcome::More => Answer::More,
+            Outcome::Done(_) => {
+                self.end(0);
+                Answer::Done
+            }
+            Outcome::Broken(fault) => {
+                self.end(fault.number());
+                Answer::Broken(fault)
+            }
+        };
+        Told {
+            answer,
+            taken: progress.taken,
+            row: usize::from(self.place) * row_bytes(header.xd),
+        }
+    }
+}
+
+/// Goes on with a piece, which may be the last.
+fn next_row(
+    decoder: &mut PieceDecoder,
+    window: &mut Window<'_>,
+    learned: &mut Learned,
+    piece: &[u8],
+    is_all: bool,
+) -> Progress
+    ensures call { IsCall (decoder_over decoder.old window.old learned.old) (piece_call piece.now
+        is_all result (decoder_over decoder.new window.new learned.new)) }
+    ensures same_memory { memory_of window.new ≡ memory_of window.old }
+    ensures same_width { width_of window.new ≡ width_of window.old }
+{
+    if is_all {
+        decoder.next_of_last(window, learned, piece)
+    } else {
+        decoder.next_row(window, learned, piece)
+    }
+}

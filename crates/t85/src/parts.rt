@@ -1,0 +1,133 @@
+//! What a stream is made of, part by part, for a C caller.
+
+ghost use Rattle.std.specs.Prelude.{◌≡◌, ◌≤◌, IfErr, IfOk, true};
+ghost use Rattle.t85_core.specs.Height.{StreamFault};
+ghost use Rattle.t85_core.specs.Parts.{Passed, EndsAt};
+ghost use Rattle.t85.specs.Parts.{PartTold, IsTold, kind_number, walk_in};
+
+use t85_core::{Fault, Found, PartKind, PartWalk};
+
+/// The version of `T85Part`.
+const VERSION: u32 = 1;
+/// The status of a struct of another version.
+const OTHER_VERSION: u8 = 50;
+/// The status where all parts were told.
+const NO_MORE: u8 = 52;
+
+/// A part of a stream, and how far the walk has come that told it.
+#[repr(C)]
+#[derive(Clone, Copy)]
+pub struct T85Part {
+    /// The version of this struct: 1.
+    pub version: u32,
+    /// What the part is: 0 the header, 1 a comment, 2 a move of the adaptive template pixel, 3 a new height, 4 a data entity.
+    pub kind: u32,
+    /// Where it begins, in bytes from the beginning of the stream.
+    pub offset: usize,
+    /// How many bytes it has.
+    pub len: usize,
+    /// How many data entities come before it.
+    pub stripe: u32,
+    /// The data entities that the walk has passed.
+    pub entities: u32,
+    /// The height that a segment gave, or 0.
+    pub late_height: u32,
+    /// 0, unless the stripe has had its move.
+    pub has_move: u32,
+    /// 0, unless a height comes behind the last data entity, or came since.
+    pub is_at_height: u32,
+    /// It has no meaning yet.
+    pub reserved: u32,
+    /// How many bytes the walk has passed.
+    pub passed: usize,
+}
+
+/// Tells the next part of a stream, and goes behind it. Before the first, `part` is zeros but for its version.
+///
+/// Answers 0; 52 where all parts were told: `offset` is the length of the stream then, and an empty data entity behind a height
+/// that came last is part of that; the number of the fault where the next part breaks, and `offset` and `stripe` say where; or 50
+/// where the struct is of another version, and then it stays as it was.
+#[unsafe(no_mangle)]
+pub extern "C" fn t85_next_part(stream: &[u8], part: &mut T85Part) -> u8
+    ensures { PartTold stream.now part.old part.new result }
+{
+    if part.version != VERSION {
+        return OTHER_VERSION;
+    }
+    let mut walk = part.walk();
+    let found = walk.next(stream);
+    part.keep(walk);
+    part.tell(found)
+}
+
+fn number_of_kind(kind: PartKind) -> u32
+    ensures { result ≡ kind_number kind }
+{
+    match kind {
+        PartKind::Header => 0,
+        PartKind::Comment => 1,
+        PartKind::Move => 2,
+        PartKind::NewHeight => 3,
+        PartKind::DataEntity => 4,
+    }
+}
+
+impl T85Part {
+    /// The walk that has come so far.
+    fn walk(&self) -> PartWalk
+        ensures { result ≡ walk_in self.now }
+    {
+        PartWalk {
+            offset: self.passed,
+            entities: self.entities,
+            late_height: self.late_height,
+            moved: self.has_move != 0,
+            at_height: self.is_at_height != 0,
+        }
+    }
+
+    /// Notes how far the walk has come.
+    fn keep(&mut self, walk: PartWalk)
+        ensures walk { walk_in self.new ≡ walk }
+        ensures version { self.new.version ≡ self.old.version }
+    {
+        self.passed = walk.offset;
+        self.entities = walk.entities;
+        self.late_height = walk.late_height;
+        self.has_move = u32::from(walk.moved);
+        self.is_at_height = u32::from(walk.at_height);
+    }
+
+    /// Tells what was found, and answers the status.
+    fn tell(&mut self, found: Found) -> u8
+        ensures told { IsTold found self.new result }
+        ensures walk { walk_in self.new ≡ walk_in self.old }
+        ensures version { self.new.version ≡ self.old.version }
+    {
+        match found {
+            Found::Part(part) => {
+                self.kind = number_of_kind(part.kind);
+                self.offset = part.offset;
+                self.len = part.len;
+                self.stripe = part.stripe;
+                0
+            }
+            Found::End { len } => {
+                self.offset = len;
+                self.len = 0;
+                self.stripe = self.entities;
+                NO_MORE
+            }
+            Found::Broken {
+                fault,
+                offset,
+                stripe,
+            } => {
+                self.offset = offset;
+                self.len = 0;
+                self.stripe = stripe;
+                fault.number()
+            }
+        }
+    }
+}
