@@ -17,8 +17,8 @@ pub mod White
 pub mod Shifts
 pub mod Packs
 pub mod Parts
-pub mod Beyond
 pub mod Choosing
+pub mod Tallies
 pub mod Colours
 pub mod Skips
 pub mod SkipsAlong

@@ -1,16 +1,18 @@
 -- Which rows a tally stands for.
-use Rattle.std.specs.Prelude.{ℕ, ◌+◌, ◌*◌, ◌≡◌, ◌≤◌, ◌<◌, min, max, Bool, List, length, slice_index, if◌then◌else◌}
+use Rattle.std.specs.Prelude.{ℕ, ◌+◌, ◌*◌, ◌%◌, ◌^◌, ◌≡◌, ◌≤◌, ◌<◌, min, max, Bool, List, length, slice_index, take, ◌==◌, if◌then◌else◌}
 use Rattle.std.specs.List.{AllByRecursion}
 use Rattle.raster_core.specs.Lines.{Lines}
 use Rattle.raster_core.specs.Offset.{agreement}
+use Rattle.raster_core.specs.Machine.Words.{AgreesAt, AgreesBelowItself}
+use Rattle.raster_core.specs.declared.counted.Counted.{Counted}
 use Rattle.raster_core.specs.declared.tally.Tally.{Tally}
 
 -- the template of the contexts, and the greatest offset that may be chosen
 abbrev pub is_two_line : Tally → Bool
-is_two_line t = t.two_line
+is_two_line t = t.two_line == 1
 
 abbrev pub most_of : Tally → ℕ
-most_of t = t.most
+most_of t = min t.most 127
 
 -- how many rows were added
 abbrev pub row_count : Tally → ℕ
@@ -24,25 +26,33 @@ least_lag two_line = if two_line then 5 else 3
 abbrev pub last_lag : Bool → ℕ → ℕ → ℕ
 last_lag two_line most width = min most (max width (least_lag two_line))
 
--- what was counted at a lag: the last row as often as it came since its counts were added
+-- what was counted at a lag, modulo 2 ^ 64: the last row as often as it came since its counts were added
 abbrev pub counted_at : Tally → ℕ → ℕ
-counted_at t lag = slice_index t.counts lag + t.times * slice_index t.last.agreed lag
+counted_at t lag = (slice_index t.counts lag + t.times * slice_index t.last.agreed lag) % 2 ^ 64
 
 -- the same tally but for how it keeps what it counted, at these lags
 pub record CountsAlike (low high : ℕ) (old new : Tally) : Type 0 where
   pub counted : (lag : ℕ) → low ≤ lag → lag ≤ high → counted_at new lag ≡ counted_at old lag
-  pub room : (lag : ℕ) → counted_at new lag ≤ counted_at old lag
   pub held : new.held ≡ old.held
-  pub times : new.times ≤ old.times
   pub rows : new.rows ≡ old.rows
-  pub width : new.width ≡ old.width
   pub two_line : new.two_line ≡ old.two_line
   pub most : new.most ≡ old.most
 
--- the tally is of these rows, at this width and offset
+-- the counts are those of the row in these bytes
+abbrev pub CountsRow : Counted → List ℕ → Type 0
+CountsRow c bytes = AgreesAt bytes c.width c.least c.most c.agreed
+
+-- The numbers that are kept are those of the row that is kept, if one is: its counts, and the number below itself, where that was counted.
+pub record KeepsCounts (c : Counted) : Type 0 where
+  pub counts : c.len ≤ 2048 → CountsRow c (take c.len c.row)
+  pub below : c.len ≤ 2048 → c.below_itself ≤ 2 ^ 32 → AgreesBelowItself (take c.len c.row) c.width c.below_itself
+
+-- The tally is of these rows, at this width and offset. What it keeps of the last one is right, so that it can be added again.
 pub record CountsLines (t : Tally) (width current : ℕ) (rows : List Lines) : Type 0 where
   pub number : t.rows ≡ length rows
   pub width_is : 0 < length rows → t.width ≡ width
   pub wide : AllByRecursion (λ lines. length lines.row ≡ width) rows
-  pub each : (lag : ℕ) → least_lag t.two_line ≤ lag → lag ≤ last_lag t.two_line t.most width → counted_at t lag ≡ agreement rows lag
+  pub none : length rows ≡ 0 → (lag : ℕ) → counted_at t lag ≡ 0
+  pub each : (lag : ℕ) → least_lag (is_two_line t) ≤ lag → lag ≤ last_lag (is_two_line t) (most_of t) width → counted_at t lag ≡ agreement rows lag
   pub held : t.held ≡ agreement rows current
+  pub kept : KeepsCounts t.last

@@ -1,6 +1,6 @@
 //! At how many pixels of a word a row agrees with its adaptive pixel.
 
-ghost use Rattle.std.specs.Prelude.{ℕ, ◌+◌, ◌-◌, ◌*◌, ◌^◌, ◌≡◌, ◌≤◌, ◌<◌, Bool, IsTrue, slice_index};
+ghost use Rattle.std.specs.Prelude.{ℕ, ◌+◌, ◌-◌, ◌*◌, ◌%◌, ◌^◌, ◌≡◌, ◌≤◌, ◌<◌, Bool, IsTrue, slice_index};
 ghost use Rattle.std.specs.Int.{div_ceil};
 ghost use Rattle.raster_core.specs.Lines.{Lines};
 ghost use Rattle.raster_core.specs.Packed.{packed_row};
@@ -166,7 +166,7 @@ pub(crate) fn held_row(row: &[u8], above: &[u8], width: u32, offset: u8) -> u64
     held
 }
 
-/// Adds to the counts at the lags from `from` up to `end`, so many times.
+/// Adds to the counts at the lags from `from` up to `end`, so many times, modulo 2^64.
 pub(crate) fn add_each(
     counts: &mut [u64; 128],
     more: &[u64; 128],
@@ -175,14 +175,12 @@ pub(crate) fn add_each(
     end: usize,
 )
     requires end { end ≤ 128 }
-    requires room { (k : ℕ) → slice_index counts.old k + times * slice_index more.now k < 2 ^ 64 }
     ensures counts { (lag : ℕ) → from ≤ lag → lag < end →
-        slice_index counts.new lag ≡ slice_index counts.old lag + times * slice_index more.now lag }
-    ensures room { (lag : ℕ) → slice_index counts.new lag ≤ slice_index counts.old lag + times *
-        slice_index more.now lag }
+        slice_index counts.new lag ≡
+        (slice_index counts.old lag + times * slice_index more.now lag) % 2 ^ 64 }
 {
     for lag in from..end {
-        counts[lag] += times * more[lag];
+        counts[lag] = counts[lag].wrapping_add(times.wrapping_mul(more[lag]));
     }
 }
 
@@ -192,7 +190,6 @@ pub(crate) fn add_all(counts: &mut [u64; 128], from: usize, end: usize, more: u6
     requires room { (lag : ℕ) → slice_index counts.old lag + more < 2 ^ 64 }
     ensures counts { (lag : ℕ) → from ≤ lag → lag < end →
         slice_index counts.new lag ≡ slice_index counts.old lag + more }
-    ensures room { (lag : ℕ) → slice_index counts.new lag ≤ slice_index counts.old lag + more }
 {
     for lag in from..end {
         counts[lag] += more;

@@ -1,38 +1,40 @@
 //! The row that was counted last.
 
-ghost use Rattle.std.specs.Prelude.{ℕ, ◌+◌, ◌*◌, ◌^◌, ◌≡◌, ◌≤◌, ◌<◌, IsTrue, Some, length, slice_index, take};
+ghost use Rattle.std.specs.Prelude.{ℕ, ◌+◌, ◌*◌, ◌^◌, ◌≡◌, ◌≤◌, ◌<◌, IsTrue, length, slice_index, take};
 ghost use Rattle.std.specs.Int.{div_ceil};
 ghost use Rattle.raster_core.specs.Lines.{Lines};
 ghost use Rattle.raster_core.specs.Packed.{packed_row};
-ghost use Rattle.raster_core.specs.Machine.Words.{AgreesAt, AgreesBelowItself, part_agreement};
+ghost use Rattle.raster_core.specs.Machine.Words.{AgreesAt};
 
 use crate::agreement::{add_all, add_word, held_row};
 use crate::words::{mask_at, word_at};
 
 /// For each lag, how many pixels of a row equal the one that is `lag` to their left. A row of at most
-/// 2,048 bytes is kept, so that the same row is not counted again.
+/// 2,048 bytes is kept, so that the same row is not counted again. It may lie in memory that anything
+/// stands in: no number relies on another.
+#[repr(C)]
 #[derive(Drop)]
 pub struct Counted {
-    /// How many bytes the row has.
-    len: usize,
-    width: u32,
-    least: usize,
-    most: usize,
     /// How many equal the adaptive pixel in its nominal place, where the row above is the same row.
-    /// It is counted when it is first asked for.
-    below_itself: Option<u64>,
+    /// It is counted when it is first asked for, and more than 2^32 before.
+    below_itself: u64,
+    width: u32,
+    /// How many bytes the row has, or more than 2,048 where none is kept.
+    len: u16,
+    least: u8,
+    most: u8,
     pub(crate) agreed: [u64; 128],
     row: [u8; 2048],
-    ghost small: { (lag : ℕ) → slice_index agreed lag ≤ 2 ^ 32 },
-    ghost below_small: { (n : ℕ) → below_itself ≡ Some n → n ≤ 2 ^ 32 },
-    ghost below_agrees: { (n : ℕ) → below_itself ≡ Some n → len ≤ 2048 →
-        AgreesBelowItself (take len row) width n },
-    ghost agrees: { len ≤ 2048 → AgreesAt (take len row) width least most agreed },
 }
 
 impl Counted {
+    ghost use Rattle.raster_core.specs.Machine.Words.{AgreesBelowItself, part_agreement};
+    ghost use Rattle.raster_core.specs.Tally.{CountsRow, KeepsCounts};
+
     /// No row.
-    pub(crate) fn none() -> Counted {
+    pub(crate) fn none() -> Counted
+        ensures { KeepsCounts result }
+    {
         Counted {
             row: [0; 2048],
             len: 2049,
@@ -40,13 +42,20 @@ impl Counted {
             least: 0,
             most: 0,
             agreed: [0; 128],
-            below_itself: None,
+            below_itself: u64::MAX,
         }
     }
 
+    /// Keeps no row any more.
+    pub(crate) fn forget(&mut self)
+        ensures { KeepsCounts self.new }
+    {
+        self.len = 2049;
+    }
+
     /// Whether it is of this row and these lags.
-    pub(crate) fn is_of(&self, row: &[u8], width: u32, least: usize, most: usize) -> bool
-        ensures agreed { IsTrue result → AgreesAt row.now width least most self.now.agreed }
+    pub(crate) fn is_of(&self, row: &[u8], width: u32, least: u8, most: u8) -> bool
+        ensures counts { IsTrue result → KeepsCounts self.now → CountsRow self.now row.now }
         ensures row { IsTrue result → take self.now.len self.now.row ≡ row.now }
         ensures width { IsTrue result → self.now.width ≡ width }
         ensures least { IsTrue result → self.now.least ≡ least }
@@ -58,46 +67,48 @@ impl Counted {
         if self.len > 2048 {
             return false;
         }
-        row == &self.row[..self.len]
+        row == &self.row[..usize::from(self.len)]
     }
 
     /// Counts a row at the lags from `least` to `most`.
-    pub(crate) fn count(&mut self, row: &[u8], width: u32, least: usize, most: usize)
+    pub(crate) fn count(&mut self, row: &[u8], width: u32, least: u8, most: u8)
         requires least { 1 ≤ least }
         requires least_small { least < 64 }
         requires most { most ≤ 127 }
-        ensures agreed { AgreesAt row.now width least most self.new.agreed }
+        ensures counts { CountsRow self.new row.now }
+        ensures kept { KeepsCounts self.new }
         ensures row { self.new.len ≤ 2048 → take self.new.len self.new.row ≡ row.now }
         ensures width { self.new.width ≡ width }
         ensures least { self.new.least ≡ least }
         ensures most { self.new.most ≡ most }
     {
-        count_agreed(&mut self.agreed, row, width, least, most);
-        keep(&mut self.row, row);
-        self.len = row.len();
+        count_agreed(
+            &mut self.agreed,
+            row,
+            width,
+            usize::from(least),
+            usize::from(most),
+        );
+        self.len = keep(&mut self.row, row);
         self.width = width;
         self.least = least;
         self.most = most;
-        self.below_itself = None;
+        self.below_itself = u64::MAX;
     }
 
     /// At how many pixels of the row that was counted last the adaptive pixel at `offset` is the
     /// same one.
     pub(crate) fn held(&mut self, row: &[u8], above: &[u8], offset: u8) -> u64
         requires offset { offset ≤ 127 }
-        requires agreed { AgreesAt row.now self.old.width self.old.least self.old.most
-            self.old.agreed }
         requires row { self.old.len ≤ 2048 → take self.old.len self.old.row ≡ row.now }
-        ensures agreed { (lines : Lines) → row.now ≡ packed_row lines.row →
-            above.now ≡ packed_row lines.above →
-            result ≡ part_agreement lines self.old.width offset 0
-            (64 * div_ceil self.old.width 64) }
-        ensures small { result ≤ 2 ^ 32 }
+        ensures agreed { (lines : Lines) → KeepsCounts self.old → CountsRow self.old row.now →
+            row.now ≡ packed_row lines.row → above.now ≡ packed_row lines.above → result ≡
+            part_agreement lines self.old.width offset 0 (64 * div_ceil self.old.width 64) }
+        ensures kept { KeepsCounts self.old → KeepsCounts self.new }
         ensures same { self.new.agreed ≡ self.old.agreed }
     {
-        let lag = offset as usize;
-        if self.least <= lag && lag <= self.most {
-            self.agreed[lag]
+        if self.least <= offset && offset <= self.most {
+            self.agreed[usize::from(offset)]
         } else if offset == 0 && self.len <= 2048 && row == above {
             self.held_below_itself()
         } else {
@@ -109,30 +120,31 @@ impl Counted {
     /// is the same one, where the row above is the same row.
     fn held_below_itself(&mut self) -> u64
         requires { self.old.len ≤ 2048 }
-        ensures agreed { AgreesBelowItself (take self.old.len self.old.row) self.old.width result }
-        ensures small { result ≤ 2 ^ 32 }
+        ensures agreed { KeepsCounts self.old →
+            AgreesBelowItself (take self.old.len self.old.row) self.old.width result }
+        ensures kept { KeepsCounts self.old → KeepsCounts self.new }
         ensures same { self.new.agreed ≡ self.old.agreed }
     {
-        match self.below_itself {
-            Some(held) => held,
-            None => {
-                let row = &self.row[..self.len];
-                let held = held_row(row, row, self.width, 0);
-                self.below_itself = Some(held);
-                held
-            }
+        if self.below_itself <= 1 << 32 {
+            return self.below_itself;
         }
+        let row = &self.row[..usize::from(self.len)];
+        let held = held_row(row, row, self.width, 0);
+        self.below_itself = held;
+        held
     }
 }
 
-/// Puts a row of at most 2,048 bytes at the front.
-fn keep(kept: &mut [u8; 2048], row: &[u8])
-    ensures { length row.now ≤ 2048 → take (length row.now) kept.new ≡ row.now }
+/// Puts a row of at most 2,048 bytes at the front, and answers how many it has; of a longer one 2,049.
+fn keep(kept: &mut [u8; 2048], row: &[u8]) -> u16
+    ensures { result ≤ 2048 → take result kept.new ≡ row.now }
 {
     let len = row.len();
-    if len <= 2048 {
-        kept[..len].copy_from_slice(row);
+    if len > 2048 {
+        return 2049;
     }
+    kept[..len].copy_from_slice(row);
+    len as u16
 }
 
 /// Counts for each lag from `least` to `most` how many pixels of a row equal the one that is `lag` to
@@ -141,8 +153,7 @@ fn count_agreed(counts: &mut [u64; 128], row: &[u8], width: u32, least: usize, m
     requires least { 1 ≤ least }
     requires least_small { least < 64 }
     requires most { most ≤ 127 }
-    ensures agrees { AgreesAt row.now width least most counts.new }
-    ensures small { (lag : ℕ) → slice_index counts.new lag ≤ 2 ^ 32 }
+    ensures { AgreesAt row.now width least most counts.new }
 {
     let words = (width as usize).div_ceil(64);
     *counts = [0; 128];

@@ -1,36 +1,32 @@
 //! Which offset of the adaptive pixel would have served a stripe best.
 
-ghost use Rattle.std.specs.Prelude.{ℕ, ◌+◌, ◌*◌, ◌^◌, ◌≡◌, ◌≤◌, slice_index};
-
 use crate::agreement::add_each;
 use crate::counted::Counted;
 use crate::window::Window;
 
 /// For each lag that may be chosen, how many pixels of the rows so far equal the one that is `lag`
-/// to their left. It keeps counts, and one row.
+/// to their left. It keeps counts, and one row. A caller may lend it from memory that anything stands
+/// in: the counts then say nothing, and each sum is one modulo 2^64.
+#[repr(C)]
 #[derive(Drop)]
 pub struct Tally {
-    two_line: bool,
-    most: u8,
-    width: u32,
-    rows: u32,
     /// How many equal the adaptive pixel at the offset in use.
     held: u64,
     /// How many rows that equal the last one are not in the counts yet.
     times: u64,
+    width: u32,
+    rows: u32,
+    /// 1 where the template has two lines.
+    two_line: u32,
+    /// The greatest lag that may be chosen; above 127 it is 127.
+    most: u32,
     last: Counted,
     counts: [u64; 128],
-    ghost in_reach: { most ≤ 127 },
-    ghost counts_fit: { (lag : ℕ) →
-        slice_index counts lag + times * slice_index last.agreed lag ≤ 2 ^ 32 * rows },
-    ghost times_fit: { times ≤ rows },
-    ghost held_fits: { held ≤ 2 ^ 32 * rows },
 }
 
 impl Tally {
-    ghost use Rattle.std.specs.Prelude.{◌<◌, ◌-◌, [], ◌∷◌, ◌++◌, List, IfSome, take};
-    ghost use Rattle.raster_core.specs.Machine.Words.{AgreesAt};
-    ghost use Rattle.raster_core.specs.Tally.{CountsLines, CountsAlike, counted_at, is_two_line, last_lag, least_lag, most_of, row_count};
+    ghost use Rattle.std.specs.Prelude.{ℕ, ◌+◌, ◌^◌, ◌≡◌, ◌≤◌, ◌<◌, ◌-◌, [], ◌∷◌, ◌++◌, List, IfSome, length, take};
+    ghost use Rattle.raster_core.specs.Tally.{CountsLines, CountsAlike, CountsRow, KeepsCounts, counted_at, is_two_line, last_lag, least_lag, most_of, row_count};
     ghost use Rattle.raster_core.specs.Lines.{Lines};
     ghost use Rattle.raster_core.specs.Offset.{chosen_offset};
     ghost use Rattle.raster_core.specs.Packed.{HasLines};
@@ -46,64 +42,64 @@ impl Tally {
         ensures most { most_of result ≡ most }
     {
         Tally {
-            two_line,
-            most,
-            width: 0,
-            rows: 0,
             held: 0,
             times: 0,
+            width: 0,
+            rows: 0,
+            two_line: u32::from(two_line),
+            most: u32::from(most),
             last: Counted::none(),
             counts: [0; 128],
         }
     }
 
-    /// Takes all rows off again.
+    /// Takes all rows off again, whatever it was, and forgets the last one.
     pub fn restart(&mut self)
         ensures counts { (width current : ℕ) → CountsLines self.new width current [] }
         ensures rows { row_count self.new ≡ 0 }
         ensures two_line { is_two_line self.new ≡ is_two_line self.old }
         ensures most { most_of self.new ≡ most_of self.old }
     {
-        if self.rows == 0 {
-            return;
-        }
         self.counts = [0; 128];
         self.times = 0;
         self.held = 0;
         self.rows = 0;
+        self.last.forget();
     }
 
     /// Counts the current row of a window, typical or not, that was coded with the adaptive pixel
-    /// at this offset. Between two restarts width and offset stay the same.
+    /// at this offset. Between two restarts width and offset stay the same, and fewer than 2^32 rows
+    /// come.
     #[inline(never)]
     pub fn add_row(&mut self, window: &Window, width: u32, offset: u8)
         requires width { width_of window.now ≡ width }
         requires offset { offset ≤ 127 }
-        requires rows { row_count self.old < 2 ^ 32 - 1 }
-        ensures counts { (rows : List Lines) (lines : Lines) →
-            CountsLines self.old width offset rows →
-            HasLines (rows_held window.now) lines
-            → CountsLines self.new width offset (rows ++ lines ∷ []) }
-        ensures rows { row_count self.new ≡ row_count self.old + 1 }
+        ensures counts { (rows : List Lines) (lines : Lines) → length rows < 2 ^ 32 - 1 →
+            CountsLines self.old width offset rows → HasLines (rows_held window.now) lines →
+            CountsLines self.new width offset (rows ++ lines ∷ []) }
+        ensures rows { row_count self.old < 2 ^ 32 - 1 → row_count self.new ≡
+            row_count self.old + 1 }
         ensures two_line { is_two_line self.new ≡ is_two_line self.old }
         ensures most { most_of self.new ≡ most_of self.old }
     {
-        let least = self.least_lag() as usize;
-        let most = self.last_lag(width) as usize;
+        let least = self.least_lag();
+        let most = self.last_lag(width);
         let row = window.row(0);
         let above = window.row(1);
         self.take(row, width, least, most);
-        self.held += self.last.held(row, above, offset);
-        self.times += 1;
+        let held = self.last.held(row, above, offset);
+        self.held = self.held.wrapping_add(held);
+        self.times = self.times.wrapping_add(1);
         self.width = width;
-        self.rows += 1;
+        self.rows = self.rows.wrapping_add(1);
     }
 
     /// Counts a row at the lags from `least` to `most`, unless it equals the last one, whose counts are
     /// then added for another time later on.
-    fn take(&mut self, row: &[u8], width: u32, least: usize, most: usize)
+    fn take(&mut self, row: &[u8], width: u32, least: u8, most: u8)
         requires lags { (1 ≤ least) × (least < 64) × (most ≤ 127) }
-        ensures agreed { AgreesAt row.now width least most self.new.last.agreed }
+        ensures counts { KeepsCounts self.old.last → CountsRow self.new.last row.now }
+        ensures kept { KeepsCounts self.old.last → KeepsCounts self.new.last }
         ensures row { self.new.last.len ≤ 2048 → take self.new.last.len self.new.last.row ≡
             row.now }
         ensures last { (self.new.last.width ≡ width) × (self.new.last.least ≡ least) ×
@@ -117,19 +113,20 @@ impl Tally {
             &mut self.counts,
             &self.last.agreed,
             self.times,
-            least,
-            most + 1,
+            usize::from(least),
+            usize::from(most) + 1,
         );
         self.times = 0;
         self.last.count(row, width, least, most);
     }
 
-    /// What was counted at a lag.
+    /// What was counted at a lag, modulo 2^64.
     fn at(&self, lag: u8) -> u64
         requires { lag ≤ 127 }
         ensures { result ≡ counted_at self.now lag }
     {
-        self.counts[lag as usize] + self.times * self.last.agreed[lag as usize]
+        let lag = usize::from(lag);
+        self.counts[lag].wrapping_add(self.times.wrapping_mul(self.last.agreed[lag]))
     }
 
     /// The least lag with the greatest count, where it agrees at more than an eighth of the pixels
@@ -140,7 +137,7 @@ impl Tally {
         ensures reach { IfSome result (λ lag. lag ≤ most_of self.now) }
     {
         let least = self.least_lag();
-        if self.most < least {
+        if self.most < u32::from(least) {
             return None;
         }
         let last = self.last_lag(self.width);
@@ -161,7 +158,7 @@ impl Tally {
         ensures some { 1 ≤ result }
         ensures small { result ≤ 5 }
     {
-        if self.two_line { 5 } else { 3 }
+        if self.two_line == 1 { 5 } else { 3 }
     }
 
     /// The last lag that is counted at this width. At each greater one all pixels are compared with
@@ -170,6 +167,6 @@ impl Tally {
         ensures { result ≡ last_lag (is_two_line self.now) (most_of self.now) width }
     {
         let reach = width.max(u32::from(self.least_lag()));
-        u32::from(self.most).min(reach) as u8
+        self.most.min(127).min(reach) as u8
     }
 }

@@ -95,7 +95,7 @@ pub fn put_where_room(
     requires lined { IsLined (held window.old) }
     requires whole { length row.now ≡ bytes_of_row encoder.old.size.width }
     requires left { encoder.old.rows < encoder.old.size.height }
-    requires ready { MayGoOn encoder.old learning.old }
+    requires ready { MayGoOn encoder.old }
     requires going { IsGoing encoder.old }
     requires unfailed { room.old.failures ≡ 0 }
     ensures put { result ≡ true → TakesNextRow (given_row encoder.old row.now)

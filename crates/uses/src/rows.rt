@@ -72,7 +72,7 @@ pub fn end_where_allowed<W: Output>(
     requires width { width_of window.old ≡ encoder.old.size.width }
     requires lined { IsLined (held window.old) }
     requires going { IsGoing encoder.old }
-    requires ready { MayGoOn encoder.old learning.old }
+    requires ready { MayGoOn encoder.old }
     ensures ended { result ≡ Ok true → EndsImage (view_of encoder.old learning.old)
         (held window.old) (W.view output.old).contents (W.view output.new).contents }
     ensures kept { result ≡ Ok false → (encoder.new ≡ encoder.old) × (learning.new ≡ learning.old) ×
@@ -101,7 +101,7 @@ pub fn put_by_numbers<W: Output>(
     learning: &mut Learning,
     output: &mut W,
 ) -> Option<RowNumbers>
-    requires { MayTake (settings_of options.now) size encoder.now learning.old window.old row.now }
+    requires { MayTake (settings_of options.now) size encoder.now window.old row.now }
     ensures put { IfSome result (λ n. (e : RowEncoder) × (n ≡ row_numbers e) ×
         TakesNextRow (pixels_of size.width row.now) (view_of encoder.now learning.old)
         (view_of e learning.new) (held window.old) (held window.new) (W.view output.old).contents

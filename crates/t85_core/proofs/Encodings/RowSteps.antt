@@ -1,5 +1,5 @@
 -- A row encoder, from row to row.
-use Rattle.std.proofs.Common.{◌≡◌, ℕ, zero, suc, ◌+◌, ◌-◌, ◌*◌, ◌<◌, ◌≤◌, ◌⊎◌, inl, inr, nat_eq, true, false, Bool, List, [], ◌∷◌, ◌++◌, length, refl, sym, ◌∙◌, ap, subst, arith, Option, None, Some, append_assoc, append-nil, length-append}
+use Rattle.std.proofs.Common.{◌≡◌, ℕ, zero, suc, ◌+◌, ◌-◌, ◌*◌, ◌^◌, ◌<◌, ◌≤◌, ◌⊎◌, inl, inr, nat_eq, true, false, Bool, List, [], ◌∷◌, ◌++◌, length, refl, sym, ◌∙◌, ap, subst, arith, Option, None, Some, append_assoc, append-nil, length-append}
 use Rattle.std.specs.Prelude.{if◌then◌else◌, is_some, unwrap_or, IfSome, ◌==◌}
 use Rattle.std.specs.List.{AllByRecursion}
 use Rattle.std.specs.Io.KnownBytes.{Appends}
@@ -126,6 +126,10 @@ module _ (s : Settings) (width limit : ℕ) (rows : List (List Bool)) (v : RowVi
 
 -- ---- a row is coded
 
+length-lines_down : (above second : List Bool) (rows : List (List Bool)) → length (lines_down above second rows) ≡ length rows
+length-lines_down above second [] = refl
+length-lines_down above second (row ∷ rows) = ap suc (length-lines_down row above rows)
+
 all_more : (width : ℕ) (rows : List (List Bool)) (row : List Bool) → AllByRecursion (λ r. length r ≡ width) rows → length row ≡ width → AllByRecursion (λ r. length r ≡ width) (rows ++ row ∷ [])
 all_more width [] row all is = (is, tt)
 all_more width (first ∷ rows) row all is = (all.0, all_more width rows row all.1 is)
@@ -172,12 +176,12 @@ module _ (s : Settings) (width limit : ℕ) (rows : List (List Bool)) (row : Lis
   counted_same : (kept : Kept) → kept.offset ≡ v.kept.offset → counted_of (record v { kept = kept }) ≡ counted_of v
   counted_same kept same = ap (λ o. if v.is_counted then Some (if v.plan.reset then 0 else o) else None) same
 
-  pub row_coded : v.rows < v.plan.limit → v.in_stripe < v.plan.stripe_rows → (kept : Kept) (learned : List Estimate) (tally : Tally) (e : Encoder) (rows' in_stripe' : ℕ) → rows' ≡ v.rows + 1 → in_stripe' ≡ v.in_stripe + 1
+  pub row_coded : v.rows < v.plan.limit → v.in_stripe < v.plan.stripe_rows → v.plan.stripe_rows < 2 ^ 32 → (kept : Kept) (learned : List Estimate) (tally : Tally) (e : Encoder) (rows' in_stripe' : ℕ) → rows' ≡ v.rows + 1 → in_stripe' ≡ v.in_stripe + 1
       → RowPut v.plan.shape v.kept kept (record { place = b.state.place; learned = v.learned }) r.pushed (lines_with b row) e learned mid text'
-      → ((lines : List Lines) (l : Lines) → HasLines window l → IsCountedTo v.plan.width (counted_of (record v { kept = kept })) v.tally lines → IsCountedTo v.plan.width (counted_of (record v { kept = kept })) tally (lines ++ l ∷ []))
+      → ((lines : List Lines) (l : Lines) → length lines < 2 ^ 32 - 1 → HasLines window l → IsCountedTo v.plan.width (counted_of (record v { kept = kept })) v.tally lines → IsCountedTo v.plan.width (counted_of (record v { kept = kept })) tally (lines ++ l ∷ []))
       → is_two_line tally ≡ is_two_line v.tally → most_of tally ≡ most_of v.tally
       → Runs s width limit (rows ++ row ∷ []) (record v { kept = kept; learned = learned; tally = tally; encoder = e; rows = rows'; in_stripe = in_stripe' }) window text text'
-  row_coded left fewer kept learned tally e rows' in_stripe' rows_is in_stripe_is put counts two_line most = record {
+  row_coded left fewer few_rows kept learned tally e rows' in_stripe' rows_is in_stripe_is put counts two_line most = record {
     plan_is = r.plan_is;
     come = record {
       many = (let sum = length-append rows (row ∷ []) in omega (arith, rows_is, r.come.many, sum));
@@ -208,7 +212,7 @@ module _ (s : Settings) (width limit : ℕ) (rows : List (List Bool)) (row : Lis
       most = most ∙ r.running.most;
       tallied = subst (λ lines. IsCountedTo width (counted_of (record v { kept = kept })) tally lines) (sym (lines_more mode move 0 (first_row_start c) r.part row))
           (subst (λ w. IsCountedTo w (counted_of (record v { kept = kept })) tally (lines_down c.above c.second r.part ++ lines_with b row ∷ [])) r.plan_is.width_is
-          (counts (lines_down c.above c.second r.part) (lines_with b row) lines_are
+          (counts (lines_down c.above c.second r.part) (lines_with b row) (let many_lines = length-lines_down c.above c.second r.part in omega (arith, many_lines, fewer, few_rows, r.in_stripe)) lines_are
           (subst (λ w. IsCountedTo w (counted_of (record v { kept = kept })) v.tally (lines_down c.above c.second r.part)) (sym r.plan_is.width_is)
           (subst (λ o. IsCountedTo width o v.tally (lines_down c.above c.second r.part)) (sym (counted_same kept put.offset_is)) r.running.tallied))));
     };

@@ -10,7 +10,7 @@ use Rattle.raster_core.specs.Raster.{Raster, IsRaster, height}
 use Rattle.raster_core.specs.Lines.{Lines}
 use Rattle.raster_core.specs.Offset.{candidates}
 use Rattle.raster_core.specs.Packed.{Held, HasLines}
-use Rattle.raster_core.specs.Tally.{is_two_line, most_of, row_count}
+use Rattle.raster_core.specs.Tally.{is_two_line, most_of}
 use Rattle.raster_core.specs.declared.shape.Shape.{Shape}
 use Rattle.raster_core.specs.declared.shape.Kept.{Kept}
 use Rattle.raster_core.specs.declared.tally.Tally.{Tally}
@@ -101,22 +101,21 @@ abbrev pub IsLined : Held → Type 0
 IsLined window = (lines : Lines) × HasLines window lines
 
 -- what a call asks for that is to code a row
-pub record IsAble (v : RowView) : Type 0 where
-  pub wide : v.plan.shape.width ≡ v.plan.width
-  pub offset : v.kept.offset ≤ 127
-  pub few : v.in_stripe ≤ v.plan.stripe_rows
-  pub few_rows : v.plan.stripe_rows < 2 ^ 32
-  pub rows_to : v.rows ≤ v.plan.limit
-  pub inside : v.in_stripe ≤ v.rows
-  pub events : event_count v.encoder ≤ v.in_stripe * (v.plan.width + 1)
-  pub going : has_failed v.encoder ≡ false
-  pub somewhere : IsSomewhere v.encoder
+pub record IsAble (e : RowEncoder) : Type 0 where
+  pub wide : e.shape.width ≡ e.size.width
+  pub offset : e.kept.offset ≤ 127
+  pub few : e.in_stripe ≤ e.stripe_rows
+  pub few_rows : e.stripe_rows < 2 ^ 32
+  pub rows_to : e.rows ≤ e.size.height
+  pub inside : e.in_stripe ≤ e.rows
+  pub events : event_count e.encoder ≤ e.in_stripe * (e.size.width + 1)
+  pub going : has_failed e.encoder ≡ false
+  pub somewhere : IsSomewhere e.encoder
 
--- between two calls
-pub record MayGoOn (e : RowEncoder) (l : Learning) : Type 0 where
-  pub able : IsAble (view_of e l)
+-- between two calls, whatever was learned
+pub record MayGoOn (e : RowEncoder) : Type 0 where
+  pub able : IsAble e
   pub fewer : e.in_stripe < e.stripe_rows
-  pub tallied : 0 < e.in_stripe → row_count l.tally ≤ e.in_stripe
 
 -- the plan is that of these settings
 pub record IsPlan (s : Settings) (width limit : ℕ) (p : RowPlan) : Type 0 where

@@ -47,7 +47,6 @@ impl RowEncoder {
     ghost use Rattle.pbm_core.specs.Device.{AppendsBeginning};
     ghost use Rattle.raster_core.specs.Window.{held, width_of, memory_of};
     ghost use Rattle.raster_core.specs.Packed.{Held};
-    ghost use Rattle.raster_core.specs.Tally.{row_count};
     ghost use Rattle.t85_core.specs.Jbg.{Settings, head_of, is_low};
     ghost use Rattle.t85_core.specs.Options.{settings_of};
     ghost use Rattle.t85_core.specs.Steps.Buffers.{WritesOn};
@@ -97,7 +96,7 @@ impl RowEncoder {
         ensures plan { IsPlan (settings_of options.now) size.width size.height (plan_of result) }
         ensures first { (learning : Learning) → IsUntaught (settings_of options.now) learning →
             StandsFirst (settings_of options.now) size.width size.height (view_of result learning) }
-        ensures ready { (learning : Learning) → MayGoOn result learning }
+        ensures ready { MayGoOn result }
         ensures going { IsGoing result }
         ensures none { result.rows ≡ 0 }
         ensures size { result.size ≡ size }
@@ -173,7 +172,7 @@ impl RowEncoder {
         requires width { width_of window.old ≡ self.old.size.width }
         requires lined { IsGoing self.old → IsLined (held window.old) }
         requires left { IsGoing self.old → self.old.rows < self.old.size.height }
-        requires ready { IsGoing self.old → MayGoOn self.old learning.old }
+        requires ready { IsGoing self.old → MayGoOn self.old }
         ensures ok { OnOk result (TakesBelow (view_of self.old learning.old)
             (view_of self.new learning.new) (held window.old) (held window.new)
             (P.view target.old).text (P.view target.new).text) }
@@ -183,7 +182,7 @@ impl RowEncoder {
             (learning.new ≡ learning.old) × (target.new ≡ target.old) }
         ensures few { AppendsRow self.old (P.view target.old).text (P.view target.new).text }
         ensures closes { self.new.is_closed ≡ is_err result }
-        ensures ready { OnOk result (MayGoOn self.new learning.new) }
+        ensures ready { OnOk result (MayGoOn self.new) }
         ensures rows { OnOk result (self.new.rows ≡ self.old.rows + 1) }
         ensures size { self.new.size ≡ self.old.size }
         ensures lined { OnOk result (IsLined (held window.new)) }
@@ -211,17 +210,14 @@ impl RowEncoder {
         target: &mut P,
     ) -> Result<(), Fault>
         requires left { self.old.rows < self.old.size.height }
-        requires able { IsAble (view_of self.old learning.old) }
-        requires tallied { 0 < self.old.in_stripe → row_count learning.old.tally ≤
-            self.old.in_stripe }
+        requires able { IsAble self.old }
         ensures ok { OnOk result (StandsToRun (view_of self.old learning.old)
             (view_of self.new learning.new) (P.view target.old).text (P.view target.new).text) }
         ensures cut { OnErr result ((row : List Bool) (before : Held) → CutsRow row (view_of
             self.old learning.old) before (P.view target.old).text (P.view target.new).text) }
         ensures few { AppendsAtMost 8 (P.view target.old).text (P.view target.new).text }
         ensures same_encoder { self.new.encoder ≡ self.old.encoder }
-        ensures able { OnOk result (IsAble (view_of self.new learning.new)) }
-        ensures tallied { OnOk result (row_count learning.new.tally ≤ self.new.in_stripe) }
+        ensures able { OnOk result (IsAble self.new) }
         ensures rows { self.new.rows ≡ self.old.rows }
         ensures in_stripe { self.new.in_stripe ≡ self.old.in_stripe }
         ensures stripe_rows { self.new.stripe_rows ≡ self.old.stripe_rows }
@@ -244,15 +240,14 @@ impl RowEncoder {
         target: &mut P,
     ) -> Result<(), Fault>
         requires left { self.old.rows < self.old.size.height }
-        requires able { IsAble (view_of self.old learning.old) }
+        requires able { IsAble self.old }
         ensures ok { OnOk result (WaitsToRun (view_of self.old learning.old)
             (view_of self.new learning.new) (P.view target.old).text (P.view target.new).text) }
         ensures cut { OnErr result (CutsMove (view_of self.old learning.old)
             (P.view target.old).text (P.view target.new).text) }
         ensures few { AppendsAtMost 8 (P.view target.old).text (P.view target.new).text }
         ensures same_encoder { self.new.encoder ≡ self.old.encoder }
-        ensures able { OnOk result (IsAble (view_of self.new learning.new)) }
-        ensures tallied { OnOk result (row_count learning.new.tally ≡ 0) }
+        ensures able { OnOk result (IsAble self.new) }
         ensures rows { self.new.rows ≡ self.old.rows }
         ensures in_stripe { self.new.in_stripe ≡ self.old.in_stripe }
         ensures stripe_rows { self.new.stripe_rows ≡ self.old.stripe_rows }
@@ -286,8 +281,7 @@ impl RowEncoder {
         requires width { width_of window.now ≡ self.old.size.width }
         requires lined { IsLined (held window.now) }
         requires left { self.old.rows < self.old.size.height }
-        requires able { IsAble (view_of self.old learning.old) }
-        requires tallied { row_count learning.old.tally ≤ self.old.in_stripe }
+        requires able { IsAble self.old }
         requires fewer { self.old.in_stripe < self.old.stripe_rows }
         ensures ok { OnOk result (CodesRow (view_of self.old learning.old) (view_of self.new
             learning.new) (held window.now) (P.view target.old).text (P.view target.new).text) }
@@ -295,8 +289,7 @@ impl RowEncoder {
             (P.view target.old).text (P.view target.new).text) }
         ensures few { CodesFew self.old self.new (P.view target.old).text (P.view target.new).text
             result }
-        ensures able { OnOk result (IsAble (view_of self.new learning.new)) }
-        ensures tallied { OnOk result (row_count learning.new.tally ≤ self.new.in_stripe) }
+        ensures able { OnOk result (IsAble self.new) }
         ensures rows { self.new.rows ≡ self.old.rows + 1 }
         ensures in_stripe { self.new.in_stripe ≡ self.old.in_stripe + 1 }
         ensures stripe_rows { self.new.stripe_rows ≡ self.old.stripe_rows }
@@ -344,8 +337,7 @@ impl RowEncoder {
         requires width { width_of window.old ≡ self.old.size.width }
         requires lined { IsLined (held window.old) }
         requires some { 0 < self.old.in_stripe }
-        requires able { IsAble (view_of self.old learning.old) }
-        requires tallied { row_count learning.old.tally ≤ self.old.in_stripe }
+        requires able { IsAble self.old }
         ensures ok { OnOk result (RunsToStand (view_of self.old learning.old)
             (view_of self.new learning.new) (held window.old) (held window.new)
             (P.view target.old).text (P.view target.new).text) }
@@ -353,7 +345,7 @@ impl RowEncoder {
             (P.view target.old).text (P.view target.new).text) }
         ensures few { AppendsAtMost (most_code_bytes self.old + 2) (P.view target.old).text
             (P.view target.new).text }
-        ensures ready { OnOk result (MayGoOn self.new learning.new) }
+        ensures ready { OnOk result (MayGoOn self.new) }
         ensures rows { self.new.rows ≡ self.old.rows }
         ensures size { self.new.size ≡ self.old.size }
         ensures same_closed { self.new.is_closed ≡ self.old.is_closed }
@@ -380,7 +372,7 @@ impl RowEncoder {
         requires width { width_of window.old ≡ self.old.size.width }
         requires lined { IsLined (held window.old) }
         requires some { 0 < self.old.in_stripe }
-        requires able { IsAble (view_of self.old learning.old) }
+        requires able { IsAble self.old }
         ensures ok { OnOk result (EndsStripe (view_of self.old learning.old)
             (view_of self.new learning.new) (held window.old) (held window.new)
             (P.view target.old).text (P.view target.new).text) }
@@ -390,7 +382,7 @@ impl RowEncoder {
             (P.view target.new).text }
         // No byte of a stripe that is whole waits for the next one.
         ensures sent { OnOk result ((P.view target.new).held ≡ []) }
-        ensures able { OnOk result (IsAble (view_of self.new learning.new)) }
+        ensures able { OnOk result (IsAble self.new) }
         ensures none { OnOk result (self.new.in_stripe ≡ 0) }
         ensures rows { self.new.rows ≡ self.old.rows }
         ensures stripe_rows { self.new.stripe_rows ≡ self.old.stripe_rows }
@@ -423,7 +415,7 @@ impl RowEncoder {
         requires some { IsGoing self.old → 0 < self.old.rows }
         requires whole { IsGoing self.old → self.old.may_end ≡ false → self.old.rows ≡
             self.old.size.height }
-        requires ready { IsGoing self.old → MayGoOn self.old learning.old }
+        requires ready { IsGoing self.old → MayGoOn self.old }
         ensures ok { OnOk result (EndsImage (view_of self.old learning.old) (held window.old)
             (P.view target.old).text (P.view target.new).text) }
         ensures cut { IsGoing self.old → OnErr result (CutsImage (view_of self.old learning.old)
@@ -458,7 +450,7 @@ impl RowEncoder {
         requires lined { IsLined (held window.old) }
         requires some { 0 < self.old.rows }
         requires whole { self.old.may_end ≡ false → self.old.rows ≡ self.old.size.height }
-        requires able { IsAble (view_of self.old learning.old) }
+        requires able { IsAble self.old }
         ensures ok { OnOk result (EndsStripes (view_of self.old learning.old) (view_of self.new
             learning.new) (held window.old) (P.view target.old).text (P.view target.new).text) }
         ensures cut { OnErr result (CutsImage (view_of self.old learning.old) (held window.old)
@@ -522,7 +514,7 @@ impl RowEncoder {
         ensures begun { IfOk result (λ e. Stands (settings_of options.now) size.width size.height []
             (view_of e learning.new) (held window.new) (W.view output.old).contents
             (W.view output.new).contents) }
-        ensures ready { IfOk result (λ e. MayGoOn e learning.new) }
+        ensures ready { IfOk result MayGoOn }
         ensures going { IfOk result IsGoing }
         ensures none { IfOk result (λ e. e.rows ≡ 0) }
         ensures size { IfOk result (λ e. e.size ≡ size) }
@@ -557,7 +549,7 @@ impl RowEncoder {
         requires lined { IsGoing self.old → IsLined (held window.old) }
         requires whole { length row.now ≡ bytes_of_row self.old.size.width }
         requires left { IsGoing self.old → self.old.rows < self.old.size.height }
-        requires ready { IsGoing self.old → MayGoOn self.old learning.old }
+        requires ready { IsGoing self.old → MayGoOn self.old }
         ensures ok { OnOk result (TakesNextRow (given_row self.old row.now)
             (view_of self.old learning.old) (view_of self.new learning.new) (held window.old)
             (held window.new) (W.view output.old).contents (W.view output.new).contents) }
@@ -569,7 +561,7 @@ impl RowEncoder {
         ensures few { AppendsRow self.old (W.view output.old).contents
             (W.view output.new).contents }
         ensures closes { self.new.is_closed ≡ is_err result }
-        ensures ready { OnOk result (MayGoOn self.new learning.new) }
+        ensures ready { OnOk result (MayGoOn self.new) }
         ensures rows { OnOk result (self.new.rows ≡ self.old.rows + 1) }
         ensures size { self.new.size ≡ self.old.size }
         ensures lined { OnOk result (IsLined (held window.new)) }
@@ -597,7 +589,7 @@ impl RowEncoder {
         requires lined { IsLined (held window.old) }
         requires open_ { IsGoing self.old }
         requires left { self.old.rows < self.old.size.height }
-        requires ready { MayGoOn self.old learning.old }
+        requires ready { MayGoOn self.old }
         ensures ok { OnOk result (TakesBelow (view_of self.old learning.old)
             (view_of self.new learning.new) (held window.old) (held window.new)
             (text_taken buffer.old) (W.view buffer.new.output.now).contents) }
@@ -605,7 +597,7 @@ impl RowEncoder {
             (text_taken buffer.old) (text_taken buffer.new)) }
         ensures few { AppendsRow self.old (text_taken buffer.old) (text_taken buffer.new) }
         ensures closes { self.new.is_closed ≡ is_err result }
-        ensures ready { OnOk result (MayGoOn self.new learning.new) }
+        ensures ready { OnOk result (MayGoOn self.new) }
         ensures rows { OnOk result (self.new.rows ≡ self.old.rows + 1) }
         ensures size { self.new.size ≡ self.old.size }
         ensures lined { OnOk result (IsLined (held window.new)) }
@@ -642,7 +634,7 @@ impl RowEncoder {
         requires some { IsGoing self.old → 0 < self.old.rows }
         requires whole { IsGoing self.old → self.old.may_end ≡ false → self.old.rows ≡
             self.old.size.height }
-        requires ready { IsGoing self.old → MayGoOn self.old learning.old }
+        requires ready { IsGoing self.old → MayGoOn self.old }
         ensures ok { OnOk result (EndsImage (view_of self.old learning.old) (held window.old)
             (W.view output.old).contents (W.view output.new).contents) }
         ensures cut { IsGoing self.old → OnErr result (CutsImage (view_of self.old learning.old)
@@ -677,7 +669,7 @@ impl RowEncoder {
         requires open_ { IsGoing self.old }
         requires some { 0 < self.old.rows }
         requires whole { self.old.may_end ≡ false → self.old.rows ≡ self.old.size.height }
-        requires ready { MayGoOn self.old learning.old }
+        requires ready { MayGoOn self.old }
         ensures ok { OnOk result (EndsImage (view_of self.old learning.old) (held window.old)
             (text_taken buffer.old) (W.view buffer.new.output.now).contents) }
         ensures cut { OnErr result (CutsImage (view_of self.old learning.old) (held window.old)

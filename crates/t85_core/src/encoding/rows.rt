@@ -65,7 +65,7 @@ pub fn start_held<W: Output>(
     ensures begun { IfOk result (λ e. Stands (settings_of options.now) size.width size.height []
         (view_of e learning.new) (held window.new) (text_taken buffer.old)
         (W.view buffer.new.output.now).contents) }
-    ensures ready { IfOk result (λ e. MayGoOn e learning.new) }
+    ensures ready { IfOk result MayGoOn }
     ensures going { IfOk result IsGoing }
     ensures none { IfOk result (λ e. e.rows ≡ 0) }
     ensures size { IfOk result (λ e. e.size ≡ size) }

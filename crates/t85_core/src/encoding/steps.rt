@@ -4,7 +4,7 @@ ghost use Rattle.std.specs.Prelude.{[], ◌∷◌, ◌++◌, nat_lt, length, Non
 ghost use Rattle.std.specs.Io.KnownBytes.{Appends};
 ghost use Rattle.pbm_core.specs.Device.{AppendsBeginning};
 ghost use Rattle.qm_core.specs.Place.{Place};
-ghost use Rattle.raster_core.specs.Tally.{is_two_line, most_of, row_count};
+ghost use Rattle.raster_core.specs.Tally.{is_two_line, most_of};
 ghost use Rattle.raster_core.specs.Offset.{candidates};
 ghost use Rattle.qm_core.specs.Encoder.{EncoderIsAt, event_count, has_failed};
 ghost use Rattle.raster_core.specs.Lines.{Lines};
@@ -188,10 +188,9 @@ pub fn end_entity<P: ByteTarget>(encoder: Encoder, reset: bool, target: &mut P) 
 pub fn count_row(counted: Option<u8>, width: u32, window: &Window<'_>, tally: &mut Tally)
     requires width { width_of window.now ≡ width }
     requires offset { IfSome counted (λ offset. offset ≤ 127) }
-    requires rows { row_count tally.old < 2 ^ 32 - 1 }
-    ensures counts { (lines : List Lines) (l : Lines) → HasLines (held window.now) l → IsCountedTo
-        width counted tally.old lines → IsCountedTo width counted tally.new (lines ++ l ∷ []) }
-    ensures rows { row_count tally.new ≤ row_count tally.old + 1 }
+    ensures counts { (lines : List Lines) (l : Lines) → length lines < 2 ^ 32 - 1 →
+        HasLines (held window.now) l → IsCountedTo width counted tally.old lines →
+        IsCountedTo width counted tally.new (lines ++ l ∷ []) }
     ensures two_line { is_two_line tally.new ≡ is_two_line tally.old }
     ensures most { most_of tally.new ≡ most_of tally.old }
 {

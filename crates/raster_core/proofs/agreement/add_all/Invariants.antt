@@ -6,5 +6,4 @@ invariant-loop-lag l = record {
   long : length l.counts ≡ 128;
   done : (j : ℕ) → l.from ≤ j → j < l.lag → get_or l.counts j 0 ≡ get_or l.initial.counts j 0 + l.more;
   rest : (j : ℕ) → l.lag ≤ j → get_or l.counts j 0 ≡ get_or l.initial.counts j 0;
-  room : (j : ℕ) → get_or l.counts j 0 ≤ get_or l.initial.counts j 0 + l.more;
 }

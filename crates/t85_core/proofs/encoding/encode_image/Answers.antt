@@ -23,7 +23,7 @@ rows-init g c =
     record {
       come = ([], refl, reads_none c.args.form c.args.size.width _, c.new-encoder.ensures.first _ c.first-learning.ensures (held c.clear.new.self) _ _ white put.ok);
       going = c.new-encoder.ensures.going;
-      ready = c.new-encoder.ensures.ready _;
+      ready = c.new-encoder.ensures.ready;
       many = c.new-encoder.ensures.none;
       size_is = c.new-encoder.ensures.size;
       width = c.clear.ensures.width ∙ c.requires.width;

@@ -1,7 +1,6 @@
 //! An encoder whose rows come one by one, as plain numbers.
 
 ghost use Rattle.std.specs.Prelude.{◌≡◌, true, false, IfSome, IsSomeAnd};
-ghost use Rattle.raster_core.specs.Tally.{row_count};
 ghost use Rattle.t85_core.specs.Jbg.{is_low};
 ghost use Rattle.t85_core.specs.Options.{settings_of};
 ghost use Rattle.t85_core.specs.RowNumbers.{row_numbers};
@@ -67,14 +66,13 @@ impl RowEncoder {
     }
 
     /// The encoder of this size and with these options that has these numbers and is not closed, if there is one. The next
-    /// call is to be lent the window and what was learned as the last one left them.
+    /// call is to be lent the window and what was learned as the last one left them: lent others it is safe, and no more.
     pub fn resume(size: Size, options: &Options<'_>, numbers: &RowNumbers) -> Option<RowEncoder>
-        ensures resumes { (e : RowEncoder) (learning : Learning) → is_low (settings_of options.now)
-            size.height ≡ false → IsPlan (settings_of options.now) size.width size.height
-            (plan_of e) → MayGoOn e learning → numbers.now ≡ row_numbers e → IsSomeAnd result (λ r.
-            (l : Learning) → view_of r l ≡ view_of e l) }
-        ensures ready { IfSome result (λ r. (l : Learning) →
-            (0 < r.in_stripe → row_count l.tally ≤ r.in_stripe) → MayGoOn r l) }
+        ensures resumes { (e : RowEncoder) → is_low (settings_of options.now) size.height ≡ false →
+            IsPlan (settings_of options.now) size.width size.height (plan_of e) → MayGoOn e →
+            numbers.now ≡ row_numbers e → IsSomeAnd result (λ r. (l : Learning) →
+            view_of r l ≡ view_of e l) }
+        ensures ready { IfSome result MayGoOn }
         ensures plan { IfSome result (λ r. IsPlan (settings_of options.now) size.width size.height
             (plan_of r)) }
         ensures numbers { IfSome result (λ r. row_numbers r ≡ numbers.now) }

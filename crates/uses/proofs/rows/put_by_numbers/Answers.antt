@@ -1,22 +1,16 @@
 use Rattle.std.proofs.Common.{◌≤◌, ◌<◌, ◌∙◌, ◌++◌, ◌∷◌, [], sym, ap, subst}
 use Rattle.pbm_core.specs.Image.{pixels_of}
-use Rattle.raster_core.specs.Tally.{row_count}
 use Rattle.raster_core.specs.Window.{held}
 use Rattle.t85_core.specs.Steps.ByRow.{Stands, view_of}
 use Rattle.uses.proofs.rows.put_by_numbers.Goals as goal
 
 pub returns-in_err-again-clause-failed : goal.returns-in_err-again-clause-failed
 returns-in_err-again-clause-failed g c none =
-    absurd (c.in_err-again.ensures.resumes c.args.encoder.now c.args.learning.now c.requires.low c.requires.plan c.requires.ready c.numbers.ensures)
-
-pub put_row-requires-clause-ready : goal.put_row-requires-clause-ready
-put_row-requires-clause-ready g c _ =
-    let same = ap (λ n. n.in_stripe) (c.in_ok-again.ensures.numbers ∙ c.numbers.ensures) in
-    c.in_ok-again.ensures.ready c.args.learning.now (subst (λ n. 0 < n → row_count c.args.learning.now.tally ≤ n) (sym same) c.requires.ready.tallied)
+    absurd (c.in_err-again.ensures.resumes c.args.encoder.now c.requires.low c.requires.plan c.requires.ready c.numbers.ensures)
 
 pub returns-in-Ok-clause-put : goal.returns-in-Ok-clause-put
 returns-in-Ok-clause-put g c =
-    let same = c.in_ok-again.ensures.resumes c.args.encoder.now c.args.learning.now c.requires.low c.requires.plan c.requires.ready c.numbers.ensures c.args.learning.now in (
+    let same = c.in_ok-again.ensures.resumes c.args.encoder.now c.requires.low c.requires.plan c.requires.ready c.numbers.ensures c.args.learning.now in (
       c.put_row.new.self,
       c.numbers-in-Ok.ensures,
       λ s width limit rows text so.

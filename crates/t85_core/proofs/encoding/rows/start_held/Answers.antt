@@ -18,9 +18,6 @@ returns-clause-begun g c =
     let white = subst (λ w. HasLines (held c.clear.new.self) (white_lines w)) c.requires.width c.clear.ensures.white in
     stands_kept _ _ _ _ _ _ _ _ _ (all_handed _ _ _ _ _ empty.0 empty.1 c.write_held.ensures.text) (c.new.ensures.first _ c.first.ensures _ _ _ white c.in_ok-write_head.ensures.ok)
 
-pub returns-clause-ready : goal.returns-clause-ready
-returns-clause-ready g c = c.new.ensures.ready c.first.result
-
 pub returns-in_err-write_held-clause-cut : goal.returns-in_err-write_held-clause-cut
 returns-in_err-write_held-clause-cut g c =
     exit_all (λ r. OnErr r (AppendsBeginning (text_taken c.args.buffer.now) (text_taken c.write_held.new.self) (head_of (settings_of c.args.options.now) c.args.size.width c.args.size.height))) c.from_residual-in_err-write_held.result c.from_residual-in_err-write_held.ensures.1

@@ -6,7 +6,7 @@ use Rattle.tests.proofs.by_row.Rows.run.Given as goal
 abbrev pub invariant-rows : goal.invariant-rows
 invariant-rows l = record {
   going : l.encoder.is_closed ≡ false;
-  ready : MayGoOn l.encoder l.learning;
+  ready : MayGoOn l.encoder;
   size_is : l.encoder.size ≡ l.self.size;
   width : width_of l.window ≡ l.self.size.width;
   lined : IsLined (held l.window);

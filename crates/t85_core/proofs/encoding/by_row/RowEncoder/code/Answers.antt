@@ -25,10 +25,10 @@ returns-in_err-code_row-clause-cut g c =
 pub returns-clause-ok : goal.returns-clause-ok
 returns-clause-ok g c s width limit rows row before text below r =
     let is = c.counted-counted.ensures.is c.args.learning.now in
-    row_coded s width limit rows row (view_of c.args.self.now c.args.learning.now) before (held c.args.window.now) text _ _ below c.requires.width r c.requires.left c.requires.fewer c.code_row.new.kept c.code_row.new.learned c.count_row.new.tally c.code_row.new.encoder _ _ refl refl
+    row_coded s width limit rows row (view_of c.args.self.now c.args.learning.now) before (held c.args.window.now) text _ _ below c.requires.width r c.requires.left c.requires.fewer c.requires.able.few_rows c.code_row.new.kept c.code_row.new.learned c.count_row.new.tally c.code_row.new.encoder _ _ refl refl
     (c.in_ok-code_row.ensures.row (row_start_in s width r.at r.part).state.place r.pushed (lines_with (row_start_in s width r.at r.part) row) r.running.codes
     (lines_are s width limit rows row (view_of c.args.self.now c.args.learning.now) before (held c.args.window.now) text (g.P.ByteTarget.view c.args.target.now).text (g.P.ByteTarget.view c.args.target.now).text below c.requires.width r)).ok
-    (λ lines l has counted. subst (λ o. IsCountedTo c.args.self.now.size.width o c.count_row.new.tally (lines ++ l ∷ [])) is (c.count_row.ensures.counts lines l has (subst (λ o. IsCountedTo c.args.self.now.size.width o c.args.learning.now.tally lines) (sym is) counted)))
+    (λ lines l few has counted. subst (λ o. IsCountedTo c.args.self.now.size.width o c.count_row.new.tally (lines ++ l ∷ [])) is (c.count_row.ensures.counts lines l few has (subst (λ o. IsCountedTo c.args.self.now.size.width o c.args.learning.now.tally lines) (sym is) counted)))
     c.count_row.ensures.two_line c.count_row.ensures.most
 
 pub returns-clause-able : goal.returns-clause-able

@@ -4,13 +4,13 @@ use Rattle.t85_core.proofs.Encodings.RowNumbers.{one_view}
 use Rattle.t85_core.proofs.encoding.by_row.RowEncoder.resume.Goals as goal
 
 pub returns-in_err-encoder-clause-resumes : goal.returns-in_err-encoder-clause-resumes
-returns-in_err-encoder-clause-resumes c e learning low plan ready same =
+returns-in_err-encoder-clause-resumes c e low plan ready same =
     let at = ready.able.somewhere in
     let found = c.in_err-encoder.ensures.same e.encoder at.0 at.1 at.2 ready.able.going (ap (λ n. n.encoder) same) in
     absurd (let bot : ⊥ = cc in bot)
 
 pub returns-clause-resumes : goal.returns-clause-resumes
-returns-clause-resumes c e learning low plan ready same l =
+returns-clause-resumes c e low plan ready same l =
     let at = ready.able.somewhere in
     let found = c.in_ok-encoder.ensures.same e.encoder at.0 at.1 at.2 ready.able.going (ap (λ n. n.encoder) same) in
     let encoder : c.in_ok-encoder.encoder ≡ e.encoder = cc in
