@@ -1,5 +1,5 @@
 -- What the registers, the bytes that are held back and the cells of the code stand for.
-use Rattle.std.specs.Prelude.{ℕ, ◌+◌, ◌-◌, ◌*◌, ◌^◌, ◌≡◌, List, length, Option, Some, None, [], ◌∷◌, ◌++◌, replicate, ◌/◌, ◌%◌, nat_eq}
+use Rattle.std.specs.Prelude.{ℕ, ◌+◌, ◌-◌, ◌*◌, ◌^◌, ◌≡◌, List, length, Option, Some, None, [], ◌∷◌, ◌++◌, replicate, ◌/◌, ◌%◌, nat_eq, if◌then◌else◌}
 use Rattle.qm_core.specs.Place.{Place, Estimate}
 use Rattle.qm_core.specs.Code.{number}
 
@@ -33,3 +33,7 @@ pub record Appends (old new : List ℕ) (byte : ℕ) : Type 0 where
 -- twice the row, and one more where black is favoured
 abbrev pub estimate : ℕ → Estimate
 estimate cell = record { row = cell / 2; pixel = nat_eq (cell % 2) 1 }
+
+-- the byte of an estimate
+abbrev pub cell_of : Estimate → ℕ
+cell_of e = 2 * e.row + (if e.pixel then 1 else 0)
