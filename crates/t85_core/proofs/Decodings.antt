@@ -10,7 +10,6 @@ pub mod TypicalRows
 pub mod RowsRepeated
 pub mod Entities
 pub mod StripePut
-pub mod CodePut
 pub mod ImagePut
 pub mod BufferDecoded
 pub mod Decoded
@@ -36,3 +35,5 @@ pub mod PieceNumbers
 pub mod PieceLook
 pub mod PieceCertain
 pub mod PieceBelow
+pub mod WalkDecoded
+pub mod WalkRead

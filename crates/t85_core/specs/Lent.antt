@@ -10,7 +10,6 @@ use Rattle.raster_core.specs.declared.window.Window.{Window}
 use Rattle.t85_core.specs.declared.header.Header.{Header}
 use Rattle.t85_core.specs.declared.segments.Code.{Code}
 use Rattle.t85_core.specs.declared.segments.Move.{Move}
-use Rattle.t85_core.specs.declared.state.CodingState.{CodingState}
 use Rattle.t85_core.specs.declared.pieces.End.{End}
 use Rattle.t85_core.specs.declared.pieces.PieceDecoder.{PieceDecoder}
 use Rattle.t85_core.specs.declared.pieces.behind.Behind.{Behind}
@@ -26,9 +25,6 @@ pub record Carried : Type 0 where
   pub held : Held
   pub kept : Kept
   pub learned : List Estimate
-
-abbrev pub carried_of : CodingState → Carried
-carried_of s = record { held = held s.window.now; kept = s.kept; learned = s.learned.now }
 
 abbrev pub carried_by : Window → Kept → List Estimate → Carried
 carried_by window kept learned = record { held = held window; kept = kept; learned = learned }

@@ -12,6 +12,7 @@ pub mod DecodeRows
 pub mod DecodeStripes
 pub mod PieceCode
 pub mod Pieces
+pub mod Reading
 pub mod Behind
 pub mod PieceStands
 pub mod PieceSteps

@@ -1,36 +1,34 @@
 //! Decoding an image.
 
-ghost use Rattle.std.specs.Prelude.{◌≡◌, ◌≢◌, ◌≤◌, ◌<◌, OnOk, IfErr, IsErrOf, IfSome, None, option_map, if◌then◌else◌};
-ghost use Rattle.raster_core.specs.Window.{width_of};
-ghost use Rattle.t85_core.specs.Steps.State.{StripeStart, first_row_start};
+ghost use Rattle.std.specs.Prelude.{◌≡◌, ◌≢◌, ◌≤◌, ◌<◌, [], Bool, true, Ok, Err, OnOk, IfErr, IsErrOf};
+ghost use Rattle.raster_core.specs.Window.{held, width_of};
 ghost use Rattle.t85_core.specs.Options.{fields_of};
 ghost use Rattle.t85_core.specs.Change.{input_change, output_change};
 ghost use Rattle.t85_core.specs.Decode.{Decode};
+ghost use Rattle.t85_core.specs.Lent.{walk_over};
 ghost use Rattle.t85_core.specs.Steps.Buffers.{known_length, ReadsOn, WritesOn};
-ghost use Rattle.t85_core.specs.Steps.Views.{entity_view, text_taken, writer_of};
-ghost use Rattle.t85_core.specs.Lent.{carried_of};
-ghost use Rattle.t85_core.specs.Steps.DecodeRows.{pair_of, IsCarried, IsFirst};
-ghost use Rattle.t85_core.specs.Steps.DecodeStripes.{CodeBegun, DecodeCodeOutcome, SomeStripeStart, DecodeStripeOutcome, ImageRead, ImageCut, ImageUnwritten};
-ghost use Rattle.t85_core.specs.Steps.Entity.{entity_known};
-ghost use Rattle.t85_core.specs.Steps.Segments.{spot_at};
+ghost use Rattle.t85_core.specs.Steps.Views.{text_taken, writer_of};
+ghost use Rattle.t85_core.specs.Steps.DecodeStripes.{ImageRead, ImageCut, ImageUnwritten};
+ghost use Rattle.t85_core.specs.Steps.Pieces.{WalkStands};
+ghost use Rattle.t85_core.specs.Steps.Reading.{HeldTurn, ReadTurn, RowsTurn, SameSource, still_left};
 ghost use Rattle.t85_core.specs.Failures.{CountsBoth, CountsWrite};
-ghost use Rattle.t85_core.specs.declared.fault.Fault.TheVariants.{Read, Write};
+ghost use Rattle.t85_core.specs.declared.fault.Fault.{Fault};
+ghost use Rattle.t85_core.specs.declared.fault.Fault.TheVariants.{Read, Truncated, Write};
+ghost use Rattle.t85_core.specs.declared.pieces.walk.Stage.TheVariants as stage;
 
-pub mod entity;
 pub mod rows;
 
-use crate::decoding::entity::EntityReader;
-use crate::decoding::rows::{RowFault, decode_rows};
+use crate::decoding::rows::put_copies;
 use crate::fault::Fault;
 use crate::header::Header;
-use crate::input_buffer::{ByteSource, InputBuffer, READ_AHEAD};
+use crate::input_buffer::{HeldSource, InputBuffer, READ_AHEAD};
 use crate::laws::coder_laws;
 use crate::output_buffer::{ByteTarget, IMAGE_HELD, OutputBuffer};
-use crate::segments::{Move, Place, read_head};
-use crate::state::CodingState;
+use crate::pieces::piece::Piece;
+use crate::pieces::walk::Walk;
 use pbm_core::{Input, Output, Size, WriteFault, write_header};
 use qm_core::Learned;
-use raster_core::{Shape, Window};
+use raster_core::Window;
 
 /// Writes the image that a stream denotes. The input is just after the header.
 ///
@@ -86,7 +84,7 @@ fn decode_by<R: Input, W: Output, const AHEAD: usize, const HELD: usize>(
     output: &mut W,
 ) -> Result<(), Fault>
     requires width { width_of window.old ≡ header.now.xd }
-    requires ahead { 0 < AHEAD }
+    requires ahead { 7 < AHEAD }
     requires few_ahead { AHEAD ≤ 4096 }
     requires held { 0 < HELD }
     requires few_held { HELD ≤ 4096 }
@@ -104,27 +102,28 @@ fn decode_by<R: Input, W: Output, const AHEAD: usize, const HELD: usize>(
         height,
     };
     let mut learned = Learned::new();
-    let mut carried = CodingState::first(window, &mut learned);
+    let mut walk = Walk::start(header, height, window, &mut learned);
     match write_header(output, size) {
         Ok(()) => {}
         Err(WriteFault) => return Err(Fault::Write),
     }
     let mut stream: InputBuffer<'_, R, AHEAD> = InputBuffer::new(input);
     let mut buffer: OutputBuffer<'_, W, HELD> = OutputBuffer::new(output);
-    decode_buffered(header, height, &mut carried, &mut stream, &mut buffer)
+    decode_buffered(header, height, &mut walk, window, &mut learned, &mut stream, &mut buffer)
 }
 
 /// Writes the rows of an image, and writes what is held, except after a failed write.
-fn decode_buffered<S: ByteSource, W: Output, const HELD: usize>(
+fn decode_buffered<S: HeldSource, W: Output, const HELD: usize>(
     header: &Header,
     height: u32,
-    carried: &mut CodingState<'_, '_>,
+    walk: &mut Walk,
+    window: &mut Window<'_>,
+    learned: &mut Learned,
     stream: &mut S,
     buffer: &mut OutputBuffer<'_, W, HELD>,
 ) -> Result<(), Fault>
-    requires width { width_of carried.old.window.now ≡ header.now.xd }
-    requires offset { carried.old.kept.offset ≡ 0 }
-    requires first { IsFirst (carried_of carried.old) }
+    requires stands { WalkStands (fields_of header.now) height
+        (walk_over walk.old window.old learned.old) [] [] }
     requires from { 1 ≤ height }
     requires to { height ≤ header.now.yd }
     ensures ok { OnOk result (ImageRead (fields_of header.now) height (S.view stream.old).known
@@ -145,7 +144,7 @@ fn decode_buffered<S: ByteSource, W: Output, const HELD: usize>(
 {
     // What the proof cites of the coder.
     coder_laws();
-    match decode_image(header, height, carried, stream, buffer) {
+    match decode_image(header, height, walk, window, learned, stream, buffer) {
         Ok(()) => buffer.write_held(),
         Err(fault) => match fault {
             Fault::Write => Err(fault),
@@ -158,16 +157,17 @@ fn decode_buffered<S: ByteSource, W: Output, const HELD: usize>(
 }
 
 /// Writes the rows of an image.
-fn decode_image<S: ByteSource, P: ByteTarget>(
+fn decode_image<S: HeldSource, P: ByteTarget>(
     header: &Header,
     height: u32,
-    carried: &mut CodingState<'_, '_>,
+    walk: &mut Walk,
+    window: &mut Window<'_>,
+    learned: &mut Learned,
     stream: &mut S,
     target: &mut P,
 ) -> Result<(), Fault>
-    requires width { width_of carried.old.window.now ≡ header.now.xd }
-    requires offset { carried.old.kept.offset ≡ 0 }
-    requires first { IsFirst (carried_of carried.old) }
+    requires stands { WalkStands (fields_of header.now) height
+        (walk_over walk.old window.old learned.old) [] [] }
     requires from { 1 ≤ height }
     requires to { height ≤ header.now.yd }
     ensures ok { OnOk result (ImageRead (fields_of header.now) height (S.view stream.old).known
@@ -183,80 +183,105 @@ fn decode_image<S: ByteSource, P: ByteTarget>(
 {
     // What the proof cites of the coder.
     coder_laws();
-    let mut left = height;
-    let mut given = false;
-    'stripes: for entities in 0..height.div_ceil(header.l0) {
-        let rows = left.min(header.l0);
-        let place = Place {
-            height,
-            entities,
-            given,
-        };
-        decode_stripe(header, place, rows, &mut given, carried, stream, target)?;
-        left -= rows;
+    // The image has no more rows than its height, so it ends in a turn of the loop.
+    let mut row = 0;
+    'rows: while row <= height {
+        let count = next_rows(header, height, walk, window, learned, stream)?;
+        if count == 0 {
+            return Ok(());
+        }
+        put_copies(window.row(0), count, target)?;
+        row += count;
     }
     Ok(())
 }
 
-/// Writes the rows of a stripe, and notes whether a height was given in it or before.
-fn decode_stripe<S: ByteSource, P: ByteTarget>(
+/// Decodes the next rows, which are equal, and answers how many: none where the image is whole.
+fn next_rows<S: HeldSource>(
     header: &Header,
-    place: Place,
-    rows: u32,
-    given: &mut bool,
-    carried: &mut CodingState<'_, '_>,
+    height: u32,
+    walk: &mut Walk,
+    window: &mut Window<'_>,
+    learned: &mut Learned,
     stream: &mut S,
-    target: &mut P,
-) -> Result<(), Fault>
-    requires width { width_of carried.old.window.now ≡ header.now.xd }
-    requires offset { carried.old.kept.offset ≤ 127 }
-    requires carried { SomeStripeStart (carried_of carried.old) }
-    ensures outcome { DecodeStripeOutcome (fields_of header.now) (spot_at place) (if given.new then
-        1 else 0) (S.view stream.old).known (S.view stream.new).known rows (carried_of carried.old)
-        (carried_of carried.new) (P.view target.old).text (P.view target.new).text result }
-    ensures width { OnOk result (width_of carried.new.window.now ≡
-        width_of carried.old.window.now) }
-    ensures offset { OnOk result (carried.new.kept.offset ≤ 127) }
-    ensures reads { ReadsOn (S.view stream.old) (S.view stream.new) result }
-    ensures writes { WritesOn (P.view target.old) (P.view target.new) result }
+) -> Result<u32, Fault>
+    requires from { 1 ≤ height }
+    requires to { height ≤ header.now.yd }
+    ensures turn { RowsTurn (fields_of header.now) height (walk_over walk.old window.old
+        learned.old) (walk_over walk.new window.new learned.new) (S.view stream.old) (S.view
+        stream.new) result }
 {
-    let head = read_head(header, place, stream)?;
-    *given = head.given;
-    let mut entity = EntityReader::new(stream, head.code);
-    decode_code(header.shape(), head.at, rows, carried, &mut entity, target)
+    let count = walk.repeat_rows(header, height, window, learned);
+    if count > 0 {
+        return Ok(count);
+    }
+    let is_row = next_row(header, height, walk, window, learned, stream)?;
+    Ok(u32::from(is_row))
 }
 
-/// Writes the rows of a stripe whose code begins.
-fn decode_code<S: ByteSource, P: ByteTarget>(
-    shape: Shape,
-    at: Option<Move>,
-    rows: u32,
-    carried: &mut CodingState<'_, '_>,
-    entity: &mut EntityReader<'_, S>,
-    target: &mut P,
-) -> Result<(), Fault>
-    requires width { width_of carried.old.window.now ≡ shape.width }
-    requires some { 1 ≤ shape.width }
-    requires offset { carried.old.kept.offset ≤ 127 }
-    requires to { IfSome at (λ to. to.offset ≤ 127) }
-    requires begun { CodeBegun shape (option_map pair_of at) (carried_of carried.old)
-        (entity_view entity.old) }
-    ensures outcome { DecodeCodeOutcome (entity_view entity.old) (entity_view entity.new) (S.view
-        entity.new.stream.now).known shape (option_map pair_of at) rows (carried_of carried.old)
-        (carried_of carried.new) (P.view target.old).text (P.view target.new).text result }
-    ensures width { OnOk result (width_of carried.new.window.now ≡
-        width_of carried.old.window.now) }
-    ensures offset { OnOk result (carried.new.kept.offset ≤ 127) }
-    ensures writes { WritesOn (P.view target.old) (P.view target.new) result }
+/// Decodes the next row, and reads on where what is held ends. Answers whether there is one.
+fn next_row<S: HeldSource>(
+    header: &Header,
+    height: u32,
+    walk: &mut Walk,
+    window: &mut Window<'_>,
+    learned: &mut Learned,
+    stream: &mut S,
+) -> Result<bool, Fault>
+    requires from { 1 ≤ height }
+    requires to { height ≤ header.now.yd }
+    ensures turn { ReadTurn (fields_of header.now) height (walk_over walk.old window.old
+        learned.old) (walk_over walk.new window.new learned.new) (S.view stream.old) (S.view
+        stream.new) result }
+    ensures code { result ≡ Ok true → walk.new.stage ≡ stage.Code }
 {
-    // What the proof cites of the coder.
-    coder_laws();
-    match decode_rows(shape, at, rows, carried, entity, target) {
-        Ok(()) => {}
-        Err(RowFault::Write) => return Err(Fault::Write),
-        Err(RowFault::Stopped) => return Err(entity.fault()),
+    'turns: loop {
+        match turn_held(header, height, walk, window, learned, stream) {
+            Ok(is_row) => return Ok(is_row),
+            Err(fault) => match fault {
+                Fault::Truncated => stream.refill()?,
+                _ => return Err(fault),
+            },
+        }
     }
-    let reset = entity.finish()?;
-    carried.end_stripe(reset);
-    Ok(())
+}
+
+/// Decodes the next row, as far as the bytes go that are held. After a fault none is held.
+fn turn_held<S: HeldSource>(
+    header: &Header,
+    height: u32,
+    walk: &mut Walk,
+    window: &mut Window<'_>,
+    learned: &mut Learned,
+    stream: &mut S,
+) -> Result<bool, Fault>
+    requires from { 1 ≤ height }
+    requires to { height ≤ header.now.yd }
+    ensures turn { HeldTurn (fields_of header.now) height (walk_over walk.old window.old
+        learned.old) (walk_over walk.new window.new learned.new) (S.view stream.old).known (S.view
+        stream.new).known (S.bytes stream.new) result }
+    ensures still { still_left (S.view stream.new) (S.bytes stream.new) ≡
+        still_left (S.view stream.old) (S.bytes stream.old) }
+    ensures same { SameSource (S.view stream.old) (S.view stream.new) }
+    ensures code { result ≡ Ok true → walk.new.stage ≡ stage.Code }
+{
+    let mut piece = Piece {
+        rest: stream.held(),
+    };
+    let answer = walk.next(header, height, window, learned, &mut piece);
+    let left = piece.rest.len();
+    stream.keep(bytes_kept(answer, left));
+    answer
+}
+
+/// How many of the bytes stay that a turn has not taken: none after a fault.
+fn bytes_kept(answer: Result<bool, Fault>, left: usize) -> usize
+    ensures kept { IfErr answer (λ f. f ≡ Truncated) → result ≡ left }
+    ensures none { (f : Fault) → answer ≡ Err f → f ≢ Truncated → result ≡ 0 }
+{
+    match answer {
+        Ok(_) => left,
+        Err(Fault::Truncated) => left,
+        Err(_) => 0,
+    }
 }

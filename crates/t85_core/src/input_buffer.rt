@@ -1,7 +1,9 @@
 //! A reader's bytes, read ahead into a fixed array and handed out one at a time.
 
-ghost use Rattle.std.specs.Prelude.{◌≡◌, ◌≢◌, ◌≤◌, ◌<◌, ◌+◌, ◌-◌, ◌^◌, ◌∷◌, [], None, length, slice_index, take, IfSome};
-ghost use Rattle.std.specs.Io.KnownBytes.{Consumes, prepend_known};
+ghost use Rattle.std.specs.Prelude.{◌≡◌, ◌≢◌, ◌≤◌, ◌<◌, ◌+◌, ◌-◌, ◌^◌, ◌∷◌, ◌++◌, [], ℕ, List, None, length, slice_index, take, IfSome, IfOk, IfErr, MatchResult};
+ghost use Rattle.std.specs.Io.KnownBytes.{Consumes, IsAtEnd, Keeps, prepend_known};
+ghost use Rattle.pbm_core.specs.Device.{Counts};
+ghost use Rattle.t85_core.specs.Steps.Reading.{KeepsLast, Refills};
 ghost use Rattle.t85_core.specs.Steps.Buffers.{SourceView, GivesNextByte, GivesPlain, SkipsPlain, held_of, ArePlain};
 
 use crate::fault::Fault;
@@ -32,6 +34,27 @@ pub trait ByteSource {
         ensures { SkipsPlain (view self.old) (view self.new) };
 }
 
+/// A source that shows the bytes that it holds, and reads behind them when it is asked to.
+pub trait HeldSource {
+    /// As of a `ByteSource`.
+    ghost view: { Self → SourceView };
+
+    /// The bytes that are held.
+    ghost bytes: { Self → List ℕ };
+
+    fn held(&self) -> &[u8]
+        ensures { result.now ≡ bytes self.now };
+
+    /// Takes the bytes that are held, but for so many at their end.
+    fn keep(&mut self, left: usize)
+        ensures { KeepsLast (view self.old) (bytes self.old) (view self.new) (bytes self.new) left };
+
+    /// Reads behind the few bytes that are held.
+    fn refill(&mut self) -> Result<(), Fault>
+        requires { length (bytes self.old) ≤ 7 }
+        ensures { Refills (view self.old) (bytes self.old) (view self.new) (bytes self.new) result };
+}
+
 /// The reader is asked only where a byte is wanted and none is held.
 #[derive(Drop)]
 pub struct InputBuffer<'a, R: Input, const SIZE: usize> {
@@ -41,13 +64,13 @@ pub struct InputBuffer<'a, R: Input, const SIZE: usize> {
     end: usize,
     ghost ordered: { at ≤ end },
     ghost within: { end ≤ SIZE },
-    ghost some: { 0 < SIZE },
+    ghost some: { 7 < SIZE },
     ghost fits: { (end - at) + (R.view input.now).left < 2 ^ 64 },
 }
 
 impl<'a, R: Input, const SIZE: usize> InputBuffer<'a, R, SIZE> {
     pub fn new(input: &'a mut R) -> InputBuffer<'a, R, SIZE>
-        requires { 0 < SIZE }
+        requires { 7 < SIZE }
         ensures empty { result.at ≡ result.end }
         ensures lent { result.input ≡ input.entry }
     {
@@ -103,6 +126,86 @@ impl<R: Input, const SIZE: usize> ByteSource for InputBuffer<'_, R, SIZE> {
         let bytes = &self.bytes[..];
         self.at += plain_len(&bytes[self.at..self.end]);
     }
+}
+
+impl<R: Input, const SIZE: usize> HeldSource for InputBuffer<'_, R, SIZE> {
+    ghost view = { λ s. record {
+      known = prepend_known (held_of s.bytes s.at s.end) (R.view s.input.now).remaining;
+      beyond = (R.view s.input.now).remaining;
+      left = (s.end - s.at) + (R.view s.input.now).left;
+      failures = (R.view s.input.now).failures;
+      source = s.input.ghost_name;
+    } };
+
+    ghost bytes = { λ s. held_of s.bytes s.at s.end };
+
+    #[inline(always)]
+    fn held(&self) -> &[u8] {
+        let bytes = &self.bytes[..];
+        &bytes[self.at..self.end]
+    }
+
+    #[inline(always)]
+    fn keep(&mut self, left: usize) {
+        let held = self.end - self.at;
+        self.at += held - left.min(held);
+    }
+
+    fn refill(&mut self) -> Result<(), Fault> {
+        let held = self.end - self.at;
+        let bytes = &mut self.bytes[..];
+        to_front(bytes, self.at, self.end);
+        match read_behind(self.input, bytes, held) {
+            Ok(0) => {
+                self.at = 0;
+                self.end = 0;
+                Err(Fault::Truncated)
+            }
+            Ok(count) => {
+                self.at = 0;
+                self.end = held + count;
+                Ok(())
+            }
+            Err(DeviceFailed) => {
+                self.at = 0;
+                self.end = 0;
+                Err(Fault::Read)
+            }
+        }
+    }
+}
+
+/// Moves the bytes from one place up to another to the front.
+fn to_front(bytes: &mut [u8], at: usize, end: usize)
+    requires ordered { at ≤ end }
+    requires within { end ≤ length bytes.old }
+    ensures long { length bytes.new ≡ length bytes.old }
+    ensures front { take (end - at) bytes.new ≡ held_of bytes.old at end }
+{
+    bytes.copy_within(at..end, 0);
+}
+
+/// Reads behind the first bytes, which are so many.
+fn read_behind<R: Input>(
+    input: &mut R,
+    bytes: &mut [u8],
+    held: usize,
+) -> Result<usize, DeviceFailed>
+    requires within { held ≤ length bytes.old }
+    ensures long { length bytes.new ≡ length bytes.old }
+    ensures within { IfOk result (λ n. held + n ≤ length bytes.new) }
+    ensures ok { IfOk result (λ n. (more : List ℕ) × (take (held + n) bytes.new ≡
+        take held bytes.old ++ more) × Consumes (R.view input.old).remaining
+        (R.view input.new).remaining more) }
+    ensures end { IfOk result (λ n. n ≡ 0 → held < length bytes.old →
+        IsAtEnd (R.view input.new).remaining) }
+    ensures err { IfErr result (λ _. Keeps (R.view input.old).remaining
+        (R.view input.new).remaining) }
+    ensures left { MatchResult result (λ n. (R.view input.new).left + n ≡ (R.view input.old).left)
+        (λ _. (R.view input.new).left ≡ (R.view input.old).left) }
+    ensures counts { Counts (R.view input.old).failures (R.view input.new).failures result }
+{
+    input.read(&mut bytes[held..])
 }
 
 /// How many bytes come before the first FF.

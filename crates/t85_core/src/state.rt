@@ -4,58 +4,17 @@ ghost use Rattle.std.specs.Prelude.{◌≡◌, ◌<◌, ◌-◌, if◌then◌els
 ghost use Rattle.qm_core.specs.Place.{fresh};
 ghost use Rattle.raster_core.specs.Window.{held, memory_of, width_of};
 ghost use Rattle.t85_core.specs.Steps.State.{RowStart, first_row_start, next_stripe_start};
-ghost use Rattle.t85_core.specs.Lent.{carried_of, carried_by};
+ghost use Rattle.t85_core.specs.Lent.{carried_by};
 ghost use Rattle.t85_core.specs.Steps.DecodeRows.{IsCarried, IsFirst};
 
 use qm_core::Learned;
 use raster_core::{Kept, Window};
-
-/// What is carried from row to row and from stripe to stripe.
-#[derive(Drop)]
-pub struct CodingState<'a, 'b> {
-    pub window: &'a mut Window<'b>,
-    pub kept: Kept,
-    pub learned: &'a mut Learned,
-}
 
 /// At the top of an image.
 pub const START: Kept = Kept {
     offset: 0,
     previous_typical: false,
 };
-
-impl<'a, 'b> CodingState<'a, 'b> {
-    /// At the top of an image. The window is made white.
-    pub fn first(window: &'a mut Window<'b>, learned: &'a mut Learned) -> CodingState<'a, 'b>
-        requires { learned.old ≡ fresh }
-        ensures first { IsFirst (carried_of result) }
-        ensures width { width_of result.window.now ≡ width_of window.old }
-        ensures offset { result.kept.offset ≡ 0 }
-    {
-        let mut first = CodingState {
-            window,
-            kept: START,
-            learned,
-        };
-        first.window.clear();
-        first
-    }
-}
-
-impl CodingState<'_, '_> {
-    /// Goes on after an end marker. All stays, or is as at the top of an image where the marker resets.
-    pub fn end_stripe(&mut self, reset: bool)
-        ensures next { (last : RowStart) → IsCarried last (carried_of self.old) →
-            IsCarried (first_row_start (next_stripe_start (width_of self.old.window.now) reset
-            last)) (carried_of self.new) }
-        ensures width { width_of self.new.window.now ≡ width_of self.old.window.now }
-        ensures offset { self.new.kept.offset ≡ if reset then 0 else self.old.kept.offset }
-    {
-        if reset {
-            restart(self.window, &mut self.kept, &mut self.learned);
-        }
-    }
-}
 
 /// Goes on after an end marker. All stays, or is as at the top of an image where the marker resets.
 pub fn next_stripe(reset: bool, window: &mut Window<'_>, kept: &mut Kept, learned: &mut Learned)

@@ -1,8 +1,11 @@
 -- Bytes that are held before those that an input has still to give.
-use Rattle.std.proofs.Common.{◌≡◌, ◌≤◌, ◌<◌, ◌+◌, ◌-◌, ℕ, suc, List, [], ◌∷◌, ◌++◌, Option, None, Some, length, take, drop, get_or, refl, sym, ap, ◌∙◌, append_assoc, take-append-drop, add-one, subst, arith}
-use Rattle.std.specs.Io.KnownBytes.{Consumes, Keeps, prepend_known}
+use Rattle.std.proofs.Common.{min, Result, Ok, Err, length-take, length-drop, length-append, ◌≡◌, ◌≤◌, ◌<◌, ◌+◌, ◌-◌, ℕ, suc, List, [], ◌∷◌, ◌++◌, Option, None, Some, length, take, drop, get_or, refl, sym, ap, ◌∙◌, append_assoc, take-append-drop, add-one, subst, arith}
+use Rattle.std.specs.Prelude.{IfOk}
+use borrow.Rule.Slice.PartMut.{put_mid}
+use Rattle.std.specs.Io.KnownBytes.{Consumes, Keeps, ReadConsumes, prepend_known}
+use Rattle.t85_core.proofs.Bytes.Streams.{take-put_part}
 use Rattle.std.proofs.lemmas.List.{drop-take, drop-drop}
-use Rattle.std.proofs.Math.Seq.{drop-cons}
+use Rattle.std.proofs.Math.Seq.{drop-cons, drop_at, take_at}
 use Rattle.t85_core.specs.Steps.Buffers.{held_of}
 
 pub keeps_refill : (a b : Option (List ℕ)) (held more : List ℕ) → held ≡ [] → Consumes a b more → Keeps (prepend_known held a) (prepend_known more b)
@@ -59,3 +62,28 @@ some_taken bytes at count end a fits =
 pub known_unheld : (bytes : List ℕ) (at end : ℕ) (a : Option (List ℕ)) → at ≡ end → prepend_known (held_of bytes at end) a ≡ a
 known_unheld bytes at end None e = refl
 known_unheld bytes at end (Some a) e = ap (λ z. Some (z ++ a)) (none_held bytes at end e)
+
+pub held_long : (bytes : List ℕ) (at end : ℕ) → at ≤ end → end ≤ length bytes → length (held_of bytes at end) ≡ end - at
+held_long bytes at end ordered within = omega (arith, length-take (end - at) (drop at bytes), length-drop at bytes)
+
+-- the last bytes of those that are held stay, and those before them are taken
+pub kept_last : (bytes : List ℕ) (at end left most : ℕ) (a : Option (List ℕ)) → at ≤ end → end ≤ length bytes → most ≡ min left (end - at) → (front back : List ℕ) → held_of bytes at end ≡ front ++ back → length back ≡ left →
+    (held_of bytes (at + ((end - at) - most)) end ≡ back) × Consumes (prepend_known (held_of bytes at end) a) (prepend_known (held_of bytes (at + ((end - at) - most)) end) a) front
+kept_last bytes at end left most a ordered within most_is front back is long =
+    let count : ℕ = (end - at) - most in
+    let all = held_long bytes at end ordered within in
+    let sum = ap length is ∙ length-append front back in
+    let few : length front ≡ (end - at) - most = omega (arith, all, sum, long, most_is) in
+    let fits : at + ((end - at) - most) ≤ end = omega (arith, ordered) in
+    let rest : held_of bytes (at + ((end - at) - most)) end ≡ drop ((end - at) - most) (held_of bytes at end) = held_after bytes at ((end - at) - most) end fits in
+    let back_is : held_of bytes (at + ((end - at) - most)) end ≡ back = rest ∙ ap (drop ((end - at) - most)) is ∙ drop_at front back ((end - at) - most) few in
+    let front_is : take ((end - at) - most) (held_of bytes at end) ≡ front = ap (take ((end - at) - most)) is ∙ take_at front back ((end - at) - most) few in (
+      back_is,
+      subst (λ z. Consumes (prepend_known (held_of bytes at end) a) (prepend_known (held_of bytes (at + ((end - at) - most)) end) a) z) front_is (some_taken bytes at ((end - at) - most) end a fits),
+    )
+
+-- bytes were read behind the first ones
+pub behind_read : {E : Type 0} (r : Result ℕ E) (held : ℕ) (bytes buf : List ℕ) (a b : Option (List ℕ)) → held ≤ length bytes → IfOk r (λ n. n ≤ length buf) → ReadConsumes a b r buf →
+    IfOk r (λ n. (more : List ℕ) × (take (held + n) (put_mid held (length bytes - held) bytes buf) ≡ take held bytes ++ more) × Consumes a b more)
+behind_read (Ok n) held bytes buf a b within few p = (take n buf, take-put_part held (length bytes - held) n bytes buf within few, p.0)
+behind_read (Err e) held bytes buf a b within few p = tt

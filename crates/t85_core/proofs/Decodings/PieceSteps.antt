@@ -13,7 +13,7 @@ use Rattle.t85_core.specs.declared.pieces.walk.Stage.{Stage}
 use Rattle.t85_core.specs.declared.pieces.walk.Stage.TheVariants as stage
 use Rattle.t85_core.specs.Lent.{Carried}
 use Rattle.t85_core.specs.Header.{Fields}
-use Rattle.t85_core.specs.Steps.State.{image_start, first_row_start}
+use Rattle.t85_core.specs.Steps.State.{RowStart, image_start, first_row_start, next_stripe_start}
 use Rattle.t85_core.specs.Steps.DecodeRows.{IsCarried}
 use Rattle.t85_core.specs.declared.segments.Code.TheVariants as code
 use Rattle.t85_core.specs.Steps.PieceCode.{EndsInNoEscape}
@@ -253,3 +253,8 @@ first_row {h} {height} {w} {text} {out} some is zero s =
 pub walk_few : (h : Fields) (height : ℕ) (w : WalkView) (text out : List ℕ) → 1 ≤ h.l0 → IsInCode w.stage → WalkStands h height w text out → w.entities < height
 walk_few h height w text out some (inl code) s = few_before height h.l0 w.entities some (at_stage code s).head.fewer
 walk_few h height w text out some (inr row) s = few_before height h.l0 w.entities some (at_stage row s).head.fewer
+
+-- what stays after an end marker, where the width goes by another name
+pub kept_wide : (wide width : ℕ) (reset : Bool) (carried next : Carried) → wide ≡ width → ((last : RowStart) → IsCarried last carried → IsCarried (first_row_start (next_stripe_start wide reset last)) next)
+    → (last : RowStart) → IsCarried last carried → IsCarried (first_row_start (next_stripe_start width reset last)) next
+kept_wide wide width reset carried next e kept last is = subst (λ w. IsCarried (first_row_start (next_stripe_start w reset last)) next) e (kept last is)

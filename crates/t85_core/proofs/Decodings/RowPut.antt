@@ -1,34 +1,29 @@
 -- A row of a stripe is decoded and written, or the source stops in it.
-use Rattle.std.proofs.Common.{◌≡◌, ℕ, ◌+◌, ◌≤◌, List, [], ◌∷◌, ◌++◌, length, refl, sym, ◌∙◌, ap, subst, arith, Option, None, Some, Result, Ok, Err, append-nil, length-append}
+use Rattle.std.proofs.Common.{◌≡◌, ℕ, ◌+◌, List, [], ◌∷◌, ◌++◌, length, refl, sym, ◌∙◌, ap, subst, arith, Option, None, Some, Result, Ok, Err, append-nil, length-append}
 use Rattle.std.specs.Prelude.{flat_map, IsErr}
 use Rattle.std.specs.Io.KnownBytes.{Appends, append_known}
-use Rattle.pbm_core.specs.Device.{AppendsBeginning}
 use Rattle.qm_core.specs.Place.{Place, Estimate, start}
-use Rattle.qm_core.specs.Source.{heard_of, Gives}
+use Rattle.qm_core.specs.Source.{Gives}
 use Rattle.qm_core.specs.Decoder.{DecoderIsAt}
 use Rattle.qm_core.specs.declared.source.Pulled.{Pulled}
-use Rattle.qm_core.specs.declared.source.Heard.TheVariants.{Stopped}
 use Rattle.qm_core.specs.declared.decoder.Decoder.{Decoder}
 use Rattle.qm_core.specs.declared.decoder.Stop.{Stop}
 use Rattle.raster_core.specs.Lines.{Lines}
 use Rattle.raster_core.specs.Packed.{Held, HasLines, packed_row}
-use Rattle.raster_core.specs.Window.{held, turned}
 use Rattle.raster_core.specs.Row.{RowDecoded, RowIs}
 use Rattle.raster_core.specs.declared.shape.Shape.{Shape}
 use Rattle.raster_core.specs.declared.shape.Kept.{Kept}
-use Rattle.raster_core.specs.declared.window.Window.{Window}
 use Rattle.t85_core.specs.Lent.{Carried}
 use Rattle.t85_core.specs.Header.{Fields}
 use Rattle.t85_core.specs.Grammar.{Segment}
 use Rattle.t85_core.specs.Coding.{mode_of, move_of}
 use Rattle.t85_core.specs.Steps.State.{RowStart, StripeStart, first_row_start, after_row, offset_at}
 use Rattle.t85_core.specs.Steps.Cut.{IsReady}
-use Rattle.t85_core.specs.Steps.DecodeRows.{IsShapeOf, IsCarried, RowsRead, RowsCut, RowsUnwritten}
-use Rattle.t85_core.specs.Steps.CoderLaws.{CoderLaws}
+use Rattle.t85_core.specs.Steps.DecodeRows.{IsShapeOf, IsCarried, RowsRead}
 use Rattle.t85_core.proofs.Bytes.Lists.{flat_map_push}
 use Rattle.t85_core.proofs.Decodings.Runs.{row_stands, row_taught}
-use Rattle.t85_core.proofs.Decodings.RowsSoFar.{rows_none, rows_step, kept_step, rows_stop}
-use Rattle.t85_core.proofs.Bytes.Streams.{Appends-more, beginning_after}
+use Rattle.t85_core.proofs.Decodings.RowsSoFar.{rows_none, rows_step, kept_step}
+use Rattle.t85_core.proofs.Bytes.Streams.{Appends-more}
 
 -- what a call of `decode_row` gives, wherever the decoder stands
 abbrev pub Gave : {S : Type 0} → (S → Pulled → S → Type 0) → S → S → Shape → Kept → Kept → List Estimate → List Estimate → Held → Held → Decoder → Decoder → Result (Unit {0}) Stop → Type 0
@@ -100,69 +95,6 @@ module _ {S F : Type 0} (pull : S → Pulled → S → Type 0) (joined : F → P
       (row_done join text' done' put).answers ≡ r.answers ++ done'.more
   unfolding row_done
   row_done_answers join text' done' put = refl
-
-  module _ (window : Window) (turned_is : held window ≡ turned carried.held) where
-    below_are : HasLines (held window) below
-    below_are = subst (λ w. HasLines w below) (sym turned_is) (let l = r.is_carried.lines_are in record {
-      row_is = l.second_is;
-      above_is = l.row_is;
-      second_is = l.above_is;
-      row_wide = l.second_wide;
-      above_wide = l.row_wide;
-      second_wide = l.above_wide;
-    })
-
-    module _ (result : Result (Unit {0}) Stop) (gave : Gave pull old new shape kept carried'.kept carried.learned carried'.learned (held window) carried'.held d d' result) where
-      done : RowDecoded pull old new shape kept carried'.kept r.last.state r.answers below carried'.held carried'.learned d' result
-      done =
-          subst (λ l. RowDecoded pull old new shape kept carried'.kept (record { place = r.last.state.place; learned = l }) r.answers below carried'.held carried'.learned d' result) r.is_carried.learned_is
-          (gave r.last.state.place r.answers below r.stands below_are)
-
-    pub row_more : Join → (text' : Option (List ℕ)) → Gave pull old new shape kept carried'.kept carried.learned carried'.learned (held window) carried'.held d d' (Ok tt) →
-        Appends text text' carried'.held.current → RowsRead joined from to h shape c segments (row + 1) carried' d' began text'
-    row_more join text' gave put = row_done join text' (done (Ok tt) gave) put
-
-    -- it was decoded, but the target didn't take it
-    pub row_unset : Join → (text' : Option (List ℕ)) → (count : ℕ) → row + 1 ≤ count → Gave pull old new shape kept carried'.kept carried.learned carried'.learned (held window) carried'.held d d' (Ok tt) →
-        AppendsBeginning text text' carried'.held.current → RowsUnwritten joined from to h c segments count began text'
-    unfolding row_more row_done
-    row_unset join text' count few gave put =
-        let done' = done (Ok tt) gave in
-        let all = row_more join (append_known text carried'.held.current) gave (appends_known text carried'.held.current) in
-        record {
-          answers = all.answers;
-          gives = all.gives;
-          closed = all.stands.closed;
-          unstopped = all.unstopped;
-          rows = all.rows;
-          flags = all.flags;
-          last = all.last;
-          so_far = all.so_far;
-          few = (let many = all.many in omega (arith, many, few));
-          decoder = d';
-          stands = all.stands;
-          appended = subst (AppendsBeginning began text') (sym (flat_map_push packed_row r.rows done'.ok.row))
-              (beginning_after began text text' (flat_map packed_row r.rows) (packed_row done'.ok.row) r.appended (subst (AppendsBeginning text text') done'.ok.lines_are.row_is put));
-        }
-
-    -- the source stopped
-    pub row_cut : CoderLaws → Join → (count : ℕ) → row ≤ count → (e : Stop) → Gave pull old new shape kept carried'.kept carried.learned carried'.learned (held window) carried'.held d d' (Err e) →
-        RowsCut joined from to h c segments count began text
-    row_cut q join count few e gave =
-        let done' = done (Err e) gave in
-        let stays = done'.stays in
-        let stopped : heard_of (r.answers ++ done'.more) ≡ Stopped = done'.stop.0 (is_err e) in
-        record {
-          answers = r.answers ++ done'.more;
-          gives = join done'.more done'.gives;
-          closed = stays.1.closed;
-          bytes = stays.1.bytes;
-          stopped = stopped;
-          rows = r.rows;
-          flags = r.flags;
-          begun = rows_stop h c segments r.answers r.rows r.flags r.last r.so_far shape kept carried'.kept below carried'.held carried'.learned d' done'.more ready q count d (omega (arith, few, r.many)) r.stands stopped stays.1.bytes done'.undecided r.unstopped;
-          appended = r.appended;
-        }
 
 pub appends_nothing : (a : Option (List ℕ)) → Appends a a []
 appends_nothing None = tt

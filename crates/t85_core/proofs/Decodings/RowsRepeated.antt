@@ -1,10 +1,9 @@
--- Rows that equal the one before them are decoded and written, or the target takes no more.
+-- Rows that equal the one before them are decoded and written.
 use Rattle.std.proofs.Common.{◌≡◌, ℕ, zero, suc, ◌+◌, ◌≤◌, Bool, true, List, ◌++◌, length, refl, sym, ◌∙◌, ap, subst, arith, Option, length-append}
 use Rattle.std.specs.Prelude.{replicate}
 use Rattle.std.specs.List.{flat_map}
 use Rattle.std.proofs.lemmas.Grind.{flat_map-append}
 use Rattle.std.specs.Io.KnownBytes.{Appends}
-use Rattle.pbm_core.specs.Device.{AppendsBeginning}
 use Rattle.qm_core.specs.Place.{Place, State, after}
 use Rattle.qm_core.specs.Code.{wanted_bytes}
 use Rattle.qm_core.specs.Source.{bytes_of, heard_of}
@@ -24,9 +23,9 @@ use Rattle.t85_core.specs.Coding.{mode_of, move_of}
 use Rattle.t85_core.specs.Steps.Buffers.{copies}
 use Rattle.t85_core.specs.Steps.State.{RowStart, StripeStart, first_row_start, offset_at}
 use Rattle.t85_core.specs.Steps.Cut.{RowsSoFar}
-use Rattle.t85_core.specs.Steps.DecodeRows.{IsShapeOf, IsCarried, RowsRead, RowsRepeated, RowsUnwritten, RepeatsRows}
+use Rattle.t85_core.specs.Steps.DecodeRows.{IsShapeOf, IsCarried, RowsRead, RowsRepeated, RepeatsRows}
 use Rattle.t85_core.specs.Lent.{Carried}
-use Rattle.t85_core.proofs.Bytes.Streams.{Appends-more, beginning_after}
+use Rattle.t85_core.proofs.Bytes.Streams.{Appends-more}
 use Rattle.t85_core.proofs.Decodings.TypicalRows.{run_append, run_enough_append, behind, state_behind, above_behind, second_behind, previous_behind, offset_behind, run_behind, enough_behind, flat_copies}
 
 -- ---- they are decoded
@@ -137,18 +136,7 @@ module _ {F : Type 0} (joined : F → Pulled → F → Type 0) (from at : F) (h 
     appended = subst (Appends began text') (sym flat_is) (Appends-more began text text' (flat_map packed_row r.rows) (copies count carried.held.current) r.appended put);
   }
 
-  pub repeated_unwritten : (text' : Option (List ℕ)) → (until : ℕ) → row + count ≤ until → AppendsBeginning text text' (copies count carried.held.current) → RowsUnwritten joined from at h c segments until began text'
-  repeated_unwritten text' until few put = record {
-    answers = r.answers;
-    gives = r.gives;
-    closed = r.stands.closed;
-    unstopped = r.unstopped;
-    rows = r.rows ++ replicate count r.last.above;
-    flags = r.flags ++ replicate count true;
-    last = all.last;
-    so_far = all.so_far;
-    few = (let long = length-append r.rows (replicate count r.last.above) in let more = length_replicate count r.last.above in omega (arith, long, more, r.many, few));
-    decoder = d';
-    stands = all.stands;
-    appended = subst (AppendsBeginning began text') (sym flat_is) (beginning_after began text text' (flat_map packed_row r.rows) (copies count carried.held.current) r.appended put);
-  }
+  -- with the same answers
+  pub repeated_answers : (text' : Option (List ℕ)) (put : Appends text text' (copies count carried.held.current)) → (repeated_read text' put).answers ≡ r.answers
+  unfolding repeated_read
+  repeated_answers text' put = refl

@@ -1,26 +1,23 @@
 -- What a decoder of stripes leaves.
-use Rattle.std.specs.Prelude.{ℕ, ◌+◌, ◌≡◌, Bool, List, [], ◌++◌, length, Option, Some, None, flat_map, ◌⊎◌, Result, OnOk, IfErr, IsErrOf, ◌≢◌}
+use Rattle.std.specs.Prelude.{ℕ, ◌+◌, ◌≡◌, Bool, List, ◌++◌, length, Option, flat_map, ◌⊎◌}
 use Rattle.std.specs.Io.KnownBytes.{Appends, Consumes}
 use Rattle.pbm_core.specs.Device.{AppendsBeginning}
 use Rattle.qm_core.specs.Code.{stuffed}
 use Rattle.raster_core.specs.Packed.{packed_row}
-use Rattle.raster_core.specs.declared.shape.Shape.{Shape}
 use Rattle.t85_core.specs.Lent.{Carried}
 use Rattle.t85_core.specs.Header.{Fields}
 use Rattle.t85_core.specs.Grammar.{Segment, Stripe, segment_bytes, stripe_bytes, IsBegun, lengths, all_segments, GiveOnly}
 use Rattle.t85_core.specs.Refusal.{Spot, StripeFault}
-use Rattle.t85_core.specs.Failures.{Ends, CountsRead}
-use Rattle.t85_core.specs.Steps.Entity.{EntityView}
-use Rattle.t85_core.specs.declared.segments.Code.{Code}
+use Rattle.t85_core.specs.Failures.{Ends}
 use Rattle.t85_core.specs.Denotes.{DenotesAt}
 use Rattle.t85_core.specs.Fixed.{Fixes}
 use Rattle.t85_core.specs.declared.fault.Fault.{Fault}
-use Rattle.t85_core.specs.declared.fault.Fault.TheVariants.{Truncated, Read, Write}
+use Rattle.t85_core.specs.declared.fault.Fault.TheVariants.{Truncated}
 use Rattle.t85_core.specs.Coding.{mode_of, move_of}
 use Rattle.t85_core.specs.Steps.State.{StripeStart, first_row_start, image_start, StripeRun, StripesRun}
 use Rattle.t85_core.specs.Steps.Cut.{BegunRun, FrontRun, RunEnough}
 use Rattle.t85_core.specs.Outcome.{IsOutcome, pbm_rows}
-use Rattle.t85_core.specs.Steps.DecodeRows.{IsCarried, IsShapeOf}
+use Rattle.t85_core.specs.Steps.DecodeRows.{IsCarried}
 
 -- segments give the height in use at most once in all, and with them there are this many
 pub record GivesIn (spot : Spot) (heights : ℕ) (segments : List Segment) : Type 0 where
@@ -49,51 +46,6 @@ pub record StripeCut (h : Fields) (spot : Spot) (c : StripeStart) (known known' 
   pub flags : List Bool
   pub ends : Ends Truncated known known' (DecidesRows h spot c count rows flags) fault
   pub appended : Appends text text' (flat_map packed_row rows)
-
--- A stripe's segments were skipped, its code begins, and this is carried to it.
-pub record CodeBegins (h : Fields) (spot : Spot) (heights : ℕ) (c : StripeStart) (segments : List Segment) (known : Option (List ℕ)) (shape : Shape) (move : Option (ℕ × ℕ)) (carried : Carried) (s : EntityView) : Type 0 where
-  pub begun : IsBegun h segments []
-  pub passed : Consumes known s.known (flat_map segment_bytes segments)
-  pub gives_in : GivesIn spot heights segments
-  pub move_is : move ≡ move_of segments
-  pub shape_is : IsShapeOf h shape
-  pub is_carried : IsCarried (first_row_start c) carried
-  pub first : Code
-  pub first_is : s.first ≡ Some first
-  pub marker : s.marker ≡ None
-  pub fault : s.fault ≡ None
-
--- it begins so in some stripe
-pub record CodeBegun (shape : Shape) (move : Option (ℕ × ℕ)) (carried : Carried) (s : EntityView) : Type 0 where
-  pub h : Fields
-  pub spot : Spot
-  pub heights : ℕ
-  pub c : StripeStart
-  pub segments : List Segment
-  pub known : Option (List ℕ)
-  pub begins : CodeBegins h spot heights c segments known shape move carried s
-
--- the code of a stripe, in whatever stripe
-abbrev pub CodeRead : EntityView → EntityView → Shape → Option (ℕ × ℕ) → ℕ → Carried → Carried → Option (List ℕ) → Option (List ℕ) → Type 0
-CodeRead s t shape move count carried carried' text text' =
-    (h : Fields) (spot : Spot) (heights : ℕ) (c : StripeStart) (segments : List Segment) (known : Option (List ℕ)) → CodeBegins h spot heights c segments known shape move carried s →
-    StripeRead h spot heights c known t.known count carried' text text'
-
-abbrev pub CodeCut : EntityView → EntityView → Shape → Option (ℕ × ℕ) → ℕ → Carried → Option (List ℕ) → Option (List ℕ) → Fault → Type 0
-CodeCut s t shape move count carried text text' fault =
-    (h : Fields) (spot : Spot) (heights : ℕ) (c : StripeStart) (segments : List Segment) (known : Option (List ℕ)) → CodeBegins h spot heights c segments known shape move carried s →
-    StripeCut h spot c known t.known count text text' fault
-
--- some stripe begins with this
-abbrev pub SomeStripeStart : Carried → Type 0
-SomeStripeStart carried = (c : StripeStart) × IsCarried (first_row_start c) carried
-
--- whatever is carried to the stripe
-abbrev pub DecodeStripeStep : Fields → Spot → ℕ → Option (List ℕ) → Option (List ℕ) → ℕ → Carried → Carried → Option (List ℕ) → Option (List ℕ) → Type 0
-DecodeStripeStep h spot heights known known' count carried carried' text text' = (c : StripeStart) → IsCarried (first_row_start c) carried → StripeRead h spot heights c known known' count carried' text text'
-
-abbrev pub DecodeStripeStepCut : Fields → Spot → Option (List ℕ) → Option (List ℕ) → ℕ → Carried → Option (List ℕ) → Option (List ℕ) → Fault → Type 0
-DecodeStripeStepCut h spot known known' count carried text text' fault = (c : StripeStart) → IsCarried (first_row_start c) carried → StripeCut h spot c known known' count text text' fault
 
 -- This many stripes were decoded and written.
 pub record StripesRead (h : Fields) (height : ℕ) (known known' : Option (List ℕ)) (count heights : ℕ) (carried : Carried) (text text' : Option (List ℕ)) : Type 0 where
@@ -142,35 +94,6 @@ pub record StripeUnwritten (h : Fields) (spot : Spot) (c : StripeStart) (known k
   pub flags : List Bool
   pub decides : StripeDecides h spot c count given rows flags
   pub appended : AppendsBeginning text text' (flat_map packed_row rows)
-
--- of a stripe whose code begins, in whatever stripe
-abbrev pub CodeUnwritten : EntityView → Option (List ℕ) → Shape → Option (ℕ × ℕ) → ℕ → Carried → Option (List ℕ) → Option (List ℕ) → Type 0
-CodeUnwritten s known' shape move count carried text text' =
-    (h : Fields) (spot : Spot) (heights : ℕ) (c : StripeStart) (segments : List Segment) (known : Option (List ℕ)) → CodeBegins h spot heights c segments known shape move carried s →
-    StripeUnwritten h spot c known known' count text text'
-
--- What decoding the code of a stripe leaves, also of its entity, whose stream still has these bytes. Nothing is read ahead
--- any more, but where a write failed.
-pub record DecodeCodeOutcome (s t : EntityView) (unread : Option (List ℕ)) (shape : Shape) (move : Option (ℕ × ℕ)) (count : ℕ) (carried carried' : Carried) (text text' : Option (List ℕ)) (answer : Result (Unit {0}) Fault) : Type 0 where
-  pub ok : OnOk answer (CodeRead s t shape move count carried carried' text text')
-  pub err : IfErr answer (λ f. f ≢ Write → CodeCut s t shape move count carried text text' f)
-  pub unwritten : IfErr answer (λ _. CodeUnwritten s unread shape move count carried text text')
-  pub behind : OnOk answer (t.first ≡ None)
-  pub cut_behind : IfErr answer (λ f. f ≢ Write → t.first ≡ None)
-  pub drained : IsErrOf answer Read → t.known ≡ t.beyond
-  pub reads : CountsRead s.reads t.reads answer
-  pub same_source : t.source ≡ s.source
-  pub same_input : t.input ≡ s.input
-
--- whatever is carried to the stripe
-abbrev pub DecodeStripeStepUnwritten : Fields → Spot → Option (List ℕ) → Option (List ℕ) → ℕ → Carried → Option (List ℕ) → Option (List ℕ) → Type 0
-DecodeStripeStepUnwritten h spot known known' count carried text text' = (c : StripeStart) → IsCarried (first_row_start c) carried → StripeUnwritten h spot c known known' count text text'
-
--- What decoding a stripe leaves: all of its rows, those that what came decides, or those of them that were taken.
-pub record DecodeStripeOutcome (h : Fields) (spot : Spot) (heights : ℕ) (known known' : Option (List ℕ)) (count : ℕ) (carried carried' : Carried) (text text' : Option (List ℕ)) (answer : Result (Unit {0}) Fault) : Type 0 where
-  pub ok : OnOk answer (DecodeStripeStep h spot heights known known' count carried carried' text text')
-  pub err : IfErr answer (λ f. f ≢ Write → DecodeStripeStepCut h spot known known' count carried text text' f)
-  pub unwritten : IfErr answer (λ _. DecodeStripeStepUnwritten h spot known known' count carried text text')
 
 -- However a body goes on that begins so, what is to be written for it begins with these rows.
 abbrev pub AreFirst : Fields → ℕ → List ℕ → List (List Bool) → Type 0

@@ -2,26 +2,11 @@
 use Rattle.std.specs.Prelude.{ℕ, List, [], Option, Some}
 use Rattle.std.specs.Io.KnownBytes.{append_known}
 use Rattle.pbm_core.specs.declared.device.Output as device
-use Rattle.t85_core.specs.declared.input_buffer.ByteSource as source
-use Rattle.t85_core.specs.declared.decoding.entity.EntityReader.{EntityReader}
 use Rattle.t85_core.specs.declared.pieces.piece.PieceCode.{PieceCode}
 use Rattle.t85_core.specs.declared.encoding.sink.EntitySink.{EntitySink}
 use Rattle.t85_core.specs.declared.output_buffer.OutputBuffer.{OutputBuffer}
 use Rattle.t85_core.specs.Steps.Buffers.{Writer, SinkView, TargetView, held_of, known_length}
 use Rattle.t85_core.specs.Steps.Entity.{EntityView, entity_known}
-
--- an entity, by what its stream reports
-abbrev pub entity_view : {S : Type 0} {G : source.Ghosts S} → EntityReader S G → EntityView
-entity_view {S} {G} e = record {
-  known = entity_known e.first ((G.view e.stream.now).known);
-  beyond = (G.view e.stream.now).beyond;
-  reads = (G.view e.stream.now).failures;
-  source = e.stream.ghost_name;
-  input = (G.view e.stream.now).source;
-  first = e.first;
-  marker = e.marker;
-  fault = e.fault;
-}
 
 -- a code of which a piece came
 abbrev pub piece_view : PieceCode → EntityView

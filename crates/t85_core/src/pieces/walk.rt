@@ -1,17 +1,18 @@
 //! How far a stream has been decoded that comes in pieces.
 
-ghost use Rattle.std.specs.Prelude.{◌≡◌, ◌≢◌, false, ◌≤◌, ◌<◌, ◌+◌, ◌-◌, ◌⊎◌, ◌∷◌, [], ℕ, List, None, true, length, min, IsOk, IfErr, IfSome, OnOk};
+ghost use Rattle.std.specs.Prelude.{◌≡◌, ◌≢◌, false, ◌≤◌, ◌<◌, ◌+◌, ◌-◌, ◌⊎◌, ◌∷◌, ◌++◌, [], ℕ, List, None, Ok, true, length, min, IsOk, IfErr, IfSome, IsErrOf, OnOk};
 ghost use Rattle.qm_core.specs.Place.{Estimate};
 ghost use Rattle.raster_core.specs.Packed.{Held};
 ghost use Rattle.raster_core.specs.Window.{held, memory_of, width_of};
 ghost use Rattle.t85_core.specs.declared.fault.Fault.TheVariants.{Truncated, Changed};
 ghost use Rattle.t85_core.specs.declared.pieces.walk.Stage.TheVariants as stage;
 ghost use Rattle.t85_core.specs.Options.{fields_of};
+ghost use Rattle.t85_core.specs.Steps.Buffers.{copies};
 ghost use Rattle.t85_core.specs.Steps.Segments.{IsByteOrMarker};
 ghost use Rattle.t85_core.specs.Lent.{walk_view, walk_over};
 ghost use Rattle.t85_core.specs.Steps.Pieces.{WalkStands, SomeStands, RowFits, IsOver, Alone, Step, RowStep, RowLeaves, KeepsPlace, MarkerRead, RowIsLeft, StripesOn, IsFirstWalk, Turn};
 
-use crate::decoding::rows::offset_in;
+use crate::decoding::rows::{is_settled, offset_in, skip_many};
 use crate::fault::Fault;
 use crate::header::Header;
 use crate::input_buffer::ESCAPE;
@@ -355,6 +356,7 @@ impl Walk {
         ensures leaves { SomeStands (fields_of header.now) height (walk_over self.old window.old
             learned.old) → RowLeaves (walk_over self.old window.old learned.old) (walk_over self.new
             window.new learned.new) piece.old.rest.now piece.new.rest.now result }
+        ensures code { OnOk result (self.new.stage ≡ stage.Code) }
         ensures same_memory { memory_of window.new ≡ memory_of window.old }
         ensures same_width { width_of window.new ≡ width_of window.old }
     {
@@ -397,6 +399,7 @@ impl Walk {
         ensures leaves { SomeStands (fields_of header.now) height (walk_over self.old window.old
             learned.old) → RowLeaves (walk_over self.old window.old learned.old) (walk_over self.new
             window.new learned.new) piece.old.rest.now piece.new.rest.now result }
+        ensures code { OnOk result (self.new.stage ≡ stage.Code) }
         ensures same_memory { memory_of window.new ≡ memory_of window.old }
         ensures same_width { width_of window.new ≡ width_of window.old }
     {
@@ -423,6 +426,7 @@ impl Walk {
         ensures leaves { SomeStands (fields_of header.now) height (walk_over self.old window.old
             learned.old) → RowLeaves (walk_over self.old window.old learned.old) (walk_over self.new
             window.new learned.new) piece.old.rest.now piece.new.rest.now result }
+        ensures code { OnOk result (self.new.stage ≡ stage.Code) }
         ensures same_memory { memory_of window.new ≡ memory_of window.old }
         ensures same_width { width_of window.new ≡ width_of window.old }
     {
@@ -491,6 +495,46 @@ impl Walk {
             Stage::Row => true,
             _ => self.row < self.left.min(header.l0),
         }
+    }
+
+    /// How many rows of a stripe whose code has begun are still to come; none in the middle of one.
+    fn rows_left(&self, header: &Header) -> u32
+        ensures { 0 < result → (self.now.stage ≡ stage.Code) ×
+            (self.now.row + result ≤ min self.now.left header.now.l0) }
+    {
+        match self.stage {
+            Stage::Code => self.left.min(header.l0).saturating_sub(self.row),
+            _ => 0,
+        }
+    }
+
+    /// Takes rows that equal the one before, where the bits that are there decide them, and answers how many. The window
+    /// has the last of them.
+    #[inline(always)]
+    pub fn repeat_rows(
+        &mut self,
+        header: &Header,
+        height: u32,
+        window: &mut Window<'_>,
+        learned: &Learned,
+    ) -> u32
+        ensures on { (text out : List ℕ) → WalkStands (fields_of header.now) height
+            (walk_over self.old window.old learned.now) text out → WalkStands (fields_of header.now)
+            height (walk_over self.new window.new learned.now) text
+            (out ++ copies result (held window.new).current) }
+        ensures code { 0 < result → self.new.stage ≡ stage.Code }
+    {
+        let left = self.rows_left(header);
+        if !is_settled(self.at, self.row) {
+            return 0;
+        }
+        let count = skip_many(header.shape(), self.kept, learned, &mut self.decoder, left);
+        if count == 0 {
+            return 0;
+        }
+        window.repeat();
+        self.row = self.row.saturating_add(count);
+        count
     }
 
     /// Whether the end marker of the code was read.
@@ -595,6 +639,7 @@ impl Walk {
         ensures step { Turn (fields_of header.now) height
             (walk_over self.old window.old learned.old) (walk_over self.new window.new learned.new)
             piece.old.rest.now piece.new.rest.now result }
+        ensures code { result ≡ Ok true → self.new.stage ≡ stage.Code }
         ensures same_memory { memory_of window.new ≡ memory_of window.old }
         ensures same_width { width_of window.new ≡ width_of window.old }
     {
@@ -628,6 +673,7 @@ impl Walk {
         ensures step { Turn (fields_of header.now) height
             (walk_over self.old window.old learned.old) (walk_over self.new window.new learned.new)
             piece.old.rest.now piece.new.rest.now result }
+        ensures code { result ≡ Ok true → self.new.stage ≡ stage.Code }
         ensures same_memory { memory_of window.new ≡ memory_of window.old }
         ensures same_width { width_of window.new ≡ width_of window.old }
     {
@@ -652,6 +698,7 @@ impl Walk {
         ensures step { Turn (fields_of header.now) height
             (walk_over self.old window.old learned.old) (walk_over self.new window.new learned.new)
             piece.old.rest.now piece.new.rest.now result }
+        ensures code { result ≡ Ok true → self.new.stage ≡ stage.Code }
         ensures same_memory { memory_of window.new ≡ memory_of window.old }
         ensures same_width { width_of window.new ≡ width_of window.old }
     {

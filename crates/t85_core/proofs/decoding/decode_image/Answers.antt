@@ -1,58 +1,79 @@
-use Rattle.std.proofs.Common.{◌≡◌, ◌-◌, ◌*◌, ◌∙◌, min, refl, arith}
-use Rattle.t85_core.specs.Lent.{carried_of}
+use Rattle.std.proofs.Common.{◌<◌, ◌∙◌, sym, refl, subst, arith}
+use Rattle.std.specs.Io.KnownBytes.{Appends}
+use Rattle.pbm_core.specs.Device.{AppendsBeginning}
 use Rattle.t85_core.specs.Options.{fields_of}
-use Rattle.t85_core.proofs.Bytes.Ends.{exit}
-use Rattle.t85_core.proofs.Decodings.ImagePut.{in_use, stripes_next, image_cut, image_unset, image_read, stripes_start}
+use Rattle.t85_core.specs.Lent.{walk_over}
+use Rattle.t85_core.specs.Steps.Buffers.{WritesOn, copies}
 use Rattle.t85_core.specs.Steps.DecodeStripes.{ImageUnwritten}
+use Rattle.t85_core.proofs.Bytes.Ends.{exit}
+use Rattle.t85_core.proofs.Walks.InfoEnds.{exit_all}
+use Rattle.t85_core.proofs.Decodings.ImagePut.{in_use}
+use Rattle.t85_core.proofs.Decodings.PieceSteps.{over_done}
+use Rattle.t85_core.proofs.Decodings.WalkRead.{so_far_first, so_far_next, rows_few, image_off, image_off_begun, image_off_unwritten, image_whole, image_rows_unset}
 use Rattle.t85_core.proofs.decoding.decode_image.Goals as goal
 
-pub returns-in_err-decode_stripe-clause-err : goal.returns-in_err-decode_stripe-clause-err
-returns-in_err-decode_stripe-clause-err g c =
-    let header = c.args.header.now in
-    let rows_are : c.min-rows.result ≡ min (c.args.height - c.stripes.entities * header.l0) header.l0 = omega (arith, c.min-rows.ensures, c.stripes.invariant.left) in
-    exit _ _ c.from_residual.ensures.1 (λ written.
-    image_cut (fields_of header) c.args.height _ _ _ c.stripes.entities _ c.min-rows.result (carried_of c.stripes.carried) (carried_of c.decode_stripe.new.carried) _ _ _ c.stripes.invariant.read rows_are c.coder_laws.ensures (in_use header c.args.height c.requires.from c.requires.to) (rw c.div_ceil-entities-end.ensures at c.stripes-test.true) _
-    (c.in_err-decode_stripe.ensures.outcome.err written _ c.stripes.invariant.read.is_carried))
-
-pub returns-in_err-decode_stripe-clause-unwritten : goal.returns-in_err-decode_stripe-clause-unwritten
-returns-in_err-decode_stripe-clause-unwritten g c =
-    let header = c.args.header.now in
-    let rows_are : c.min-rows.result ≡ min (c.args.height - c.stripes.entities * header.l0) header.l0 = omega (arith, c.min-rows.ensures, c.stripes.invariant.left) in
-    exit (λ _. ImageUnwritten _ _ _ _ _ _) _ c.from_residual.ensures.1
-    (image_unset (fields_of header) c.args.height _ _ _ c.stripes.entities _ c.min-rows.result (carried_of c.stripes.carried) (carried_of c.decode_stripe.new.carried) _ _ _ c.stripes.invariant.read rows_are c.coder_laws.ensures (in_use header c.args.height c.requires.from c.requires.to) (rw c.div_ceil-entities-end.ensures at c.stripes-test.true)
-    (c.in_err-decode_stripe.ensures.outcome.unwritten _ c.stripes.invariant.read.is_carried))
-
-pub stripes-preserved : goal.stripes-preserved
-stripes-preserved g c =
-    let header = c.args.header.now in
-    let rows_are : c.min-rows.result ≡ min (c.args.height - c.stripes.entities * header.l0) header.l0 = omega (arith, c.min-rows.ensures, c.stripes.invariant.left) in
-    record {
-      read = stripes_next (fields_of header) c.args.height _ _ _ c.stripes.entities _ c.min-rows.result (carried_of c.stripes.carried) (carried_of c.decode_stripe.new.carried) _ _ _ c.stripes.invariant.read rows_are _ (c.in_ok-decode_stripe.ensures.outcome.ok _ c.stripes.invariant.read.is_carried);
-      left = omega (arith, rows_are, c.stripes.invariant.left);
-      width = c.in_ok-decode_stripe.ensures.width ∙ c.stripes.invariant.width;
-      offset = c.in_ok-decode_stripe.ensures.offset;
-      unfailed = c.in_ok-decode_stripe.ensures.reads.counts ∙ c.stripes.invariant.unfailed;
-      unwritten = c.in_ok-decode_stripe.ensures.writes.counts ∙ c.stripes.invariant.unwritten;
-      grows = (let more = c.in_ok-decode_stripe.ensures.writes.grows in let before = c.stripes.invariant.grows in omega (arith, more, before));
-      same_source = c.in_ok-decode_stripe.ensures.reads.same_source ∙ c.stripes.invariant.same_source;
-      same_writer = c.in_ok-decode_stripe.ensures.writes.same_writer ∙ c.stripes.invariant.same_writer;
-    }
-
-pub returns-clause-ok : goal.returns-clause-ok
-returns-clause-ok g c =
-    let header = c.args.header.now in
-    let all : c.stripes.entities ≡ c.div_ceil-entities-end.result = omega (arith, c.stripes-test.false, c.stripes.auto.entities-end) in
-    image_read (fields_of header) c.args.height _ _ c.stripes.entities _ _ _ _ c.stripes.invariant.read (in_use header c.args.height c.requires.from c.requires.to) (all ∙ c.div_ceil-entities-end.ensures)
-
-pub stripes-init : goal.stripes-init
-stripes-init g c = record {
-  read = stripes_start (fields_of c.args.header.now) c.args.height _ _ _ _ c.requires.width c.requires.first;
-  left = (let z : 0 * c.args.header.now.l0 ≡ 0 = omega arith in omega (arith, z));
-  width = c.requires.width;
-  offset = omega (arith, c.requires.offset);
+pub rows-init : goal.rows-init
+rows-init g c = record {
+  so_far = so_far_first (fields_of c.args.header.now) c.args.height (walk_over c.args.walk.now c.args.window.now c.args.learned.now) _ _ c.requires.stands;
   unfailed = refl;
   unwritten = refl;
   grows = omega arith;
   same_source = refl;
   same_writer = refl;
 }
+
+pub returns-in_err-count-clause-err : goal.returns-in_err-count-clause-err
+returns-in_err-count-clause-err g c = exit _ _ c.from_residual.ensures.1 (λ _. image_off (fields_of c.args.header.now) c.args.height (walk_over c.rows.walk c.rows.window c.rows.learned) (walk_over c.next_rows.new.walk c.next_rows.new.window c.next_rows.new.learned) _ _ _ _ _ _ c.rows.invariant.so_far _ c.in_err-count.ensures.turn.err)
+
+pub returns-in_err-count-clause-unwritten : goal.returns-in_err-count-clause-unwritten
+returns-in_err-count-clause-unwritten g c =
+    exit (λ _. ImageUnwritten _ _ _ _ _ _) _ c.from_residual.ensures.1
+    (image_off_begun (fields_of c.args.header.now) c.args.height (walk_over c.rows.walk c.rows.window c.rows.learned) (walk_over c.next_rows.new.walk c.next_rows.new.window c.next_rows.new.learned) _ _ _ _ _ _ c.rows.invariant.so_far _ c.in_err-count.ensures.turn.err)
+
+pub returns-in_err-count-clause-writes : goal.returns-in_err-count-clause-writes
+returns-in_err-count-clause-writes g c =
+    let none = image_off_unwritten (fields_of c.args.header.now) c.args.height (walk_over c.rows.walk c.rows.window c.rows.learned) (walk_over c.next_rows.new.walk c.next_rows.new.window c.next_rows.new.learned) _ _ _ _ _ _ c.rows.invariant.so_far _ c.in_err-count.ensures.turn.err in
+    exit_all (WritesOn _ _) c.from_residual.result c.from_residual.ensures.1 (record { counts = c.rows.invariant.unwritten ∙ sym (none _); grows = c.rows.invariant.grows; same_writer = c.rows.invariant.same_writer })
+
+pub returns-then-count-eq0-clause-ok : goal.returns-then-count-eq0-clause-ok
+returns-then-count-eq0-clause-ok g c =
+    let done = c.in_ok-count.ensures.turn.none c.if-count-eq0.true in
+    image_whole (fields_of c.args.header.now) c.args.height (walk_over c.rows.walk c.rows.window c.rows.learned) (walk_over c.next_rows.new.walk c.next_rows.new.window c.next_rows.new.learned) _ _ _ _ _ _ c.rows.invariant.so_far done.0 (over_done _ done.1)
+
+pub returns-in_err-put_copies-clause-unwritten : goal.returns-in_err-put_copies-clause-unwritten
+returns-in_err-put_copies-clause-unwritten g c =
+    let some : 0 < c.in_ok-count.count = omega (arith, c.if-count-eq0.false) in
+    exit (λ _. ImageUnwritten _ _ _ _ _ _) _ c.from_residual-in_err-put_copies.ensures.1
+    (image_rows_unset (fields_of c.args.header.now) c.args.height (walk_over c.rows.walk c.rows.window c.rows.learned) (walk_over c.next_rows.new.walk c.next_rows.new.window c.next_rows.new.learned) _ _ _ _ _ _ c.rows.invariant.so_far c.in_ok-count.count some
+    (in_use c.args.header.now c.args.height c.requires.from c.requires.to) c.coder_laws.ensures (c.in_ok-count.ensures.turn.some some) _
+    (subst (λ z. AppendsBeginning (g.P.ByteTarget.view c.rows.target).text (g.P.ByteTarget.view c.put_copies.new.target).text (copies c.in_ok-count.count z)) c.row.ensures c.in_err-put_copies.ensures.cut))
+
+pub overflow_add-row : goal.overflow_add-row
+overflow_add-row g c =
+    let some : 0 < c.in_ok-count.count = omega (arith, c.if-count-eq0.false) in
+    let few = rows_few (fields_of c.args.header.now) c.args.height (walk_over c.rows.walk c.rows.window c.rows.learned) (walk_over c.next_rows.new.walk c.next_rows.new.window c.next_rows.new.learned) _ _ _ _ _ _ c.rows.invariant.so_far c.in_ok-count.count some
+    (in_use c.args.header.now c.args.height c.requires.from c.requires.to) c.coder_laws.ensures (c.in_ok-count.ensures.turn.some some) in
+    let most = c.ranges.height.fits in
+    omega (arith, few, most)
+
+pub rows-smaller : goal.rows-smaller
+rows-smaller g c =
+    let some : 0 < c.in_ok-count.count = omega (arith, c.if-count-eq0.false) in
+    let few = rows_few (fields_of c.args.header.now) c.args.height (walk_over c.rows.walk c.rows.window c.rows.learned) (walk_over c.next_rows.new.walk c.next_rows.new.window c.next_rows.new.learned) _ _ _ _ _ _ c.rows.invariant.so_far c.in_ok-count.count some
+    (in_use c.args.header.now c.args.height c.requires.from c.requires.to) c.coder_laws.ensures (c.in_ok-count.ensures.turn.some some) in
+    omega (arith, few, some)
+
+pub rows-preserved : goal.rows-preserved
+rows-preserved g c =
+    let some : 0 < c.in_ok-count.count = omega (arith, c.if-count-eq0.false) in
+    let reads = c.in_ok-count.ensures.turn.reads (c.rows.invariant.so_far.bytes, c.rows.invariant.so_far.out, c.rows.invariant.so_far.stands) in
+    record {
+      so_far = so_far_next (fields_of c.args.header.now) c.args.height (walk_over c.rows.walk c.rows.window c.rows.learned) (walk_over c.next_rows.new.walk c.next_rows.new.window c.next_rows.new.learned) _ _ _ _ _ _ c.rows.invariant.so_far c.in_ok-count.count some
+          (in_use c.args.header.now c.args.height c.requires.from c.requires.to) c.coder_laws.ensures (c.in_ok-count.ensures.turn.some some) _
+          (subst (λ z. Appends (g.P.ByteTarget.view c.rows.target).text (g.P.ByteTarget.view c.put_copies.new.target).text (copies c.in_ok-count.count z)) c.row.ensures c.in_ok-put_copies.ensures.ok);
+      unfailed = reads.counts ∙ c.rows.invariant.unfailed;
+      unwritten = c.in_ok-put_copies.ensures.counts ∙ c.rows.invariant.unwritten;
+      grows = (let more = c.in_ok-put_copies.ensures.grows in let before = c.rows.invariant.grows in omega (arith, more, before));
+      same_source = reads.same_source ∙ c.rows.invariant.same_source;
+      same_writer = c.in_ok-put_copies.ensures.same_writer ∙ c.rows.invariant.same_writer;
+    }

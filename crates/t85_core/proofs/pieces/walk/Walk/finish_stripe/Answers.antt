@@ -6,7 +6,7 @@ use Rattle.t85_core.proofs.Decodings.PieceFits.{rows_all}
 use Rattle.raster_core.specs.Window.{held}
 use Rattle.t85_core.specs.Options.{fields_of}
 use Rattle.t85_core.proofs.Decodings.ImagePut.{in_use}
-use Rattle.t85_core.proofs.Decodings.CodePut.{kept_wide}
+use Rattle.t85_core.proofs.Decodings.PieceSteps.{kept_wide}
 use Rattle.t85_core.proofs.Decodings.PieceSteps.{on_same, at_stage, put_stage, step_exit, last_stripe, next_stripe, offset_low, walk_few}
 use Rattle.t85_core.proofs.Decodings.PieceWalk.{ahead_is, behind_is, marker_off, code_kept, whole, stripe_last, stripe_on}
 use Rattle.t85_core.proofs.pieces.walk.Walk.finish_stripe.Goals as goal
