@@ -52,7 +52,7 @@ pub fn decode<R: Input, W: Output>(
 }
 
 /// How many bytes are read ahead, and held back, in memory. Each row goes straight there.
-const MEMORY_AHEAD: usize = 64;
+const MEMORY_AHEAD: usize = 256;
 
 const MEMORY_HELD: usize = 1;
 
@@ -109,7 +109,15 @@ fn decode_by<R: Input, W: Output, const AHEAD: usize, const HELD: usize>(
     }
     let mut stream: InputBuffer<'_, R, AHEAD> = InputBuffer::new(input);
     let mut buffer: OutputBuffer<'_, W, HELD> = OutputBuffer::new(output);
-    decode_buffered(header, height, &mut walk, window, &mut learned, &mut stream, &mut buffer)
+    decode_buffered(
+        header,
+        height,
+        &mut walk,
+        window,
+        &mut learned,
+        &mut stream,
+        &mut buffer,
+    )
 }
 
 /// Writes the rows of an image, and writes what is held, except after a failed write.

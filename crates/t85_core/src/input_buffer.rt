@@ -47,12 +47,14 @@ pub trait HeldSource {
 
     /// Takes the bytes that are held, but for so many at their end.
     fn keep(&mut self, left: usize)
-        ensures { KeepsLast (view self.old) (bytes self.old) (view self.new) (bytes self.new) left };
+        ensures { KeepsLast (view self.old) (bytes self.old) (view self.new) (bytes self.new)
+            left };
 
     /// Reads behind the few bytes that are held.
     fn refill(&mut self) -> Result<(), Fault>
         requires { length (bytes self.old) ≤ 7 }
-        ensures { Refills (view self.old) (bytes self.old) (view self.new) (bytes self.new) result };
+        ensures { Refills (view self.old) (bytes self.old) (view self.new) (bytes self.new)
+            result };
 }
 
 /// The reader is asked only where a byte is wanted and none is held.

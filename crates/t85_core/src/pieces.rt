@@ -29,8 +29,8 @@ use raster_core::Window;
 pub enum Outcome {
     /// A row: ask for it, and call again with the rest of the piece.
     Row,
-    /// No row more: call again with what was not taken and with more bytes after it, or, where there are none, tell that the
-    /// stream ends there.
+    /// No row more: call again with what was not taken, seven bytes at most, and with more bytes after it, or, where there are
+    /// none, tell that the stream ends there.
     More,
     /// The image is whole, at this height: it is as many first rows of those that were given.
     Done(u32),

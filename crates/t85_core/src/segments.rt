@@ -9,7 +9,7 @@ ghost use Rattle.t85_core.specs.Steps.Buffers.{ReadsOn};
 ghost use Rattle.t85_core.specs.Failures.{Ends};
 ghost use Rattle.t85_core.specs.Refusal.{move_fault, comment_fault};
 ghost use Rattle.t85_core.specs.Grammar.{NewLength, is_valid_length, IsLegal};
-ghost use Rattle.t85_core.specs.Steps.Segments.{spot_at, code_bytes, IsByteOrMarker, LengthFault, PieceFault, Passes, PassesSegments, SegmentsFault, PassesHead, HeadFault, PassesCode, RestFault, CodeFault};
+ghost use Rattle.t85_core.specs.Steps.Segments.{spot_at, code_bytes, IsByteOrMarker, LengthFault, PieceFault, Passes, PassesSegments, SegmentsFault, PassesCode, RestFault, CodeFault};
 
 use crate::fault::Fault;
 use crate::header::Header;
@@ -51,17 +51,6 @@ pub enum Piece {
     Code(Code),
 }
 
-/// The segments of a stripe, and what its code begins with.
-#[derive(Clone, Copy)]
-pub struct Head {
-    pub at: Option<Move>,
-    /// Whether a height came in it, or before.
-    pub given: bool,
-    /// Counted up to 2^64 - 1.
-    pub comments: u64,
-    pub code: Code,
-}
-
 /// What comes after the segments that were read.
 #[derive(Clone, Copy)]
 pub enum Next {
@@ -95,30 +84,6 @@ pub const NEWLEN: u8 = 5;
 pub const ATMOVE: u8 = 6;
 
 pub const COMMENT: u8 = 7;
-
-/// Reads the segments of a stripe, and what its code begins with.
-pub fn read_head<S: ByteSource>(
-    header: &Header,
-    place: Place,
-    stream: &mut S,
-) -> Result<Head, Fault>
-    ensures ok { IfOk result (PassesHead (fields_of header.now) (spot_at place) (S.view
-        stream.old).known (S.view stream.new).known) }
-    ensures err { IfErr result (Ends Truncated (S.view stream.old).known (S.view stream.new).known
-        (HeadFault (fields_of header.now) (spot_at place))) }
-    ensures reads { ReadsOn (S.view stream.old) (S.view stream.new) result }
-{
-    let segments = read_segments(header, place, false, stream)?;
-    match segments.next {
-        Next::Height(_) => Err(Fault::Changed),
-        Next::Code(code) => Ok(Head {
-            at: segments.at,
-            given: segments.given,
-            comments: segments.comments,
-            code,
-        }),
-    }
-}
 
 /// Reads segments of one stripe, up to a height that isn't in use or to the code. Whether a move of the stripe came before
 /// them is `moved_before`.

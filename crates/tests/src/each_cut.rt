@@ -112,6 +112,8 @@ fn check(
             case.is_given(alloc, &mut cuts, ends)?,
             "{body:?} at {cut:b}"
         );
+        let mut cuts = Cuts::After(cut);
+        assert!(rt; case.is_fed(alloc, &mut cuts)?, "{body:?} fed at {cut:b}");
     }
     Ok(())
 }

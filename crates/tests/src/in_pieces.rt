@@ -12,13 +12,17 @@ use raster_core::{Window, window_bytes};
 use std::alloc::Global;
 use std::process::Abort;
 use std::test::Fail;
-use t85_core::{Fault, Header, Outcome, PieceDecoder, PieceNumbers, decode, find_height};
+use t85_core::{
+    Fault, Header, HeldBytes, Outcome, PieceDecoder, PieceNumbers, Progress, decode, find_height,
+};
 
 /// How a stream is cut into pieces.
 #[derive(Drop)]
 pub enum Cuts<'a> {
     /// At random.
     Random(&'a mut Random),
+    /// After each byte.
+    Each,
     /// After each byte of which the bit is set, from the lowest.
     After(u32),
 }
@@ -33,6 +37,7 @@ impl Cuts<'_> {
                 2 => random.between(1, 12) as usize,
                 _ => random.between(1, 100) as usize,
             },
+            Cuts::Each => 1,
             Cuts::After(places) => {
                 let size = places.trailing_zeros() + 1;
                 *places = places.checked_shr(size).unwrap_or(0);
@@ -45,6 +50,7 @@ impl Cuts<'_> {
     fn ends_by_itself(&mut self) -> bool {
         match self {
             Cuts::Random(random) => random.is_one_in(2),
+            Cuts::Each => true,
             Cuts::After(places) => places.count_ones() % 2 == 0,
         }
     }
@@ -120,34 +126,65 @@ fn decoded(alloc: Global, header: &Header, height: u32, body: &[u8]) -> Result<G
     })
 }
 
-/// Shows a decoder what has come and was not taken, and whether the end was told.
+/// Goes on with a piece, which is the last where the end is told: feeds it where bytes may be held, and else shows it.
+fn go_on(
+    decoder: &mut PieceDecoder,
+    window: &mut Window<'_>,
+    learned: &mut Learned,
+    held: &mut Option<HeldBytes>,
+    piece: &[u8],
+    told: bool,
+) -> Progress {
+    match held {
+        Some(held) => {
+            if told {
+                decoder.feed_last(window, learned, held, piece)
+            } else {
+                decoder.feed(window, learned, held, piece)
+            }
+        }
+        None => {
+            if told {
+                decoder.next_of_last(window, learned, piece)
+            } else {
+                decoder.next_row(window, learned, piece)
+            }
+        }
+    }
+}
+
+/// Goes on with what has come and was not taken.
 fn call(
     decoder: &mut PieceDecoder,
     window: &mut Window<'_>,
     learned: &mut Learned,
+    held: &mut Option<HeldBytes>,
     feed: &mut Feed<'_>,
     told: bool,
 ) -> Outcome {
-    let progress = if told {
-        decoder.next_of_last(window, learned, feed.shown())
-    } else {
-        decoder.next_row(window, learned, feed.shown())
-    };
+    let progress = go_on(decoder, window, learned, held, feed.shown(), told);
     feed.take(progress.taken);
     progress.outcome
 }
 
-/// Whether later calls answer the same as the end: on what was not taken, and on other bytes.
+/// Whether later calls take nothing and answer the same as the end: on what was not taken, and on other bytes.
 fn answers_again(
     decoder: &mut PieceDecoder,
     window: &mut Window<'_>,
     learned: &mut Learned,
+    held: &mut Option<HeldBytes>,
     end: Outcome,
     rest: &[u8],
 ) -> bool {
     let other = [0xFF, 2, 0xFF, 5, 0];
-    decoder.next_row(window, learned, rest).outcome == end
-        && decoder.next_of_last(window, learned, &other).outcome == end
+    let again = Progress {
+        outcome: end,
+        taken: 0,
+    };
+    let before = *held;
+    go_on(decoder, window, learned, held, rest, false) == again
+        && go_on(decoder, window, learned, held, &other, true) == again
+        && *held == before
 }
 
 /// How many calls lead to the end, at most: each takes a byte, gives a row, or tells the end, once more.
@@ -157,15 +194,17 @@ fn most_calls(header: &Header, body: &[u8]) -> u64 {
         .saturating_add(3)
 }
 
-/// What a stream gives that comes in pieces. It is none where no end comes, a call after the end answers something else,
-/// more is wanted after the last byte, more of a piece is left than may be, or rows that were certain are not so later, or
-/// not the image's.
+/// What a stream gives that comes in pieces, where bytes are held or not. It is none where no end comes, a call after the end
+/// answers something else, more is wanted after the last byte, more of a piece is left than may be, or rows that were certain
+/// are not so later, or not the image's.
 fn take_pieces(
     alloc: Global,
     header: Header,
     body: &[u8],
+    mut held: Option<HeldBytes>,
     cuts: &mut Cuts<'_>,
 ) -> Result<Option<Given>, Fail> {
+    let most_left = if held.is_some() { 0 } else { MOST_LEFT };
     let mut lent = Vec::from_elem(alloc, 0u8, window_bytes(header.xd))?;
     let mut window = Window::over(lent.as_mut_slice(), header.xd);
     let mut learned = Learned::new();
@@ -176,14 +215,21 @@ fn take_pieces(
     let mut told = false;
     let mut certain = 0;
     'calls: for _ in 0..most_calls(&header, body) {
-        let answer = call(&mut decoder, &mut window, &mut learned, &mut feed, told);
+        let answer = call(
+            &mut decoder,
+            &mut window,
+            &mut learned,
+            &mut held,
+            &mut feed,
+            told,
+        );
         if decoder.certain() < certain {
             return Ok(None);
         }
         certain = decoder.certain();
         match answer {
             Outcome::Row => rows.extend_from_slice(window.row(0))?,
-            Outcome::More if told || feed.come > MOST_LEFT => return Ok(None),
+            Outcome::More if told || feed.come > most_left => return Ok(None),
             Outcome::More if feed.is_all() => told = true,
             Outcome::More => {
                 feed.come(cuts.next());
@@ -191,7 +237,14 @@ fn take_pieces(
             }
             end => {
                 let stays = certain == decoder.height()
-                    && answers_again(&mut decoder, &mut window, &mut learned, end, feed.rest);
+                    && answers_again(
+                        &mut decoder,
+                        &mut window,
+                        &mut learned,
+                        &mut held,
+                        end,
+                        feed.rest,
+                    );
                 if let Outcome::Done(height) = end {
                     rows.truncate(row_bytes(header.xd).saturating_mul(height as usize));
                 }
@@ -226,7 +279,7 @@ fn call_kept(
     }
     let mut window = Window::resume(lent, header.xd, kept.place);
     let mut decoder = PieceDecoder::resume(header, &kept.numbers);
-    let outcome = call(&mut decoder, &mut window, learned, feed, told);
+    let outcome = call(&mut decoder, &mut window, learned, &mut None, feed, told);
     if outcome == Outcome::Row {
         rows.extend_from_slice(window.row(0))?;
     }
@@ -353,7 +406,14 @@ impl<'a> Case<'a> {
         ends: &mut Ends,
     ) -> Result<bool, Fail> {
         ends.count(&self.header, self.whole.end);
-        let given = take_pieces(alloc, self.header, self.body, cuts)?;
+        let given = take_pieces(alloc, self.header, self.body, None, cuts)?;
+        Ok(given.as_ref() == Some(&self.whole))
+    }
+
+    /// Whether it does where each piece is fed, and taken whole where more is wanted.
+    pub fn is_fed(&self, alloc: Global, cuts: &mut Cuts<'_>) -> Result<bool, Fail> {
+        let held = Some(HeldBytes::none());
+        let given = take_pieces(alloc, self.header, self.body, held, cuts)?;
         Ok(given.as_ref() == Some(&self.whole))
     }
 
@@ -383,6 +443,17 @@ fn check(
             case.whole
         );
     }
+    let mut cuts = Cuts::Random(random);
+    assert!(rt;
+        case.is_fed(alloc, &mut cuts)?,
+        "{stream:?} fed: {:?}",
+        case.whole
+    );
+    assert!(rt;
+        case.is_fed(alloc, &mut Cuts::Each)?,
+        "{stream:?} fed by bytes: {:?}",
+        case.whole
+    );
     let mut cuts = Cuts::Random(random);
     assert!(rt;
         case.is_given_again(alloc, &mut cuts)?,
@@ -423,7 +494,14 @@ fn rows_wait_for_a_height(rt: HostRuntime) -> Result<(), Fail> {
     let mut feed = Feed::new(input.rest);
     'calls: for &(count, answer, certain) in &ANSWERS {
         feed.come(count);
-        let told = call(&mut decoder, &mut window, &mut learned, &mut feed, false);
+        let told = call(
+            &mut decoder,
+            &mut window,
+            &mut learned,
+            &mut None,
+            &mut feed,
+            false,
+        );
         assert_eq!(rt; told, answer);
         assert_eq!(rt; decoder.certain(), certain);
     }

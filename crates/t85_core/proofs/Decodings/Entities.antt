@@ -1,6 +1,5 @@
 -- A data entity, pull by pull.
-use Rattle.std.proofs.Common.{◌≡◌, ◌<◌, ◌≤◌, ◌⊎◌, inl, inr, ℕ, Bool, List, [], ◌∷◌, ◌++◌, length, Option, None, Some, Result, Ok, Err, refl, sym, ap, ◌∙◌, subst, append_assoc, arith}
-use Rattle.std.specs.Prelude.{IfOk, IfErr}
+use Rattle.std.proofs.Common.{◌≡◌, ◌≤◌, ◌⊎◌, inl, inr, ℕ, List, [], ◌∷◌, length, Option, None, Some, refl, sym, ◌∙◌, subst, arith}
 use Rattle.std.specs.Io.KnownBytes.{Consumes, prepend_known}
 use Rattle.qm_core.specs.Code.{stuffed}
 use Rattle.qm_core.specs.Source.{bytes_of, heard_of, IsClosed, Pulls, Gives}
@@ -8,15 +7,8 @@ use Rattle.qm_core.specs.declared.source.Pulled.{Pulled}
 use Rattle.qm_core.specs.declared.source.Pulled.TheVariants.{Byte, End, Fault}
 use Rattle.qm_core.specs.declared.source.Heard.{Heard}
 use Rattle.qm_core.specs.declared.source.Heard.TheVariants.{More, Ended, Stopped}
-use Rattle.t85_core.specs.declared.fault.Fault as fault
-use Rattle.t85_core.specs.declared.fault.Fault.TheVariants.{Truncated}
 use Rattle.t85_core.specs.declared.segments.Code.{Code}
-use Rattle.t85_core.specs.declared.segments.Code.TheVariants as code
-use Rattle.t85_core.specs.Grammar.{marker_bytes}
-use Rattle.t85_core.specs.Failures.{Ends}
-use Rattle.t85_core.specs.Steps.Segments.{CodeFault, PassesCode}
-use Rattle.t85_core.specs.Steps.Entity.{EntityView, GivesByte, GivesEnd, GivesFault, EntityGives, entity_known, BreaksIn, Finishes}
-use Rattle.t85_core.proofs.Bytes.Ends.{Ends-after}
+use Rattle.t85_core.specs.Steps.Entity.{EntityView, GivesByte, GivesEnd, GivesFault, EntityGives}
 use Rattle.t85_core.proofs.Walks.Passed.{Consumes-none}
 use Rattle.t85_core.proofs.Bytes.Streams.{Consumes-more}
 use Rattle.t85_core.proofs.Bytes.Stuffing.{stuffed_append}
@@ -24,39 +16,6 @@ use Rattle.t85_core.proofs.Bytes.Stuffing.{stuffed_append}
 pub consumes_front : (known : Option (List ℕ)) (front : List ℕ) → Consumes (prepend_known front known) known front
 consumes_front None front = tt
 consumes_front (Some known) front = refl
-
--- ---- finishing
-
--- the byte that was read ahead, and the rest of the code
-pub byte_then : (first : Option Code) (b : ℕ) (old new : Option (List ℕ)) (marker : Option Bool) (r : Result Bool fault.Fault) → first ≡ Some (code.Byte b) → b < 256 → marker ≡ None →
-    IfOk r (PassesCode old new) → IfOk r (Finishes (entity_known first old) new marker)
-byte_then first b old new marker (Err f) e small none h = tt
-byte_then first b old new marker (Ok reset) e small none h =
-    subst (λ m. Finishes (entity_known first old) new m reset) (sym none)
-    (subst (λ x. PassesCode (entity_known x old) new reset) (sym e) (record {
-      code = b ∷ h.code;
-      bytes = (small, h.bytes);
-      taken =
-          subst (Consumes (prepend_known (stuffed (b ∷ [])) old) new)
-          (sym (append_assoc (stuffed (b ∷ [])) (stuffed h.code) (marker_bytes reset)) ∙ ap (λ z. z ++ marker_bytes reset) (sym (stuffed_append (b ∷ []) h.code)))
-          (Consumes-more (prepend_known (stuffed (b ∷ [])) old) old new (stuffed (b ∷ [])) (stuffed h.code ++ marker_bytes reset) (consumes_front old (stuffed (b ∷ []))) h.taken);
-    }))
-
-pub byte_cut : (first : Option Code) (b : ℕ) (old new : Option (List ℕ)) (r : Result Bool fault.Fault) → first ≡ Some (code.Byte b) → b < 256 →
-    IfErr r (Ends Truncated old new CodeFault) → IfErr r (Ends Truncated (entity_known first old) new (BreaksIn first))
-byte_cut first b old new (Ok reset) e small h = tt
-byte_cut first b old new (Err f) e small h =
-    subst (λ x. Ends Truncated (entity_known x old) new (BreaksIn first) f) (sym e)
-    (Ends-after (stuffed (b ∷ [])) (consumes_front old (stuffed (b ∷ []))) (λ given why has. (
-      record {
-        code = b ∷ has.code;
-        rest = has.rest;
-        bytes_are = ap (λ z. stuffed (b ∷ []) ++ z) has.bytes_are ∙ sym (append_assoc (stuffed (b ∷ [])) (stuffed has.code) has.rest) ∙ ap (λ z. z ++ has.rest) (sym (stuffed_append (b ∷ []) has.code));
-        small = (small, has.small);
-        rest_has = has.rest_has;
-      },
-      inr (omega arith),
-    )) h)
 
 -- ---- pulls
 

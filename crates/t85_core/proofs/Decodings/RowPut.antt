@@ -1,15 +1,15 @@
--- A row of a stripe is decoded and written, or the source stops in it.
-use Rattle.std.proofs.Common.{◌≡◌, ℕ, ◌+◌, List, [], ◌∷◌, ◌++◌, length, refl, sym, ◌∙◌, ap, subst, arith, Option, None, Some, Result, Ok, Err, append-nil, length-append}
+-- A row of a stripe is decoded and written.
+use Rattle.std.proofs.Common.{◌≡◌, ℕ, ◌+◌, List, [], ◌∷◌, ◌++◌, length, refl, sym, ◌∙◌, ap, subst, arith, Option, None, Some, Ok, append-nil, length-append}
 use Rattle.std.specs.Prelude.{flat_map, IsErr}
-use Rattle.std.specs.Io.KnownBytes.{Appends, append_known}
-use Rattle.qm_core.specs.Place.{Place, Estimate, start}
+use Rattle.std.specs.Io.KnownBytes.{Appends}
+use Rattle.qm_core.specs.Place.{start}
 use Rattle.qm_core.specs.Source.{Gives}
 use Rattle.qm_core.specs.Decoder.{DecoderIsAt}
 use Rattle.qm_core.specs.declared.source.Pulled.{Pulled}
 use Rattle.qm_core.specs.declared.decoder.Decoder.{Decoder}
 use Rattle.qm_core.specs.declared.decoder.Stop.{Stop}
 use Rattle.raster_core.specs.Lines.{Lines}
-use Rattle.raster_core.specs.Packed.{Held, HasLines, packed_row}
+use Rattle.raster_core.specs.Packed.{packed_row}
 use Rattle.raster_core.specs.Row.{RowDecoded, RowIs}
 use Rattle.raster_core.specs.declared.shape.Shape.{Shape}
 use Rattle.raster_core.specs.declared.shape.Kept.{Kept}
@@ -25,21 +25,8 @@ use Rattle.t85_core.proofs.Decodings.Runs.{row_stands, row_taught}
 use Rattle.t85_core.proofs.Decodings.RowsSoFar.{rows_none, rows_step, kept_step}
 use Rattle.t85_core.proofs.Bytes.Streams.{Appends-more}
 
--- what a call of `decode_row` gives, wherever the decoder stands
-abbrev pub Gave : {S : Type 0} → (S → Pulled → S → Type 0) → S → S → Shape → Kept → Kept → List Estimate → List Estimate → Held → Held → Decoder → Decoder → Result (Unit {0}) Stop → Type 0
-Gave {S} pull old new shape kept kept' learned learned' window window' d d' result =
-    (p : Place) (answers : List Pulled) (lines : Lines) → DecoderIsAt d p answers → HasLines window lines →
-    RowDecoded pull old new shape kept kept' (record { place = p; learned = learned }) answers lines window' learned' d' result
-
-is_err : (e : Stop) → IsErr {T = Unit {0}} {E = Stop} (Err e)
-is_err e = refl
-
 not_err : (x : Unit {0}) → IsErr {T = Unit {0}} {E = Stop} (Ok x) → ⊥
 not_err x e = cc
-
-appends_known : (a : Option (List ℕ)) (bytes : List ℕ) → Appends a (append_known a bytes) bytes
-appends_known None bytes = tt
-appends_known (Some a) bytes = refl
 
 module _ {S F : Type 0} (pull : S → Pulled → S → Type 0) (joined : F → Pulled → F → Type 0) (old new : S) (from at to : F) (h : Fields) (shape : Shape) (c : StripeStart) (segments : List Segment) (row : ℕ)
     (carried carried' : Carried) (d d' : Decoder) (began text : Option (List ℕ)) (r : RowsRead joined from at h shape c segments row carried d began text)

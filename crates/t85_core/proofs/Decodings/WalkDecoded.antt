@@ -155,9 +155,9 @@ module _ {h : Fields} {height entities : ℕ} {given : Bool} {at : Option move.M
   code_many = (
     length s.head.stripes.rows + row,
     (let many = run_many h height _ s.head.stripes.stripes s.head.stripes.rows s.head.stripes.flags s.head.stripes.next s.head.stripes.run in
-    let few = s.few in
-    let count = ap (λ n. n * h.l0) s.head.stripes.many in
-    omega (arith, many, few, count)),
+        let few = s.few in
+        let count = ap (λ n. n * h.l0) s.head.stripes.many in
+        omega (arith, many, few, count)),
     long,
   ) where
     out_is : out ≡ s.began ++ flat_map packed_row s.read.rows

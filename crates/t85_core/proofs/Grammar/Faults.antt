@@ -79,9 +79,6 @@ walk_fault Changed p = tt
 walk_fault Read p = tt
 walk_fault _ p = absurd p
 
-pub stripe_faults : {h : Fields} {spot : Spot} {bytes : List ℕ} {f : Fault} → StripeFault h spot bytes f → IsWalkFault f
-stripe_faults {h} {f = f} p = walk_fault f (subst (λ o. MayBe o) p.rest_has (rest_may h _ _ _ p.rest))
-
 pub body_faults : (h : Fields) (height count : ℕ) (bytes : List ℕ) (f : Fault) → StripesFault h height count bytes f → IsBodyFault f
 body_faults h height count bytes f p = subst (λ o. MayBe o) p.tail_has.rest_has (rest_may h _ _ _ p.tail_has.rest)
 

@@ -1,17 +1,11 @@
 -- What a stripe begins with: its segments, one after another, and the code.
-use Rattle.std.proofs.Common.{inr, nat_eq, ◌≡◌, ◌≤◌, ℕ, List, [], ◌∷◌, length, None, Some, refl, sym, subst, arith}
-use Rattle.std.specs.Prelude.{Option, IfSome, option_map, ◌*◌, ◌/◌, ◌%◌, bit_and, not}
-use Rattle.std.specs.List.{AllByRecursion}
+use Rattle.std.proofs.Common.{inr, nat_eq, ◌≡◌, ◌≤◌, ℕ, List, [], length, refl, arith}
+use Rattle.std.specs.Prelude.{◌*◌, ◌/◌, ◌%◌, bit_and, not}
 use Rattle.std.proofs.lemmas.Bool.Decides.{nat_tests}
 use Rattle.std.proofs.lemmas.Nat.Bits.{and_pow}
 use Rattle.qm_core.specs.Code.{IsBytes}
-use Rattle.t85_core.specs.declared.segments.Move as move
-use Rattle.t85_core.specs.declared.segments.Head.{Head}
 use Rattle.t85_core.specs.Header.{Fields}
-use Rattle.t85_core.specs.Steps.Segments.{PassesHead}
-use Rattle.t85_core.specs.Steps.DecodeRows.{pair_of}
-use Rattle.t85_core.specs.Refusal.{Spot}
-use Rattle.t85_core.specs.Grammar.{Segment, NewLength, Move, Comment, IsLegal}
+use Rattle.t85_core.specs.Grammar.{Segment}
 use Rattle.t85_core.specs.Coding.{has_bit, mode_of, move_of}
 use Rattle.t85_core.specs.Steps.State.{StripeStart, first_row_start}
 use Rattle.t85_core.specs.Steps.Cut.{BegunRun}
@@ -37,19 +31,6 @@ two_line_bit n = let e : bit_and n 64 ≡ n / 64 % 2 * 64 = and_pow n 6 in grind
 
 pub typical_bit : (n : ℕ) → not (nat_eq (bit_and n 0x08) 0) ≡ has_bit n 3
 typical_bit n = let e : bit_and n 8 ≡ n / 8 % 2 * 8 = and_pow n 3 in grind (arith, nat_tests)
-
--- the move of a stripe goes no further than the header's greatest offset
-move_offset : (h : Fields) (segments : List Segment) (m : ℕ × ℕ) → AllByRecursion (IsLegal h) segments → move_of segments ≡ Some m → m.1 ≤ h.mx
-move_offset h [] m legal e = absurd (let bot : ⊥ = cc in bot)
-move_offset h (Move row o ∷ segments) m legal e = let same : (row, o) ≡ m = cc in subst (λ z. z.1 ≤ h.mx) same legal.0.1
-move_offset h (NewLength n ∷ segments) m legal e = move_offset h segments m legal.1 e
-move_offset h (Comment text ∷ segments) m legal e = move_offset h segments m legal.1 e
-
-pub move_within : {h : Fields} {spot : Spot} {a b : Option (List ℕ)} {head : Head} → h.mx ≤ 127 → PassesHead h spot a b head → IfSome head.at (λ to. to.offset ≤ 127)
-move_within {h} {spot} {a} {b} {head} le p = went head.at p.move_is where
-  went : (at : Option move.Move) → option_map pair_of at ≡ move_of p.segments → IfSome at (λ to. to.offset ≤ 127)
-  went None e = tt
-  went (Some to) e = let within : to.offset ≤ h.mx = move_offset h p.segments (pair_of to) p.begun.legal (sym e) in omega (arith, within, le)
 
 pub variable_bit : (n : ℕ) → not (nat_eq (bit_and n 0x20) 0) ≡ has_bit n 5
 variable_bit n = let e : bit_and n 32 ≡ n / 32 % 2 * 32 = and_pow n 5 in grind (arith, nat_tests)

@@ -1,5 +1,5 @@
 -- What a data entity gives to a decoder.
-use Rattle.std.specs.Prelude.{ℕ, ◌≡◌, ◌<◌, ◌≤◌, ◌⊎◌, Bool, List, [], ◌∷◌, length, Option, Some, None}
+use Rattle.std.specs.Prelude.{ℕ, ◌≡◌, ◌<◌, Bool, List, [], ◌∷◌, Option, Some, None}
 use Rattle.std.specs.Io.KnownBytes.{Consumes, prepend_known}
 use Rattle.qm_core.specs.Code.{stuffed}
 use Rattle.qm_core.specs.declared.source.Pulled.{Pulled}
@@ -9,7 +9,7 @@ use Rattle.t85_core.specs.declared.fault.Fault.TheVariants.{Truncated, Read}
 use Rattle.t85_core.specs.declared.segments.Code.{Code}
 use Rattle.t85_core.specs.Grammar.{marker_bytes}
 use Rattle.t85_core.specs.Failures.{Ends, reads_after}
-use Rattle.t85_core.specs.Steps.Segments.{code_bytes, RestFault, CodeFault, PassesCode}
+use Rattle.t85_core.specs.Steps.Segments.{code_bytes, RestFault}
 
 -- the bytes still to come: those that were read ahead, and then the stream's
 abbrev pub entity_known : Option Code → Option (List ℕ) → Option (List ℕ)
@@ -65,12 +65,3 @@ pub record EntityGives (s : EntityView) (answer : Pulled) (t : EntityView) : Typ
   pub gives : s.marker ≡ None → s.fault ≡ None → GivesSo s answer t
   pub same_source : t.source ≡ s.source
   pub same_input : t.input ≡ s.input
-
--- Bytes of a code and a rest with this fault. Of a code of which a byte was read ahead there is one byte at least.
-abbrev pub BreaksIn : Option Code → List ℕ → Fault → Type 0
-BreaksIn first given fault = (broken : CodeFault given fault) × ((first ≡ None) ⊎ (1 ≤ length broken.code))
-
--- The rest of a code was skipped, with its end marker where that was still to come.
-abbrev pub Finishes : Option (List ℕ) → Option (List ℕ) → Option Bool → Bool → Type 0
-Finishes old new None reset = PassesCode old new reset
-Finishes old new (Some marker) reset = (reset ≡ marker) × (new ≡ old)

@@ -6,7 +6,6 @@ use Rattle.qm_core.specs.Code.{stuffed}
 use Rattle.t85_core.specs.declared.fault.Fault.{Fault}
 use Rattle.t85_core.specs.declared.segments.Code.{Code}
 use Rattle.t85_core.specs.declared.segments.Code.TheVariants as code
-use Rattle.t85_core.specs.declared.segments.Head.{Head}
 use Rattle.t85_core.specs.declared.segments.Segments.{Segments}
 use Rattle.t85_core.specs.declared.segments.Move as move
 use Rattle.t85_core.specs.declared.segments.Next.{Next}
@@ -120,15 +119,3 @@ pub record SegmentsFault (h : Fields) (place : Place) (moved : Bool) (bytes : Li
   pub gives : GiveOnly place.height (if place.given then 1 else 0) segments
   pub rest_has : (height : ℕ) → rest_fault h (record { height = height; entities = place.entities; heights = (if place.given then 1 else 0) + length (lengths segments) })
       ((if moved then 1 else 0) + count_by is_move segments) false rest ≡ Some fault
-
--- the segments of a stripe, and what its code begins with
-pub record PassesHead (h : Fields) (spot : Spot) (old new : Option (List ℕ)) (head : Head) : Type 0 where
-  pub segments : List Segment
-  pub begun : IsBegun h segments []
-  pub gives : GiveOnly spot.height spot.heights segments
-  pub given_is : (if head.given then 1 else 0) ≡ spot.heights + length (lengths segments)
-  pub move_is : option_map (λ to. (to.row, to.offset)) head.at ≡ move_of segments
-  pub moves_are : (if is_some head.at then 1 else 0) ≡ count_by is_move segments
-  pub comments_are : head.comments ≡ min (count_by is_comment segments) (2 ^ 64 - 1)
-  pub code_is : IsByteOrMarker head.code
-  pub taken : Consumes old new (flat_map segment_bytes segments ++ code_bytes head.code)

@@ -9,8 +9,8 @@ use Rattle.t85_core.specs.Steps.Buffers.{Writer, SinkView, TargetView, held_of, 
 use Rattle.t85_core.specs.Steps.Entity.{EntityView, entity_known}
 
 -- a code of which a piece came
-abbrev pub piece_view : PieceCode → EntityView
-piece_view s = record {
+abbrev pub piece_view : {F : ℕ} → PieceCode F → EntityView
+piece_view {F} s = record {
   known = entity_known s.first (Some s.piece.rest.now);
   beyond = Some [];
   reads = 0;

@@ -22,7 +22,13 @@ const FEW: u32 = 2;
 
 /// Takes many typical rows or few, after another one, and answers how many.
 #[inline(always)]
-pub fn skip_many(shape: Shape, kept: Kept, learned: &Learned, decoder: &mut Decoder, left: u32) -> u32
+pub fn skip_many(
+    shape: Shape,
+    kept: Kept,
+    learned: &Learned,
+    decoder: &mut Decoder,
+    left: u32,
+) -> u32
     ensures none { result ≡ 0 → decoder.new ≡ decoder.old }
     ensures within { result ≤ left }
     ensures skipped { (p : Place) (answers : List Pulled) → DecoderIsAt decoder.old p answers →

@@ -53,9 +53,10 @@ impl ByteSource for Piece<'_> {
     }
 }
 
-/// The code of a data entity of which a piece came, unstuffed, and then its end marker.
+/// The code of a data entity of which a piece came, unstuffed, and then its end marker. `PART` says nothing of it: by it a
+/// row from its first pixel on is compiled apart from the rest of one, without what that alone needs.
 #[derive(Drop)]
-pub struct PieceCode<'a> {
+pub struct PieceCode<'a, const PART: usize> {
     pub piece: Piece<'a>,
     /// What was read ahead to see where the code begins.
     pub first: Option<Code>,
@@ -68,7 +69,7 @@ pub struct PieceCode<'a> {
     ghost behind: { (r : Bool) → marker ≡ Some r → first ≡ None },
 }
 
-impl PieceCode<'_> {
+impl<const PART: usize> PieceCode<'_, PART> {
     ghost use Rattle.qm_core.specs.Counts.{one_more};
     ghost use Rattle.qm_core.specs.Source.{is_fault};
     ghost use Rattle.t85_core.specs.Steps.Entity.{EntityGives};
@@ -111,7 +112,7 @@ impl PieceCode<'_> {
     }
 }
 
-impl CodeBytes for PieceCode<'_> {
+impl<const PART: usize> CodeBytes for PieceCode<'_, PART> {
     ghost use Rattle.t85_core.specs.Steps.Entity.{EntityGives};
     ghost use Rattle.t85_core.specs.Steps.Views.{piece_view};
 
@@ -122,9 +123,10 @@ impl CodeBytes for PieceCode<'_> {
 
     ghost failed = { λ s. s.failures };
 
-    #[inline(always)]
+    #[inline(never)]
     fn pull(&mut self) -> Pulled {
-        if self.first.is_none() && self.fault.is_none() {
+        // After a fault nothing is promised.
+        if self.first.is_none() {
             if let Some(byte) = self.piece.next_plain() {
                 return Pulled::Byte(byte);
             }

@@ -19,7 +19,8 @@ use raster_core::{Kept, RowPlace, Shape, Window, go_on_row};
 
 /// Goes on with a row of a stripe that has begun, as far as its code came. Of a piece that ends in an escape all is taken
 /// but the FF of that.
-pub fn go_on_in_row(
+#[inline(always)]
+pub fn go_on_in_row<const PART: usize>(
     shape: Shape,
     window: &mut Window<'_>,
     kept: &mut Kept,
@@ -56,7 +57,7 @@ pub fn go_on_in_row(
 {
     // What the proof cites of the coder.
     coder_laws();
-    let mut code = PieceCode {
+    let mut code: PieceCode<'_, PART> = PieceCode {
         piece: Piece { rest: piece.rest },
         first: *first,
         marker: *marker,

@@ -24,9 +24,15 @@ use crate::segments::{self, COMMENT, Code, Move, Place, next_piece, number};
 use crate::state::{START, next_stripe, restart};
 use qm_core::{Decoder, Learned};
 use raster_core::{Kept, RowPlace, Window};
+use std::mem::replace;
 
 /// The greatest offset of the adaptive template pixel that T.85 has.
 const MOST_OFFSET: u8 = 127;
+
+/// A row from its first pixel on, and the rest of one: each is compiled apart.
+const WHOLE_ROW: usize = 0;
+
+const REST_OF_ROW: usize = 1;
 
 /// What comes next in a stream.
 #[derive(Clone, Copy)]
@@ -333,12 +339,13 @@ impl Walk {
         let _width = header.xd;
         self.kept.offset = offset_in(self.at, self.row, self.kept.offset);
         window.turn();
-        self.place = RowPlace::start();
         self.stage = Stage::Row;
+        self.place = RowPlace::start();
     }
 
-    /// Goes on with a row of a stripe that has begun.
-    fn finish_row(
+    /// Goes on with a row of a stripe that has begun. `PART` says whether it has just begun.
+    #[inline(always)]
+    fn finish_row<const PART: usize>(
         &mut self,
         header: &Header,
         height: u32,
@@ -362,18 +369,24 @@ impl Walk {
     {
         // What the proof cites of the coder.
         coder_laws();
-        self.decoder.resume();
-        go_on_in_row(
+        // Both are the row's own until it ends or waits: so the compiler keeps them in registers.
+        let mut place = self.place;
+        let mut decoder = replace(&mut self.decoder, Decoder::start());
+        decoder.resume();
+        let went = go_on_in_row::<PART>(
             header.shape(),
             window,
             &mut self.kept,
             learned,
-            &mut self.decoder,
-            &mut self.place,
+            &mut decoder,
+            &mut place,
             &mut self.first,
             &mut self.marker,
             piece,
-        )?;
+        );
+        self.place = place;
+        self.decoder = decoder;
+        went?;
         self.row = self.row.saturating_add(1);
         self.stage = Stage::Code;
         Ok(())
@@ -404,7 +417,7 @@ impl Walk {
         ensures same_width { width_of window.new ≡ width_of window.old }
     {
         self.enter_row(header, height, window);
-        self.finish_row(header, height, window, learned, piece)
+        self.finish_row::<WHOLE_ROW>(header, height, window, learned, piece)
     }
 
     /// Goes on to the end of the next row, where one is wanted. Numbers that no decoder leaves are answered by the end of
@@ -435,7 +448,7 @@ impl Walk {
             return Err(Fault::Truncated);
         }
         match self.stage {
-            Stage::Row => self.finish_row(header, height, window, learned, piece),
+            Stage::Row => self.finish_row::<REST_OF_ROW>(header, height, window, learned, piece),
             _ => self.read_row(header, height, window, learned, piece),
         }
     }
