@@ -1,4 +1,5 @@
-/* JBIG1 (ITU-T T.82) in the fax profile T.85: whole images between buffers that the caller lends.
+/* JBIG1 (ITU-T T.82) in the fax profile T.85: whole images, and streams in pieces, between buffers
+   that the caller lends.
 
    The manual page t85(3) says the same at length, and docs/FORMAT.md has the bytes of a stream.
 
@@ -13,7 +14,8 @@
    - Nobody else writes to what is lent while a call runs, or reads what it writes. Where this is
      kept, no call reads or writes outside of what it was lent, whatever the bytes are.
 
-   No call takes memory, keeps a pointer, or has state: calls may run in several threads at once. */
+   No call takes memory or keeps a pointer. What goes on from call to call is in a struct that the
+   caller holds. So calls may run in several threads at once. */
 #ifndef T85_H
 #define T85_H
 
@@ -100,7 +102,16 @@ enum {
     T85_NO_PIXELS = 33,     /* width or height is 0 */
     T85_IMAGE_WIDE = 34,    /* wider than T85_MOST_WIDTH */
     T85_ROWS_MISSING = 36,  /* rows_len is too little for the image */
-    T85_OTHER_VERSION = 50  /* the options are of another version */
+    T85_OTHER_VERSION = 50, /* the struct is of another version, or of another size */
+
+    /* The parts of a stream. */
+    T85_NO_MORE_PARTS = 52, /* all parts of the stream were told */
+
+    /* A stream in pieces. The last three are no faults. */
+    T85_NOT_BEGUN = 53,     /* the decoder was not begun */
+    T85_HEADER_READ = 60,   /* the header was read */
+    T85_ROW = 61,           /* a row was decoded */
+    T85_MORE = 62           /* more bytes are wanted */
 };
 
 #define T85_MOST_WIDTH 1048576
@@ -144,6 +155,51 @@ typedef struct {
     uint64_t comments;     /* counted up to UINT64_MAX */
 } t85_summary;
 
+#define T85_FACTS_VERSION 1
+
+/* The same with the length of the stream in bytes, so that streams which follow one another can be
+   told apart. Begin with T85_FACTS. */
+typedef struct {
+    uint32_t version; /* T85_FACTS_VERSION */
+    uint32_t width, height, stripe_rows, most_offset, options;
+    uint32_t image_height, entities;
+    uint64_t moves, comments;
+    size_t stream_len; /* up to where its parts end, an empty data entity of a late height included */
+} t85_facts;
+
+#define T85_FACTS {T85_FACTS_VERSION, 0, 0, 0, 0, 0, 0, 0, 0, 0, 0}
+
+/* What a part of a stream is. */
+#define T85_PART_HEADER 0
+#define T85_PART_COMMENT 1
+#define T85_PART_MOVE 2       /* a move of the adaptive template pixel */
+#define T85_PART_NEW_HEIGHT 3
+#define T85_PART_DATA_ENTITY 4 /* the code of a stripe and its end marker */
+
+#define T85_PART_VERSION 1
+
+/* A part of a stream, and how far the walk has come that told it. Begin with T85_PART. */
+typedef struct {
+    uint32_t version;    /* T85_PART_VERSION */
+    uint32_t kind;       /* T85_PART_HEADER or another of the five */
+    size_t offset, len;  /* where it begins in the stream, and how many bytes it has */
+    uint32_t stripe;     /* data entities before it */
+    /* These are the walk's; you only keep them. */
+    uint32_t entities, late_height, has_move, is_at_height, reserved;
+    size_t passed;
+} t85_part;
+
+#define T85_PART {T85_PART_VERSION, 0, 0, 0, 0, 0, 0, 0, 0, 0, 0}
+
+#define T85_DECODER_BYTES 1280
+
+/* A decoder that is given a stream in pieces. It may be on the stack or on the heap, and may be
+   moved from call to call. Whatever its bytes are, a call is safe; a decoder of zeros is told as
+   T85_NOT_BEGUN. */
+typedef struct {
+    uint64_t opaque[T85_DECODER_BYTES / 8];
+} t85_decoder;
+
 /* The library's version, as T85_VERSION has it for the header. */
 uint32_t t85_version(void);
 
@@ -159,6 +215,21 @@ uint8_t t85_header(const uint8_t *stream, size_t len, t85_header_fields *fields)
    it was. */
 T85_NO_NULL((3))
 uint8_t t85_info(const uint8_t *stream, size_t len, t85_summary *summary);
+
+/* The same with the stream's own length: what comes after it in `stream` is another's. 0, and `facts`
+   has what was found; or 1 to 15 or 50, and it is as it was. */
+T85_NO_NULL((3))
+uint8_t t85_stream_facts(const uint8_t *stream, size_t len, t85_facts *facts);
+
+/* Tells the next part of a stream that is in memory as a whole, and goes behind it: call it with the
+   same stream and the same `part` until it answers something else than 0.
+
+   0: a part was told.
+   T85_NO_MORE_PARTS: all were told, and part->offset is the length of the stream.
+   1 to 15: the next part has this fault; part->offset and part->stripe say where it begins.
+   50: `part` is as it was. */
+T85_NO_NULL((3))
+uint8_t t85_next_part(const uint8_t *stream, size_t len, t85_part *part);
 
 /* Writes the stream of an image.
 
@@ -216,6 +287,42 @@ uint8_t t85_decode_rows(const uint8_t *stream, size_t len, uint32_t max_rows, si
                         uint8_t *window, size_t window_len, uint8_t *rows, size_t rows_room,
                         uint32_t *rows_written);
 
+/* Begins to decode a stream that comes in pieces. `size` is sizeof(t85_decoder). A header that
+   announces more than max_rows rows is refused; UINT32_MAX refuses none. 0, or 50 where the size is
+   another one, and then `decoder` is as it was. */
+T85_NO_NULL((1))
+uint8_t t85_decode_start(t85_decoder *decoder, size_t size, uint32_t max_rows);
+
+/* Takes bytes of the stream, as many as you have: up to the end of the header, up to the end of a row,
+   or all. *taken is how many it took; call it again with the others, which may be none.
+
+   The window may be empty (null, with length 0) up to T85_HEADER_READ. Then it has
+   t85_window_bytes(width) bytes or more, which are the same ones at each call, wherever they lie, and
+   which you don't write to between two calls.
+
+   T85_HEADER_READ: all 20 bytes of the header came; t85_header reads them.
+   T85_ROW: the next row begins at window[*row]. It has t85_row_bytes(width) bytes.
+   T85_MORE: all bytes were taken.
+   0: the image is whole: it is the first t85_decode_height rows of those that were given.
+   1 to 15: the stream is broken, and all rows were given that the bytes before the fault determine.
+   24: the header announces more than max_rows rows.
+   19: the window is too short, and nothing was taken or changed.
+   53: nothing was taken or changed.
+   After 0, 1 to 15 and 24 each further call answers the same, and takes nothing. */
+T85_NO_NULL((1, 6, 7))
+uint8_t t85_decode_bytes(t85_decoder *decoder, const uint8_t *bytes, size_t len, uint8_t *window,
+                         size_t window_len, size_t *taken, size_t *row);
+
+/* Tells that no bytes come any more, after all were taken. Answers as t85_decode_bytes, but never
+   T85_MORE: as long as it answers T85_ROW, call it again. */
+T85_NO_NULL((1, 4))
+uint8_t t85_decode_end(t85_decoder *decoder, uint8_t *window, size_t window_len, size_t *row);
+
+/* The height in use: the header's until another one has come, and 0 before the header was read. Where
+   the header has T85_VARIABLE_HEIGHT it may become less up to the end. */
+T85_NO_NULL((1))
+uint32_t t85_decode_height(const t85_decoder *decoder);
+
 /* Writes what a status means in English, without a line feed and without a zero byte: as much of it
    as there is room for. Gives the length of the whole text. */
 size_t t85_message(uint8_t status, uint8_t *text, size_t room);
@@ -229,6 +336,18 @@ size_t t85_message(uint8_t status, uint8_t *text, size_t room);
 #define t85_header(stream, len, fields) t85_header(t85_bytes_or_nothing(stream), len, fields)
 
 #define t85_info(stream, len, summary) t85_info(t85_bytes_or_nothing(stream), len, summary)
+
+#define t85_stream_facts(stream, len, facts) \
+    t85_stream_facts(t85_bytes_or_nothing(stream), len, facts)
+
+#define t85_next_part(stream, len, part) t85_next_part(t85_bytes_or_nothing(stream), len, part)
+
+#define t85_decode_bytes(decoder, bytes, len, window, window_len, taken, row)        \
+    t85_decode_bytes(decoder, t85_bytes_or_nothing(bytes), len,                      \
+                     t85_room_or_nothing(window), window_len, taken, row)
+
+#define t85_decode_end(decoder, window, window_len, row) \
+    t85_decode_end(decoder, t85_room_or_nothing(window), window_len, row)
 
 #define t85_encode(width, height, rows, rows_len, stride, options, comment, comment_len, window, \
                    window_len, stream, stream_room, written)                                     \

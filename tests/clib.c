@@ -242,6 +242,84 @@ static void is_info(buffer stream, buffer line)
         fail("t85_header: status %d, or other fields than t85_info has", status);
 }
 
+/* The same in pieces of `step` bytes, by a decoder and a window that are elsewhere at each call. */
+static void decode_pieces_in(buffer stream, uint32_t width, uint8_t wanted, buffer rows, size_t step)
+{
+    size_t row = t85_row_bytes(width), at = 0, given = 0, len, taken, place, turn = 0;
+    buffer windows[2], states[2];
+    t85_decoder *decoder;
+    uint8_t status = T85_MORE;
+    for (turn = 0; turn < 2; turn++) {
+        windows[turn] = filled(t85_window_bytes(width));
+        states[turn] = filled(sizeof(t85_decoder));
+    }
+    if (t85_decode_start((t85_decoder *)states[0].bytes, sizeof(t85_decoder), UINT32_MAX))
+        fail("t85_decode_start");
+    for (turn = 0; status >= T85_HEADER_READ; turn = 1 - turn) {
+        decoder = (t85_decoder *)states[turn].bytes;
+        len = stream.len - at < step ? stream.len - at : step;
+        taken = 0;
+        if (status == T85_MORE && at == stream.len)
+            status = t85_decode_end(decoder, windows[turn].bytes, windows[turn].len, &place);
+        else
+            status = t85_decode_bytes(decoder, stream.bytes + at, len, windows[turn].bytes,
+                                      windows[turn].len, &taken, &place);
+        if (taken > len || (status == T85_MORE && taken != len))
+            fail("t85_decode_bytes: takes %zu bytes of %zu", taken, len);
+        at += taken;
+        if (status == T85_ROW && given * row < rows.len &&
+            memcmp(windows[turn].bytes + place, rows.bytes + given * row, row))
+            fail("t85_decode_bytes: row %zu is another, in pieces of %zu", given, step);
+        given += status == T85_ROW;
+        memcpy(windows[1 - turn].bytes, windows[turn].bytes, windows[turn].len);
+        memcpy(states[1 - turn].bytes, states[turn].bytes, sizeof(t85_decoder));
+        memset(windows[turn].bytes, FILL, windows[turn].len);
+        memset(states[turn].bytes, FILL, sizeof(t85_decoder));
+    }
+    decoder = (t85_decoder *)states[turn].bytes;
+    if (status != wanted || (status ? given * row != rows.len : given * row < rows.len))
+        fail("t85_decode_bytes: status %d and %zu rows, in pieces of %zu", status, given, step);
+    if (status == T85_OK && t85_decode_height(decoder) * row != rows.len)
+        fail("t85_decode_height: %u, in pieces of %zu", t85_decode_height(decoder), step);
+    if (t85_decode_bytes(decoder, stream.bytes, stream.len, windows[0].bytes, windows[0].len, &taken,
+                         &place) != status ||
+        taken)
+        fail("t85_decode_bytes: goes on after status %d", status);
+    for (turn = 0; turn < 2; turn++) {
+        give_back(states[turn]);
+        give_back(windows[turn]);
+    }
+}
+
+/* The same in pieces of several lengths. */
+static void decode_pieces(buffer stream, uint32_t width, uint8_t wanted, buffer rows)
+{
+    static const size_t steps[] = {1, 7, 40, 1500};
+    size_t i;
+    for (i = 0; i < sizeof steps / sizeof *steps; i++)
+        decode_pieces_in(stream, width, wanted, rows, steps[i]);
+}
+
+/* The stream before others, and its parts, of which each begins where the one before ends. */
+static void walked(buffer stream)
+{
+    buffer more = filled(stream.len + 3);
+    t85_facts facts = T85_FACTS;
+    t85_part part = T85_PART;
+    size_t at = 0;
+    memcpy(more.bytes, stream.bytes, stream.len);
+    if (t85_stream_facts(more.bytes, more.len, &facts) || facts.stream_len != stream.len)
+        fail("t85_stream_facts: %zu bytes of %zu", facts.stream_len, stream.len);
+    while (t85_next_part(more.bytes, more.len, &part) == T85_OK) {
+        if (part.offset != at || !part.len)
+            fail("t85_next_part: %zu bytes from %zu on, and not from %zu", part.len, part.offset, at);
+        at += part.len;
+    }
+    if (part.offset != stream.len || part.entities != facts.entities)
+        fail("t85_next_part: ends at %zu of %zu", part.offset, stream.len);
+    give_back(more);
+}
+
 static void decode(char **words)
 {
     buffer file = read_file(words[0]), whole = read_file(words[1]), line = read_file(words[2]),
@@ -260,6 +338,8 @@ static void decode(char **words)
     for (room = 0; room <= all; room = next_room(room, all))
         decode_rows_in(stream, width, T85_OK, rows, row + 3, room);
     decode_rows_in(stream, width, T85_OK, rows, row + 3, all + 3);
+    decode_pieces(stream, width, T85_OK, rows);
+    walked(stream);
     is_info(stream, line);
     give_back(stream);
 }
@@ -319,6 +399,7 @@ static void cut(buffer stream, const char *folder, size_t count)
         decode_in(lent, t85_window_bytes(fields.width), wanted, whole, room);
         rows = rows_of(whole, &width, &height);
         decode_rows_in(lent, width, wanted, rows, t85_row_bytes(width), room);
+        decode_pieces(lent, width, wanted, rows);
     }
     if (wanted_info == T85_OK)
         is_info(lent, line);
@@ -538,6 +619,24 @@ static void messages(void)
     }
 }
 
+/* A decoder that was not begun. */
+static void decoder_states(void)
+{
+    t85_decoder decoder;
+    size_t taken = 77, row = 0;
+    uint8_t byte = 0;
+    memset(&decoder, 0, sizeof decoder);
+    if (t85_decode_bytes(&decoder, &byte, 1, NULL, 0, &taken, &row) != T85_NOT_BEGUN || taken ||
+        t85_decode_end(&decoder, NULL, 0, &row) != T85_NOT_BEGUN || t85_decode_height(&decoder))
+        fail("a decoder of zeros goes on");
+    if (t85_decode_start(&decoder, sizeof decoder + 8, 1) != T85_OTHER_VERSION ||
+        t85_decode_end(&decoder, NULL, 0, &row) != T85_NOT_BEGUN)
+        fail("a longer decoder is begun");
+    if (t85_decode_start(&decoder, sizeof decoder, 1) ||
+        t85_decode_end(&decoder, NULL, 0, &row) != T85_SHORT_HEADER)
+        fail("no bytes have a header");
+}
+
 static void faults(char **words)
 {
     buffer image = read_file(words[0]), rows;
@@ -555,6 +654,7 @@ static void faults(char **words)
     far_rows(rows, width, height);
     bounds();
     messages();
+    decoder_states();
 }
 
 static void or_nothing(void)

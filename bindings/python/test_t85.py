@@ -34,6 +34,61 @@ PBM, STREAM = example("letter.pbm"), example("letter.jbg")
 ROWS = PBM[-160 * 52 :]
 
 
+def in_pieces(stream, size):
+    """The rows of a stream in pieces, and the decoder."""
+    decoder, rows = t85.Decoder(), []
+    for at in range(0, len(stream), size):
+        rows += decoder.feed(stream[at : at + size])
+    return rows + decoder.end(), decoder
+
+
+class Pieces(unittest.TestCase):
+    def test_page(self):
+        for size in (1, 40, 1500, 1 << 20):
+            rows, decoder = in_pieces(STREAM, size)
+            self.assertEqual(b"".join(rows), ROWS)
+            self.assertEqual((decoder.height, decoder.is_done, decoder.header), (160, True, t85.header(STREAM)))
+
+    def test_rows_as_they_come(self):
+        with t85.Decoder() as decoder:
+            self.assertEqual((decoder.feed(b""), decoder.header, decoder.height), ([], None, 0))
+            self.assertEqual(decoder.feed(head(8, 2, 128, 0, 0) + b"\xf0"), [])
+            self.assertEqual(decoder.header, t85.Header(8, 2, 128, 0, 0))
+            self.assertEqual(decoder.feed(b"\0\0"), [b"\xff"])
+            self.assertEqual(decoder.feed(b"\0"), [b"\x32"])
+            self.assertFalse(decoder.is_done)
+            self.assertEqual(decoder.feed(b"\xff\x02more"), [])
+            self.assertEqual((decoder.is_done, decoder.unused), (True, b"more"))
+
+    def test_late_height(self):
+        stream = head(1, 9, 1, 0, 0x20) + b"\xc0\xff\x02\xff\x05\0\0\0\x02\xc0\xff\x02"
+        rows, decoder = in_pieces(stream, 1)
+        self.assertEqual((rows, decoder.height), ([b"\x80", b"\x80"], 2))
+
+    def test_broken(self):
+        stream = head(8, 2, 128, 0, 0) + b"\xf0\0\0"
+        with self.assertRaises(t85.Error) as raised:
+            in_pieces(stream + b"\xff\x04", 100)
+        self.assertEqual((raised.exception.number, raised.exception.partial), (11, t85.Rows(8, 1, 1, b"\xff")))
+        decoder = t85.Decoder()
+        self.assertEqual(decoder.feed(stream), [b"\xff"])
+        with self.assertRaises(t85.Error) as raised:
+            decoder.end()
+        self.assertEqual((raised.exception.number, raised.exception.partial.count), (9, 0))
+        with self.assertRaises(t85.Error) as raised:
+            t85.Decoder(max_rows=159).feed(STREAM)
+        self.assertEqual(raised.exception.number, 24)
+
+    def test_parts(self):
+        stream = head(1, 9, 1, 0, 0x20) + b"\xc0\xff\x02\xff\x05\0\0\0\x02\xc0\xff\x02"
+        parts = [("header", 0, 20, 0), ("data entity", 20, 3, 0), ("new height", 23, 6, 1), ("data entity", 29, 3, 1)]
+        self.assertEqual(list(t85.parts(stream + STREAM)), [t85.Part(*part) for part in parts])
+        self.assertEqual(t85.stream_length(stream + STREAM), 32)
+        with self.assertRaises(t85.BrokenPart) as raised:
+            list(t85.parts(stream[:28]))
+        self.assertEqual((raised.exception.number, raised.exception.offset, raised.exception.stripe), (9, 23, 1))
+
+
 class Whole(unittest.TestCase):
     def test_page(self):
         self.assertEqual(t85.encode(ROWS, 416, 160, most_offset=127), STREAM)

@@ -23,6 +23,9 @@ Packed arrays are encoded in place, and decode_into has the rows written into on
 Beside these calls are t85.pillow, with which Pillow opens and saves streams, and t85.many for many files; python3 -m t85 is
 the command for these.
 
+A stream that comes in pieces is given to a Decoder, which has the rows as soon as their bytes are there; parts tells what a
+stream is made of.
+
 A stream of a few bytes may have an image of terabytes. So decode and decode_rows refuse images whose rows take more than
 MAX_BYTES, 1 GiB, where max_bytes says nothing else. For a moment a call has twice what the rows take, and where a stream
 is broken up to three times as much and 8 MiB.
@@ -40,7 +43,7 @@ import mmap
 import os
 from ctypes import POINTER, byref, c_bool, c_char, c_size_t, c_uint8, c_uint32, c_uint64, c_void_p
 from dataclasses import dataclass
-from typing import TYPE_CHECKING, Any, Callable, Optional, Union
+from typing import TYPE_CHECKING, Any, Callable, Iterator, Optional, Union
 
 from ._rows import Rows, from_image, pack, to_array, to_image, unpack
 from ._rows import refuse_pixels as _refuse_pixels
@@ -48,8 +51,11 @@ from ._rows import row_bytes as _row_bytes
 
 __all__ = [
     "MAX_BYTES",
+    "BrokenPart",
+    "Decoder",
     "Error",
     "Header",
+    "Part",
     "Rows",
     "Summary",
     "decode",
@@ -60,6 +66,8 @@ __all__ = [
     "header",
     "info",
     "pack",
+    "parts",
+    "stream_length",
     "to_array",
     "to_image",
     "unpack",
@@ -77,6 +85,9 @@ if TYPE_CHECKING:
 
 _SONAME = "libt85.so.1"
 _NO_ROOM = 18
+_NO_MORE_PARTS = 52
+_HEADER_READ, _ROW, _MORE = 60, 61, 62
+_HEADER_BYTES = 20
 _NO_LIMIT = 0xFFFFFFFF
 _FIRST_ROOM = 1 << 23
 
@@ -115,6 +126,32 @@ class _Summary(ctypes.Structure):
     ]
 
 
+class _Facts(ctypes.Structure):
+    _fields_ = [
+        ("version", c_uint32),
+        *((name, c_uint32) for name in ("width", "height", "stripe_rows", "most_offset", "options", "image_height")),
+        ("entities", c_uint32),
+        ("moves", c_uint64),
+        ("comments", c_uint64),
+        ("stream_len", c_size_t),
+    ]
+
+
+class _Part(ctypes.Structure):
+    _fields_ = [
+        ("version", c_uint32),
+        ("kind", c_uint32),
+        ("offset", c_size_t),
+        ("len", c_size_t),
+        *((name, c_uint32) for name in ("stripe", "entities", "late_height", "has_move", "is_at_height", "reserved")),
+        ("passed", c_size_t),
+    ]
+
+
+class _Decoder(ctypes.Structure):
+    _fields_ = [("opaque", c_uint64 * 160)]
+
+
 def _named() -> str:
     """The library's name, as the loader takes it."""
     beside = os.path.join(os.path.dirname(os.path.abspath(__file__)), _SONAME)
@@ -135,6 +172,12 @@ def _load() -> ctypes.CDLL:
         "t85_decode": (c_uint8, [*read, word, *write, *write, POINTER(size)]),
         "t85_decode_rows": (c_uint8, [*read, word, size, *write, *write, POINTER(word)]),
         "t85_message": (size, [c_uint8, *write]),
+        "t85_stream_facts": (c_uint8, [*read, POINTER(_Facts)]),
+        "t85_next_part": (c_uint8, [*read, POINTER(_Part)]),
+        "t85_decode_start": (c_uint8, [POINTER(_Decoder), size, word]),
+        "t85_decode_bytes": (c_uint8, [POINTER(_Decoder), *read, *write, POINTER(size), POINTER(size)]),
+        "t85_decode_end": (c_uint8, [POINTER(_Decoder), *write, POINTER(size)]),
+        "t85_decode_height": (word, [POINTER(_Decoder)]),
     }
     for name, (result, words) in types.items():
         call = getattr(library, name)
@@ -177,6 +220,28 @@ class Error(ValueError):
 
     def __reduce__(self) -> tuple[type[Error], tuple[int, Union[bytes, Rows], str]]:
         return type(self), (self.number, self.partial, self.text)
+
+
+class BrokenPart(Error):
+    """The fault of a part of a stream, where that begins, and how many data entities come before it."""
+
+    def __init__(self, number: int, offset: int, stripe: int) -> None:
+        self.offset, self.stripe = offset, stripe
+        super().__init__(number)
+
+
+@dataclass(frozen=True)
+class Part:
+    """A part of a stream: "header", "comment", "move", "new height" or "data entity"; where it begins, its length in bytes,
+    and how many data entities come before it."""
+
+    kind: str
+    offset: int
+    length: int
+    stripe: int
+
+
+_KINDS = ("header", "comment", "move", "new height", "data entity")
 
 
 def _message(number: int) -> str:
@@ -305,6 +370,107 @@ def info(stream: Buffer) -> Summary:
     if status:
         raise Error(status)
     return Summary(*(getattr(fields, name) for name, _ in _Summary._fields_))
+
+
+def stream_length(data: Buffer) -> int:
+    """How many bytes the stream has with which the data begin, so that streams after one another can be told apart."""
+    facts = _Facts(version=1)
+    status = _LIBRARY.t85_stream_facts(_bytes(data), _size(data), byref(facts))
+    if status:
+        raise Error(status)
+    return int(facts.stream_len)
+
+
+def parts(stream: Buffer) -> Iterator[Part]:
+    """The parts of a stream, one after another. Where one is broken or ends too early, BrokenPart is raised in its place."""
+    data, size, part = _bytes(stream), _size(stream), _Part(version=1)
+    while True:
+        status = _LIBRARY.t85_next_part(data, size, byref(part))
+        if status == _NO_MORE_PARTS:
+            return
+        if status:
+            raise BrokenPart(status, part.offset, part.stripe)
+        yield Part(_KINDS[part.kind], part.offset, part.len, part.stripe)
+
+
+class Decoder:
+    """Decodes a stream whose bytes come in pieces.
+
+        >>> decoder = Decoder()
+        >>> for piece in pieces:
+        ...     show(decoder.feed(piece))
+        >>> show(decoder.end())
+
+    feed gives each row, packed, as soon as its bytes are there. Where the stream may still give another height, rows that it
+    could cut off may be given all the same: the image is the first `height` rows. Where the stream is broken an Error is
+    raised, and its partial has the rows that the call gave before.
+
+    header   what the header says, or None before it came
+    height   the height in use: the header's, until another has come
+    is_done  whether the image is whole
+    unused   the bytes of the last piece that came after the image
+
+    max_rows  a header that announces more rows is refused; without one, or with None, none is
+    """
+
+    def __init__(self, *, max_rows: Optional[int] = None) -> None:
+        self.header: Optional[Header] = None
+        self.is_done = False
+        self.unused = b""
+        self._front = b""
+        self._state = _Decoder()
+        self._window = ctypes.create_string_buffer(0)
+        limit = _NO_LIMIT if max_rows is None else _word("max_rows", max_rows)
+        _LIBRARY.t85_decode_start(byref(self._state), ctypes.sizeof(self._state), limit)
+
+    def __enter__(self) -> Decoder:
+        return self
+
+    def __exit__(self, *_: object) -> None:
+        self._window = ctypes.create_string_buffer(0)
+
+    @property
+    def height(self) -> int:
+        return int(_LIBRARY.t85_decode_height(byref(self._state)))
+
+    def feed(self, data: Buffer) -> list[bytes]:
+        """The rows that these bytes complete."""
+        piece = bytes(memoryview(data))
+        taken, row, rows = c_size_t(), c_size_t(), []
+        while True:
+            lent = piece, len(piece), self._window, len(self._window), byref(taken), byref(row)
+            status = _LIBRARY.t85_decode_bytes(byref(self._state), *lent)
+            if self.header is None:
+                self._front += piece[: taken.value]
+            piece = piece[taken.value :]
+            if status == _HEADER_READ:
+                self.header = header(self._front)
+                self._window = _window(self.header.width)
+            elif status == _ROW:
+                rows.append(self._row(row.value))
+            else:
+                self.unused = piece
+                return self._told(status, rows)
+
+    def end(self) -> list[bytes]:
+        """The rows that are still to be given, where no bytes come any more."""
+        row, rows = c_size_t(), []
+        while True:
+            status = _LIBRARY.t85_decode_end(byref(self._state), self._window, len(self._window), byref(row))
+            if status != _ROW:
+                return self._told(status, rows)
+            rows.append(self._row(row.value))
+
+    def _row(self, place: int) -> bytes:
+        assert self.header is not None
+        return self._window.raw[place : place + _row_bytes(self.header.width)]
+
+    def _told(self, status: int, rows: list[bytes]) -> list[bytes]:
+        self.is_done = not status
+        if status in (0, _MORE):
+            return rows
+        width = self.header.width if self.header else 0
+        raise Error(status, Rows(width, len(rows), _row_bytes(width), b"".join(rows)))
 
 
 def encode(

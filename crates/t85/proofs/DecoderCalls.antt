@@ -7,7 +7,8 @@ use Rattle.std.proofs.Math.Seq.{drop-append_seam}
 use Rattle.std.specs.Int.{div_ceil, from_bool}
 use Rattle.qm_core.specs.Place.{Estimate}
 use Rattle.raster_core.specs.Packed.{Held, rows_at}
-use Rattle.raster_core.specs.Window.{current_place, held, width_of}
+use Rattle.raster_core.specs.Window.{current_place, width_of}
+use Rattle.raster_core.specs.Window.{held as rows_held}
 use Rattle.raster_core.specs.declared.window.Window.{Window}
 use Rattle.t85_core.specs.declared.fault.Fault.{Fault}
 use Rattle.t85_core.specs.declared.fault.Fault.TheVariants.{ShortHeader}
@@ -21,10 +22,11 @@ use Rattle.t85_core.specs.Laws.{HeaderLaws}
 use Rattle.t85_core.specs.Lent.{decoder_over, decoder_view}
 use Rattle.t85_core.specs.Numbers.{piece_numbers}
 use Rattle.t85_core.specs.Options.{fields_of}
-use Rattle.t85_core.specs.Pieces.{HasDecoded, HandsOut, HoldsImage, IsCall}
+use Rattle.t85_core.specs.Feeds.{HasFed, IsFeed}
+use Rattle.t85_core.specs.Pieces.{HasDecoded, HandsOut, HoldsImage, MayFollow}
 use Rattle.t85_core.specs.Pieces.{call_of as piece_call}
 use Rattle.t85.specs.Decoded.{window_bytes}
-use Rattle.t85.specs.Decoder.{AnnouncesMore, Answers, BehindHeader, Call, GivesRow, HasRead, Hold, InHeader, InRows, IsBroken, IsImage, IsShort, StandAt, bytes_taken, call_of, hold_of, numbers_in}
+use Rattle.t85.specs.Decoder.{AnnouncesMore, Answers, BehindHeader, BytesCall, GivesRowAt, HasRead, Hold, InHeader, InRows, IsBrokenStream, IsImageOf, IsShort, StandAt, bytes_of_call, bytes_call, bytes_held_by, hold_of, numbers_of_decoder}
 use Rattle.t85.specs.DecoderSteps.{IsAwaited, IsFilled, IsJudged, IsOfEngine, IsToldOf}
 use Rattle.t85.specs.declared.decoder.T85Decoder.{T85Decoder}
 use Rattle.t85.specs.declared.decoder.Told.{Told}
@@ -58,9 +60,9 @@ in_rows hold stream out e (inr (inr h)) = h
 
 -- ---- answers, where less is known
 
-pub answers_from : {Has Has' : List ℕ → List ℕ → Type 0} (old mid new : Hold) (call : Call) (what : Answer) → ((stream out : List ℕ) → Has stream out → Has' stream out) → IsOfEngine what → Answers Has' mid new call what → Answers Has old new call what
+pub answers_from : {Has Has' : List ℕ → List ℕ → Type 0} (old mid new : Hold) (call : BytesCall) (what : Answer) → ((stream out : List ℕ) → Has stream out → Has' stream out) → IsOfEngine what → Answers Has' mid new call what → Answers Has old new call what
 answers_from old mid new call answer.Row k of a = record { bound = a.bound; tells = λ s o h. a.tells s o (k s o h) }
-answers_from old mid new call answer.More k of a = record { bound = a.bound; tells = λ s o h. a.tells s o (k s o h) }
+answers_from old mid new call answer.More k of a = record { bound = a.bound; tells = (a.tells.0, λ s o h. a.tells.1 s o (k s o h)) }
 answers_from old mid new call answer.Done k of a = record { bound = a.bound; tells = (a.tells.0, λ s o r h m. a.tells.1 s o r (k s o h) m) }
 answers_from old mid new call (answer.Broken fault) k of a = record { bound = a.bound; tells = (a.tells.0, λ s o r h m. a.tells.1 s o r (k s o h) m) }
 answers_from old mid new call answer.Header k of a = absurd of
@@ -79,19 +81,22 @@ short_fault bytes few = grind (arith, nat_tests)
 
 -- it has not come as a whole
 pub header_waits : (d mid new : T85Decoder) (bytes window : List ℕ) (count : ℕ) (is_all : Bool) (what : Answer) → d.version ≡ 1 → d.next ≡ 0 → IsFilled d mid bytes count → mid.header_len < 20 → IsAwaited mid new is_all what →
-    Answers (HasRead (hold_of d window)) (hold_of d window) (hold_of new window) (call_of bytes is_all count 0) what
+    Answers (HasRead (hold_of d window)) (hold_of d window) (hold_of new window) (bytes_call bytes is_all count 0) what
 header_waits d mid new bytes window count is_all answer.More version next fill few (all, same) = record {
   bound = omega (arith, fill.count_is);
-  tells = λ stream out has.
-      let was = in_header (hold_of d window) stream out next has in
-      inl (subst (λ z. InHeader z (stream ++ take count bytes) out) (sym same)
-      (record {
-        version_is = fill.version_is ∙ version;
-        next_is = fill.next_is ∙ next;
-        few = few;
-        stream_is = ap (λ s. s ++ take count bytes) was.stream_is ∙ sym fill.filled;
-        out_is = was.out_is;
-      }));
+  tells = (
+    omega (arith, fill.count_is, fill.len_is, few),
+    λ stream out has.
+        let was = in_header (hold_of d window) stream out next has in
+        inl (subst (λ z. InHeader z (stream ++ take count bytes) out) (sym same)
+        (record {
+          version_is = fill.version_is ∙ version;
+          next_is = fill.next_is ∙ next;
+          few = few;
+          stream_is = ap (λ s. s ++ take count bytes) was.stream_is ∙ sym fill.filled;
+          out_is = was.out_is;
+        })),
+  );
 }
 header_waits d mid new bytes window count is_all (answer.Broken fault) version next fill few (all, is, ended) = record {
   bound = omega (arith, fill.count_is);
@@ -132,7 +137,7 @@ module _ (laws : HeaderLaws) (d mid new : T85Decoder) (bytes window : List ℕ) 
       ∙ ap (λ s. (s ++ drop count bytes) ++ rest) (stream_is stream out has) ∙ append_assoc mid.header (drop count bytes) rest
 
   -- and it is judged
-  pub header_judged : (what : Answer) → IsJudged mid new what → Answers (HasRead (hold_of d window)) (hold_of d window) (hold_of new window) (call_of bytes is_all count 0) what
+  pub header_judged : (what : Answer) → IsJudged mid new what → Answers (HasRead (hold_of d window)) (hold_of d window) (hold_of new window) (bytes_call bytes is_all count 0) what
   header_judged answer.Header is = record {
     bound = omega (arith, fill.count_is);
     tells = λ stream out has.
@@ -160,15 +165,15 @@ module _ (laws : HeaderLaws) (d mid new : T85Decoder) (bytes window : List ℕ) 
 -- ---- the rows
 
 -- those of a window are those of its memory, at its place
-window_rows : (window : Window) (place width : ℕ) (memory : List ℕ) → current_place window ≡ place → width_of window ≡ width → memory ≡ window.rows.now → held window ≡ rows_at place width memory
+window_rows : (window : Window) (place width : ℕ) (memory : List ℕ) → current_place window ≡ place → width_of window ≡ width → memory ≡ window.rows.now → rows_held window ≡ rows_at place width memory
 window_rows window place width memory at wide is =
     ap (λ p. rows_at p window.width window.rows.now) at ∙ ap (λ n. rows_at place n window.rows.now) wide ∙ ap (λ m. rows_at place width m) (sym is)
 
 -- they begin behind the header
 pub rows_entered : (old new : T85Decoder) (memory memory' : List ℕ) (header : Header) (e : PieceDecoder) (window : Window) (learned : List Estimate) (stream out : List ℕ) → old.next ≡ 1 → HeaderOf old.header (fields_of header) → length memory' ≡ window_bytes header.xd →
-    e.header ≡ header → HasDecoded (decoder_over e window learned) [] [] → new.version ≡ 1 → new.next ≡ 2 → new.header ≡ old.header → new.place < 3 → current_place window ≡ new.place → width_of window ≡ header.xd → memory' ≡ window.rows.now → new.learned ≡ learned → numbers_in new ≡ piece_numbers e →
+    e.header ≡ header → HasDecoded (decoder_over e window learned) [] [] → new.version ≡ 1 → new.next ≡ 2 → new.header ≡ old.header → new.place < 3 → current_place window ≡ new.place → width_of window ≡ header.xd → memory' ≡ window.rows.now → new.learned ≡ learned → numbers_of_decoder new ≡ piece_numbers e → bytes_held_by new ≡ [] →
     HasRead (hold_of old memory) stream out → InRows (hold_of new memory') stream out
-rows_entered old new memory memory' header e window learned stream out next header_of long header_is has version next' head small at wide is learned_is numbers read =
+rows_entered old new memory memory' header e window learned stream out next header_of long header_is has version next' head small at wide is learned_is numbers held_is read =
     let was = behind_header (hold_of old memory) stream out next read in
     record {
       version_is = version;
@@ -179,19 +184,23 @@ rows_entered old new memory memory' header e window learned stream out next head
       numbers_are = numbers;
       text = [];
       stream_is = was.stream_is ∙ sym head ∙ sym (append-nil new.header);
-      has = subst (λ o. HasDecoded (decoder_view e (rows_at new.place e.header.xd (take (window_bytes e.header.xd) memory')) new.learned) [] o) (sym was.out_is)
-          (subst (λ h. HasDecoded (decoder_view e (rows_at new.place h.xd (take (window_bytes h.xd) memory')) new.learned) [] []) (sym header_is)
-          (subst (λ m. HasDecoded (decoder_view e (rows_at new.place header.xd m) new.learned) [] []) (sym (take_all (window_bytes header.xd) memory' (omega (arith, long))))
-          (subst (λ l. HasDecoded (decoder_view e (rows_at new.place header.xd memory') l) [] []) (sym learned_is)
-          (subst (λ rows. HasDecoded (decoder_view e rows learned) [] []) (window_rows window new.place header.xd memory' at wide is) has))));
+      has = record {
+        decoded = [];
+        text_is = sym held_is;
+        has = subst (λ o. HasDecoded (decoder_view e (rows_at new.place e.header.xd (take (window_bytes e.header.xd) memory')) new.learned) [] o) (sym was.out_is)
+            (subst (λ h. HasDecoded (decoder_view e (rows_at new.place h.xd (take (window_bytes h.xd) memory')) new.learned) [] []) (sym header_is)
+            (subst (λ m. HasDecoded (decoder_view e (rows_at new.place header.xd m) new.learned) [] []) (sym (take_all (window_bytes header.xd) memory' (omega (arith, long))))
+            (subst (λ l. HasDecoded (decoder_view e (rows_at new.place header.xd memory') l) [] []) (sym learned_is)
+            (subst (λ rows. HasDecoded (decoder_view e rows learned) [] []) (window_rows window new.place header.xd memory' at wide is) has))));
+      };
     }
 
 -- a call with windows over the memory
-pub call_in : (e e' : PieceDecoder) (window window' : Window) (learned learned' : List Estimate) (place place' width : ℕ) (memory memory' bytes : List ℕ) (is_all : Bool) (progress : Progress) → held window ≡ rows_at place width memory → current_place window' ≡ place' → width_of window' ≡ width → memory' ≡ window'.rows.now →
-    IsCall (decoder_over e window learned) (piece_call bytes is_all progress (decoder_over e' window' learned')) → IsCall (decoder_view e (rows_at place width memory) learned) (piece_call bytes is_all progress (decoder_view e' (rows_at place' width memory') learned'))
-call_in e e' window window' learned learned' place place' width memory memory' bytes is_all progress before at wide is call =
-    subst (λ rows. IsCall (decoder_view e rows learned) (piece_call bytes is_all progress (decoder_view e' (rows_at place' width memory') learned'))) before
-    (subst (λ rows. IsCall (decoder_over e window learned) (piece_call bytes is_all progress (decoder_view e' rows learned'))) (window_rows window' place' width memory' at wide is) call)
+pub call_in : (e e' : PieceDecoder) (window window' : Window) (learned learned' : List Estimate) (place place' width : ℕ) (memory memory' held held' bytes : List ℕ) (is_all : Bool) (progress : Progress) → rows_held window ≡ rows_at place width memory → current_place window' ≡ place' → width_of window' ≡ width → memory' ≡ window'.rows.now →
+    IsFeed (decoder_over e window learned) held held' (piece_call bytes is_all progress (decoder_over e' window' learned')) → IsFeed (decoder_view e (rows_at place width memory) learned) held held' (piece_call bytes is_all progress (decoder_view e' (rows_at place' width memory') learned'))
+call_in e e' window window' learned learned' place place' width memory memory' held held' bytes is_all progress before at wide is call =
+    subst (λ rows. IsFeed (decoder_view e rows learned) held held' (piece_call bytes is_all progress (decoder_view e' (rows_at place' width memory') learned'))) before
+    (subst (λ rows. IsFeed (decoder_over e window learned) held held' (piece_call bytes is_all progress (decoder_view e' rows learned'))) (window_rows window' place' width memory' at wide is) call)
 
 -- behind a header that is refused no decoder stands
 pub none_refused : HeaderLaws → (hold : Hold) (fault : Fault) (stream out : List ℕ) → (hold.decoder.next ≡ 1) ⊎ (hold.decoder.next ≡ 2) → header_fault hold.decoder.header ≡ Some fault → HasRead hold stream out → ⊥
@@ -225,25 +234,29 @@ stands_placed long place at memory small whole is = record {
   place_is = length-take-le (place * long) memory (omega (arith, placed_fits long place memory small whole)) ∙ sym is;
 }
 
-module _ (laws : HeaderLaws) (old kept new : T85Decoder) (memory memory' : List ℕ) (header : Header) (e e' : PieceDecoder) (learned' : List Estimate) (bytes : List ℕ) (is_all : Bool) (progress : Progress) (told : Told)
+module _ (laws : HeaderLaws) (old kept new : T85Decoder) (memory memory' : List ℕ) (header : Header) (e e' : PieceDecoder) (learned' : List Estimate) (held' bytes : List ℕ) (is_all : Bool) (progress : Progress) (told : Told)
     (long : length memory ≡ window_bytes header.xd) (long' : length memory' ≡ window_bytes header.xd) (head : length old.header ≡ 20) (header_of : HeaderOf old.header (fields_of header)) (version : old.version ≡ 1) (next : old.next ≡ 2)
-    (resumes : (d : PieceDecoder) (rows : Held) (learned : List Estimate) (text out : List ℕ) → HasDecoded (decoder_view d rows learned) text out → fields_of d.header ≡ fields_of header → numbers_in old ≡ piece_numbers d → HasDecoded (decoder_view e rows learned) text out)
-    (header_is : e.header ≡ header) (numbers : numbers_in kept ≡ piece_numbers e') (small : kept.place < 3) (header_kept : kept.header ≡ old.header) (version_kept : kept.version ≡ old.version) (next_kept : kept.next ≡ old.next) (learned_kept : kept.learned ≡ learned')
-    (call : IsCall (decoder_view e (rows_at old.place header.xd memory) old.learned) (piece_call bytes is_all progress (decoder_view e' (rows_at kept.place header.xd memory') learned')))
+    (resumes : (d : PieceDecoder) (rows : Held) (learned : List Estimate) (text out : List ℕ) → HasDecoded (decoder_view d rows learned) text out → fields_of d.header ≡ fields_of header → numbers_of_decoder old ≡ piece_numbers d → HasDecoded (decoder_view e rows learned) text out)
+    (header_is : e.header ≡ header) (numbers : numbers_of_decoder kept ≡ piece_numbers e') (small : kept.place < 3) (header_kept : kept.header ≡ old.header) (version_kept : kept.version ≡ old.version) (next_kept : kept.next ≡ old.next) (learned_kept : kept.learned ≡ learned') (held_kept : bytes_held_by kept ≡ held')
+    (call : IsFeed (decoder_view e (rows_at old.place header.xd memory) old.learned) (bytes_held_by old) held' (piece_call bytes is_all progress (decoder_view e' (rows_at kept.place header.xd memory') learned')))
     (taken : told.taken ≡ progress.taken) where
   fields_same : fields_of e'.header ≡ fields_of header
-  fields_same = call.same ∙ ap fields_of header_is
+  fields_same = call.fed.same ∙ ap fields_of header_is
 
   -- what the engine has, in whatever stream
-  has_of : (stream out : List ℕ) (k : InRows (hold_of old memory) stream out) → HasDecoded (decoder_view e (rows_at old.place header.xd memory) old.learned) k.text out
+  has_of : (stream out : List ℕ) (k : InRows (hold_of old memory) stream out) → HasFed (decoder_view e (rows_at old.place header.xd memory) old.learned) (bytes_held_by old) k.text out
   has_of stream out k =
       let same = laws.one old.header (fields_of k.decoder.header) (fields_of header) k.header_of header_of in
       let wide : k.decoder.header.xd ≡ header.xd = ap (λ f. f.xd) same in
-      resumes k.decoder (rows_at old.place header.xd memory) old.learned k.text out
-      (subst (λ m. HasDecoded (decoder_view k.decoder (rows_at old.place header.xd m) old.learned) k.text out) (take_all (window_bytes header.xd) memory (omega (arith, long)))
-      (subst (λ w. HasDecoded (decoder_view k.decoder (rows_at old.place w (take (window_bytes w) memory)) old.learned) k.text out) wide k.has)) same k.numbers_are
+      record {
+        decoded = k.has.decoded;
+        text_is = k.has.text_is;
+        has = resumes k.decoder (rows_at old.place header.xd memory) old.learned k.has.decoded out
+            (subst (λ m. HasDecoded (decoder_view k.decoder (rows_at old.place header.xd m) old.learned) k.has.decoded out) (take_all (window_bytes header.xd) memory (omega (arith, long)))
+            (subst (λ w. HasDecoded (decoder_view k.decoder (rows_at old.place w (take (window_bytes w) memory)) old.learned) k.has.decoded out) wide k.has.has)) same k.numbers_are;
+      }
 
-  rows_of : (stream out text out' : List ℕ) → stream ≡ old.header ++ text → HasDecoded (decoder_view e' (rows_at kept.place header.xd memory') learned') text out' → InRows (hold_of kept memory') stream out'
+  rows_of : (stream out text out' : List ℕ) → stream ≡ old.header ++ text → HasFed (decoder_view e' (rows_at kept.place header.xd memory') learned') held' text out' → InRows (hold_of kept memory') stream out'
   rows_of stream out text out' is has =
       let wide : e'.header.xd ≡ header.xd = ap (λ f. f.xd) fields_same in
       record {
@@ -255,9 +268,10 @@ module _ (laws : HeaderLaws) (old kept new : T85Decoder) (memory memory' : List 
         numbers_are = numbers;
         text = text;
         stream_is = is ∙ ap (λ h. h ++ text) (sym header_kept);
-        has = subst (λ w. HasDecoded (decoder_view e' (rows_at kept.place w (take (window_bytes w) memory')) kept.learned) text out') (sym wide)
-            (subst (λ m. HasDecoded (decoder_view e' (rows_at kept.place header.xd m) kept.learned) text out') (sym (take_all (window_bytes header.xd) memory' (omega (arith, long'))))
-            (subst (λ l. HasDecoded (decoder_view e' (rows_at kept.place header.xd memory') l) text out') (sym learned_kept) has));
+        has = subst (λ w. HasFed (decoder_view e' (rows_at kept.place w (take (window_bytes w) memory')) kept.learned) (bytes_held_by kept) text out') (sym wide)
+            (subst (λ m. HasFed (decoder_view e' (rows_at kept.place header.xd m) kept.learned) (bytes_held_by kept) text out') (sym (take_all (window_bytes header.xd) memory' (omega (arith, long'))))
+            (subst (λ l. HasFed (decoder_view e' (rows_at kept.place header.xd memory') l) (bytes_held_by kept) text out') (sym learned_kept)
+            (subst (λ held. HasFed (decoder_view e' (rows_at kept.place header.xd memory') learned') held text out') (sym held_kept) has)));
       }
 
   further : (stream out : List ℕ) (k : InRows (hold_of old memory) stream out) → stream ++ take told.taken bytes ≡ old.header ++ (k.text ++ take progress.taken bytes)
@@ -270,21 +284,21 @@ module _ (laws : HeaderLaws) (old kept new : T85Decoder) (memory memory' : List 
   behind more = ap (λ n. drop n (old.header ++ more)) (sym head) ∙ drop-append_seam old.header more
 
   bound : told.taken ≤ length bytes
-  bound = subst (λ n. n ≤ length bytes) (sym taken) call.bound
+  bound = subst (λ n. n ≤ length bytes) (sym taken) call.fed.bound
 
   height_of : kept.height ≡ e'.height
   height_of = ap (λ n. n.height) numbers
 
-  pub row_told : (what : Outcome) → progress.outcome ≡ what → IsToldOf what header kept new told → IsOfEngine told.answer × Answers (InRows (hold_of old memory)) (hold_of old memory) (hold_of new memory') (call_of bytes is_all told.taken told.row) told.answer
+  pub row_told : (what : Outcome) → progress.outcome ≡ what → IsToldOf what header kept new told → IsOfEngine told.answer × Answers (InRows (hold_of old memory)) (hold_of old memory) (hold_of new memory') (bytes_call bytes is_all told.taken told.row) told.answer
   unfolding rows_of
   row_told outcome.Row e1 (is, same, at) =
-      subst (λ a. IsOfEngine a × Answers (InRows (hold_of old memory)) (hold_of old memory) (hold_of new memory') (call_of bytes is_all told.taken told.row) a) (sym is) (
+      subst (λ a. IsOfEngine a × Answers (InRows (hold_of old memory)) (hold_of old memory) (hold_of new memory') (bytes_call bytes is_all told.taken told.row) a) (sym is) (
         tt,
         record {
           bound = bound;
           tells = λ stream out k.
-              subst (λ d. GivesRow (hold_of d memory') (call_of bytes is_all told.taken told.row) (stream ++ take told.taken bytes) out) (sym same)
-              (let has = rows_of (stream ++ take told.taken bytes) out (k.text ++ take progress.taken bytes) (out ++ (rows_at kept.place header.xd memory').current) (further stream out k) (call.row e1 k.text out (has_of stream out k)) in
+              subst (λ d. GivesRowAt (hold_of d memory') (bytes_call bytes is_all told.taken told.row) (stream ++ take told.taken bytes) out) (sym same)
+              (let has = rows_of (stream ++ take told.taken bytes) out (k.text ++ take progress.taken bytes) (out ++ (rows_at kept.place header.xd memory').current) (further stream out k) (call.fed.row e1 k.text out (has_of stream out k)) in
               let wide = placed_within (div_ceil header.xd 8) kept.place memory' small long' in
               record {
                 row = (rows_at kept.place header.xd memory').current;
@@ -295,37 +309,40 @@ module _ (laws : HeaderLaws) (old kept new : T85Decoder) (memory memory' : List 
         },
       )
   row_told outcome.More e1 (is, same) =
-      subst (λ a. IsOfEngine a × Answers (InRows (hold_of old memory)) (hold_of old memory) (hold_of new memory') (call_of bytes is_all told.taken told.row) a) (sym is) (
+      subst (λ a. IsOfEngine a × Answers (InRows (hold_of old memory)) (hold_of old memory) (hold_of new memory') (bytes_call bytes is_all told.taken told.row) a) (sym is) (
         tt,
         record {
           bound = bound;
-          tells = λ stream out k.
-              subst (λ d. HasRead (hold_of d memory') (stream ++ take told.taken bytes) out) (sym same)
-              (inr (inr (rows_of (stream ++ take told.taken bytes) out (k.text ++ take progress.taken bytes) out (further stream out k) (call.more e1 k.text out (has_of stream out k)).0)));
+          tells = (
+            taken ∙ call.all e1,
+            λ stream out k.
+                subst (λ d. HasRead (hold_of d memory') (stream ++ take told.taken bytes) out) (sym same)
+                (inr (inr (rows_of (stream ++ take told.taken bytes) out (k.text ++ take progress.taken bytes) out (further stream out k) (call.fed.more e1 k.text out (has_of stream out k)).0))),
+          );
         },
       )
   row_told (outcome.Done height) e1 (is, ended, same) =
-      subst (λ a. IsOfEngine a × Answers (InRows (hold_of old memory)) (hold_of old memory) (hold_of new memory') (call_of bytes is_all told.taken told.row) a) (sym is) (
+      subst (λ a. IsOfEngine a × Answers (InRows (hold_of old memory)) (hold_of old memory) (hold_of new memory') (bytes_call bytes is_all told.taken told.row) a) (sym is) (
         tt,
         record {
           bound = bound;
           tells = (
             ended,
             λ stream out rest k follows.
-                let high : height ≡ new.height = sym (same ∙ height_of ∙ (call.done height e1).0) in
-                subst (λ s. IsImage s new.height out) (sym (all_of stream out rest k))
+                let high : height ≡ new.height = sym (same ∙ height_of ∙ (call.fed.done height e1).0) in
+                subst (λ s. IsImageOf s new.height out) (sym (all_of stream out rest k))
                 (record {
                   header = fields_of header;
                   header_of = laws.stands old.header ((k.text ++ bytes) ++ rest) (fields_of header) header_of;
                   holds = subst (λ b. HoldsImage (fields_of header) b new.height out) (sym (behind ((k.text ++ bytes) ++ rest)))
                       (subst (λ n. HoldsImage (fields_of header) ((k.text ++ bytes) ++ rest) n out) high
-                      (subst (λ h. HoldsImage (fields_of h) ((k.text ++ bytes) ++ rest) height out) header_is ((call.done height e1).1 k.text out rest (has_of stream out k) follows)));
+                      (subst (λ h. HoldsImage (fields_of h) ((k.text ++ bytes) ++ rest) height out) header_is ((call.fed.done height e1).1 k.text out rest (has_of stream out k) follows)));
                 }),
           );
         },
       )
   row_told (outcome.Broken fault) e1 (is, ended, same) =
-      subst (λ a. IsOfEngine a × Answers (InRows (hold_of old memory)) (hold_of old memory) (hold_of new memory') (call_of bytes is_all told.taken told.row) a) (sym is) (
+      subst (λ a. IsOfEngine a × Answers (InRows (hold_of old memory)) (hold_of old memory) (hold_of new memory') (bytes_call bytes is_all told.taken told.row) a) (sym is) (
         tt,
         record {
           bound = bound;
@@ -333,13 +350,13 @@ module _ (laws : HeaderLaws) (old kept new : T85Decoder) (memory memory' : List 
             ended,
             λ stream out rest k follows.
                 let high : e'.height ≡ new.height = sym (same ∙ height_of) in
-                subst (λ s. IsBroken s new.height fault out) (sym (all_of stream out rest k))
+                subst (λ s. IsBrokenStream s new.height fault out) (sym (all_of stream out rest k))
                 (inr (record {
                   header = fields_of header;
                   header_of = laws.stands old.header ((k.text ++ bytes) ++ rest) (fields_of header) header_of;
                   hands = subst (λ b. HandsOut (fields_of header) b new.height fault out) (sym (behind ((k.text ++ bytes) ++ rest)))
                       (subst (λ n. HandsOut (fields_of header) ((k.text ++ bytes) ++ rest) n fault out) high
-                      (subst (λ h. HandsOut (fields_of h) ((k.text ++ bytes) ++ rest) e'.height fault out) header_is (call.broken fault e1 k.text out rest (has_of stream out k) follows)));
+                      (subst (λ h. HandsOut (fields_of h) ((k.text ++ bytes) ++ rest) e'.height fault out) header_is (call.fed.broken fault e1 k.text out rest (has_of stream out k) follows)));
                 })),
           );
         },
@@ -347,14 +364,14 @@ module _ (laws : HeaderLaws) (old kept new : T85Decoder) (memory memory' : List 
 
 -- ---- nothing taken
 
-pub not_begun : (hold : Hold) (bytes : List ℕ) (is_all : Bool) (told : Told) → told.answer ≡ answer.NotBegun → told.taken ≡ 0 → ((stream out : List ℕ) → HasRead hold stream out → ⊥) → Answers (HasRead hold) hold hold (call_of bytes is_all told.taken told.row) told.answer
+pub not_begun : (hold : Hold) (bytes : List ℕ) (is_all : Bool) (told : Told) → told.answer ≡ answer.NotBegun → told.taken ≡ 0 → ((stream out : List ℕ) → HasRead hold stream out → ⊥) → Answers (HasRead hold) hold hold (bytes_call bytes is_all told.taken told.row) told.answer
 not_begun hold bytes is_all told is none never =
-    subst (λ a. Answers (HasRead hold) hold hold (call_of bytes is_all told.taken told.row) a) (sym is)
+    subst (λ a. Answers (HasRead hold) hold hold (bytes_call bytes is_all told.taken told.row) a) (sym is)
     (record { bound = omega (arith, none); tells = (record { same = refl; none = none }, never) })
 
-pub short_window : (hold : Hold) (bytes : List ℕ) (is_all : Bool) (told : Told) → told.answer ≡ answer.ShortWindow → told.taken ≡ 0 → ((stream out : List ℕ) → HasRead hold stream out → IsShort hold.window stream) → Answers (HasRead hold) hold hold (call_of bytes is_all told.taken told.row) told.answer
+pub short_window : (hold : Hold) (bytes : List ℕ) (is_all : Bool) (told : Told) → told.answer ≡ answer.ShortWindow → told.taken ≡ 0 → ((stream out : List ℕ) → HasRead hold stream out → IsShort hold.window stream) → Answers (HasRead hold) hold hold (bytes_call bytes is_all told.taken told.row) told.answer
 short_window hold bytes is_all told is none short =
-    subst (λ a. Answers (HasRead hold) hold hold (call_of bytes is_all told.taken told.row) a) (sym is)
+    subst (λ a. Answers (HasRead hold) hold hold (bytes_call bytes is_all told.taken told.row) a) (sym is)
     (record { bound = omega (arith, none); tells = (record { same = refl; none = none }, short) })
 
 -- ---- a window that is longer than three rows
@@ -376,7 +393,7 @@ module _ (laws : HeaderLaws) (d d' : T85Decoder) (window memory' rest : List ℕ
     numbers_are = k.numbers_are;
     text = k.text;
     stream_is = k.stream_is;
-    has = subst (λ m. HasDecoded (decoder_view k.decoder (rows_at d.place k.decoder.header.xd m) d.learned) k.text out)
+    has = subst (λ m. HasFed (decoder_view k.decoder (rows_at d.place k.decoder.header.xd m) d.learned) (bytes_held_by d) k.text out)
         (subst (λ n. take n window ≡ take n (take needed window)) (sym (wide (hold_of d window) stream out refl k)) (sym (take_all needed (take needed window) (take_long needed window)))) k.has;
   }
 
@@ -395,7 +412,7 @@ module _ (laws : HeaderLaws) (d d' : T85Decoder) (window memory' rest : List ℕ
     numbers_are = k.numbers_are;
     text = k.text;
     stream_is = k.stream_is;
-    has = subst (λ m. HasDecoded (decoder_view k.decoder (rows_at d'.place k.decoder.header.xd m) d'.learned) k.text out)
+    has = subst (λ m. HasFed (decoder_view k.decoder (rows_at d'.place k.decoder.header.xd m) d'.learned) (bytes_held_by d') k.text out)
         (sym (take-append-le (window_bytes k.decoder.header.xd) memory' rest (omega (arith, wide (hold_of d' memory') stream out same k, long')))) k.has;
   }
 
@@ -404,7 +421,7 @@ module _ (laws : HeaderLaws) (d d' : T85Decoder) (window memory' rest : List ℕ
   back stream out (inr (inl h)) = inr (inl h)
   back stream out (inr (inr k)) = inr (inr (rows_back stream out k))
 
-  row_back : (call : Call) (stream out : List ℕ) → GivesRow (hold_of d' memory') call stream out → GivesRow (hold_of d' (memory' ++ rest)) call stream out
+  row_back : (call : BytesCall) (stream out : List ℕ) → GivesRowAt (hold_of d' memory') call stream out → GivesRowAt (hold_of d' (memory' ++ rest)) call stream out
   unfolding rows_back
   row_back call stream out g = record {
     row = g.row;
@@ -418,9 +435,9 @@ module _ (laws : HeaderLaws) (d d' : T85Decoder) (window memory' rest : List ℕ
     whole = g.whole;
   }
 
-  pub window_cut : (call : Call) (what : Answer) → IsOfEngine what → Answers (HasRead (hold_of d (take needed window))) (hold_of d (take needed window)) (hold_of d' memory') call what → Answers (HasRead (hold_of d window)) (hold_of d window) (hold_of d' (memory' ++ rest)) call what
-  window_cut call answer.Row of a = record { bound = a.bound; tells = λ s o h. row_back call (s ++ bytes_taken call) o (a.tells s o (lent s o h)) }
-  window_cut call answer.More of a = record { bound = a.bound; tells = λ s o h. back (s ++ bytes_taken call) o (a.tells s o (lent s o h)) }
+  pub window_cut : (call : BytesCall) (what : Answer) → IsOfEngine what → Answers (HasRead (hold_of d (take needed window))) (hold_of d (take needed window)) (hold_of d' memory') call what → Answers (HasRead (hold_of d window)) (hold_of d window) (hold_of d' (memory' ++ rest)) call what
+  window_cut call answer.Row of a = record { bound = a.bound; tells = λ s o h. row_back call (s ++ bytes_of_call call) o (a.tells s o (lent s o h)) }
+  window_cut call answer.More of a = record { bound = a.bound; tells = (a.tells.0, λ s o h. back (s ++ bytes_of_call call) o (a.tells.1 s o (lent s o h))) }
   window_cut call answer.Done of a = record { bound = a.bound; tells = (a.tells.0, λ s o r h m. a.tells.1 s o r (lent s o h) m) }
   window_cut call (answer.Broken fault) of a = record { bound = a.bound; tells = (a.tells.0, λ s o r h m. a.tells.1 s o r (lent s o h) m) }
   window_cut call answer.Header of a = absurd of

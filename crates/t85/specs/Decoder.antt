@@ -1,5 +1,5 @@
 -- A decoder that a C caller holds, and what its calls leave.
-use Rattle.std.specs.Prelude.{ℕ, ◌≡◌, ◌≢◌, ◌≤◌, ◌<◌, ◌⊎◌, ◌==◌, not, Bool, List, [], ◌++◌, length, take, drop, Some}
+use Rattle.std.specs.Prelude.{ℕ, ◌≡◌, ◌≢◌, ◌≤◌, ◌<◌, ◌⊎◌, ◌==◌, ◌||◌, not, if◌then◌else◌, Bool, List, [], ◌++◌, length, take, drop, Some}
 use Rattle.std.specs.Int.{div_ceil}
 use Rattle.raster_core.specs.Packed.{rows_at}
 use Rattle.t85_core.specs.declared.fault.Fault.{Fault}
@@ -10,15 +10,16 @@ use Rattle.t85_core.specs.Header.{Fields, HeaderOf, header_fault}
 use Rattle.t85_core.specs.Lent.{decoder_view}
 use Rattle.t85_core.specs.Numbers.{piece_numbers}
 use Rattle.t85_core.specs.Options.{fields_of}
-use Rattle.t85_core.specs.Pieces.{HasDecoded, HandsOut, HoldsImage, MayFollow}
+use Rattle.t85_core.specs.Feeds.{HasFed}
+use Rattle.t85_core.specs.Pieces.{HandsOut, HoldsImage, MayFollow}
 use Rattle.t85.specs.Decoded.{window_bytes}
 use Rattle.t85.specs.declared.decoder.T85Decoder.{T85Decoder}
 use Rattle.t85.specs.declared.decoder.Answer.{Answer}
 use Rattle.t85.specs.declared.decoder.Answer.TheVariants as answer
 
 -- the numbers of the engine's decoder that the struct has
-abbrev pub numbers_in : T85Decoder → PieceNumbers
-numbers_in d = record {
+abbrev pub numbers_of_decoder : T85Decoder → PieceNumbers
+numbers_of_decoder d = record {
   height = d.height;
   is_open = not (d.is_open == 0);
   waits = not (d.waits == 0);
@@ -40,6 +41,14 @@ numbers_in d = record {
   decoder = record { code = d.code; span = d.span; bits = d.bits; has_ended = not (d.has_ended == 0) };
 }
 
+-- what was taken and is not decoded yet
+abbrev pub bytes_held_by : T85Decoder → List ℕ
+bytes_held_by d = take d.held_len d.held
+
+-- the height that is told
+abbrev pub height_of_decoder : T85Decoder → ℕ
+height_of_decoder d = if not (d.version == 1) || (d.next == 0) then 0 else d.height
+
 -- what there is between two calls: the struct, and the bytes of the window
 pub record Hold : Type 0 where
   pub decoder : T85Decoder
@@ -49,17 +58,17 @@ abbrev pub hold_of : T85Decoder → List ℕ → Hold
 hold_of decoder window = record { decoder = decoder; window = window }
 
 -- a call: the bytes, whether they are the last, how many of them were taken, and where the window has the row
-pub record Call : Type 0 where
+pub record BytesCall : Type 0 where
   pub bytes : List ℕ
   pub is_all : Bool
   pub taken : ℕ
   pub row : ℕ
 
-abbrev pub call_of : List ℕ → Bool → ℕ → ℕ → Call
-call_of bytes is_all taken row = record { bytes = bytes; is_all = is_all; taken = taken; row = row }
+abbrev pub bytes_call : List ℕ → Bool → ℕ → ℕ → BytesCall
+bytes_call bytes is_all taken row = record { bytes = bytes; is_all = is_all; taken = taken; row = row }
 
-abbrev pub bytes_taken : Call → List ℕ
-bytes_taken call = take call.taken call.bytes
+abbrev pub bytes_of_call : BytesCall → List ℕ
+bytes_of_call call = take call.taken call.bytes
 
 -- ---- where a decoder stands that was given this stream so far, and has given these rows, packed
 
@@ -78,20 +87,21 @@ pub record BehindHeader (d : T85Decoder) (stream out : List ℕ) : Type 0 where
   pub header : Fields
   pub header_of : HeaderOf d.header header
   pub within : header.yd ≤ d.max_rows
+  pub height_is : d.height ≡ header.yd
   pub stream_is : stream ≡ d.header
   pub out_is : out ≡ []
 
--- among the rows: what is kept are the numbers of a decoder that has decoded so far
+-- among the rows: what is kept are the numbers of a decoder that has decoded so far, but for the last bytes
 pub record InRows (hold : Hold) (stream out : List ℕ) : Type 0 where
   pub version_is : hold.decoder.version ≡ 1
   pub next_is : hold.decoder.next ≡ 2
   pub place_to : hold.decoder.place < 3
   pub decoder : PieceDecoder
   pub header_of : HeaderOf hold.decoder.header (fields_of decoder.header)
-  pub numbers_are : numbers_in hold.decoder ≡ piece_numbers decoder
+  pub numbers_are : numbers_of_decoder hold.decoder ≡ piece_numbers decoder
   pub text : List ℕ
   pub stream_is : stream ≡ hold.decoder.header ++ text
-  pub has : HasDecoded (decoder_view decoder (rows_at hold.decoder.place decoder.header.xd (take (window_bytes decoder.header.xd) hold.window)) hold.decoder.learned) text out
+  pub has : HasFed (decoder_view decoder (rows_at hold.decoder.place decoder.header.xd (take (window_bytes decoder.header.xd) hold.window)) hold.decoder.learned) (bytes_held_by hold.decoder) text out
 
 -- The struct and the window are as calls leave them that were given this stream so far, and have given these rows, packed.
 abbrev pub HasRead : Hold → List ℕ → List ℕ → Type 0
@@ -106,7 +116,7 @@ pub record HasEnded (d : T85Decoder) (status : ℕ) : Type 0 where
   pub status_is : d.status ≡ status
 
 -- nothing was taken or changed
-pub record IsKept (old new : Hold) (call : Call) : Type 0 where
+pub record KeepsHold (old new : Hold) (call : BytesCall) : Type 0 where
   pub same : new ≡ old
   pub none : call.taken ≡ 0
 
@@ -118,26 +128,26 @@ pub record StandAt (place : ℕ) (bytes others : List ℕ) : Type 0 where
   pub place_is : length front ≡ place
 
 -- A row more was given. It stands in the window, packed.
-pub record GivesRow (new : Hold) (call : Call) (stream out : List ℕ) : Type 0 where
+pub record GivesRowAt (new : Hold) (call : BytesCall) (stream out : List ℕ) : Type 0 where
   pub row : List ℕ
   pub stands : StandAt call.row row new.window
   pub has : InRows new stream (out ++ row)
   pub whole : length row ≡ div_ceil has.decoder.header.xd 8
 
 -- a stream whose image is whole, with this height and these rows
-pub record IsImage (stream : List ℕ) (height : ℕ) (out : List ℕ) : Type 0 where
+pub record IsImageOf (stream : List ℕ) (height : ℕ) (out : List ℕ) : Type 0 where
   pub header : Fields
   pub header_of : HeaderOf stream header
   pub holds : HoldsImage header (drop 20 stream) height out
 
 -- A stream that is broken or ends too early, in its header or behind it. These are the rows that it fixes.
-pub record BreaksBehind (stream : List ℕ) (height : ℕ) (fault : Fault) (out : List ℕ) : Type 0 where
+pub record BreaksBehindHeader (stream : List ℕ) (height : ℕ) (fault : Fault) (out : List ℕ) : Type 0 where
   pub header : Fields
   pub header_of : HeaderOf stream header
   pub hands : HandsOut header (drop 20 stream) height fault out
 
-abbrev pub IsBroken : List ℕ → ℕ → Fault → List ℕ → Type 0
-IsBroken stream height fault out = ((header_fault stream ≡ Some fault) × (out ≡ [])) ⊎ BreaksBehind stream height fault out
+abbrev pub IsBrokenStream : List ℕ → ℕ → Fault → List ℕ → Type 0
+IsBrokenStream stream height fault out = ((header_fault stream ≡ Some fault) × (out ≡ [])) ⊎ BreaksBehindHeader stream height fault out
 
 -- a stream's header announces more rows than these
 pub record AnnouncesMore (stream : List ℕ) (rows : ℕ) : Type 0 where
@@ -151,46 +161,46 @@ pub record IsShort (window stream : List ℕ) : Type 0 where
   pub header_of : HeaderOf stream header
   pub short : length window < window_bytes header.xd
 
-abbrev pub status_of : Answer → ℕ
-status_of answer.Done = 0
-status_of (answer.Broken fault) = fault_number fault
-status_of answer.ShortWindow = 19
-status_of answer.TooManyRows = 24
-status_of answer.NotBegun = 53
-status_of answer.Header = 60
-status_of answer.Row = 61
-status_of answer.More = 62
-status_of (answer.Ended status) = status
+abbrev pub status_told : Answer → ℕ
+status_told answer.Done = 0
+status_told (answer.Broken fault) = fault_number fault
+status_told answer.ShortWindow = 19
+status_told answer.TooManyRows = 24
+status_told answer.NotBegun = 53
+status_told answer.Header = 60
+status_told answer.Row = 61
+status_told answer.More = 62
+status_told (answer.Ended status) = status
 
 -- What an answer says, where `Has` holds of each stream that a decoder may have been given, and the rows that it gave.
-abbrev pub Tells : (Has : List ℕ → List ℕ → Type 0) → Hold → Hold → Call → Answer → Type 0
-Tells Has old new call answer.Header = (stream out : List ℕ) → Has stream out → BehindHeader new.decoder (stream ++ bytes_taken call) out
-Tells Has old new call answer.Row = (stream out : List ℕ) → Has stream out → GivesRow new call (stream ++ bytes_taken call) out
-Tells Has old new call answer.More = (stream out : List ℕ) → Has stream out → HasRead new (stream ++ bytes_taken call) out
-Tells Has old new call answer.Done =
-    HasEnded new.decoder 0 × ((stream out rest : List ℕ) → Has stream out → MayFollow call.is_all rest → IsImage ((stream ++ call.bytes) ++ rest) new.decoder.height out)
-Tells Has old new call (answer.Broken fault) =
-    HasEnded new.decoder (fault_number fault) × ((stream out rest : List ℕ) → Has stream out → MayFollow call.is_all rest → IsBroken ((stream ++ call.bytes) ++ rest) new.decoder.height fault out)
-Tells Has old new call answer.TooManyRows = HasEnded new.decoder 24 × ((stream out : List ℕ) → Has stream out → AnnouncesMore (stream ++ bytes_taken call) new.decoder.max_rows)
-Tells Has old new call answer.ShortWindow = IsKept old new call × ((stream out : List ℕ) → Has stream out → IsShort old.window stream)
-Tells Has old new call answer.NotBegun = IsKept old new call × ((stream out : List ℕ) → Has stream out → ⊥)
-Tells Has old new call (answer.Ended status) = IsKept old new call × HasEnded old.decoder status
+abbrev pub TellsAnswer : (Has : List ℕ → List ℕ → Type 0) → Hold → Hold → BytesCall → Answer → Type 0
+TellsAnswer Has old new call answer.Header = (stream out : List ℕ) → Has stream out → BehindHeader new.decoder (stream ++ bytes_of_call call) out
+TellsAnswer Has old new call answer.Row = (stream out : List ℕ) → Has stream out → GivesRowAt new call (stream ++ bytes_of_call call) out
+TellsAnswer Has old new call answer.More = (call.taken ≡ length call.bytes) × ((stream out : List ℕ) → Has stream out → HasRead new (stream ++ bytes_of_call call) out)
+TellsAnswer Has old new call answer.Done =
+    HasEnded new.decoder 0 × ((stream out rest : List ℕ) → Has stream out → MayFollow call.is_all rest → IsImageOf ((stream ++ call.bytes) ++ rest) new.decoder.height out)
+TellsAnswer Has old new call (answer.Broken fault) =
+    HasEnded new.decoder (fault_number fault) × ((stream out rest : List ℕ) → Has stream out → MayFollow call.is_all rest → IsBrokenStream ((stream ++ call.bytes) ++ rest) new.decoder.height fault out)
+TellsAnswer Has old new call answer.TooManyRows = HasEnded new.decoder 24 × ((stream out : List ℕ) → Has stream out → AnnouncesMore (stream ++ bytes_of_call call) new.decoder.max_rows)
+TellsAnswer Has old new call answer.ShortWindow = KeepsHold old new call × ((stream out : List ℕ) → Has stream out → IsShort old.window stream)
+TellsAnswer Has old new call answer.NotBegun = KeepsHold old new call × ((stream out : List ℕ) → Has stream out → ⊥)
+TellsAnswer Has old new call (answer.Ended status) = KeepsHold old new call × HasEnded old.decoder status
 
 -- what a call leaves that answers so
-pub record Answers (Has : List ℕ → List ℕ → Type 0) (old new : Hold) (call : Call) (what : Answer) : Type 0 where
+pub record Answers (Has : List ℕ → List ℕ → Type 0) (old new : Hold) (call : BytesCall) (what : Answer) : Type 0 where
   pub bound : call.taken ≤ length call.bytes
-  pub tells : Tells Has old new call what
+  pub tells : TellsAnswer Has old new call what
 
 -- what a call leaves, and its status
-pub record IsAnswered (old new : Hold) (call : Call) (status : ℕ) : Type 0 where
+pub record IsAnswered (old new : Hold) (call : BytesCall) (status : ℕ) : Type 0 where
   pub what : Answer
-  pub status_is : status ≡ status_of what
+  pub status_is : status ≡ status_told what
   pub answers : Answers (HasRead old) old new call what
 
 -- ---- the beginning
 
 -- It has read nothing yet.
-pub record Begins (max_rows : ℕ) (new : T85Decoder) (status : ℕ) : Type 0 where
+pub record BeginsDecoder (max_rows : ℕ) (new : T85Decoder) (status : ℕ) : Type 0 where
   pub status_is : status ≡ 0
   pub limit_is : new.max_rows ≡ max_rows
   pub none : InHeader new [] []
@@ -201,5 +211,5 @@ pub record IsOfAnotherSize (size : ℕ) (old new : T85Decoder) (status : ℕ) : 
   pub status_is : status ≡ 50
   pub kept : new ≡ old
 
-abbrev pub IsBegun : ℕ → ℕ → T85Decoder → T85Decoder → ℕ → Type 0
-IsBegun size max_rows old new status = ((size ≡ 1280) × Begins max_rows new status) ⊎ IsOfAnotherSize size old new status
+abbrev pub IsDecoderBegun : ℕ → ℕ → T85Decoder → T85Decoder → ℕ → Type 0
+IsDecoderBegun size max_rows old new status = ((size ≡ 1280) × BeginsDecoder max_rows new status) ⊎ IsOfAnotherSize size old new status

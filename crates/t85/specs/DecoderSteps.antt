@@ -14,7 +14,7 @@ use Rattle.t85.specs.declared.decoder.Answer.{Answer}
 use Rattle.t85.specs.declared.decoder.Told.{Told}
 use Rattle.t85.specs.declared.decoder.Answer.TheVariants as answer
 
--- all but the numbers of the engine and the place of the row
+-- all but the numbers of the engine, the place of the row, and what is held
 pub record KeepsRest (d d' : T85Decoder) : Type 0 where
   pub version : d'.version ≡ d.version
   pub next : d'.next ≡ d.next

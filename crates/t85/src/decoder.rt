@@ -1,14 +1,15 @@
 //! A decoder that a C caller holds, and hands a stream in pieces.
 
-ghost use Rattle.std.specs.Prelude.{◌≡◌, ◌≤◌, ◌<◌, ◌*◌, ◌⊎◌, List, ℕ, length, false, true};
+ghost use Rattle.std.specs.Prelude.{◌≡◌, ◌≤◌, ◌<◌, ◌*◌, ◌⊎◌, List, ℕ, length, [], false, true};
 ghost use Rattle.std.specs.Int.{div_ceil};
 ghost use Rattle.t85_core.specs.Header.{HeaderOf};
 ghost use Rattle.t85_core.specs.Lent.{decoder_over};
 ghost use Rattle.t85_core.specs.Options.{fields_of};
-ghost use Rattle.t85_core.specs.Pieces.{IsCall, call_of as piece_call};
+ghost use Rattle.t85_core.specs.Feeds.{IsFeed, held_bytes};
+ghost use Rattle.t85_core.specs.Pieces.{call_of as piece_call};
 ghost use Rattle.raster_core.specs.Window.{memory_of, width_of};
 ghost use Rattle.t85.specs.Decoded.{window_bytes as window_of};
-ghost use Rattle.t85.specs.Decoder.{Answers, Begins, HasEnded, HasRead, InHeader, InRows, IsAnswered, IsBegun, call_of, hold_of, numbers_in, status_of};
+ghost use Rattle.t85.specs.Decoder.{Answers, BeginsDecoder, HasEnded, HasRead, InHeader, InRows, IsAnswered, IsDecoderBegun, bytes_call, height_of_decoder, bytes_held_by, hold_of, numbers_of_decoder, status_told};
 ghost use Rattle.t85.specs.DecoderSteps.{IsAwaited, IsFilled, IsJudged, IsOfEngine, IsToldOf, KeepsRest, MayEnterRows, MayTakeRows};
 
 use crate::opened::read_header;
@@ -16,7 +17,9 @@ use pbm_core::row_bytes;
 use qm_core::{DecoderRegisters, Learned};
 use raster_core::{RowPlaceNumbers, Window, window_bytes};
 use t85_core::laws::headers;
-use t85_core::{Fault, Header, MoveNumbers, Outcome, PieceDecoder, PieceNumbers, Progress};
+use t85_core::{
+    Fault, Header, HeldBytes, MoveNumbers, Outcome, PieceDecoder, PieceNumbers, Progress,
+};
 
 /// The version of `T85Decoder`, and its size in bytes.
 const VERSION: u32 = 1;
@@ -83,7 +86,10 @@ pub struct T85Decoder {
     pub spare_byte: u8,
     pub past_high: u64,
     pub past_low: u64,
-    pub reserved: [u64; 17],
+    // What `HeldBytes` has.
+    pub held: [u8; 7],
+    pub held_len: u8,
+    pub reserved: [u64; 16],
     pub learned: Learned,
 }
 
@@ -113,10 +119,11 @@ pub struct Told {
     pub row: usize,
 }
 
-/// Begins. `size` is the size of the caller's struct. Answers 0, or 50 where that is another one, and then `decoder` stays as it
+/// BeginsDecoder. `size` is the size of the caller's struct. Answers 0, or 50 where that is another one, and then `decoder` stays as it
 /// was.
-pub fn t85_decode_start(decoder: &mut T85Decoder, size: usize, max_rows: u32) -> u8
-    ensures { IsBegun size max_rows decoder.old decoder.new result }
+#[unsafe(no_mangle)]
+pub extern "C" fn t85_decode_start(decoder: &mut T85Decoder, size: usize, max_rows: u32) -> u8
+    ensures { IsDecoderBegun size max_rows decoder.old decoder.new result }
 {
     if size != SIZE {
         return OTHER_VERSION;
@@ -126,7 +133,8 @@ pub fn t85_decode_start(decoder: &mut T85Decoder, size: usize, max_rows: u32) ->
 }
 
 /// Takes bytes of the stream, up to the end of its header, to the end of the next row, or as far as they go.
-pub fn t85_decode_bytes(
+#[unsafe(no_mangle)]
+pub extern "C" fn t85_decode_bytes(
     decoder: &mut T85Decoder,
     bytes: &[u8],
     window: &mut [u8],
@@ -134,7 +142,7 @@ pub fn t85_decode_bytes(
     row: &mut usize,
 ) -> u8
     ensures { IsAnswered (hold_of decoder.old window.old) (hold_of decoder.new window.new)
-        (call_of bytes.now false taken.new row.new) result }
+        (bytes_call bytes.now false taken.new row.new) result }
 {
     let told = decoder.go_on(bytes, window, false);
     *taken = told.taken;
@@ -142,26 +150,33 @@ pub fn t85_decode_bytes(
     told.answer.status()
 }
 
-/// Takes the last bytes of the stream, or what is left of them, up to the end of the next row, or to the end of the stream.
-pub fn t85_decode_end(
-    decoder: &mut T85Decoder,
-    bytes: &[u8],
-    window: &mut [u8],
-    taken: &mut usize,
-    row: &mut usize,
-) -> u8
+/// TellsAnswer that no bytes come any more, once all were taken that came. Goes on up to the end of the next row, or to the end of the
+/// stream: call it again as long as it gives rows.
+#[unsafe(no_mangle)]
+pub extern "C" fn t85_decode_end(decoder: &mut T85Decoder, window: &mut [u8], row: &mut usize) -> u8
     ensures { IsAnswered (hold_of decoder.old window.old) (hold_of decoder.new window.new)
-        (call_of bytes.now true taken.new row.new) result }
+        (bytes_call [] true 0 row.new) result }
 {
-    let told = decoder.go_on(bytes, window, true);
-    *taken = told.taken;
+    let told = decoder.go_on(&[], window, true);
     *row = told.row;
     told.answer.status()
 }
 
+/// The height in use: the header's until another has come, and 0 before the header was read.
+#[unsafe(no_mangle)]
+pub extern "C" fn t85_decode_height(decoder: &T85Decoder) -> u32
+    ensures { result ≡ height_of_decoder decoder.now }
+{
+    if decoder.version != VERSION || decoder.next == HEADER {
+        0
+    } else {
+        decoder.height
+    }
+}
+
 impl Answer {
     fn status(self) -> u8
-        ensures { result ≡ status_of self }
+        ensures { result ≡ status_told self }
     {
         match self {
             Answer::Done => 0,
@@ -191,8 +206,8 @@ impl Answer {
 
 impl T85Decoder {
     /// Before the first byte.
-    fn first(max_rows: u32) -> T85Decoder
-        ensures { Begins max_rows result 0 }
+    pub(crate) fn first(max_rows: u32) -> T85Decoder
+        ensures { BeginsDecoder max_rows result 0 }
     {
         T85Decoder {
             version: VERSION,
@@ -233,14 +248,16 @@ impl T85Decoder {
             spare_byte: 0,
             past_high: 0,
             past_low: 0,
-            reserved: [0; 17],
+            held: [0; 7],
+            held_len: 0,
+            reserved: [0; 16],
             learned: Learned::new(),
         }
     }
 
     /// The engine's numbers.
     fn numbers(&self) -> PieceNumbers
-        ensures { result ≡ numbers_in self.now }
+        ensures { result ≡ numbers_of_decoder self.now }
     {
         PieceNumbers {
             height: self.height,
@@ -285,7 +302,7 @@ impl T85Decoder {
 
     /// Notes the engine's numbers, and where the window has its row.
     fn keep(&mut self, numbers: PieceNumbers, place: u8)
-        ensures numbers { numbers_in self.new ≡ numbers }
+        ensures numbers { numbers_of_decoder self.new ≡ numbers }
         ensures place { self.new.place ≡ place }
         ensures same { KeepsRest self.old self.new }
     {
@@ -321,6 +338,29 @@ impl T85Decoder {
         self.has_ended = u8::from(numbers.decoder.has_ended);
     }
 
+    /// What was taken and is not decoded yet.
+    fn held(&self) -> HeldBytes
+        ensures { held_bytes result ≡ bytes_held_by self.now }
+    {
+        let bytes = self.held;
+        HeldBytes {
+            bytes,
+            len: self.held_len,
+        }
+    }
+
+    /// Notes what was taken and is not decoded yet.
+    fn hold(&mut self, held: HeldBytes)
+        ensures held { bytes_held_by self.new ≡ held_bytes held }
+        ensures numbers { numbers_of_decoder self.new ≡ numbers_of_decoder self.old }
+        ensures place { self.new.place ≡ self.old.place }
+        ensures same { KeepsRest self.old self.new }
+    {
+        let bytes = held.bytes;
+        self.held = bytes;
+        self.held_len = held.len;
+    }
+
     /// Notes how the stream has ended.
     fn end(&mut self, status: u8)
         ensures ended { HasEnded self.new status }
@@ -336,7 +376,7 @@ impl T85Decoder {
     /// Goes on with these bytes; whether they are the last is `is_all`.
     fn go_on(&mut self, bytes: &[u8], window: &mut [u8], is_all: bool) -> Told
         ensures { Answers (HasRead (hold_of self.old window.old)) (hold_of self.old window.old)
-            (hold_of self.new window.new) (call_of bytes.now is_all result.taken result.row)
+            (hold_of self.new window.new) (bytes_call bytes.now is_all result.taken result.row)
             result.answer }
     {
         if self.version != VERSION {
@@ -357,7 +397,7 @@ impl T85Decoder {
         requires next { self.old.next ≡ 0 }
         ensures { (window : List ℕ) → Answers (HasRead (hold_of self.old window))
             (hold_of self.old window) (hold_of self.new window)
-            (call_of bytes.now is_all result.taken result.row) result.answer }
+            (bytes_call bytes.now is_all result.taken result.row) result.answer }
     {
         // What the proof cites of headers.
         headers();
@@ -408,6 +448,7 @@ impl T85Decoder {
                     self.end(24);
                     return Answer::TooManyRows;
                 }
+                self.height = header.yd;
                 self.next = FIRST_ROW;
                 Answer::Header
             }
@@ -437,7 +478,7 @@ impl T85Decoder {
         requires version { self.old.version ≡ 1 }
         requires next { (self.old.next ≡ 1) ⊎ (self.old.next ≡ 2) }
         ensures { Answers (HasRead (hold_of self.old window.old)) (hold_of self.old window.old)
-            (hold_of self.new window.new) (call_of bytes.now is_all result.taken result.row)
+            (hold_of self.new window.new) (bytes_call bytes.now is_all result.taken result.row)
             result.answer }
     {
         // What the proof cites of headers.
@@ -468,7 +509,7 @@ impl T85Decoder {
         requires may { MayEnterRows header.now self.old }
         ensures answers { Answers (HasRead (hold_of self.old memory.old))
             (hold_of self.old memory.old) (hold_of self.new memory.new)
-            (call_of bytes.now is_all result.taken result.row) result.answer }
+            (bytes_call bytes.now is_all result.taken result.row) result.answer }
         ensures engine { IsOfEngine result.answer }
         ensures same_header { self.new.header ≡ self.old.header }
     {
@@ -479,7 +520,7 @@ impl T85Decoder {
         self.take_row(header, memory, bytes, is_all)
     }
 
-    /// Begins to decode the rows: the window is made white, and the contexts forget.
+    /// BeginsDecoder to decode the rows: the window is made white, and the contexts forget.
     fn enter_rows(&mut self, header: &Header, memory: &mut [u8])
         requires long { length memory.old ≡ window_of header.now.xd }
         requires may { MayEnterRows header.now self.old }
@@ -492,6 +533,7 @@ impl T85Decoder {
         let mut window = Window::over(memory, header.xd);
         let decoder = PieceDecoder::start(*header, &mut window, &mut self.learned);
         self.keep(decoder.numbers(), window.place());
+        self.hold(HeldBytes::none());
         self.next = ROWS;
     }
 
@@ -501,7 +543,7 @@ impl T85Decoder {
         requires may { MayTakeRows header.now self.old }
         ensures answers { Answers (InRows (hold_of self.old memory.old))
             (hold_of self.old memory.old) (hold_of self.new memory.new)
-            (call_of bytes.now is_all result.taken result.row) result.answer }
+            (bytes_call bytes.now is_all result.taken result.row) result.answer }
         ensures engine { IsOfEngine result.answer }
         ensures same_header { self.new.header ≡ self.old.header }
     {
@@ -510,12 +552,21 @@ impl T85Decoder {
         let _header = self.header_bytes();
         let mut window = Window::resume(memory, header.xd, self.place);
         let mut decoder = PieceDecoder::resume(*header, &self.numbers());
-        let progress = next_row(&mut decoder, &mut window, &mut self.learned, bytes, is_all);
+        let mut held = self.held();
+        let progress = feed(
+            &mut decoder,
+            &mut window,
+            &mut self.learned,
+            &mut held,
+            bytes,
+            is_all,
+        );
         self.keep(decoder.numbers(), window.place());
+        self.hold(held);
         self.tell(header, progress)
     }
 
-    /// Tells what the engine has answered.
+    /// TellsAnswer what the engine has answered.
     fn tell(&mut self, header: &Header, progress: Progress) -> Told
         requires version { self.old.version ≡ 1 }
         ensures taken { result.taken ≡ progress.taken }
@@ -542,22 +593,24 @@ impl T85Decoder {
     }
 }
 
-/// Goes on with a piece, which may be the last.
-fn next_row(
+/// Goes on with a piece, which may be the last, after what is held.
+fn feed(
     decoder: &mut PieceDecoder,
     window: &mut Window<'_>,
     learned: &mut Learned,
+    held: &mut HeldBytes,
     piece: &[u8],
     is_all: bool,
 ) -> Progress
-    ensures call { IsCall (decoder_over decoder.old window.old learned.old) (piece_call piece.now
-        is_all result (decoder_over decoder.new window.new learned.new)) }
+    ensures feed { IsFeed (decoder_over decoder.old window.old learned.old) (held_bytes held.old)
+        (held_bytes held.new) (piece_call piece.now is_all result
+        (decoder_over decoder.new window.new learned.new)) }
     ensures same_memory { memory_of window.new ≡ memory_of window.old }
     ensures same_width { width_of window.new ≡ width_of window.old }
 {
     if is_all {
-        decoder.next_of_last(window, learned, piece)
+        decoder.feed_last(window, learned, held, piece)
     } else {
-        decoder.next_row(window, learned, piece)
+        decoder.feed(window, learned, held, piece)
     }
 }

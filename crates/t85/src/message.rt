@@ -49,8 +49,13 @@ fn message_of(status: u8) -> &'static [u8]
         33 => b"width or height is zero",
         34 => b"image is wider than 1048576",
         36 => b"rows of the image are missing",
-        50 => b"options are of another version",
+        50 => b"struct is of another version",
         51 => b"stride is shorter than a row",
+        52 => b"all parts of the stream were told",
+        53 => b"decoder was not begun",
+        60 => b"header was read",
+        61 => b"row was decoded",
+        62 => b"more bytes are wanted",
         _ => b"unknown status",
     }
 }

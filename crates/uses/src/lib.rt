@@ -8,7 +8,6 @@ mod held;
 pub mod image;
 pub mod kept;
 pub mod line;
-pub mod parts;
 pub mod pieces;
 pub mod room;
 pub mod rows;

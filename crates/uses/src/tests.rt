@@ -4,7 +4,6 @@ use crate::coder::pixels_again;
 use crate::cut::rows_of_cut;
 use crate::image::round_trip;
 use crate::line::line_of_encoded;
-use crate::parts::stream_len;
 use crate::pieces::rows_of_body;
 use crate::room::{Room, put_where_room};
 use crate::rows::row_below;
@@ -210,14 +209,4 @@ fn rows_stay_in_memory(rt: HostRuntime) {
     let place = row_below(&mut memory, 8, place, &[6]);
     assert!(rt; place == 2);
     assert!(rt; memory == [5, 0, 6]);
-}
-
-/// The stream of a black pixel, and the beginning of another stream.
-const TWO: &[u8] =
-    b"\x00\x00\x01\x00\x00\x00\x00\x01\x00\x00\x00\x01\x00\x00\x00\x80\x00\x00\x00\x00\xc0\xff\x02\x00\x00\x01";
-
-#[test]
-fn streams_are_cut_apart(rt: HostRuntime) {
-    assert!(rt; stream_len(TWO) == Ok(23));
-    assert!(rt; stream_len(&TWO[23..]) == Err(Fault::ShortHeader));
 }

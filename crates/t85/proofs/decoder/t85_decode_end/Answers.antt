@@ -1,0 +1,12 @@
+use Rattle.std.proofs.Common.{◌≡◌, [], true, subst, arith}
+use Rattle.t85.specs.Decoder.{Answers, HasRead, bytes_call, hold_of}
+use Rattle.t85.proofs.decoder.t85_decode_end.Goals as goal
+
+pub returns : goal.returns
+returns c =
+    let none : c.go_on-told.result.taken ≡ 0 = (let bound = c.go_on-told.ensures.bound in omega (arith, bound)) in
+    record {
+      what = c.go_on-told.result.answer;
+      status_is = c.status.ensures;
+      answers = subst (λ n. Answers (HasRead (hold_of c.args.decoder.now c.args.window.now)) (hold_of c.args.decoder.now c.args.window.now) (hold_of c.go_on-told.new.self c.go_on-told.new.window) (bytes_call [] true n c.go_on-told.result.row) c.go_on-told.result.answer) none c.go_on-told.ensures;
+    }
