@@ -3,7 +3,7 @@ stripe as bars, and hatched what can't be had of a broken stream.
 
     >>> show("page.jbg", "page.png")
 
-The page is decoded by the library. Where the parts of the stream lie is told by a walk in Python, which is not proved.
+The page is decoded by the library, which also tells where the parts of the stream lie.
 """
 from __future__ import annotations
 
