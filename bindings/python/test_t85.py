@@ -2,12 +2,14 @@
 
     T85_LIBRARY=bin/libt85.so.1 python3 -m unittest discover bindings/python
 """
+import asyncio
 import mmap
 import os
 import pickle
 import random
 import subprocess
 import sys
+import textwrap
 import threading
 import tracemalloc
 import unittest
@@ -78,6 +80,28 @@ class Pieces(unittest.TestCase):
         with self.assertRaises(t85.Error) as raised:
             t85.Decoder(max_rows=159).feed(STREAM)
         self.assertEqual(raised.exception.number, 24)
+
+    def test_asyncio(self):
+        # The example of docs/PYTHON.md.
+        with open(os.path.join(HERE, "../../docs/PYTHON.md"), encoding="utf-8") as page:
+            text = page.read()
+        begin = text.index("    async def show_page")
+        example = textwrap.dedent(text[begin : text.index("\n\n", begin)])
+        names = {"t85": t85}
+        exec(example, names)
+
+        async def pour():
+            reader, shown = asyncio.StreamReader(), []
+            page = asyncio.ensure_future(names["show_page"](reader, shown.append))
+            for at in range(0, len(STREAM), 100):
+                reader.feed_data(STREAM[at : at + 100])
+                await asyncio.sleep(0)
+            reader.feed_eof()
+            return await page, shown
+
+        height, shown = asyncio.run(pour())
+        self.assertEqual((height, b"".join(row for rows in shown for row in rows)), (160, ROWS))
+        self.assertGreater(sum(map(bool, shown)), 4)
 
     def test_parts(self):
         stream = head(1, 9, 1, 0, 0x20) + b"\xc0\xff\x02\xff\x05\0\0\0\x02\xc0\xff\x02"

@@ -436,7 +436,8 @@ class Decoder:
     def feed(self, data: Buffer) -> list[bytes]:
         """The rows that these bytes complete."""
         piece = bytes(memoryview(data))
-        taken, row, rows = c_size_t(), c_size_t(), []
+        taken, row = c_size_t(), c_size_t()
+        rows: list[bytes] = []
         while True:
             lent = piece, len(piece), self._window, len(self._window), byref(taken), byref(row)
             status = _LIBRARY.t85_decode_bytes(byref(self._state), *lent)
@@ -454,7 +455,8 @@ class Decoder:
 
     def end(self) -> list[bytes]:
         """The rows that are still to be given, where no bytes come any more."""
-        row, rows = c_size_t(), []
+        row = c_size_t()
+        rows: list[bytes] = []
         while True:
             status = _LIBRARY.t85_decode_end(byref(self._state), self._window, len(self._window), byref(row))
             if status != _ROW:
