@@ -119,8 +119,8 @@ pub struct Told {
     pub row: usize,
 }
 
-/// BeginsDecoder. `size` is the size of the caller's struct. Answers 0, or 50 where that is another one, and then `decoder` stays as it
-/// was.
+/// Begins. `size` is the size of the caller's struct. Answers 0, or 50 where that is another one, and then `decoder` stays
+/// as it was.
 #[unsafe(no_mangle)]
 pub extern "C" fn t85_decode_start(decoder: &mut T85Decoder, size: usize, max_rows: u32) -> u8
     ensures { IsDecoderBegun size max_rows decoder.old decoder.new result }
@@ -133,6 +133,13 @@ pub extern "C" fn t85_decode_start(decoder: &mut T85Decoder, size: usize, max_ro
 }
 
 /// Takes bytes of the stream, up to the end of its header, to the end of the next row, or as far as they go.
+///
+/// Answers 60 where the header was read; 61 where a row was decoded, which begins `row` bytes after the first of the window;
+/// 62 where all bytes were taken; 0 where the image is whole; the number of the stream's fault; 24 where the header announces
+/// more rows than are taken. It is 19 where the window is shorter than `t85_window_bytes` of the width, and 53 where the struct
+/// was not begun: then nothing is taken or changed. After an end it answers the same again.
+///
+/// `taken` is how many of the bytes were taken. Before the header was read the window may be empty.
 #[unsafe(no_mangle)]
 pub extern "C" fn t85_decode_bytes(
     decoder: &mut T85Decoder,
@@ -150,8 +157,8 @@ pub extern "C" fn t85_decode_bytes(
     told.answer.status()
 }
 
-/// TellsAnswer that no bytes come any more, once all were taken that came. Goes on up to the end of the next row, or to the end of the
-/// stream: call it again as long as it gives rows.
+/// Tells that no bytes come any more, once all were taken that came. Goes on up to the end of the next row, or to the end of
+/// the stream, and answers as `t85_decode_bytes`, but never 62: call it again as long as it answers 61.
 #[unsafe(no_mangle)]
 pub extern "C" fn t85_decode_end(decoder: &mut T85Decoder, window: &mut [u8], row: &mut usize) -> u8
     ensures { IsAnswered (hold_of decoder.old window.old) (hold_of decoder.new window.new)
@@ -520,7 +527,7 @@ impl T85Decoder {
         self.take_row(header, memory, bytes, is_all)
     }
 
-    /// BeginsDecoder to decode the rows: the window is made white, and the contexts forget.
+    /// Begins to decode the rows: the window is made white, and the contexts forget.
     fn enter_rows(&mut self, header: &Header, memory: &mut [u8])
         requires long { length memory.old ≡ window_of header.now.xd }
         requires may { MayEnterRows header.now self.old }
@@ -566,7 +573,7 @@ impl T85Decoder {
         self.tell(header, progress)
     }
 
-    /// TellsAnswer what the engine has answered.
+    /// Tells what the engine has answered.
     fn tell(&mut self, header: &Header, progress: Progress) -> Told
         requires version { self.old.version ≡ 1 }
         ensures taken { result.taken ≡ progress.taken }

@@ -99,7 +99,7 @@ impl PartWalk {
         }
     }
 
-    /// TellsNext the next part of a stream that is all there, from its first header byte on, and goes behind it. Where there is
+    /// Tells the next part of a stream that is all there, from its first header byte on, and goes behind it. Where there is
     /// none, because all were told or the next one breaks, the walk stays where it is.
     ///
     /// The faults are those of `summarize`, but for a failed read. A height behind the last data entity and the comments
@@ -126,7 +126,7 @@ impl PartWalk {
         self.next_in_body(&header, stream)
     }
 
-    /// TellsNext the next part behind the header.
+    /// Tells the next part behind the header.
     fn next_in_body(&mut self, header: &Header, stream: &[u8]) -> Found
         ensures told { TellsThere (fields_of header.now) stream.now self.old self.new result }
         ensures any { TellsOfAny stream.now self.old self.new result }
@@ -157,7 +157,7 @@ impl PartWalk {
         self.late_height != 0
     }
 
-    /// TellsNext the next part of a stripe.
+    /// Tells the next part of a stripe.
     fn next_in_stripe(&mut self, header: &Header, stream: &[u8]) -> Found
         requires few { self.old.entities < 2 ^ 32 - 1 }
         ensures told { TellsInStripe (fields_of header.now) stream.now self.old self.new result }
@@ -180,7 +180,7 @@ impl PartWalk {
         }
     }
 
-    /// TellsNext what comes behind the last stripe.
+    /// Tells what comes behind the last stripe.
     fn next_behind(&mut self, header: &Header, stream: &[u8]) -> Found
         ensures told { TellsBehind (fields_of header.now) stream.now self.old self.new result }
         ensures any { TellsOfAny stream.now self.old self.new result }
@@ -230,7 +230,7 @@ impl PartWalk {
         }
     }
 
-    /// TellsNext a comment behind the last stripe, or the height there, where it is known that one comes.
+    /// Tells a comment behind the last stripe, or the height there, where it is known that one comes.
     fn next_before_height(&mut self, header: &Header, stream: &[u8]) -> Found
         ensures told { TellsBefore (fields_of header.now) stream.now self.old self.new result }
         ensures any { TellsOfAny stream.now self.old self.new result }
