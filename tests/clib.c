@@ -8,6 +8,8 @@
      clib faults IMAGE.pbm                   what each call refuses
      clib rooms STREAM IMAGE.pbm INFO        as decode, with every room from 0 to the whole
      clib null STREAM                        null pointers with a length of 0
+     clib pieces STREAM COUNT                COUNT streams that this one is made into by turned bytes and cuts, in pieces
+                                             of any length, beside t85_decode_rows
    Each buffer that is lent ends at a page that can't be touched, and in a second round begins behind
    one. An output of fewer than 1,000 bytes is tried with every room, a longer one with some. */
 #ifndef _GNU_SOURCE
@@ -900,6 +902,51 @@ static void null(char **words)
     free(file.bytes);
 }
 
+static uint64_t dice = 85;
+
+/* A number below `count`, from a fixed sequence. */
+static size_t roll(size_t count)
+{
+    dice = dice * 6364136223846793005u + 1442695040888963407u;
+    return (size_t)(dice >> 33) % count;
+}
+
+/* A stream in pieces beside t85_decode_rows. Images of more than a hundred thousand bytes are passed over. */
+static void cut_anywhere(buffer stream, buffer rows)
+{
+    t85_header_fields fields;
+    buffer lent = copied(stream.bytes, stream.len), window, all = rows;
+    uint32_t written = 0;
+    uint8_t status = t85_header(lent.bytes, lent.len, &fields);
+    if (status == T85_OK && (uint64_t)fields.height * t85_row_bytes(fields.width) <= rows.len) {
+        window = filled(t85_window_bytes(fields.width));
+        status = t85_decode_rows(lent.bytes, lent.len, UINT32_MAX, t85_row_bytes(fields.width), window.bytes,
+                                 window.len, rows.bytes, rows.len, &written);
+        all.len = written * t85_row_bytes(fields.width);
+        decode_pieces_in(lent, fields.width, status, all, 1 + roll(roll(2) ? 20 : 1000));
+        give_back(window);
+    }
+    give_back(lent);
+}
+
+static void pieces(char **words)
+{
+    buffer file = read_file(words[0]), stream, rows = filled(100000);
+    long count = atol(words[1]), turned;
+    while (count--) {
+        stream = file;
+        stream.len = roll(3) ? file.len : roll(file.len + 1);
+        stream.bytes = (uint8_t *)malloc(file.len + 1);
+        memcpy(stream.bytes, file.bytes, file.len);
+        for (turned = (long)roll(4); turned > 0 && stream.len; turned--)
+            stream.bytes[roll(3) ? roll(stream.len) : roll(20) % stream.len] ^= (uint8_t)(1u << roll(8));
+        cut_anywhere(stream, rows);
+        free(stream.bytes);
+    }
+    give_back(rows);
+    free(file.bytes);
+}
+
 int main(int count, char **words)
 {
     static const struct {
@@ -908,7 +955,7 @@ int main(int count, char **words)
         int words;
     } parts[] = {{"encode", encode, 8}, {"decode", decode, 3},   {"rooms", rooms, 3},
                  {"cuts", cuts, 2},     {"missing", missing, 2}, {"faults", faults, 1},
-                 {"null", null, 1}};
+                 {"null", null, 1},     {"pieces", pieces, 2}};
     size_t i;
     for (i = 0; i < sizeof parts / sizeof *parts; i++)
         if (count == parts[i].words + 2 && !strcmp(words[1], parts[i].name)) {

@@ -23,7 +23,7 @@ typedef struct {
     size_t len;
 } place;
 
-static place stream, window, image, rows, again, code, theirs, comment;
+static place stream, window, image, rows, again, code, theirs, comment, lines, state;
 static uint64_t dice;
 static bool at_front;
 
@@ -252,6 +252,81 @@ static size_t pbm_header(size_t written, const t85_header_fields *fields, uint8_
     return front;
 }
 
+/* The same in pieces of any length: `count` rows, and the height that is told. */
+static void in_pieces(uint8_t status, const uint8_t *packed, size_t row, size_t count, uint32_t height)
+{
+    size_t at = 0, given = 0, len, taken, place;
+    uint8_t told = T85_MORE;
+    t85_decoder *decoder;
+    lend(&lines, 3 * row + roll(9));
+    lend(&state, sizeof *decoder);
+    memset(lines.bytes, FILL, lines.len);
+    memset(state.bytes, FILL, state.len);
+    decoder = (t85_decoder *)state.bytes;
+    CHECK(t85_decode_start(decoder, sizeof *decoder, UINT32_MAX) == T85_OK);
+    while (told >= T85_HEADER_READ) {
+        len = roll(2) ? roll(9) : roll(2000);
+        len = len < stream.len - at ? len : stream.len - at;
+        taken = 0;
+        if (told == T85_MORE && at == stream.len)
+            told = t85_decode_end(decoder, lines.bytes, lines.len, &place);
+        else
+            told = t85_decode_bytes(decoder, stream.bytes + at, len, lines.bytes, lines.len, &taken, &place);
+        CHECK(taken <= len && (told != T85_MORE || taken == len));
+        at += taken;
+        if (told == T85_ROW && given < count)
+            CHECK(!memcmp(lines.bytes + place, packed + given * row, row));
+        given += told == T85_ROW;
+    }
+    CHECK(told == status && (status == T85_OK ? given >= count : given == count));
+    CHECK(status != T85_OK || t85_decode_height(decoder) == height);
+}
+
+/* A decoder of any bytes, which begin as one's that is among the rows of the stream. */
+static void of_any_bytes(size_t row)
+{
+    uint32_t front[4] = {1, roll(4), roll(2) ? UINT32_MAX : roll(99), 0};
+    size_t calls = roll(20), i, len, taken, place;
+    uint8_t told;
+    lend(&lines, 3 * row + roll(9));
+    lend(&state, sizeof(t85_decoder));
+    for (i = 0; i < lines.len; i++)
+        lines.bytes[i] = (uint8_t)roll(256);
+    for (i = 0; i < state.len; i++)
+        state.bytes[i] = (uint8_t)(roll(3) ? roll(256) : roll(4));
+    memcpy(state.bytes, front, sizeof front);
+    memcpy(state.bytes + sizeof front, stream.bytes, 20);
+    while (calls--) {
+        len = roll((uint32_t)stream.len + 1);
+        taken = 0;
+        if (roll(8))
+            told = t85_decode_bytes((t85_decoder *)state.bytes, stream.bytes + stream.len - len, len, lines.bytes,
+                                    lines.len, &taken, &place);
+        else
+            told = t85_decode_end((t85_decoder *)state.bytes, lines.bytes, lines.len, &place);
+        CHECK(taken <= len && (told != T85_ROW || place + row <= 3 * row));
+    }
+}
+
+/* The parts lie one behind another, up to the end of the stream or to a part with its fault. */
+static void in_parts(uint8_t info, const t85_summary *summary)
+{
+    t85_facts facts = T85_FACTS;
+    t85_part part = T85_PART;
+    size_t at = 0;
+    uint8_t told = t85_stream_facts(stream.bytes, stream.len, &facts);
+    CHECK(told == info);
+    while ((told = t85_next_part(stream.bytes, stream.len, &part)) == T85_OK) {
+        CHECK(part.offset == at && part.len > 0 && part.len <= stream.len - at);
+        at += part.len;
+    }
+    CHECK(told == (info == T85_OK ? T85_NO_MORE_PARTS : info));
+    if (info == T85_OK)
+        CHECK(part.offset == facts.stream_len && facts.stream_len <= stream.len && part.entities == summary->entities);
+    else
+        CHECK(part.offset == at && part.stripe == part.entities);
+}
+
 /* A stream with a header: t85_decode says what t85_info says, and each other call what t85_decode says. */
 static void decoded(const t85_header_fields *fields, uint8_t info, const t85_summary *summary)
 {
@@ -274,6 +349,8 @@ static void decoded(const t85_header_fields *fields, uint8_t info, const t85_sum
     tell(info, status, count, summary);
     in_less_room(written);
     as_rows(status, image.bytes + front, row, count);
+    in_pieces(status, image.bytes + front, row, count, height);
+    of_any_bytes(row);
     CHECK(decode(&image, height, &other) == status && other == written);
     lend(&again, PLACE);
     CHECK(decode(&again, roll(2) ? height - 1 : roll(height), &other) == T85_TOO_MANY_ROWS && other == 0);
@@ -310,6 +387,7 @@ int LLVMFuzzerTestOneInput(const uint8_t *data, size_t size)
     }
     CHECK(fields.width >= 1 && fields.width <= T85_MOST_WIDTH && fields.height >= 1 && fields.stripe_rows >= 1 &&
           fields.most_offset <= T85_MOST_OFFSET);
+    in_parts(info, &summary);
     decoded(&fields, info, &summary);
     return 0;
 }
