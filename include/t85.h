@@ -318,6 +318,12 @@ uint8_t t85_decode_bytes(t85_decoder *decoder, const uint8_t *bytes, size_t len,
 T85_NO_NULL((1, 4))
 uint8_t t85_decode_end(t85_decoder *decoder, uint8_t *window, size_t window_len, size_t *row);
 
+/* How many of the first rows are the image's, whatever bytes come: 0 until rows are asked for, and the
+   height after the end. Where the header has T85_VARIABLE_HEIGHT a later height may cut off the
+   others. */
+T85_NO_NULL((1))
+uint32_t t85_decode_certain(const t85_decoder *decoder);
+
 /* The height in use: the header's until another one has come, and 0 before the header was read. Where
    the header has T85_VARIABLE_HEIGHT it may become less up to the end. */
 T85_NO_NULL((1))

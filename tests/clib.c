@@ -248,6 +248,7 @@ static void is_info(buffer stream, buffer line)
 static void decode_pieces_in(buffer stream, uint32_t width, uint8_t wanted, buffer rows, size_t step)
 {
     size_t row = t85_row_bytes(width), at = 0, given = 0, len, taken, place, turn = 0;
+    uint32_t certain = 0;
     buffer windows[2], states[2];
     t85_decoder *decoder;
     uint8_t status = T85_MORE;
@@ -273,6 +274,9 @@ static void decode_pieces_in(buffer stream, uint32_t width, uint8_t wanted, buff
             memcmp(windows[turn].bytes + place, rows.bytes + given * row, row))
             fail("t85_decode_bytes: row %zu is another, in pieces of %zu", given, step);
         given += status == T85_ROW;
+        if (t85_decode_certain(decoder) < certain)
+            fail("t85_decode_certain: %u after %u", t85_decode_certain(decoder), certain);
+        certain = t85_decode_certain(decoder);
         memcpy(windows[1 - turn].bytes, windows[turn].bytes, windows[turn].len);
         memcpy(states[1 - turn].bytes, states[turn].bytes, sizeof(t85_decoder));
         memset(windows[turn].bytes, FILL, windows[turn].len);
@@ -281,7 +285,7 @@ static void decode_pieces_in(buffer stream, uint32_t width, uint8_t wanted, buff
     decoder = (t85_decoder *)states[turn].bytes;
     if (status != wanted || (status ? given * row != rows.len : given * row < rows.len))
         fail("t85_decode_bytes: status %d and %zu rows, in pieces of %zu", status, given, step);
-    if (status == T85_OK && t85_decode_height(decoder) * row != rows.len)
+    if (status == T85_OK && (t85_decode_height(decoder) * row != rows.len || certain * row != rows.len))
         fail("t85_decode_height: %u, in pieces of %zu", t85_decode_height(decoder), step);
     if (t85_decode_bytes(decoder, stream.bytes, stream.len, windows[0].bytes, windows[0].len, &taken,
                          &place) != status ||

@@ -65,7 +65,14 @@ class Pieces(unittest.TestCase):
     def test_late_height(self):
         stream = head(1, 9, 1, 0, 0x20) + b"\xc0\xff\x02\xff\x05\0\0\0\x02\xc0\xff\x02"
         rows, decoder = in_pieces(stream, 1)
-        self.assertEqual((rows, decoder.height), ([b"\x80", b"\x80"], 2))
+        self.assertEqual((rows, decoder.height, decoder.certain), ([b"\x80", b"\x80"], 2, 2))
+        # The header announces nine rows, of which an image has one at least. Then a height of two comes.
+        decoder = t85.Decoder()
+        self.assertEqual(decoder.certain, 0)
+        decoder.feed(stream[:23])
+        self.assertEqual((decoder.height, decoder.certain), (9, 1))
+        decoder.feed(stream[23:29])
+        self.assertEqual((decoder.height, decoder.certain), (2, 2))
 
     def test_broken(self):
         stream = head(8, 2, 128, 0, 0) + b"\xf0\0\0"

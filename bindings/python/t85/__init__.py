@@ -178,6 +178,7 @@ def _load() -> ctypes.CDLL:
         "t85_decode_bytes": (c_uint8, [POINTER(_Decoder), *read, *write, POINTER(size), POINTER(size)]),
         "t85_decode_end": (c_uint8, [POINTER(_Decoder), *write, POINTER(size)]),
         "t85_decode_height": (word, [POINTER(_Decoder)]),
+        "t85_decode_certain": (word, [POINTER(_Decoder)]),
     }
     for name, (result, words) in types.items():
         call = getattr(library, name)
@@ -407,6 +408,7 @@ class Decoder:
 
     header   what the header says, or None before it came
     height   the height in use: the header's, until another has come
+    certain  how many first rows are the image's, whatever comes
     is_done  whether the image is whole
     unused   the bytes of the last piece that came after the image
 
@@ -432,6 +434,10 @@ class Decoder:
     @property
     def height(self) -> int:
         return int(_LIBRARY.t85_decode_height(byref(self._state)))
+
+    @property
+    def certain(self) -> int:
+        return int(_LIBRARY.t85_decode_certain(byref(self._state)))
 
     def feed(self, data: Buffer) -> list[bytes]:
         """The rows that these bytes complete."""

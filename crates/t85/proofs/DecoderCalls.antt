@@ -38,7 +38,7 @@ pub flag : (byte : ℕ) (b : Bool) → byte ≡ from_bool b → not (byte == 0) 
 flag byte true e = subst (λ n. not (n == 0) ≡ true) (sym e) refl
 flag byte false e = subst (λ n. not (n == 0) ≡ false) (sym e) refl
 
-not_some : (fault : Fault) → None ≡ Some fault → ⊥
+pub not_some : (fault : Fault) → None ≡ Some fault → ⊥
 not_some fault e = cc
 
 -- ---- where a decoder stands, by what comes next

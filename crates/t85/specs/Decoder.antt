@@ -11,7 +11,7 @@ use Rattle.t85_core.specs.Lent.{decoder_view}
 use Rattle.t85_core.specs.Numbers.{piece_numbers}
 use Rattle.t85_core.specs.Options.{fields_of}
 use Rattle.t85_core.specs.Feeds.{HasFed}
-use Rattle.t85_core.specs.Pieces.{HandsOut, HoldsImage, MayFollow}
+use Rattle.t85_core.specs.Pieces.{HandsOut, HoldsImage, IsLeastHeight, MayFollow}
 use Rattle.t85.specs.Decoded.{window_bytes}
 use Rattle.t85.specs.declared.decoder.T85Decoder.{T85Decoder}
 use Rattle.t85.specs.declared.decoder.Answer.{Answer}
@@ -196,6 +196,10 @@ pub record IsAnswered (old new : Hold) (call : BytesCall) (status : ℕ) : Type 
   pub what : Answer
   pub status_is : status ≡ status_told what
   pub answers : Answers (HasRead old) old new call what
+
+-- So many rows are certain: no height that can still come is below that, and one is just that.
+abbrev pub TellsCertain : T85Decoder → ℕ → Type 0
+TellsCertain d rows = (window stream out : List ℕ) (k : InRows (hold_of d window) stream out) → IsLeastHeight (fields_of k.decoder.header) k.has.decoded rows
 
 -- ---- the beginning
 

@@ -9,7 +9,7 @@ ghost use Rattle.t85_core.specs.Feeds.{IsFeed, held_bytes};
 ghost use Rattle.t85_core.specs.Pieces.{call_of as piece_call};
 ghost use Rattle.raster_core.specs.Window.{memory_of, width_of};
 ghost use Rattle.t85.specs.Decoded.{window_bytes as window_of};
-ghost use Rattle.t85.specs.Decoder.{Answers, BeginsDecoder, HasEnded, HasRead, InHeader, InRows, IsAnswered, IsDecoderBegun, bytes_call, height_of_decoder, bytes_held_by, hold_of, numbers_of_decoder, status_told};
+ghost use Rattle.t85.specs.Decoder.{Answers, BeginsDecoder, HasEnded, HasRead, InHeader, InRows, IsAnswered, IsDecoderBegun, TellsCertain, bytes_call, height_of_decoder, bytes_held_by, hold_of, numbers_of_decoder, status_told};
 ghost use Rattle.t85.specs.DecoderSteps.{IsAwaited, IsFilled, IsJudged, IsOfEngine, IsToldOf, KeepsRest, MayEnterRows, MayTakeRows};
 
 use crate::opened::read_header;
@@ -181,6 +181,24 @@ pub extern "C" fn t85_decode_height(decoder: &T85Decoder) -> u32
     }
 }
 
+/// How many first rows are the image's, whatever bytes come: a height that comes later is not below this. It is 0 before the
+/// first call for rows, and the height after the end.
+#[unsafe(no_mangle)]
+pub extern "C" fn t85_decode_certain(decoder: &T85Decoder) -> u32
+    ensures among { TellsCertain decoder.now result }
+    ensures ended { decoder.now.version ≡ 1 → decoder.now.next ≡ 3 → result ≡ decoder.now.height }
+    ensures before { decoder.now.next < 2 → result ≡ 0 }
+{
+    if decoder.version != VERSION || decoder.next < ROWS {
+        return 0;
+    }
+    if decoder.next == ROWS {
+        decoder.certain()
+    } else {
+        decoder.height
+    }
+}
+
 impl Answer {
     fn status(self) -> u8
         ensures { result ≡ status_told self }
@@ -343,6 +361,18 @@ impl T85Decoder {
         self.span = numbers.decoder.span;
         self.bits = numbers.decoder.bits;
         self.has_ended = u8::from(numbers.decoder.has_ended);
+    }
+
+    /// How many first rows are certain, of a decoder among the rows.
+    fn certain(&self) -> u32
+        ensures { TellsCertain self.now result }
+    {
+        // What the proof cites of headers.
+        headers();
+        match read_header(&self.header) {
+            Ok(header) => PieceDecoder::resume(header, &self.numbers()).certain(),
+            Err(_) => 0,
+        }
     }
 
     /// What was taken and is not decoded yet.

@@ -25,7 +25,8 @@ ghost use Rattle.std.specs.Prelude.{◌≡◌};
 ghost use Rattle.t85.specs.Decoded.{window_bytes};
 
 pub use crate::decoder::{
-    T85Decoder, t85_decode_bytes, t85_decode_end, t85_decode_height, t85_decode_start,
+    T85Decoder, t85_decode_bytes, t85_decode_certain, t85_decode_end, t85_decode_height,
+    t85_decode_start,
 };
 pub use crate::decoding::t85_decode;
 pub use crate::decoding_rows::t85_decode_rows;
