@@ -1,0 +1,182 @@
+//! Streams in pieces, and what streams are made of.
+
+use crate::tests::{DECODED, Decoded, LATE, TWICE, TWO_ROWS, TWO_STRIPES};
+use crate::{
+    T85Decoder, T85Facts, T85Part, t85_decode_bytes, t85_decode_end, t85_decode_height,
+    t85_decode_start, t85_next_part, t85_stream_facts,
+};
+
+/// What is told of a stream with this version of the struct: the status, the stream's length, and its height.
+fn facts(stream: &[u8], version: u32) -> (u8, usize, u32) {
+    let mut told = T85Facts {
+        version,
+        width: 0,
+        height: 0,
+        stripe_rows: 0,
+        most_offset: 0,
+        options: 0,
+        image_height: 0,
+        entities: 0,
+        moves: 0,
+        comments: 0,
+        stream_len: 0,
+    };
+    let status = t85_stream_facts(stream, &mut told);
+    (status, told.stream_len, told.image_height)
+}
+
+#[test]
+fn length_of_a_stream_is_told(rt: HostRuntime) {
+    assert!(rt; facts(TWO_STRIPES, 1) == (0, 26, 2));
+    assert!(rt; facts(LATE, 1) == (0, 32, 2));
+    assert!(rt; facts(TWICE, 1) == (15, 0, 0));
+    assert!(rt; facts(LATE, 2) == (50, 0, 0));
+}
+
+/// What is told of the part of a stream after so many others: the status, and the part's kind, place, length and stripe.
+fn part(stream: &[u8], others: u32, version: u32) -> (u8, u32, usize, usize, u32) {
+    let mut told = T85Part {
+        version,
+        kind: 9,
+        offset: 0,
+        len: 0,
+        stripe: 0,
+        entities: 0,
+        late_height: 0,
+        has_move: 0,
+        is_at_height: 0,
+        reserved: 0,
+        passed: 0,
+    };
+    let mut status = t85_next_part(stream, &mut told);
+    for _ in 0..others {
+        status = t85_next_part(stream, &mut told);
+    }
+    (status, told.kind, told.offset, told.len, told.stripe)
+}
+
+#[test]
+fn parts_of_a_stream_are_told(rt: HostRuntime) {
+    assert!(rt; part(LATE, 0, 1) == (0, 0, 0, 20, 0));
+    assert!(rt; part(LATE, 1, 1) == (0, 4, 20, 3, 0));
+    assert!(rt; part(LATE, 2, 1) == (0, 3, 23, 6, 1));
+    assert!(rt; part(LATE, 3, 1) == (0, 4, 29, 3, 1));
+    assert!(rt; part(LATE, 4, 1) == (52, 4, 32, 0, 2));
+    assert!(rt; part(LATE, 5, 1) == (52, 4, 32, 0, 2));
+    assert!(rt; part(TWICE, 3, 1) == (15, 4, 29, 0, 1));
+    assert!(rt; part(LATE, 1, 2) == (50, 9, 0, 0, 0));
+}
+
+/// What calls with pieces of a stream have told: the last status, the rows of a byte that were given, and how many.
+#[derive(Clone, Copy)]
+struct Given {
+    status: u8,
+    rows: [u8; 4],
+    count: usize,
+}
+
+/// Goes on with at most `step` bytes from this place of a stream on, or tells that none come, and answers where that led.
+fn go_on(
+    decoder: &mut T85Decoder,
+    window: &mut [u8; 24],
+    stream: &[u8],
+    at: usize,
+    step: usize,
+    given: &mut Given,
+) -> usize {
+    if given.status < 60 {
+        return at;
+    }
+    let (_, rest) = stream.split_at(at.min(stream.len()));
+    let (piece, _) = rest.split_at(step.min(rest.len()));
+    let (mut taken, mut row) = (0, 0);
+    given.status = if rest.is_empty() && given.status == 62 {
+        t85_decode_end(decoder, window, &mut row)
+    } else {
+        t85_decode_bytes(decoder, piece, window, &mut taken, &mut row)
+    };
+    if given.status == 61 && given.count < 4 {
+        given.rows[given.count] = window[row.min(23)];
+        given.count += 1;
+    }
+    at.saturating_add(taken)
+}
+
+/// What is given of a stream in pieces of so many bytes, and the height that is told at the end.
+fn in_pieces(stream: &[u8], step: usize, max_rows: u32) -> (Given, u32) {
+    let mut decoder = T85Decoder::first(0);
+    let mut window = [0xaa; 24];
+    let mut given = Given {
+        status: 62,
+        rows: [0; 4],
+        count: 0,
+    };
+    t85_decode_start(&mut decoder, 1280, max_rows);
+    let mut at = 0;
+    for _ in 0..100 {
+        at = go_on(&mut decoder, &mut window, stream, at, step, &mut given);
+    }
+    (given, t85_decode_height(&decoder))
+}
+
+/// Whether a stream in pieces has the status and the rows of an example.
+fn gives(example: &Decoded, step: usize) -> bool {
+    let (given, _) = in_pieces(example.stream, step, u32::MAX);
+    let (_, rows) = example.image.split_at(example.image.len().min(7));
+    given.status == example.status && &given.rows[..given.count.min(4)] == rows
+}
+
+#[test]
+fn streams_in_pieces_are_decoded(rt: HostRuntime) {
+    for example in &DECODED {
+        assert!(rt; gives(example, 1));
+        assert!(rt; gives(example, 5));
+        assert!(rt; gives(example, 100));
+    }
+}
+
+#[test]
+fn heights_in_pieces_are_told(rt: HostRuntime) {
+    assert!(rt; in_pieces(LATE, 1, 9).1 == 2);
+    assert!(rt; in_pieces(TWO_ROWS, 3, 2).1 == 2);
+    assert!(rt; in_pieces(&LATE[..19], 3, 9).1 == 0);
+    assert!(rt; in_pieces(LATE, 1, 8).0.status == 24);
+}
+
+/// The status of a first call with the header of `LATE`, of a decoder with this version, and of a second one, which is lent
+/// so many bytes.
+fn statuses(version: u32, window: usize) -> (u8, u8) {
+    let mut decoder = T85Decoder::first(9);
+    decoder.version = version;
+    let (mut taken, mut row) = (0, 0);
+    let (head, rest) = LATE.split_at(20);
+    let mut lent = [0; 3];
+    let first = t85_decode_bytes(&mut decoder, head, &mut [], &mut taken, &mut row);
+    let window = &mut lent[..window.min(3)];
+    (
+        first,
+        t85_decode_bytes(&mut decoder, rest, window, &mut taken, &mut row),
+    )
+}
+
+#[test]
+fn misuse_of_a_decoder_is_told(rt: HostRuntime) {
+    assert!(rt; statuses(1, 3) == (60, 61));
+    assert!(rt; statuses(1, 2) == (60, 19));
+    assert!(rt; statuses(0, 3) == (53, 53));
+    assert!(rt; statuses(2, 3) == (53, 53));
+}
+
+/// The status of a beginning with a struct of this size, and the version that is there then.
+fn begun(size: usize) -> (u8, u32) {
+    let mut decoder = T85Decoder::first(9);
+    decoder.version = 7;
+    let status = t85_decode_start(&mut decoder, size, 9);
+    (status, decoder.version)
+}
+
+#[test]
+fn struct_of_another_size_is_refused(rt: HostRuntime) {
+    assert!(rt; begun(1279) == (50, 7));
+    assert!(rt; begun(1280) == (0, 1));
+}
