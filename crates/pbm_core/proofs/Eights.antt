@@ -122,11 +122,13 @@ packed_small row k = went (cases_lt k (bytes_of_row (length row))) where
       omega (arith, value)
 
 -- the padding of a packed row is 0
+pub packed_stays : (width : ℕ) (row : List Bool) → 1 ≤ width → length row ≡ width → masked_row width (packed_row row) ≡ packed_row row
+packed_stays width row some wide =
+    packed_row_of width (packed_row row) some (length-packed_row row ∙ ap bytes_of_row wide) (packed_small row) ∙ ap packed_row (pixels_of-packed width row wide)
+
 pub packed_masked : (width : ℕ) (row : List Bool) → 1 ≤ width → length row ≡ width → IsMasked width (packed_row row)
 packed_masked width row some wide =
-    let whole : length (packed_row row) ≡ bytes_of_row width = length-packed_row row ∙ ap bytes_of_row wide in
-    let same : masked_row width (packed_row row) ≡ packed_row row = packed_row_of width (packed_row row) some whole (packed_small row) ∙ ap packed_row (pixels_of-packed width row wide) in
-    subst (IsMasked width) same (masked_is width (packed_row row) some whole)
+    subst (IsMasked width) (packed_stays width row some wide) (masked_is width (packed_row row) some (length-packed_row row ∙ ap bytes_of_row wide))
 
 -- a row of digits that was read
 pub plain_row : (width : ℕ) (given : List ℕ) (pixels : List Bool) (row : List ℕ) → 1 ≤ width → length pixels ≡ width → ArePixels given pixels → row ≡ packed_row pixels → IsRowOf Plain width given row

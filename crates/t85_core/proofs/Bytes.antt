@@ -9,3 +9,4 @@ pub mod Lengths
 pub mod Held
 pub mod Elements
 pub mod HeldBack
+pub mod Sendings

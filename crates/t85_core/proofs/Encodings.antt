@@ -13,6 +13,7 @@ pub mod EntityEnds
 pub mod RowStream
 pub mod RowSteps
 pub mod RowGiven
+pub mod RowsCleared
 pub mod ReadAhead
 pub mod RowCalls
 pub mod RowNumbers

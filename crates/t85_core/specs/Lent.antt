@@ -2,8 +2,8 @@
 use Rattle.std.specs.Prelude.{ℕ, ◌≡◌, Bool, List, Option}
 use Rattle.qm_core.specs.declared.decoder.Decoder.{Decoder}
 use Rattle.qm_core.specs.Place.{Estimate}
-use Rattle.raster_core.specs.Packed.{Held}
-use Rattle.raster_core.specs.Window.{held, memory_of, width_of}
+use Rattle.raster_core.specs.Packed.{Held, next_place}
+use Rattle.raster_core.specs.Window.{current_place, held, memory_of, width_of}
 use Rattle.raster_core.specs.declared.shape.Kept.{Kept}
 use Rattle.raster_core.specs.declared.place.RowPlace.{RowPlace}
 use Rattle.raster_core.specs.declared.window.Window.{Window}
@@ -19,6 +19,14 @@ use Rattle.t85_core.specs.declared.pieces.walk.Walk.{Walk}
 -- a window of the same width over the same memory
 abbrev pub KeepsWindow : Window → Window → Type 0
 KeepsWindow old new = (width_of new ≡ width_of old) × (memory_of new ≡ memory_of old)
+
+-- with its current row at the same place
+abbrev pub StaysWindow : Window → Window → Type 0
+StaysWindow old new = KeepsWindow old new × (current_place new ≡ current_place old)
+
+-- a row further: the current row of before is above the one at the current place
+abbrev pub TurnsWindow : Window → Window → Type 0
+TurnsWindow old new = KeepsWindow old new × (current_place new ≡ next_place (next_place (current_place old)))
 
 -- what is carried from row to row and from stripe to stripe
 pub record Carried : Type 0 where

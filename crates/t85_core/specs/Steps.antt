@@ -19,7 +19,9 @@ pub mod PieceSteps
 pub mod Feeds
 pub mod Written
 pub mod Looked
+pub mod Sent
 pub mod ByRow
+pub mod RowLaws
 pub mod MostBytes
 pub mod RowSteps
 pub mod EncodeRows

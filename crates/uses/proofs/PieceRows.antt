@@ -5,12 +5,11 @@ use Rattle.std.proofs.Math.Seq.{take-add}
 use Rattle.std.proofs.lemmas.Grind.{flat_map-append}
 use Rattle.std.proofs.lemmas.List.{take-append-drop}
 use Rattle.std.proofs.lemmas.List.Sums.{sum_by-append, sum_by-cons}
-use Rattle.t85_core.specs.declared.fault.Fault.TheVariants.{Truncated}
 use Rattle.t85_core.specs.Lent.{PieceView}
 use Rattle.t85_core.specs.declared.pieces.Outcome.{Outcome}
 use Rattle.t85_core.specs.declared.pieces.Outcome.TheVariants as outcome
 use Rattle.t85_core.specs.Header.{Fields}
-use Rattle.t85_core.specs.Pieces.{stream_of, row_held, HasDecoded, HandsOut, HoldsImage, MayFollow, StreamGoesOn, Call, IsCall, bytes_taken, given_with, row_given, decoder_after}
+use Rattle.t85_core.specs.Pieces.{stream_of, row_held, HasDecoded, HandsOut, HoldsImage, StreamGoesOn, Call, IsCall, bytes_taken, given_with, row_given, decoder_after}
 use Rattle.uses.specs.Pieces.{rows_told, rows_counted, WereMade, SaysOfRows, PieceRead, TextRead, SomeRead}
 
 pub on_err : {T E : Type 0} (r : Result T E) {P : Type 0} → P → OnErr r P

@@ -5,7 +5,7 @@ use Rattle.t85_core.specs.Lent.{PieceView}
 use Rattle.t85_core.specs.declared.pieces.Outcome.{Outcome}
 use Rattle.t85_core.specs.declared.pieces.Outcome.TheVariants as outcome
 use Rattle.t85_core.specs.Header.{Fields}
-use Rattle.t85_core.specs.Pieces.{HasDecoded, HandsOut, HoldsImage, MayFollow, Call, IsCall, StreamGoesOn, decoder_after, row_given, stream_of, height_in_use}
+use Rattle.t85_core.specs.Pieces.{HasDecoded, HandsOut, HoldsImage, MayFollow, Call, IsCall, StreamGoesOn, decoder_after, row_given, stream_of}
 
 -- how many of some calls gave a row
 abbrev pub rows_told : Outcome → ℕ

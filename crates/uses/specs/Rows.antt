@@ -2,10 +2,10 @@
 use Rattle.std.specs.Prelude.{ℕ, ◌≡◌, ◌<◌, List, length, false}
 use Rattle.pbm_core.specs.Pbm.{bytes_of_row}
 use Rattle.pbm_core.specs.declared.size.Size.{Size}
-use Rattle.raster_core.specs.Window.{held, width_of}
+use Rattle.raster_core.specs.Window.{width_of}
 use Rattle.raster_core.specs.declared.window.Window.{Window}
 use Rattle.t85_core.specs.Jbg.{Settings, is_low}
-use Rattle.t85_core.specs.Steps.ByRow.{IsPlan, MayGoOn, IsLined, plan_of}
+use Rattle.t85_core.specs.Steps.ByRow.{IsPlan, MayGoOn, plan_of}
 use Rattle.t85_core.specs.declared.encoding.by_row.RowEncoder.{RowEncoder}
 
 -- An encoder of this size and with these settings may take this row, whatever was learned.
@@ -13,7 +13,6 @@ pub record MayTake (s : Settings) (size : Size) (e : RowEncoder) (window : Windo
   pub low : is_low s size.height ≡ false
   pub plan : IsPlan s size.width size.height (plan_of e)
   pub width : width_of window ≡ size.width
-  pub lined : IsLined (held window)
   pub whole : length row ≡ bytes_of_row size.width
   pub left : e.rows < size.height
   pub ready : MayGoOn e

@@ -3,7 +3,7 @@
 ghost use Rattle.std.specs.Prelude.{◌≡◌, ◌≤◌, ◌<◌, ◌+◌, Some, false, length, take, true};
 ghost use Rattle.pbm_core.specs.Pbm.{bytes_of_row};
 ghost use Rattle.raster_core.specs.Window.{held, width_of};
-ghost use Rattle.t85_core.specs.Steps.ByRow.{view_of, MayGoOn, IsLined, TakesNextRow};
+ghost use Rattle.t85_core.specs.Steps.ByRow.{view_of, MayGoOn, TakesNextRow};
 ghost use Rattle.t85_core.specs.Steps.MostBytes.{most_row_bytes};
 ghost use Rattle.t85_core.specs.Steps.RowSteps.{IsGoing, given_row};
 
@@ -92,7 +92,6 @@ pub fn put_where_room(
     room: &mut Room,
 ) -> bool
     requires width { width_of window.old ≡ encoder.old.size.width }
-    requires lined { IsLined (held window.old) }
     requires whole { length row.now ≡ bytes_of_row encoder.old.size.width }
     requires left { encoder.old.rows < encoder.old.size.height }
     requires ready { MayGoOn encoder.old }

@@ -12,7 +12,7 @@ ghost use Rattle.t85_core.specs.Jbg.{jbg, is_low};
 ghost use Rattle.t85_core.specs.Failures.{OnlyWrites, writes_after};
 ghost use Rattle.t85_core.specs.Options.{settings_of};
 ghost use Rattle.t85_core.specs.RowNumbers.{row_numbers};
-ghost use Rattle.t85_core.specs.Steps.ByRow.{plan_of, view_of, IsPlan, MayGoOn, IsLined, TakesNextRow, EndsImage, CutsImage};
+ghost use Rattle.t85_core.specs.Steps.ByRow.{plan_of, view_of, IsPlan, MayGoOn, TakesNextRow, EndsImage, CutsImage};
 ghost use Rattle.t85_core.specs.Steps.RowSteps.{IsGoing};
 ghost use Rattle.uses.specs.Rows.{MayTake};
 ghost use Rattle.t85_core.specs.declared.encoding.by_row.RowEncoder.{RowEncoder};
@@ -70,7 +70,6 @@ pub fn end_where_allowed<W: Output>(
     output: &mut W,
 ) -> Result<bool, Fault>
     requires width { width_of window.old ≡ encoder.old.size.width }
-    requires lined { IsLined (held window.old) }
     requires going { IsGoing encoder.old }
     requires ready { MayGoOn encoder.old }
     ensures ended { result ≡ Ok true → EndsImage (view_of encoder.old learning.old)

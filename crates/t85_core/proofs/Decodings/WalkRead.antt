@@ -1,6 +1,6 @@
 -- A walk over what is held, and over what is read behind it.
 use Rattle.std.proofs.Common.{cond, ◌≡◌, ◌≢◌, ◌<◌, ◌≤◌, ◌+◌, ◌*◌, ◌⊎◌, inl, inr, ℕ, suc, Bool, true, false, List, [], ◌++◌, length, Option, Some, Result, Ok, Err, refl, sym, ap, ◌∙◌, subst, append_assoc, append-nil, length-append, arith}
-use Rattle.std.specs.Prelude.{flat_map, IfErr, IsErrOf}
+use Rattle.std.specs.Prelude.{flat_map, IfErr}
 use Rattle.std.specs.Io.KnownBytes.{Appends, Consumes, Keeps}
 use Rattle.raster_core.specs.Packed.{packed_row, row_bytes}
 use Rattle.t85_core.specs.declared.fault.Fault.{Fault}

@@ -2,7 +2,6 @@
 use Rattle.std.proofs.Common.{◌≡◌, ℕ, ◌+◌, ◌*◌, ◌/◌, ◌<◌, ◌≤◌, ◌⊎◌, inl, inr, Bool, List, [], ◌++◌, length, take, refl, sym, ◌∙◌, ap, subst, arith, Option, append_assoc, append-nil, length-append}
 use Rattle.std.proofs.lemmas.Grind.{div_ceil_times}
 use Rattle.std.proofs.Math.Seq.{take-length}
-use Rattle.pbm_core.specs.Device.{AppendsBeginning}
 use Rattle.pbm_core.specs.declared.fault.PbmFault.{PbmFault}
 use Rattle.pbm_core.specs.declared.form.Form.{Form}
 use Rattle.raster_core.specs.Raster.{Raster, height}
@@ -15,7 +14,9 @@ use Rattle.t85_core.specs.Steps.Written.{next_move, next_stripe}
 use Rattle.t85_core.specs.Steps.CoderLaws.{WritingLaws}
 use Rattle.t85_core.specs.Steps.EncodeRows.{ReadsRows, RowTaken, EndsInRow}
 use Rattle.t85_core.specs.Steps.EncodeStripes.{ImageShort, ImageRefused}
+use Rattle.t85_core.specs.Steps.Sent.{Origin, SendsBeginning, here}
 use Rattle.t85_core.specs.Steps.ByRow.{RowView, MayCome, StreamCut, StreamFront, Waits, Runs, Stands, IsLined, move_bytes}
+use Rattle.t85_core.proofs.Bytes.Sendings.{here_sent}
 use Rattle.t85_core.proofs.Theorems.Joined.{stripe_at}
 use Rattle.t85_core.proofs.Encodings.RowShort.{pushed_begins}
 use Rattle.t85_core.proofs.Encodings.RowStream.{come_first, come_long, part_begins, front_begins, less_or_not}
@@ -31,12 +32,12 @@ few_stripes n l i some within = went (less_or_not (stripe_count n l) i) where
       let sum : (stripe_count n l + 1) * l ≡ stripe_count n l * l + 1 * l = Rattle.std.proofs.Math.Nat.add-mul (stripe_count n l) 1 l in
       absurd (omega (arith, low, up, sum, within, some))
 
-module _ (s : Settings) (width limit : ℕ) (rows : List (List Bool)) (v : RowView) (window : Held) (text text' : Option (List ℕ)) where
+module _ (s : Settings) (width limit : ℕ) (rows : List (List Bool)) (v : RowView) (window : Held) (origin : Origin) (text : Option (List ℕ)) where
   -- no stripe runs
-  front_waits : Waits s width limit rows v window text text' → StreamFront s width limit rows text text'
+  front_waits : Waits s width limit rows v window origin text → StreamFront s width limit rows origin text
   front_waits w = record {
     bytes = w.front;
-    appended = w.appended;
+    sent = w.sent;
     begun = λ raster b. record {
       holds = record { rest = []; bytes_are = w.stripes.front_is raster b ∙ sym (ap (jbg_up_to s raster) whole) ∙ sym (append-nil (jbg_up_to s raster (length rows / s.stripe_rows))) };
       begins = front_begins s raster w.i w.front (few_stripes (height raster) s.stripe_rows w.i w.plan_is.some (let long = come_long s width limit rows raster b in omega (arith, long, w.stripes.many)))
@@ -49,10 +50,10 @@ module _ (s : Settings) (width limit : ℕ) (rows : List (List Bool)) (v : RowVi
         ap (λ n. n / s.stripe_rows) sum ∙ stripe_at s.stripe_rows w.i 0 (omega (arith, w.plan_is.some))
 
   -- one runs
-  front_runs : WritingLaws → 0 < v.in_stripe → v.in_stripe < v.plan.stripe_rows → Runs s width limit rows v window text text' → StreamFront s width limit rows text text'
+  front_runs : WritingLaws → 0 < v.in_stripe → v.in_stripe < v.plan.stripe_rows → Runs s width limit rows v window origin text → StreamFront s width limit rows origin text
   front_runs laws some fewer r = record {
     bytes = r.front ++ (move_bytes s width r.at ++ r.pushed);
-    appended = r.appended;
+    sent = r.sent;
     begun = λ raster b. record {
       holds = record {
         rest = move_bytes s width r.at ++ r.pushed;
@@ -85,7 +86,7 @@ module _ (s : Settings) (width limit : ℕ) (rows : List (List Bool)) (v : RowVi
         }
 
   -- what stands is a beginning of each stream that may come, with each stripe whose rows all came
-  pub front_stands : WritingLaws → Stands s width limit rows v window text text' → StreamFront s width limit rows text text'
+  pub front_stands : WritingLaws → Stands s width limit rows v window origin text → StreamFront s width limit rows origin text
   front_stands laws (inl w) = front_waits w
   front_stands laws (inr r) = front_runs laws r.1 r.2 r.0
 
@@ -96,7 +97,7 @@ may_come s width height' rows raster b = record { proper = b.proper; width_is = 
 
 module _ {form : Form} (s : Settings) (width height' : ℕ) (rows : List (List Bool)) (known mid known' text text' : Option (List ℕ)) (read : ReadsRows form width known mid rows) where
   -- no whole row more came
-  pub front_short : (fault : PbmFault) → length rows < height' → EndsInRow form width mid known' fault → StreamFront s width height' rows text text'
+  pub front_short : (fault : PbmFault) → length rows < height' → EndsInRow form width mid known' fault → StreamFront s width height' rows (here text) text'
       → ImageShort s form width height' (λ raster n. jbg_up_to s raster n) (λ raster. jbg s raster) known known' text text' fault
   front_short fault few part front = record {
     rows = rows;
@@ -107,21 +108,21 @@ module _ {form : Form} (s : Settings) (width height' : ℕ) (rows : List (List B
     bytes = front.bytes;
     holds = λ raster b. (front.begun raster (may_come s width height' rows raster b)).holds;
     begins = λ raster b. (front.begun raster (may_come s width height' rows raster b)).begins;
-    appended = front.appended;
+    appended = here_sent text text' front.bytes front.sent;
   }
 
   -- the target took no more
-  pub cut_refused : length rows ≤ height' → StreamCut s width height' rows text text' → ImageRefused form width height' (λ raster. jbg s raster) known mid text text'
-  cut_refused few cut = record { rows = rows; few = few; read = read; bytes = cut.bytes; begins = λ raster b. cut.begins raster (may_come s width height' rows raster b); appended = cut.appended }
+  pub cut_refused : length rows ≤ height' → StreamCut s width height' rows (here text) text' → ImageRefused form width height' (λ raster. jbg s raster) known mid text text'
+  cut_refused few cut = record { rows = rows; few = few; read = read; bytes = cut.bytes; begins = λ raster b. cut.begins raster (may_come s width height' rows raster b); appended = here_sent text text' cut.bytes cut.sent }
 
-  pub end_refused : length rows ≡ height' → AppendsBeginning text text' (jbg s (raster_of width rows)) → ImageRefused form width height' (λ raster. jbg s raster) known mid text text'
+  pub end_refused : length rows ≡ height' → SendsBeginning (here text) text' (jbg s (raster_of width rows)) → ImageRefused form width height' (λ raster. jbg s raster) known mid text text'
   end_refused many cut = record {
     rows = rows;
     few = omega (arith, many);
     read = read;
     bytes = cut.front;
     begins = λ raster b. subst (λ z. IsBeginning cut.front (jbg s z)) (sym (same raster b)) (record { rest = cut.rest; bytes_are = cut.text_is });
-    appended = cut.appends;
+    appended = here_sent text text' cut.front cut.sends;
   } where
     -- no other image has all these rows
     same : (raster : Raster) → BeginsWith width height' rows raster → raster ≡ raster_of width rows
@@ -133,7 +134,7 @@ module _ {form : Form} (s : Settings) (width height' : ℕ) (rows : List (List B
 -- the rows that were read, and where the encoder stands
 abbrev pub ComeTo : Form → Settings → ℕ → ℕ → ℕ → Option (List ℕ) → Option (List ℕ) → RowView → Held → Option (List ℕ) → Option (List ℕ) → Type 0
 ComeTo form s width height' count known known' v window text text' =
-    (rows : List (List Bool)) × (length rows ≡ count) × ReadsRows form width known known' rows × Stands s width height' rows v window text text'
+    (rows : List (List Bool)) × (length rows ≡ count) × ReadsRows form width known known' rows × Stands s width height' rows v window (here text) text'
 
 -- the window has lines after a row was read
 pub taken_lined : {form : Form} (width : ℕ) (known known' : Option (List ℕ)) (old new : Held) → RowTaken form width known known' old new → IsLined old → IsLined new

@@ -1,16 +1,32 @@
 -- The calls of a row encoder, which hold nothing back.
-use Rattle.std.proofs.Common.{◌≡◌, ◌≤◌, inl, inr, ℕ, Bool, List, ◌++◌, ap, ◌∙◌, subst, append_assoc, Option}
+use Rattle.std.proofs.Common.{◌≡◌, ◌≤◌, inl, inr, ℕ, Bool, List, ◌++◌, length, sym, ap, ◌∙◌, subst, append_assoc, Option, None}
 use Rattle.std.specs.Io.KnownBytes.{Keeps, append_known}
+use Rattle.qm_core.specs.Place.{Estimate}
 use Rattle.raster_core.specs.Packed.{Held}
+use Rattle.raster_core.specs.declared.shape.Kept.{Kept}
 use Rattle.t85_core.specs.Jbg.{Settings}
 use Rattle.t85_core.specs.Steps.Buffers.{known_length}
-use Rattle.t85_core.specs.Steps.ByRow.{RowView, StreamCut, StreamFront, Waits, Runs, Stands}
-use Rattle.t85_core.proofs.Bytes.Streams.{Appends-keeps, beginning_all}
-use Rattle.t85_core.proofs.Bytes.HeldBack.{grows_with, beginning_handed}
+use Rattle.t85_core.specs.Steps.State.{RowStart, first_row_start}
+use Rattle.t85_core.specs.Steps.Written.{next_move, row_start_in}
+use Rattle.t85_core.specs.Steps.Sent.{Origin, Sends, behind}
+use Rattle.t85_core.specs.Steps.ByRow.{RowView, StreamCut, StreamFront, Stands, IsHeldBy, IsLined, move_bytes}
+use Rattle.t85_core.proofs.Bytes.Sendings.{Sends-keeps, sends_grows, sends_handed, sent_behind, appends_none}
 
-module _ (s : Settings) (width limit : ℕ) (rows : List (List Bool)) (v : RowView) (window : Held) (text mid text' : Option (List ℕ)) where
-  waits_kept : Keeps mid text' → Waits s width limit rows v window text mid → Waits s width limit rows v window text text'
-  waits_kept k w = record {
+module _ (s : Settings) (width limit : ℕ) (rows : List (List Bool)) (v : RowView) (window : Held) (origin : Origin) (text : Option (List ℕ)) where
+  -- the bytes so far
+  bytes_of : Stands s width limit rows v window origin text → List ℕ
+  bytes_of (inl w) = w.front
+  bytes_of (inr r) = r.0.front ++ (move_bytes s width r.0.at ++ r.0.pushed)
+
+  sends_of : (so : Stands s width limit rows v window origin text) → Sends origin text (bytes_of so)
+  unfolding bytes_of
+  sends_of (inl w) = w.sent
+  sends_of (inr r) = r.0.sent
+
+  -- where they went elsewhere
+  resent : (origin' : Origin) (text' : Option (List ℕ)) (so : Stands s width limit rows v window origin text) → Sends origin' text' (bytes_of so) → Stands s width limit rows v window origin' text'
+  unfolding bytes_of
+  resent origin' text' (inl w) sent = inl (record {
     plan_is = w.plan_is;
     come = w.come;
     i = w.i;
@@ -20,52 +36,102 @@ module _ (s : Settings) (width limit : ℕ) (rows : List (List Bool)) (v : RowVi
     in_stripe = w.in_stripe;
     codes = w.codes;
     on_course = w.on_course;
-    appended = Appends-keeps text mid text' w.front w.appended k;
-  }
-
-  runs_kept : Keeps mid text' → Runs s width limit rows v window text mid → Runs s width limit rows v window text text'
-  runs_kept k r = record {
-    plan_is = r.plan_is;
-    come = r.come;
-    i = r.i;
-    whole = r.whole;
-    part = r.part;
-    all = r.all;
-    at = r.at;
-    front = r.front;
-    stripes = r.stripes;
-    in_stripe = r.in_stripe;
-    few = r.few;
-    pushed = r.pushed;
-    running = r.running;
-    counts = r.counts;
-    appended = Appends-keeps text mid text' _ r.appended k;
-  }
+    sent = sent;
+  })
+  resent origin' text' (inr (r, some, few)) sent = inr (
+    record {
+      plan_is = r.plan_is;
+      come = r.come;
+      i = r.i;
+      whole = r.whole;
+      part = r.part;
+      all = r.all;
+      at = r.at;
+      front = r.front;
+      stripes = r.stripes;
+      in_stripe = r.in_stripe;
+      few = r.few;
+      pushed = r.pushed;
+      running = r.running;
+      counts = r.counts;
+      sent = sent;
+    },
+    some,
+    few,
+  )
 
   -- what was held back was written
-  pub stands_kept : Keeps mid text' → Stands s width limit rows v window text mid → Stands s width limit rows v window text text'
-  stands_kept k (inl w) = inl (waits_kept k w)
-  stands_kept k (inr r) = inr (runs_kept k r.0, r.1, r.2)
+  pub stands_kept : (text' : Option (List ℕ)) → Keeps text text' → Stands s width limit rows v window origin text → Stands s width limit rows v window origin text'
+  stands_kept text' k so = resent origin text' so (Sends-keeps origin text text' (bytes_of so) (sends_of so) k)
 
   -- no byte was taken away
-  pub stands_grown : Stands s width limit rows v window text mid → known_length text ≤ known_length mid
-  stands_grown (inl w) = grows_with text mid w.front w.appended
-  stands_grown (inr r) = grows_with text mid _ r.0.appended
+  pub stands_grown : Stands s width limit rows v window origin text → known_length origin.text ≤ known_length text
+  stands_grown so = sends_grows origin text (bytes_of so) (sends_of so)
 
-module _ (s : Settings) (width limit : ℕ) (rows : List (List Bool)) (text mid text' : Option (List ℕ)) where
-  pub front_cut : Keeps mid text' → StreamFront s width limit rows text mid → StreamCut s width limit rows text text'
-  front_cut k f = record { bytes = f.bytes; appended = Appends-keeps text mid text' f.bytes f.appended k; begins = λ raster b. (f.begun raster b).begins }
+  -- what stands, stands behind what was sent
+  pub stands_elsewhere : Stands s width limit rows v window origin text → (bytes : List ℕ) × Sends origin text bytes × ((text' : Option (List ℕ)) → Stands s width limit rows v window (behind bytes text') text')
+  stands_elsewhere so = (bytes_of so, sends_of so, λ text'. resent (behind (bytes_of so) text') text' so (sent_behind (bytes_of so) text' (appends_none text')))
 
-  pub cut_kept : Keeps mid text' → StreamCut s width limit rows text mid → StreamCut s width limit rows text text'
-  cut_kept k c = record { bytes = c.bytes; appended = Appends-keeps text mid text' c.bytes c.appended k; begins = c.begins }
+module _ (s : Settings) (width limit : ℕ) (rows : List (List Bool)) (origin : Origin) (mid text' : Option (List ℕ)) where
+  pub front_cut : Keeps mid text' → StreamFront s width limit rows origin mid → StreamCut s width limit rows origin text'
+  front_cut k f = record { bytes = f.bytes; sent = Sends-keeps origin mid text' f.bytes f.sent k; begins = λ raster b. (f.begun raster b).begins }
+
+  pub cut_kept : Keeps mid text' → StreamCut s width limit rows origin mid → StreamCut s width limit rows origin text'
+  cut_kept k c = record { bytes = c.bytes; sent = Sends-keeps origin mid text' c.bytes c.sent k; begins = c.begins }
+
+module _ (s : Settings) (width limit : ℕ) (rows : List (List Bool)) (v : RowView) (old new : Held) (origin : Origin) (text : Option (List ℕ)) (stays : IsLined old → new ≡ old) where
+  -- the padding of a window that has lines is 0
+  held_cleared : (move : Option (ℕ × ℕ)) (r : ℕ) (b : RowStart) (kept : Kept) (learned : List Estimate) → IsHeldBy move r b kept learned old → IsHeldBy move r b kept learned new
+  held_cleared move r b kept learned h = subst (IsHeldBy move r b kept learned) (sym (stays (_, h.lines_are))) h
+
+  pub stands_cleared : Stands s width limit rows v old origin text → Stands s width limit rows v new origin text
+  stands_cleared (inl w) = inl (record {
+    plan_is = w.plan_is;
+    come = w.come;
+    i = w.i;
+    at = w.at;
+    front = w.front;
+    stripes = w.stripes;
+    in_stripe = w.in_stripe;
+    codes = w.codes;
+    on_course = λ within. (let on = w.on_course within in record { is_held = held_cleared None 0 (first_row_start w.at.carry) v.kept v.learned on.is_held; is_tallied = on.is_tallied });
+    sent = w.sent;
+  })
+  stands_cleared (inr (r, some, few)) = inr (
+    record {
+      plan_is = r.plan_is;
+      come = r.come;
+      i = r.i;
+      whole = r.whole;
+      part = r.part;
+      all = r.all;
+      at = r.at;
+      front = r.front;
+      stripes = r.stripes;
+      in_stripe = r.in_stripe;
+      few = r.few;
+      pushed = r.pushed;
+      running = record {
+        codes = r.running.codes;
+        is_held = held_cleared (next_move s width r.at) (length r.part) (row_start_in s width r.at r.part) v.kept v.learned r.running.is_held;
+        two_line = r.running.two_line;
+        most = r.running.most;
+        tallied = r.running.tallied;
+      };
+      counts = r.counts;
+      sent = r.sent;
+    },
+    some,
+    few,
+  )
 
 -- what was written of a beginning is a beginning
-pub cut_written : (s : Settings) (width limit : ℕ) (rows : List (List Bool)) (text out : Option (List ℕ)) (held : List ℕ) → known_length text ≤ known_length out → StreamCut s width limit rows text (append_known out held) → StreamCut s width limit rows text out
-cut_written s width limit rows text out held grows c =
-    let p = beginning_handed text out held c.bytes grows (beginning_all text (append_known out held) c.bytes c.appended) in
+pub cut_written : (s : Settings) (width limit : ℕ) (rows : List (List Bool)) (origin : Origin) (out : Option (List ℕ)) (held : List ℕ) → known_length origin.text ≤ known_length out → StreamCut s width limit rows origin (append_known out held) → StreamCut s width limit rows origin out
+cut_written s width limit rows origin out held grows c =
+    let p = sends_handed origin out held c.bytes grows c.sent in
     record {
       bytes = p.front;
-      appended = p.appends;
+      sent = p.sends;
       begins = λ raster b. (let q = c.begins raster b in record { rest = p.rest ++ q.rest; bytes_are = q.bytes_are ∙ ap (λ z. z ++ q.rest) p.text_is ∙ append_assoc p.front p.rest q.rest });
     }
 

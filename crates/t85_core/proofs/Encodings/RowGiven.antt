@@ -19,7 +19,7 @@ multiple n m some =
 bytes_some : (width : ℕ) → 1 ≤ width → 1 ≤ bytes_of_row width
 bytes_some width some = grind arith
 
-masked_is : (width : ℕ) (bytes : List ℕ) → 1 ≤ width → length bytes ≡ bytes_of_row width → IsMasked width (masked_row width bytes)
+pub masked_is : (width : ℕ) (bytes : List ℕ) → 1 ≤ width → length bytes ≡ bytes_of_row width → IsMasked width (masked_row width bytes)
 masked_is width bytes some whole =
     let last : ℕ = bytes_of_row width - 1 in
     let within : last < length bytes = omega (arith, bytes_some width some, whole) in

@@ -28,9 +28,10 @@ use Rattle.t85_core.specs.Steps.Written.{EncoderStart, first_encoder_start, next
 use Rattle.t85_core.specs.Steps.CoderLaws.{WritingLaws}
 use Rattle.t85_core.specs.Steps.EncodeRows.{IsCountedTo}
 use Rattle.t85_core.specs.Steps.EncodeStripes.{IsTallied}
+use Rattle.t85_core.specs.Steps.Sent.{Origin, Sends, SendsBeginning, here}
 use Rattle.t85_core.specs.Steps.ByRow.{RowView, MayCome, StreamCut, IsPlan, HaveCome, StripesWhole, IsHeldBy, IsStart, Runs, Waits, Stands, counted_of, move_bytes, IsBelow}
 use Rattle.t85_core.specs.Steps.RowSteps.{MoveMade, MoveCut, RowPut, RowCut, StripeEnded, StripeBegun, StripesEnded}
-use Rattle.t85_core.proofs.Bytes.Streams.{Appends-more, Appends-keeps, beginning_after, beginning_longer}
+use Rattle.t85_core.proofs.Bytes.Sendings.{Sends-more, Sends-keeps, sends_after, sends_longer, sent_here}
 use Rattle.t85_core.proofs.Encodings.RowsDown.{after_more, lines_more}
 use Rattle.t85_core.proofs.Encodings.RowShort.{rows_place, fails_begins}
 use Rattle.t85_core.proofs.Encodings.RowStream.{none_whole, same_announced, come_first, come_long, stripe_more, part_begins, whole_more, inside_of, front_begins, less_or_not}
@@ -54,7 +55,7 @@ none_counted width (Some current) tally h = h width current
 
 -- ---- a stripe begins
 
-module _ (s : Settings) (width limit : ℕ) (rows : List (List Bool)) (v : RowView) (before : Held) (text mid text' : Option (List ℕ)) (w : Waits s width limit rows v before text mid) where
+module _ (s : Settings) (width limit : ℕ) (rows : List (List Bool)) (v : RowView) (before : Held) (origin : Origin) (mid text' : Option (List ℕ)) (w : Waits s width limit rows v before origin mid) where
   -- where rows may still come
   waits_within : v.rows < v.plan.limit → w.i * s.stripe_rows < limit
   waits_within left = omega (arith, left, w.plan_is.limit_is, w.come.many, w.stripes.many)
@@ -63,7 +64,7 @@ module _ (s : Settings) (width limit : ℕ) (rows : List (List Bool)) (v : RowVi
       → ((s' : Settings) (width' : ℕ) (at : EncoderStart) → v.kept.offset ≡ at.carry.offset → IsTallied s' width' at v.tally → MoveMade s' width' at mid text' v.kept kept)
       → ((width' current : ℕ) → CountsLines tally width' current []) → is_two_line tally ≡ is_two_line v.tally → most_of tally ≡ most_of v.tally
       → (v.plan.stripe_rows < v.plan.limit - v.rows → v.plan.has_candidates ≡ true → is_counted ≡ true)
-      → Runs s width limit rows (record v { kept = kept; tally = tally; is_counted = is_counted }) before text text'
+      → Runs s width limit rows (record v { kept = kept; tally = tally; is_counted = is_counted }) before origin text'
   stripe_begun left kept tally is_counted moves counts two_line most counted = record {
     plan_is = w.plan_is;
     come = w.come;
@@ -94,7 +95,7 @@ module _ (s : Settings) (width limit : ℕ) (rows : List (List Bool)) (v : RowVi
     counts = λ more some. counted
         (let sum : (w.i + 1) * s.stripe_rows ≡ w.i * s.stripe_rows + 1 * s.stripe_rows = Rattle.std.proofs.Math.Nat.add-mul w.i 1 s.stripe_rows in omega (arith, w.plan_is.limit_is, w.come.many, w.stripes.many, w.plan_is.stripe_rows_is, more, sum))
         (w.plan_is.candidates_are ∙ (grind (arith, nat_tests, some)));
-    appended = Appends-more text mid text' w.front (move_bytes s width w.at ++ []) w.appended (subst (Appends mid text') (sym (append-nil (move_bytes s width w.at))) made.appended);
+    sent = Sends-more origin mid text' w.front (move_bytes s width w.at ++ []) w.sent (subst (Appends mid text') (sym (append-nil (move_bytes s width w.at))) made.appended);
   } where
     on : IsStart s width w.at v before
     on = w.on_course (waits_within left)
@@ -105,10 +106,10 @@ module _ (s : Settings) (width limit : ℕ) (rows : List (List Bool)) (v : RowVi
   -- a beginning of the move was written
   pub move_cut : v.rows < v.plan.limit → (row : List Bool)
       → ((s' : Settings) (width' : ℕ) (at : EncoderStart) → v.kept.offset ≡ at.carry.offset → IsTallied s' width' at v.tally → MoveCut s' width' at mid text')
-      → StreamCut s width limit (rows ++ row ∷ []) text text'
+      → StreamCut s width limit (rows ++ row ∷ []) origin text'
   move_cut left row cuts = record {
     bytes = w.front ++ p.front;
-    appended = Appends-more text mid text' w.front p.front w.appended p.appends;
+    sent = Sends-more origin mid text' w.front p.front w.sent p.appends;
     begins = λ raster b. part_begins s width limit w.i rows w.at w.front w.plan_is.some w.stripes [] p.front (omega arith)
         (λ later. record {
           rest = p.rest ++ (stuffed (code_of (row_start_in s width w.at later).state.place) ++ marker_bytes s.reset);
@@ -134,8 +135,8 @@ all_more : (width : ℕ) (rows : List (List Bool)) (row : List Bool) → AllByRe
 all_more width [] row all is = (is, tt)
 all_more width (first ∷ rows) row all is = (all.0, all_more width rows row all.1 is)
 
-module _ (s : Settings) (width limit : ℕ) (rows : List (List Bool)) (row : List Bool) (v : RowView) (before window : Held) (text mid text' : Option (List ℕ)) (below : IsBelow row before window) (wide : window.width ≡ v.plan.width)
-    (r : Runs s width limit rows v before text mid) where
+module _ (s : Settings) (width limit : ℕ) (rows : List (List Bool)) (row : List Bool) (v : RowView) (before window : Held) (origin : Origin) (mid text' : Option (List ℕ)) (below : IsBelow row before window) (wide : window.width ≡ v.plan.width)
+    (r : Runs s width limit rows v before origin mid) where
   abbrev mode : Mode
   mode = mode_of s.options
 
@@ -180,7 +181,7 @@ module _ (s : Settings) (width limit : ℕ) (rows : List (List Bool)) (row : Lis
       → RowPut v.plan.shape v.kept kept (record { place = b.state.place; learned = v.learned }) r.pushed (lines_with b row) e learned mid text'
       → ((lines : List Lines) (l : Lines) → length lines < 2 ^ 32 - 1 → HasLines window l → IsCountedTo v.plan.width (counted_of (record v { kept = kept })) v.tally lines → IsCountedTo v.plan.width (counted_of (record v { kept = kept })) tally (lines ++ l ∷ []))
       → is_two_line tally ≡ is_two_line v.tally → most_of tally ≡ most_of v.tally
-      → Runs s width limit (rows ++ row ∷ []) (record v { kept = kept; learned = learned; tally = tally; encoder = e; rows = rows'; in_stripe = in_stripe' }) window text text'
+      → Runs s width limit (rows ++ row ∷ []) (record v { kept = kept; learned = learned; tally = tally; encoder = e; rows = rows'; in_stripe = in_stripe' }) window origin text'
   row_coded left fewer few_rows kept learned tally e rows' in_stripe' rows_is in_stripe_is put counts two_line most = record {
     plan_is = r.plan_is;
     come = record {
@@ -217,15 +218,15 @@ module _ (s : Settings) (width limit : ℕ) (rows : List (List Bool)) (row : Lis
           (subst (λ o. IsCountedTo width o v.tally (lines_down c.above c.second r.part)) (sym (counted_same kept put.offset_is)) r.running.tallied))));
     };
     counts = r.counts;
-    appended = subst (Appends text text') (append_assoc r.front (move_bytes s width r.at ++ r.pushed) put.more ∙ ap (λ z. r.front ++ z) (append_assoc (move_bytes s width r.at) r.pushed put.more))
-        (Appends-more text mid text' (r.front ++ (move_bytes s width r.at ++ r.pushed)) put.more r.appended put.appended);
+    sent = subst (Sends origin text') (append_assoc r.front (move_bytes s width r.at ++ r.pushed) put.more ∙ ap (λ z. r.front ++ z) (append_assoc (move_bytes s width r.at) r.pushed put.more))
+        (Sends-more origin mid text' (r.front ++ (move_bytes s width r.at ++ r.pushed)) put.more r.sent put.appended);
   }
 
   -- the target refused a byte of it
-  pub row_cut : WritingLaws → v.in_stripe < v.plan.stripe_rows → RowCut (record { place = b.state.place; learned = v.learned }) r.pushed (canonical_events v.plan.shape v.kept (lines_with b row)) mid text' → StreamCut s width limit (rows ++ row ∷ []) text text'
+  pub row_cut : WritingLaws → v.in_stripe < v.plan.stripe_rows → RowCut (record { place = b.state.place; learned = v.learned }) r.pushed (canonical_events v.plan.shape v.kept (lines_with b row)) mid text' → StreamCut s width limit (rows ++ row ∷ []) origin text'
   row_cut laws fewer cut = record {
     bytes = (r.front ++ (move_bytes s width r.at ++ r.pushed)) ++ cut.done;
-    appended = Appends-more text mid text' (r.front ++ (move_bytes s width r.at ++ r.pushed)) cut.done r.appended cut.appended;
+    sent = Sends-more origin mid text' (r.front ++ (move_bytes s width r.at ++ r.pushed)) cut.done r.sent cut.appended;
     begins = λ raster m. subst (λ z. IsBeginning z (jbg s raster)) (sym bytes_are)
         (part_begins s width limit r.i r.whole r.at r.front r.plan_is.some r.stripes (r.part ++ row ∷ []) (move_bytes s width r.at ++ (r.pushed ++ cut.done)) few begins raster
         (subst (λ z. MayCome s width limit z raster) all m)
@@ -261,20 +262,20 @@ module _ (s : Settings) (width limit : ℕ) (rows : List (List Bool)) (row : Lis
 
 -- ---- where a row encoder stands
 
-module _ (s : Settings) (width limit : ℕ) (rows : List (List Bool)) (v : RowView) (window : Held) (text text' : Option (List ℕ)) where
+module _ (s : Settings) (width limit : ℕ) (rows : List (List Bool)) (v : RowView) (window : Held) (origin : Origin) (text' : Option (List ℕ)) where
   -- no stripe runs
-  pub stands_waiting : v.in_stripe ≡ 0 → Stands s width limit rows v window text text' → Waits s width limit rows v window text text'
+  pub stands_waiting : v.in_stripe ≡ 0 → Stands s width limit rows v window origin text' → Waits s width limit rows v window origin text'
   stands_waiting none (inl w) = w
   stands_waiting none (inr r) = absurd (omega (arith, r.1, none))
 
   -- one runs
-  pub stands_running : 0 < v.in_stripe → Stands s width limit rows v window text text' → Runs s width limit rows v window text text'
+  pub stands_running : 0 < v.in_stripe → Stands s width limit rows v window origin text' → Runs s width limit rows v window origin text'
   stands_running some (inl w) = absurd (omega (arith, w.in_stripe, some))
   stands_running some (inr r) = r.0
 
 -- ---- a stripe ends
 
-module _ (s : Settings) (width limit : ℕ) (rows : List (List Bool)) (v : RowView) (window : Held) (text mid text' : Option (List ℕ)) (some : 0 < v.in_stripe) (r : Runs s width limit rows v window text mid) where
+module _ (s : Settings) (width limit : ℕ) (rows : List (List Bool)) (v : RowView) (window : Held) (origin : Origin) (mid text' : Option (List ℕ)) (some : 0 < v.in_stripe) (r : Runs s width limit rows v window origin mid) where
   abbrev last : RowStart
   last = row_start_in s width r.at r.part
 
@@ -345,7 +346,7 @@ module _ (s : Settings) (width limit : ℕ) (rows : List (List Bool)) (v : RowVi
   pub stripe_ended : (laws : WritingLaws) (e : Encoder) (kept : Kept) (learned : List Estimate) (window' : Held) (text'' : Option (List ℕ)) (in_stripe : ℕ) → in_stripe ≡ 0 → EncoderIsAt e start []
       → ((last' : RowStart) → IsHeldBy None 0 last' v.kept v.learned window → IsHeldBy None 0 (first_row_start (next_stripe_start v.plan.width v.plan.reset last')) kept learned window')
       → (code more : List ℕ) → Rattle.qm_core.specs.Code.IsCode last.state.place code → r.pushed ++ more ≡ stuffed code ++ marker_bytes v.plan.reset → Appends mid text' more → Rattle.std.specs.Io.KnownBytes.Keeps text' text''
-      → StripeEnded s width limit v.in_stripe rows (record v { kept = kept; learned = learned; encoder = e; in_stripe = in_stripe }) window' text text''
+      → StripeEnded s width limit v.in_stripe rows (record v { kept = kept; learned = learned; encoder = e; in_stripe = in_stripe }) window' origin text''
   stripe_ended laws e kept learned window' text'' in_stripe none codes goes code more is all put keeps = record {
     plan_is = r.plan_is;
     come = r.come;
@@ -366,11 +367,11 @@ module _ (s : Settings) (width limit : ℕ) (rows : List (List Bool)) (v : RowVi
           (subst (λ b. IsHeldBy None 0 (first_row_start (next_stripe_start v.plan.width b last)) kept learned window') r.plan_is.reset_is (goes last behind));
       is_tallied = tallied more';
     };
-    appended = Appends-keeps text text' text'' (r.front ++ stripe_bytes (next_stripe s width r.at r.part))
-        (subst (Appends text text') (bytes_of laws code more is all) (Appends-more text mid text' (r.front ++ (move_bytes s width r.at ++ r.pushed)) more r.appended put)) keeps;
+    sent = Sends-keeps origin text' text'' (r.front ++ stripe_bytes (next_stripe s width r.at r.part))
+        (subst (Sends origin text') (bytes_of laws code more is all) (Sends-more origin mid text' (r.front ++ (move_bytes s width r.at ++ r.pushed)) more r.sent put)) keeps;
   }
 
-  pub stripe_cut : (laws : WritingLaws) (code more : List ℕ) → Rattle.qm_core.specs.Code.IsCode last.state.place code → r.pushed ++ more ≡ stuffed code ++ marker_bytes v.plan.reset → AppendsBeginning mid text' more → StripeBegun s width limit v.in_stripe rows text text'
+  pub stripe_cut : (laws : WritingLaws) (code more : List ℕ) → Rattle.qm_core.specs.Code.IsCode last.state.place code → r.pushed ++ more ≡ stuffed code ++ marker_bytes v.plan.reset → AppendsBeginning mid text' more → StripeBegun s width limit v.in_stripe rows origin text'
   stripe_cut laws code more is all cut = record {
     i = r.i;
     whole = r.whole;
@@ -382,14 +383,14 @@ module _ (s : Settings) (width limit : ℕ) (rows : List (List Bool)) (v : RowVi
     many = sym r.in_stripe;
     some = some_part;
     few = r.few;
-    appended = subst (AppendsBeginning text text') (bytes_of laws code more is all) (beginning_after text mid text' (r.front ++ (move_bytes s width r.at ++ r.pushed)) more r.appended cut);
+    sent = subst (SendsBeginning origin text') (bytes_of laws code more is all) (sends_after origin mid text' (r.front ++ (move_bytes s width r.at ++ r.pushed)) more r.sent cut);
   }
 
 -- ---- from a stripe that was ended
 
-module _ (s : Settings) (width limit count : ℕ) (rows : List (List Bool)) (v : RowView) (window : Held) (text text' : Option (List ℕ)) where
+module _ (s : Settings) (width limit count : ℕ) (rows : List (List Bool)) (v : RowView) (window : Held) (origin : Origin) (text' : Option (List ℕ)) where
   -- a stripe with all its rows
-  pub ended_waits : count ≡ v.plan.stripe_rows → StripeEnded s width limit count rows v window text text' → Waits s width limit rows v window text text'
+  pub ended_waits : count ≡ v.plan.stripe_rows → StripeEnded s width limit count rows v window origin text' → Waits s width limit rows v window origin text'
   ended_waits full e = record {
     plan_is = e.plan_is;
     come = e.come;
@@ -401,26 +402,26 @@ module _ (s : Settings) (width limit count : ℕ) (rows : List (List Bool)) (v :
     in_stripe = e.in_stripe;
     codes = e.codes;
     on_course = e.on_course;
-    appended = e.appended;
+    sent = e.sent;
   }
 
   -- a beginning of it was written
-  pub cut_stream : 1 ≤ s.stripe_rows → count ≡ s.stripe_rows → StripeBegun s width limit count rows text text' → StreamCut s width limit rows text text'
+  pub cut_stream : 1 ≤ s.stripe_rows → count ≡ s.stripe_rows → StripeBegun s width limit count rows origin text' → StreamCut s width limit rows origin text'
   cut_stream some full e = record {
-    bytes = e.appended.front;
-    appended = e.appended.appends;
+    bytes = e.sent.front;
+    sent = e.sent.sends;
     begins = λ raster b.
         let m : MayCome s width limit (e.whole ++ e.part) raster = subst (λ z. MayCome s width limit z raster) e.all b in
         let long = come_long s width limit (e.whole ++ e.part) raster m in
         let sum = length-append e.whole e.part in
         let full_part : length e.part ≡ s.stripe_rows = e.many ∙ full in
-        front_begins s raster (e.i + 1) e.appended.front
+        front_begins s raster (e.i + 1) e.sent.front
         (let inside = inside_of (height raster) s.stripe_rows e.i some (omega (arith, long, sum, e.stripes.many, full_part, some)) in omega (arith, inside))
         (record {
-          rest = e.appended.rest;
+          rest = e.sent.rest;
           bytes_are =
               sym (stripe_more s width limit e.i e.whole e.at e.front some e.stripes e.part raster m (omega (arith, long, sum, e.stripes.many, full_part, some)) (omega (arith, long, sum, e.stripes.many, full_part)))
-              ∙ e.appended.text_is;
+              ∙ e.sent.text_is;
         });
   }
 
@@ -471,14 +472,14 @@ module _ (s : Settings) (width limit : ℕ) (rows : List (List Bool)) (v : RowVi
   announced_at = plan.announced_is ∙ same_announced s.announced limit (length rows) (λ none. sym (all_rows none))
 
   -- no stripe runs
-  pub waits_ended : (window : Held) (text text' : Option (List ℕ)) → Waits s width limit rows v window text text' → StripesEnded s width limit rows v text text'
-  waits_ended window text text' w = record {
+  pub waits_ended : (window : Held) (origin : Origin) (text' : Option (List ℕ)) → Waits s width limit rows v window origin text' → StripesEnded s width limit rows v origin text'
+  waits_ended window origin text' w = record {
     rows_are = come.many;
     reset_is = plan.reset_is;
     announced_is = announced_at;
-    appended = subst (Appends text text')
+    sent = subst (Sends origin text')
         (w.stripes.front_is (raster_of width rows) itself
-        ∙ ap (jbg_up_to s (raster_of width rows)) (sym (count_is (length rows) s.stripe_rows w.i plan.some (omega (arith, w.stripes.many)) (omega (arith, w.stripes.many, plan.some))))) w.appended;
+        ∙ ap (jbg_up_to s (raster_of width rows)) (sym (count_is (length rows) s.stripe_rows w.i plan.some (omega (arith, w.stripes.many)) (omega (arith, w.stripes.many, plan.some))))) w.sent;
   }
 
 module _ (s : Settings) (width limit count : ℕ) (rows whole part : List (List Bool)) (i : ℕ) (at : EncoderStart) (front : List ℕ) (some : 1 ≤ s.stripe_rows) (all : rows ≡ whole ++ part) (stripes : StripesWhole s width limit i whole at front)
@@ -495,38 +496,38 @@ module _ (s : Settings) (width limit count : ℕ) (rows whole part : List (List 
       product : (i + 1) * s.stripe_rows ≡ i * s.stripe_rows + 1 * s.stripe_rows
       product = Rattle.std.proofs.Math.Nat.add-mul i 1 s.stripe_rows
 
-pub ended_stripes : (s : Settings) (width limit count : ℕ) (rows : List (List Bool)) (v v' : RowView) (window window' : Held) (text mid text' : Option (List ℕ)) → 0 < v.rows → (v.plan.may_end ≡ false → v.rows ≡ v.plan.limit)
-    → Runs s width limit rows v window text mid → StripeEnded s width limit count rows v' window' text text' → StripesEnded s width limit rows v' text text'
-ended_stripes s width limit count rows v v' window window' text mid text' some whole r e = record {
+pub ended_stripes : (s : Settings) (width limit count : ℕ) (rows : List (List Bool)) (v v' : RowView) (window window' : Held) (origin : Origin) (mid text' : Option (List ℕ)) → 0 < v.rows → (v.plan.may_end ≡ false → v.rows ≡ v.plan.limit)
+    → Runs s width limit rows v window origin mid → StripeEnded s width limit count rows v' window' origin text' → StripesEnded s width limit rows v' origin text'
+ended_stripes s width limit count rows v v' window window' origin mid text' some whole r e = record {
   rows_are = e.come.many;
   reset_is = e.plan_is.reset_is;
   announced_is = e.plan_is.announced_is ∙ same_announced s.announced limit (length rows) (λ none. sym (all_rows s width limit rows v r.plan_is r.come some whole none));
-  appended = subst (Appends text text') (last_stripe s width limit count rows e.whole e.part e.i e.at e.front r.plan_is.some e.all e.stripes e.some e.few (itself s width limit rows v r.plan_is r.come some whole)) e.appended;
+  sent = subst (Sends origin text') (last_stripe s width limit count rows e.whole e.part e.i e.at e.front r.plan_is.some e.all e.stripes e.some e.few (itself s width limit rows v r.plan_is r.come some whole)) e.sent;
 }
 
 -- no more than a beginning of the last stripe was written
-pub cut_stripes : (s : Settings) (width limit count : ℕ) (rows : List (List Bool)) (v : RowView) (window : Held) (text mid text' : Option (List ℕ)) → 0 < v.rows → (v.plan.may_end ≡ false → v.rows ≡ v.plan.limit)
-    → Runs s width limit rows v window text mid → StripeBegun s width limit count rows text text' → AppendsBeginning text text' (jbg s (raster_of width rows))
-cut_stripes s width limit count rows v window text mid text' some whole r e =
-    beginning_longer text text' (jbg_up_to s (raster_of width rows) (stripe_count (length rows) s.stripe_rows)) (ending s (length rows))
-    (subst (AppendsBeginning text text') (last_stripe s width limit count rows e.whole e.part e.i e.at e.front r.plan_is.some e.all e.stripes e.some e.few (itself s width limit rows v r.plan_is r.come some whole)) e.appended)
+pub cut_stripes : (s : Settings) (width limit count : ℕ) (rows : List (List Bool)) (v : RowView) (window : Held) (origin : Origin) (mid text' : Option (List ℕ)) → 0 < v.rows → (v.plan.may_end ≡ false → v.rows ≡ v.plan.limit)
+    → Runs s width limit rows v window origin mid → StripeBegun s width limit count rows origin text' → SendsBeginning origin text' (jbg s (raster_of width rows))
+cut_stripes s width limit count rows v window origin mid text' some whole r e =
+    sends_longer origin text' (jbg_up_to s (raster_of width rows) (stripe_count (length rows) s.stripe_rows)) (ending s (length rows))
+    (subst (SendsBeginning origin text') (last_stripe s width limit count rows e.whole e.part e.i e.at e.front r.plan_is.some e.all e.stripes e.some e.few (itself s width limit rows v r.plan_is r.come some whole)) e.sent)
 
-module _ (s : Settings) (width limit : ℕ) (rows : List (List Bool)) (v : RowView) (text mid text' : Option (List ℕ)) (e : StripesEnded s width limit rows v text mid) where
+module _ (s : Settings) (width limit : ℕ) (rows : List (List Bool)) (v : RowView) (origin : Origin) (mid text' : Option (List ℕ)) (e : StripesEnded s width limit rows v origin mid) where
   ending_is : ending_of v.plan.announced v.plan.reset v.rows ≡ ending s (length rows)
   ending_is =
       ap (λ n. ending_of n v.plan.reset v.rows) e.announced_is ∙ ap (λ b. ending_of (unwrap_or s.announced (length rows)) b v.rows) e.reset_is ∙ ap (ending_of (unwrap_or s.announced (length rows)) s.reset) e.rows_are
 
-  pub stream_ended : Appends mid text' (ending_of v.plan.announced v.plan.reset v.rows) → Appends text text' (jbg s (raster_of width rows))
-  stream_ended last = Appends-more text mid text' (jbg_up_to s (raster_of width rows) (stripe_count (length rows) s.stripe_rows)) (ending s (length rows)) e.appended (subst (Appends mid text') ending_is last)
+  pub stream_ended : Appends mid text' (ending_of v.plan.announced v.plan.reset v.rows) → Sends origin text' (jbg s (raster_of width rows))
+  stream_ended last = Sends-more origin mid text' (jbg_up_to s (raster_of width rows) (stripe_count (length rows) s.stripe_rows)) (ending s (length rows)) e.sent (subst (Appends mid text') ending_is last)
 
-  pub ending_cut : AppendsBeginning mid text' (ending_of v.plan.announced v.plan.reset v.rows) → AppendsBeginning text text' (jbg s (raster_of width rows))
-  ending_cut last = beginning_after text mid text' (jbg_up_to s (raster_of width rows) (stripe_count (length rows) s.stripe_rows)) (ending s (length rows)) e.appended (subst (AppendsBeginning mid text') ending_is last)
+  pub ending_cut : AppendsBeginning mid text' (ending_of v.plan.announced v.plan.reset v.rows) → SendsBeginning origin text' (jbg s (raster_of width rows))
+  ending_cut last = sends_after origin mid text' (jbg_up_to s (raster_of width rows) (stripe_count (length rows) s.stripe_rows)) (ending s (length rows)) e.sent (subst (AppendsBeginning mid text') ending_is last)
 
 -- ---- an image begins
 
 pub none_stand : (s : Settings) (width limit : ℕ) (v : RowView) (window : Held) (text text' : Option (List ℕ)) → IsPlan s width limit v.plan → v.rows ≡ 0 → v.in_stripe ≡ 0 → EncoderIsAt v.encoder start [] → v.kept.offset ≡ 0 → v.kept.previous_typical ≡ false → v.learned ≡ fresh
     → HasLines window (white_lines width) → is_two_line v.tally ≡ (mode_of s.options).two_line → most_of v.tally ≡ s.most_offset → ((width' current : ℕ) → CountsLines v.tally width' current []) → Appends text text' (head_of s width limit)
-    → Stands s width limit [] v window text text'
+    → Stands s width limit [] v window (here text) text'
 none_stand s width limit v window text text' plan rows_is none codes offset previous learned white two_line most counts put = inl (record {
   plan_is = plan;
   come = record { many = rows_is; few = omega arith; wide = tt };
@@ -540,5 +541,5 @@ none_stand s width limit v window text text' plan rows_is none codes offset prev
     is_held = record { at_top = tt; offset_is = offset; previous_is = previous; learned_is = learned; third = white_row width; lines_are = white };
     is_tallied = record { two_line = two_line; most = most; lines = []; counts = counts width 0; lines_are = λ _. refl };
   };
-  appended = put;
+  sent = sent_here text text' _ put;
 })

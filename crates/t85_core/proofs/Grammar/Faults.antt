@@ -6,7 +6,7 @@ use Rattle.byteorder.specs.Endian.{big_number}
 use Rattle.t85_core.specs.declared.fault.Fault.{Fault}
 use Rattle.t85_core.specs.declared.fault.Fault.TheVariants.{ShortHeader, ReservedBits, Layers, Planes, ZeroSize, TooWide, MoveRange, PrivateTable, Truncated, BadEscape, Aborted, MoveRefused, SecondMove, LengthRefused, SecondLength, Changed, Read, Write, OutOfMemory, OptionBits, StripeZero, MoveLarge, AnnouncedLow, TooManyRows, VariableHeight, CommentLong, Pbm}
 use Rattle.t85_core.specs.Header.{Fields, is_variable, Refusal, refusals, first_refusal, header_fault}
-use Rattle.t85_core.specs.Refusal.{Spot, rest_fault, escape_fault, length_fault, move_fault, comment_fault, is_legal_move, StripeFault, StripesFault}
+use Rattle.t85_core.specs.Refusal.{Spot, rest_fault, escape_fault, length_fault, move_fault, comment_fault, is_legal_move, StripesFault}
 use Rattle.t85_core.specs.Grammar.{is_valid_length}
 use Rattle.t85_core.specs.Failures.{counted_as, writes_after}
 use Rattle.t85_core.specs.Info.{IsBodyFault, IsWalkFault}

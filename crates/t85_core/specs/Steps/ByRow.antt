@@ -1,8 +1,6 @@
 -- What a row encoder holds, and what stands of a stream, after some rows.
 use Rattle.std.specs.Prelude.{ℕ, ◌+◌, ◌*◌, ◌^◌, ◌≡◌, ◌≤◌, ◌<◌, ◌⊎◌, Bool, true, false, List, [], ◌∷◌, ◌++◌, length, take, nat_lt, flat_map, if◌then◌else◌, Option, None, Some, IfSome, is_some, unwrap_or}
 use Rattle.std.specs.List.{AllByRecursion}
-use Rattle.std.specs.Io.KnownBytes.{Appends}
-use Rattle.pbm_core.specs.Device.{AppendsBeginning}
 use Rattle.qm_core.specs.Place.{Estimate, Place, start}
 use Rattle.qm_core.specs.Encoder.{EncoderIsAt, event_count, has_failed}
 use Rattle.qm_core.specs.declared.encoder.Encoder.{Encoder}
@@ -25,6 +23,7 @@ use Rattle.t85_core.specs.Steps.Written.{EncoderStart, next_move, row_start_in, 
 use Rattle.t85_core.specs.Steps.EncodeRows.{IsShape, IsCountedTo}
 use Rattle.t85_core.specs.Steps.EncodeStripes.{IsTallied}
 use Rattle.t85_core.specs.Steps.Looked.{CourseAt}
+use Rattle.t85_core.specs.Steps.Sent.{Origin, Sends, SendsBeginning}
 
 -- a raster of at most this height that begins with these rows; where no height is announced, of just this height
 pub record MayCome (s : Settings) (width limit : ℕ) (rows : List (List Bool)) (raster : Raster) : Type 0 where
@@ -35,15 +34,15 @@ pub record MayCome (s : Settings) (width limit : ℕ) (rows : List (List Bool)) 
   pub first : take (length rows) raster.rows ≡ rows
 
 -- What was written is a beginning of the stream of each raster that may still come.
-pub record StreamCut (s : Settings) (width limit : ℕ) (rows : List (List Bool)) (text text' : Option (List ℕ)) : Type 0 where
+pub record StreamCut (s : Settings) (width limit : ℕ) (rows : List (List Bool)) (origin : Origin) (text : Option (List ℕ)) : Type 0 where
   pub bytes : List ℕ
-  pub appended : Appends text text' bytes
+  pub sent : Sends origin text bytes
   pub begins : (raster : Raster) → MayCome s width limit rows raster → IsBeginning bytes (jbg s raster)
 
 -- The same, with each stripe whose rows all came.
-pub record StreamFront (s : Settings) (width limit : ℕ) (rows : List (List Bool)) (text text' : Option (List ℕ)) : Type 0 where
+pub record StreamFront (s : Settings) (width limit : ℕ) (rows : List (List Bool)) (origin : Origin) (text : Option (List ℕ)) : Type 0 where
   pub bytes : List ℕ
-  pub appended : Appends text text' bytes
+  pub sent : Sends origin text bytes
   pub begun : (raster : Raster) → MayCome s width limit rows raster → HoldsStripes s raster (length rows) bytes
 
 -- what was chosen for a stream
@@ -174,7 +173,7 @@ pub record IsRunning (s : Settings) (width : ℕ) (at : EncoderStart) (part : Li
   pub tallied : IsCountedTo width (counted_of v) v.tally (lines_down at.carry.above at.carry.second part)
 
 -- A stripe runs, after some that are whole.
-pub record Runs (s : Settings) (width limit : ℕ) (rows : List (List Bool)) (v : RowView) (window : Held) (text text' : Option (List ℕ)) : Type 0 where
+pub record Runs (s : Settings) (width limit : ℕ) (rows : List (List Bool)) (v : RowView) (window : Held) (origin : Origin) (text : Option (List ℕ)) : Type 0 where
   pub plan_is : IsPlan s width limit v.plan
   pub come : HaveCome width limit rows v.rows
   pub i : ℕ
@@ -189,7 +188,7 @@ pub record Runs (s : Settings) (width limit : ℕ) (rows : List (List Bool)) (v 
   pub pushed : List ℕ
   pub running : IsRunning s width at part v window pushed
   pub counts : CountsForNext s limit i v
-  pub appended : Appends text text' (front ++ (move_bytes s width at ++ pushed))
+  pub sent : Sends origin text (front ++ (move_bytes s width at ++ pushed))
 
 -- what is held where a stripe begins
 pub record IsStart (s : Settings) (width : ℕ) (at : EncoderStart) (v : RowView) (window : Held) : Type 0 where
@@ -197,7 +196,7 @@ pub record IsStart (s : Settings) (width : ℕ) (at : EncoderStart) (v : RowView
   pub is_tallied : IsTallied s width at v.tally
 
 -- No stripe runs: some are whole.
-pub record Waits (s : Settings) (width limit : ℕ) (rows : List (List Bool)) (v : RowView) (window : Held) (text text' : Option (List ℕ)) : Type 0 where
+pub record Waits (s : Settings) (width limit : ℕ) (rows : List (List Bool)) (v : RowView) (window : Held) (origin : Origin) (text : Option (List ℕ)) : Type 0 where
   pub plan_is : IsPlan s width limit v.plan
   pub come : HaveCome width limit rows v.rows
   pub i : ℕ
@@ -207,12 +206,12 @@ pub record Waits (s : Settings) (width limit : ℕ) (rows : List (List Bool)) (v
   pub in_stripe : v.in_stripe ≡ 0
   pub codes : EncoderIsAt v.encoder start []
   pub on_course : i * s.stripe_rows < limit → IsStart s width at v window
-  pub appended : Appends text text' front
+  pub sent : Sends origin text front
 
 -- After these rows of an image of this width, and of this height or, where a height is announced, at most this one.
-abbrev pub Stands : Settings → ℕ → ℕ → List (List Bool) → RowView → Held → Option (List ℕ) → Option (List ℕ) → Type 0
-Stands s width limit rows v window text text' =
-    Waits s width limit rows v window text text' ⊎ (Runs s width limit rows v window text text' × (0 < v.in_stripe) × (v.in_stripe < v.plan.stripe_rows))
+abbrev pub Stands : Settings → ℕ → ℕ → List (List Bool) → RowView → Held → Origin → Option (List ℕ) → Type 0
+Stands s width limit rows v window origin text =
+    Waits s width limit rows v window origin text ⊎ (Runs s width limit rows v window origin text × (0 < v.in_stripe) × (v.in_stripe < v.plan.stripe_rows))
 
 -- this row is below the lines that the window had
 abbrev pub IsBelow : List Bool → Held → Held → Type 0
@@ -221,28 +220,22 @@ IsBelow row old new = (lines : Lines) → HasLines old lines → HasLines new (r
 -- A row is taken, in whatever stream: what stood then stands with this row, too.
 abbrev pub TakesNextRow : List Bool → RowView → RowView → Held → Held → Option (List ℕ) → Option (List ℕ) → Type 0
 TakesNextRow row v v' window window' old new =
-    (s : Settings) (width limit : ℕ) (rows : List (List Bool)) (text : Option (List ℕ)) → Stands s width limit rows v window text old →
-    Stands s width limit (rows ++ row ∷ []) v' window' text new
+    (s : Settings) (width limit : ℕ) (rows : List (List Bool)) (origin : Origin) → Stands s width limit rows v window origin old →
+    Stands s width limit (rows ++ row ∷ []) v' window' origin new
 
 -- no more than a beginning was written
 abbrev pub CutsRow : List Bool → RowView → Held → Option (List ℕ) → Option (List ℕ) → Type 0
 CutsRow row v window old new =
-    (s : Settings) (width limit : ℕ) (rows : List (List Bool)) (text : Option (List ℕ)) → Stands s width limit rows v window text old →
-    StreamCut s width limit (rows ++ row ∷ []) text new
+    (s : Settings) (width limit : ℕ) (rows : List (List Bool)) (origin : Origin) → Stands s width limit rows v window origin old →
+    StreamCut s width limit (rows ++ row ∷ []) origin new
 
 -- an image ends, in whatever stream
 abbrev pub EndsImage : RowView → Held → Option (List ℕ) → Option (List ℕ) → Type 0
 EndsImage v window old new =
-    (s : Settings) (width limit : ℕ) (rows : List (List Bool)) (text : Option (List ℕ)) → Stands s width limit rows v window text old →
-    Appends text new (jbg s (raster_of width rows))
+    (s : Settings) (width limit : ℕ) (rows : List (List Bool)) (origin : Origin) → Stands s width limit rows v window origin old →
+    Sends origin new (jbg s (raster_of width rows))
 
 abbrev pub CutsImage : RowView → Held → Option (List ℕ) → Option (List ℕ) → Type 0
 CutsImage v window old new =
-    (s : Settings) (width limit : ℕ) (rows : List (List Bool)) (text : Option (List ℕ)) → Stands s width limit rows v window text old →
-    AppendsBeginning text new (jbg s (raster_of width rows))
-
--- What stands after some rows is a beginning of each stream that may come, and has each stripe whose rows all came.
-abbrev pub RowFronts : Type 0
-RowFronts =
-    (s : Settings) (width limit : ℕ) (rows : List (List Bool)) (v : RowView) (window : Held) (text text' : Option (List ℕ)) →
-    Stands s width limit rows v window text text' → StreamFront s width limit rows text text'
+    (s : Settings) (width limit : ℕ) (rows : List (List Bool)) (origin : Origin) → Stands s width limit rows v window origin old →
+    SendsBeginning origin new (jbg s (raster_of width rows))

@@ -26,6 +26,7 @@ use Rattle.t85_core.specs.Encode.{raster_of}
 use Rattle.t85_core.specs.Jbg.{Settings, head_of, jbg_up_to}
 use Rattle.t85_core.specs.Steps.State.{offset_at}
 use Rattle.t85_core.specs.Steps.Written.{EncoderStart, next_move, next_stripe, next_encoder_start}
+use Rattle.t85_core.specs.Steps.Sent.{Origin, Sends, SendsBeginning, here}
 use Rattle.t85_core.specs.Steps.ByRow.{IsPlan, HaveCome, StripesWhole, IsStart, RowView, Stands, Waits, Runs, StreamCut, IsBelow, TakesNextRow, CutsRow, move_bytes}
 
 -- The move of a stripe was written and made.
@@ -97,7 +98,7 @@ pub record CodeEnded {E : Type 0} (p : Place) (reset : Bool) (pushed : List ℕ)
   pub cut : OnErr answer (AppendsBeginning text text' more)
 
 -- A stripe was ended that had so many rows.
-pub record StripeEnded (s : Settings) (width limit count : ℕ) (rows : List (List Bool)) (v : RowView) (window : Held) (text text' : Option (List ℕ)) : Type 0 where
+pub record StripeEnded (s : Settings) (width limit count : ℕ) (rows : List (List Bool)) (v : RowView) (window : Held) (origin : Origin) (text : Option (List ℕ)) : Type 0 where
   pub plan_is : IsPlan s width limit v.plan
   pub come : HaveCome width limit rows v.rows
   pub i : ℕ
@@ -113,10 +114,10 @@ pub record StripeEnded (s : Settings) (width limit count : ℕ) (rows : List (Li
   pub in_stripe : v.in_stripe ≡ 0
   pub codes : EncoderIsAt v.encoder start []
   pub on_course : (i + 1) * s.stripe_rows < limit → IsStart s width (next_encoder_start s width at part) v window
-  pub appended : Appends text text' (front ++ stripe_bytes (next_stripe s width at part))
+  pub sent : Sends origin text (front ++ stripe_bytes (next_stripe s width at part))
 
 -- no more than a beginning of it was written
-pub record StripeBegun (s : Settings) (width limit count : ℕ) (rows : List (List Bool)) (text text' : Option (List ℕ)) : Type 0 where
+pub record StripeBegun (s : Settings) (width limit count : ℕ) (rows : List (List Bool)) (origin : Origin) (text : Option (List ℕ)) : Type 0 where
   pub i : ℕ
   pub whole : List (List Bool)
   pub part : List (List Bool)
@@ -127,76 +128,76 @@ pub record StripeBegun (s : Settings) (width limit count : ℕ) (rows : List (Li
   pub many : length part ≡ count
   pub some : 0 < length part
   pub few : length part ≤ s.stripe_rows
-  pub appended : AppendsBeginning text text' (front ++ stripe_bytes (next_stripe s width at part))
+  pub sent : SendsBeginning origin text (front ++ stripe_bytes (next_stripe s width at part))
 
 -- All stripes were written, of an image that may end here.
-pub record StripesEnded (s : Settings) (width limit : ℕ) (rows : List (List Bool)) (v : RowView) (text text' : Option (List ℕ)) : Type 0 where
+pub record StripesEnded (s : Settings) (width limit : ℕ) (rows : List (List Bool)) (v : RowView) (origin : Origin) (text : Option (List ℕ)) : Type 0 where
   pub rows_are : v.rows ≡ length rows
   pub reset_is : v.plan.reset ≡ s.reset
   pub announced_is : v.plan.announced ≡ unwrap_or s.announced (length rows)
-  pub appended : Appends text text' (jbg_up_to s (raster_of width rows) (stripe_count (length rows) s.stripe_rows))
+  pub sent : Sends origin text (jbg_up_to s (raster_of width rows) (stripe_count (length rows) s.stripe_rows))
 
 -- ---- what the steps of a call do, in whatever stream
 
 -- A stripe runs now, where one waited or ran.
 abbrev pub StandsToRun : RowView → RowView → Option (List ℕ) → Option (List ℕ) → Type 0
 StandsToRun v v' old new =
-    (s : Settings) (width limit : ℕ) (rows : List (List Bool)) (before : Held) (text : Option (List ℕ)) → Stands s width limit rows v before text old →
-    Runs s width limit rows v' before text new
+    (s : Settings) (width limit : ℕ) (rows : List (List Bool)) (before : Held) (origin : Origin) → Stands s width limit rows v before origin old →
+    Runs s width limit rows v' before origin new
 
 -- A stripe that waited runs now.
 abbrev pub WaitsToRun : RowView → RowView → Option (List ℕ) → Option (List ℕ) → Type 0
 WaitsToRun v v' old new =
-    (s : Settings) (width limit : ℕ) (rows : List (List Bool)) (before : Held) (text : Option (List ℕ)) → Waits s width limit rows v before text old →
-    Runs s width limit rows v' before text new
+    (s : Settings) (width limit : ℕ) (rows : List (List Bool)) (before : Held) (origin : Origin) → Waits s width limit rows v before origin old →
+    Runs s width limit rows v' before origin new
 
 -- no more than a beginning of its move was written
 abbrev pub CutsMove : RowView → Option (List ℕ) → Option (List ℕ) → Type 0
 CutsMove v old new =
-    (s : Settings) (width limit : ℕ) (rows : List (List Bool)) (row : List Bool) (before : Held) (text : Option (List ℕ)) → Waits s width limit rows v before text old →
-    StreamCut s width limit (rows ++ row ∷ []) text new
+    (s : Settings) (width limit : ℕ) (rows : List (List Bool)) (row : List Bool) (before : Held) (origin : Origin) → Waits s width limit rows v before origin old →
+    StreamCut s width limit (rows ++ row ∷ []) origin new
 
 -- The row that a window has was coded, in a stripe that runs.
 abbrev pub CodesRow : RowView → RowView → Held → Option (List ℕ) → Option (List ℕ) → Type 0
 CodesRow v v' window old new =
-    (s : Settings) (width limit : ℕ) (rows : List (List Bool)) (row : List Bool) (before : Held) (text : Option (List ℕ)) → IsBelow row before window →
-    Runs s width limit rows v before text old →
-    Runs s width limit (rows ++ row ∷ []) v' window text new
+    (s : Settings) (width limit : ℕ) (rows : List (List Bool)) (row : List Bool) (before : Held) (origin : Origin) → IsBelow row before window →
+    Runs s width limit rows v before origin old →
+    Runs s width limit (rows ++ row ∷ []) v' window origin new
 
 -- no more than a beginning was written
 abbrev pub CutsCode : RowView → Held → Option (List ℕ) → Option (List ℕ) → Type 0
 CutsCode v window old new =
-    (s : Settings) (width limit : ℕ) (rows : List (List Bool)) (row : List Bool) (before : Held) (text : Option (List ℕ)) → IsBelow row before window →
-    Runs s width limit rows v before text old →
-    StreamCut s width limit (rows ++ row ∷ []) text new
+    (s : Settings) (width limit : ℕ) (rows : List (List Bool)) (row : List Bool) (before : Held) (origin : Origin) → IsBelow row before window →
+    Runs s width limit rows v before origin old →
+    StreamCut s width limit (rows ++ row ∷ []) origin new
 
 -- The stripe that ran was ended, if it has all its rows.
 abbrev pub RunsToStand : RowView → RowView → Held → Held → Option (List ℕ) → Option (List ℕ) → Type 0
 RunsToStand v v' window window' old new =
-    (s : Settings) (width limit : ℕ) (rows : List (List Bool)) (text : Option (List ℕ)) → Runs s width limit rows v window text old →
-    Stands s width limit rows v' window' text new
+    (s : Settings) (width limit : ℕ) (rows : List (List Bool)) (origin : Origin) → Runs s width limit rows v window origin old →
+    Stands s width limit rows v' window' origin new
 
 abbrev pub CutsRunning : RowView → Held → Option (List ℕ) → Option (List ℕ) → Type 0
 CutsRunning v window old new =
-    (s : Settings) (width limit : ℕ) (rows : List (List Bool)) (text : Option (List ℕ)) → Runs s width limit rows v window text old →
-    StreamCut s width limit rows text new
+    (s : Settings) (width limit : ℕ) (rows : List (List Bool)) (origin : Origin) → Runs s width limit rows v window origin old →
+    StreamCut s width limit rows origin new
 
 -- The stripe that ran was ended.
 abbrev pub EndsStripe : RowView → RowView → Held → Held → Option (List ℕ) → Option (List ℕ) → Type 0
 EndsStripe v v' window window' old new =
-    (s : Settings) (width limit : ℕ) (rows : List (List Bool)) (text : Option (List ℕ)) → Runs s width limit rows v window text old →
-    StripeEnded s width limit v.in_stripe rows v' window' text new
+    (s : Settings) (width limit : ℕ) (rows : List (List Bool)) (origin : Origin) → Runs s width limit rows v window origin old →
+    StripeEnded s width limit v.in_stripe rows v' window' origin new
 
 abbrev pub CutsStripe : RowView → Held → Option (List ℕ) → Option (List ℕ) → Type 0
 CutsStripe v window old new =
-    (s : Settings) (width limit : ℕ) (rows : List (List Bool)) (text : Option (List ℕ)) → Runs s width limit rows v window text old →
-    StripeBegun s width limit v.in_stripe rows text new
+    (s : Settings) (width limit : ℕ) (rows : List (List Bool)) (origin : Origin) → Runs s width limit rows v window origin old →
+    StripeBegun s width limit v.in_stripe rows origin new
 
 -- All stripes of an image that may end here were written.
 abbrev pub EndsStripes : RowView → RowView → Held → Option (List ℕ) → Option (List ℕ) → Type 0
 EndsStripes v v' window old new =
-    (s : Settings) (width limit : ℕ) (rows : List (List Bool)) (text : Option (List ℕ)) → Stands s width limit rows v window text old →
-    StripesEnded s width limit rows v' text new
+    (s : Settings) (width limit : ℕ) (rows : List (List Bool)) (origin : Origin) → Stands s width limit rows v window origin old →
+    StripesEnded s width limit rows v' origin new
 
 -- A row is taken that is below the lines that a window had.
 abbrev pub TakesBelow : RowView → RowView → Held → Held → Option (List ℕ) → Option (List ℕ) → Type 0
@@ -224,4 +225,4 @@ given_row e bytes = pixels_of e.size.width bytes
 abbrev pub StandsFirst : Settings → ℕ → ℕ → RowView → Type 0
 StandsFirst s width limit v =
     (window : Held) (text text' : Option (List ℕ)) → HasLines window (white_lines width) → Appends text text' (head_of s width limit) →
-    Stands s width limit [] v window text text'
+    Stands s width limit [] v window (here text) text'

@@ -3,7 +3,7 @@
 pub mod numbers;
 
 use crate::encoding::learning::Learning;
-use crate::encoding::rows::{start_held, take_row};
+use crate::encoding::rows::{clear_padding, start_held, take_row};
 use crate::encoding::segments::write_ending;
 use crate::encoding::steps::{code_row, count_row, end_entity, go_on, has_candidates, move_pixel};
 use crate::fault::Fault;
@@ -45,7 +45,8 @@ impl RowEncoder {
     ghost use Rattle.std.specs.Prelude.{◌≡◌, ◌≤◌, ◌<◌, ◌+◌, ◌-◌, ◌*◌, ◌∷◌, [], ◌++◌, ◌⊎◌, List, Option, Bool, ℕ, OnOk, OnErr, IfOk, IfErr, IfSome, Err, is_err, true, false};
     ghost use Rattle.std.specs.Io.KnownBytes.{Appends};
     ghost use Rattle.pbm_core.specs.Device.{AppendsBeginning};
-    ghost use Rattle.raster_core.specs.Window.{held, width_of, memory_of};
+    ghost use Rattle.raster_core.specs.Window.{held, width_of};
+    ghost use Rattle.t85_core.specs.Lent.{StaysWindow};
     ghost use Rattle.raster_core.specs.Packed.{Held};
     ghost use Rattle.t85_core.specs.Jbg.{Settings, head_of, is_low};
     ghost use Rattle.t85_core.specs.Options.{settings_of};
@@ -186,8 +187,7 @@ impl RowEncoder {
         ensures rows { OnOk result (self.new.rows ≡ self.old.rows + 1) }
         ensures size { self.new.size ≡ self.old.size }
         ensures lined { OnOk result (IsLined (held window.new)) }
-        ensures width { width_of window.new ≡ width_of window.old }
-        ensures same_memory { memory_of window.new ≡ memory_of window.old }
+        ensures window { StaysWindow window.old window.new }
         ensures err { IfErr result (λ f. f ≡ Write) }
         ensures writes { IsGoing self.old → WritesOn (P.view target.old) (P.view target.new)
             result }
@@ -350,8 +350,7 @@ impl RowEncoder {
         ensures size { self.new.size ≡ self.old.size }
         ensures same_closed { self.new.is_closed ≡ self.old.is_closed }
         ensures lined { OnOk result (IsLined (held window.new)) }
-        ensures width { width_of window.new ≡ width_of window.old }
-        ensures same_memory { memory_of window.new ≡ memory_of window.old }
+        ensures window { StaysWindow window.old window.new }
         ensures err { IfErr result (λ f. f ≡ Write) }
         ensures writes { WritesOn (P.view target.old) (P.view target.new) result }
     {
@@ -389,8 +388,7 @@ impl RowEncoder {
         ensures size { self.new.size ≡ self.old.size }
         ensures same_closed { self.new.is_closed ≡ self.old.is_closed }
         ensures lined { OnOk result (IsLined (held window.new)) }
-        ensures width { width_of window.new ≡ width_of window.old }
-        ensures same_memory { memory_of window.new ≡ memory_of window.old }
+        ensures window { StaysWindow window.old window.new }
         ensures err { IfErr result (λ f. f ≡ Write) }
         ensures writes { WritesOn (P.view target.old) (P.view target.new) result }
     {
@@ -425,8 +423,7 @@ impl RowEncoder {
         ensures few { AppendsEnd self.old (P.view target.old).text (P.view target.new).text }
         ensures is_closed { self.new.is_closed ≡ true }
         ensures size { self.new.size ≡ self.old.size }
-        ensures width { width_of window.new ≡ width_of window.old }
-        ensures same_memory { memory_of window.new ≡ memory_of window.old }
+        ensures window { StaysWindow window.old window.new }
         ensures err { IfErr result (λ f. f ≡ Write) }
         ensures writes { IsGoing self.old → WritesOn (P.view target.old) (P.view target.new)
             result }
@@ -460,8 +457,7 @@ impl RowEncoder {
         ensures rows { self.new.rows ≡ self.old.rows }
         ensures size { self.new.size ≡ self.old.size }
         ensures same_closed { self.new.is_closed ≡ self.old.is_closed }
-        ensures width { width_of window.new ≡ width_of window.old }
-        ensures same_memory { memory_of window.new ≡ memory_of window.old }
+        ensures window { StaysWindow window.old window.new }
         ensures err { IfErr result (λ f. f ≡ Write) }
         ensures writes { WritesOn (P.view target.old) (P.view target.new) result }
     {
@@ -478,28 +474,27 @@ impl RowEncoder {
     ghost use Rattle.std.specs.Io.KnownBytes.{Appends, Keeps};
     ghost use Rattle.pbm_core.specs.Device.{AppendsBeginning};
     ghost use Rattle.pbm_core.specs.Pbm.{bytes_of_row};
-    ghost use Rattle.raster_core.specs.Window.{held, width_of, memory_of};
-    ghost use Rattle.t85_core.specs.Lent.{KeepsWindow};
-    ghost use Rattle.raster_core.specs.Packed.{Held};
+    ghost use Rattle.raster_core.specs.Window.{current_place, held, width_of};
+    ghost use Rattle.t85_core.specs.Lent.{KeepsWindow, StaysWindow};
+    ghost use Rattle.raster_core.specs.Packed.{Held, next_place};
     ghost use Rattle.t85_core.specs.Jbg.{Settings, head_of, is_low};
     ghost use Rattle.t85_core.specs.Options.{settings_of};
     ghost use Rattle.t85_core.specs.Failures.{CountsWrite, OnlyWrites};
     ghost use Rattle.t85_core.specs.Steps.Buffers.{known_length};
     ghost use Rattle.t85_core.specs.Steps.MostBytes.{AppendsRow, AppendsEnd};
     ghost use Rattle.t85_core.specs.Steps.RowSteps.{IsGoing, TakesBelow, CutsBelow, given_row};
+    ghost use Rattle.t85_core.specs.Steps.Sent.{here};
     ghost use Rattle.t85_core.specs.Steps.Views.{text_taken, writer_of};
     ghost use Rattle.t85_core.specs.declared.fault.Fault.TheVariants.{Write, AnnouncedLow};
     ghost use Rattle.t85_core.specs.Steps.ByRow.{
       view_of,
       MayGoOn,
       IsLined,
-      IsBelow,
       Stands,
       TakesNextRow,
       CutsRow,
       EndsImage,
       CutsImage,
-      StreamCut,
     };
 
     /// Begins a stream: writes its head, and makes the window white. What was learned of another image is forgotten.
@@ -512,14 +507,13 @@ impl RowEncoder {
     ) -> Result<RowEncoder, Fault>
         requires width { width_of window.old ≡ size.width }
         ensures begun { IfOk result (λ e. Stands (settings_of options.now) size.width size.height []
-            (view_of e learning.new) (held window.new) (W.view output.old).contents
+            (view_of e learning.new) (held window.new) (here (W.view output.old).contents)
             (W.view output.new).contents) }
         ensures ready { IfOk result MayGoOn }
         ensures going { IfOk result IsGoing }
         ensures none { IfOk result (λ e. e.rows ≡ 0) }
         ensures size { IfOk result (λ e. e.size ≡ size) }
-        ensures window { KeepsWindow window.old window.new }
-        ensures lined { IfOk result (λ e. IsLined (held window.new)) }
+        ensures window { StaysWindow window.old window.new }
         ensures refused { is_low (settings_of options.now) size.height ≡ true →
             result ≡ Err AnnouncedLow }
         ensures low { IsErrOf result AnnouncedLow → (is_low (settings_of options.now) size.height ≡
@@ -537,7 +531,8 @@ impl RowEncoder {
     }
 
     /// Takes the next row: its pixels, packed, in whole bytes; what is after the last of them is not looked at. After a
-    /// failed write, and after the end, nothing is done.
+    /// failed write, and after the end, nothing is done. What is lent may hold anything: only where it is as the last call
+    /// left it does the contract say what is written.
     pub fn put_row<W: Output>(
         &mut self,
         row: &[u8],
@@ -546,7 +541,6 @@ impl RowEncoder {
         output: &mut W,
     ) -> Result<(), Fault>
         requires width { width_of window.old ≡ self.old.size.width }
-        requires lined { IsGoing self.old → IsLined (held window.old) }
         requires whole { length row.now ≡ bytes_of_row self.old.size.width }
         requires left { IsGoing self.old → self.old.rows < self.old.size.height }
         requires ready { IsGoing self.old → MayGoOn self.old }
@@ -564,8 +558,9 @@ impl RowEncoder {
         ensures ready { OnOk result (MayGoOn self.new) }
         ensures rows { OnOk result (self.new.rows ≡ self.old.rows + 1) }
         ensures size { self.new.size ≡ self.old.size }
-        ensures lined { OnOk result (IsLined (held window.new)) }
         ensures window { KeepsWindow window.old window.new }
+        ensures place { OnOk result (current_place window.new ≡
+            next_place (next_place (current_place window.old))) }
         ensures err { IfErr result (λ f. f ≡ Write) }
         ensures writes { IsGoing self.old → OnlyWrites (W.view output.old) (W.view output.new)
             result }
@@ -573,6 +568,7 @@ impl RowEncoder {
         if self.is_closed {
             return Err(Fault::Write);
         }
+        clear_padding(self.size, window);
         take_row(row, self.size, window);
         let mut buffer = OutputBuffer::new(output);
         self.put_held(window, learning, &mut buffer)
@@ -600,9 +596,7 @@ impl RowEncoder {
         ensures ready { OnOk result (MayGoOn self.new) }
         ensures rows { OnOk result (self.new.rows ≡ self.old.rows + 1) }
         ensures size { self.new.size ≡ self.old.size }
-        ensures lined { OnOk result (IsLined (held window.new)) }
-        ensures width { width_of window.new ≡ width_of window.old }
-        ensures same_memory { memory_of window.new ≡ memory_of window.old }
+        ensures window { StaysWindow window.old window.new }
         ensures err { IfErr result (λ f. f ≡ Write) }
         ensures writes { CountsWrite (W.view buffer.old.output.now).failures
             (W.view buffer.new.output.now).failures result }
@@ -630,7 +624,6 @@ impl RowEncoder {
         output: &mut W,
     ) -> Result<(), Fault>
         requires width { width_of window.old ≡ self.old.size.width }
-        requires lined { IsGoing self.old → IsLined (held window.old) }
         requires some { IsGoing self.old → 0 < self.old.rows }
         requires whole { IsGoing self.old → self.old.may_end ≡ false → self.old.rows ≡
             self.old.size.height }
@@ -653,6 +646,7 @@ impl RowEncoder {
         if self.is_closed {
             return Err(Fault::Write);
         }
+        clear_padding(self.size, window);
         let mut buffer = OutputBuffer::new(output);
         self.end_held(window, learning, &mut buffer)
     }
@@ -677,8 +671,7 @@ impl RowEncoder {
         ensures few { AppendsEnd self.old (text_taken buffer.old) (text_taken buffer.new) }
         ensures is_closed { self.new.is_closed ≡ true }
         ensures size { self.new.size ≡ self.old.size }
-        ensures width { width_of window.new ≡ width_of window.old }
-        ensures same_memory { memory_of window.new ≡ memory_of window.old }
+        ensures window { StaysWindow window.old window.new }
         ensures err { IfErr result (λ f. f ≡ Write) }
         ensures writes { CountsWrite (W.view buffer.old.output.now).failures
             (W.view buffer.new.output.now).failures result }

@@ -4,12 +4,15 @@ ghost use Rattle.std.specs.Prelude.{◌≡◌, ◌≤◌, ◌<◌, ◌-◌, [], 
 ghost use Rattle.pbm_core.specs.Device.{AppendsBeginning};
 ghost use Rattle.pbm_core.specs.Pbm.{bytes_of_row, masked_row};
 ghost use Rattle.pbm_core.specs.Image.{pixels_of};
-ghost use Rattle.raster_core.specs.Window.{held, width_of, memory_of};
+ghost use Rattle.raster_core.specs.Packed.{with_current};
+ghost use Rattle.raster_core.specs.Window.{held, turned, width_of};
+ghost use Rattle.t85_core.specs.Lent.{StaysWindow, TurnsWindow};
 ghost use Rattle.t85_core.specs.Jbg.{head_of, is_low};
 ghost use Rattle.t85_core.specs.Options.{settings_of};
 ghost use Rattle.t85_core.specs.Failures.{CountsWrite};
 ghost use Rattle.t85_core.specs.Steps.Buffers.{known_length};
 ghost use Rattle.t85_core.specs.Steps.Views.{text_taken, writer_of};
+ghost use Rattle.t85_core.specs.Steps.Sent.{here};
 ghost use Rattle.t85_core.specs.Steps.ByRow.{view_of, MayGoOn, IsLined, IsBelow, Stands};
 ghost use Rattle.t85_core.specs.Steps.RowSteps.{IsGoing};
 ghost use Rattle.t85_core.specs.declared.fault.Fault.TheVariants.{Write};
@@ -29,14 +32,41 @@ pub fn take_row(row: &[u8], size: Size, window: &mut Window<'_>)
     requires whole { length row.now ≡ bytes_of_row size.width }
     requires width { width_of window.old ≡ size.width }
     ensures below { IsBelow (pixels_of size.width row.now) (held window.old) (held window.new) }
-    ensures width { width_of window.new ≡ width_of window.old }
-    ensures same_memory { memory_of window.new ≡ memory_of window.old }
+    ensures window { TurnsWindow window.old window.new }
 {
     // What the proof cites of rows.
     masks();
     window.turn();
     let current = current_row(window.width(), window.place());
     copy_row(row, size, &mut window.rows[current]);
+}
+
+/// Makes the bits after the last pixel 0, in all three rows: anything may stand in a window that a caller keeps.
+pub fn clear_padding(size: Size, window: &mut Window<'_>)
+    requires { width_of window.old ≡ size.width }
+    ensures lined { IsLined (held window.new) }
+    ensures stays { IsLined (held window.old) → held window.new ≡ held window.old }
+    ensures window { StaysWindow window.old window.new }
+{
+    // What the proof cites of rows.
+    masks();
+    turn_cleared(size, window);
+    turn_cleared(size, window);
+    turn_cleared(size, window);
+}
+
+/// Goes a row down in the window, to the row that is there, and makes the bits after its last pixel 0.
+fn turn_cleared(size: Size, window: &mut Window<'_>)
+    requires { width_of window.old ≡ size.width }
+    ensures whole { length (held window.old).second ≡ bytes_of_row size.width }
+    ensures rows { held window.new ≡ with_current (turned (held window.old))
+        (masked_row size.width (held window.old).second) }
+    ensures small { (k : ℕ) → slice_index (held window.new).current k < 256 }
+    ensures window { TurnsWindow window.old window.new }
+{
+    window.turn();
+    let current = current_row(window.width(), window.place());
+    clear_last(size, &mut window.rows[current]);
 }
 
 /// Copies a row, and makes the bits after its last pixel 0.
@@ -47,9 +77,18 @@ fn copy_row(row: &[u8], size: Size, to: &mut [u8])
     ensures small { (k : ℕ) → slice_index to.new k < 256 }
 {
     to.copy_from_slice(row);
-    let last = to.len() - 1;
-    let padding = to.len() * 8 - size.width as usize;
-    to[last] -= to[last] % (1u8 << padding);
+    clear_last(size, to);
+}
+
+/// Makes the bits after the last pixel 0.
+fn clear_last(size: Size, row: &mut [u8])
+    requires { length row.old ≡ bytes_of_row size.width }
+    ensures masked { row.new ≡ masked_row size.width row.old }
+    ensures small { (k : ℕ) → slice_index row.new k < 256 }
+{
+    let last = row.len() - 1;
+    let padding = row.len() * 8 - size.width as usize;
+    row[last] -= row[last] % (1u8 << padding);
 }
 
 /// Begins a stream, and writes what is held.
@@ -63,15 +102,13 @@ pub fn start_held<W: Output>(
     requires width { width_of window.old ≡ size.width }
     requires low { is_low (settings_of options.now) size.height ≡ false }
     ensures begun { IfOk result (λ e. Stands (settings_of options.now) size.width size.height []
-        (view_of e learning.new) (held window.new) (text_taken buffer.old)
+        (view_of e learning.new) (held window.new) (here (text_taken buffer.old))
         (W.view buffer.new.output.now).contents) }
     ensures ready { IfOk result MayGoOn }
     ensures going { IfOk result IsGoing }
     ensures none { IfOk result (λ e. e.rows ≡ 0) }
     ensures size { IfOk result (λ e. e.size ≡ size) }
-    ensures width { width_of window.new ≡ width_of window.old }
-    ensures same_memory { memory_of window.new ≡ memory_of window.old }
-    ensures lined { IsLined (held window.new) }
+    ensures window { StaysWindow window.old window.new }
     ensures cut { OnErr result (AppendsBeginning (text_taken buffer.old) (text_taken buffer.new)
         (head_of (settings_of options.now) size.width size.height)) }
     ensures err { IfErr result (λ f. f ≡ Write) }

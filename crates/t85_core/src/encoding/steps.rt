@@ -9,7 +9,8 @@ ghost use Rattle.raster_core.specs.Offset.{candidates};
 ghost use Rattle.qm_core.specs.Encoder.{EncoderIsAt, event_count, has_failed};
 ghost use Rattle.raster_core.specs.Lines.{Lines};
 ghost use Rattle.raster_core.specs.Packed.{HasLines};
-ghost use Rattle.raster_core.specs.Window.{held, width_of, memory_of};
+ghost use Rattle.raster_core.specs.Window.{held, width_of};
+ghost use Rattle.t85_core.specs.Lent.{StaysWindow};
 ghost use Rattle.t85_core.specs.Jbg.{Settings, head_of, is_low};
 ghost use Rattle.t85_core.specs.Options.{settings_of};
 ghost use Rattle.t85_core.specs.Steps.State.{RowStart, first_row_start, next_stripe_start};
@@ -206,8 +207,7 @@ pub fn go_on(reset: bool, window: &mut Window<'_>, kept: &mut Kept, learned: &mu
         kept.new learned.new (held window.new) }
     ensures offset { kept.old.offset ≤ 127 → kept.new.offset ≤ 127 }
     ensures lined { IsLined (held window.old) → IsLined (held window.new) }
-    ensures width { width_of window.new ≡ width_of window.old }
-    ensures same_memory { memory_of window.new ≡ memory_of window.old }
+    ensures window { StaysWindow window.old window.new }
 {
     if reset {
         window.clear();

@@ -8,6 +8,7 @@ use Rattle.t85_core.specs.Options.{settings_of}
 use Rattle.t85_core.specs.Steps.EncodeRows.{EndsInRow}
 use Rattle.t85_core.specs.Steps.ByRow.{view_of}
 use Rattle.t85_core.proofs.Bytes.Ends.{map_ok, exit_of, err_of}
+use Rattle.t85_core.proofs.Bytes.Sendings.{here_sent}
 use Rattle.t85_core.proofs.Encodings.HeadPut.{head_refused}
 use Rattle.t85_core.proofs.Encodings.RowsJoined.{reads_none, reads_join}
 use Rattle.t85_core.proofs.Encodings.ImageByRow.{front_short, cut_refused, end_refused, taken_lined}
@@ -76,7 +77,7 @@ rows-preserved g c =
       ready = c.in_ok-put_taken.ensures.ready;
       many = (let more = c.in_ok-put_taken.ensures.rows in omega (arith, more, c.rows.invariant.many));
       size_is = c.in_ok-put_taken.ensures.size ∙ c.rows.invariant.size_is;
-      width = c.in_ok-put_taken.ensures.width ∙ c.in_ok-read_next_row.ensures.width ∙ c.rows.invariant.width;
+      width = c.in_ok-put_taken.ensures.window.0.0 ∙ c.in_ok-read_next_row.ensures.width ∙ c.rows.invariant.width;
       lined = c.in_ok-put_taken.ensures.lined;
       reads = c.in_ok-read_next_row.ensures.reads ∙ c.rows.invariant.reads;
       same_source = c.in_ok-read_next_row.ensures.same_input.same_source ∙ c.rows.invariant.same_source;
@@ -90,7 +91,7 @@ returns-clause-ok g c =
     let s = settings_of c.args.options.now in
     let so = c.rows.invariant.come in
     let ended : c.rows.counter ≡ c.args.size.height = omega (arith, c.rows.auto.counter-end, c.rows-test.false) in
-    map_ok c.end.result (λ all. record { rows = so.0; many = so.1 ∙ ended; read = so.2; appended = all s c.args.size.width c.args.size.height so.0 _ so.3 }) c.end.ensures.ok
+    map_ok c.end.result (λ all. record { rows = so.0; many = so.1 ∙ ended; read = so.2; appended = here_sent _ _ _ (all s c.args.size.width c.args.size.height so.0 _ so.3) }) c.end.ensures.ok
 
 pub returns-clause-unwritten : goal.returns-clause-unwritten
 returns-clause-unwritten g c is =

@@ -1,5 +1,5 @@
-use Rattle.std.proofs.Common.{Bool, subst, sym}
-use Rattle.t85_core.specs.Lent.{PieceView, decoder_over}
+use Rattle.std.proofs.Common.{subst, sym}
+use Rattle.t85_core.specs.Lent.{decoder_over}
 use Rattle.t85_core.specs.Pieces.{IsCall, call_of}
 use Rattle.uses.proofs.pieces.next_row.Goals as goal
 

@@ -1,4 +1,4 @@
-use Rattle.std.proofs.Common.{◌≤◌, ◌<◌, ◌∙◌, ◌++◌, ◌∷◌, [], sym, ap, subst}
+use Rattle.std.proofs.Common.{◌++◌, ◌∷◌, [], sym, subst}
 use Rattle.pbm_core.specs.Image.{pixels_of}
 use Rattle.raster_core.specs.Window.{held}
 use Rattle.t85_core.specs.Steps.ByRow.{Stands, view_of}
@@ -13,8 +13,8 @@ returns-in-Ok-clause-put g c =
     let same = c.in_ok-again.ensures.resumes c.args.encoder.now c.requires.low c.requires.plan c.requires.ready c.numbers.ensures c.args.learning.now in (
       c.put_row.new.self,
       c.numbers-in-Ok.ensures,
-      λ s width limit rows text so.
-          subst (λ z. Stands s width limit (rows ++ pixels_of z.width c.args.row.now ∷ []) (view_of c.put_row.new.self c.put_row.new.learning) (held c.put_row.new.window) text (g.W.Output.view c.put_row.new.output).contents) c.in_ok-again.ensures.size
-          (c.in-Ok.ensures.ok s width limit rows text
-          (subst (λ v. Stands s width limit rows v (held c.args.window.now) text (g.W.Output.view c.args.output.now).contents) (sym same) so)),
+      λ s width limit rows origin so.
+          subst (λ z. Stands s width limit (rows ++ pixels_of z.width c.args.row.now ∷ []) (view_of c.put_row.new.self c.put_row.new.learning) (held c.put_row.new.window) origin (g.W.Output.view c.put_row.new.output).contents) c.in_ok-again.ensures.size
+          (c.in-Ok.ensures.ok s width limit rows origin
+          (subst (λ v. Stands s width limit rows v (held c.args.window.now) origin (g.W.Output.view c.args.output.now).contents) (sym same) so)),
     )

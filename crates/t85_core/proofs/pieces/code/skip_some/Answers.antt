@@ -1,7 +1,4 @@
-use Rattle.std.proofs.Common.{◌≡◌, Some, sym, subst}
-use Rattle.t85_core.specs.declared.fault.Fault.TheVariants.{Truncated}
-use Rattle.t85_core.specs.Failures.{Ends}
-use Rattle.t85_core.specs.Steps.Segments.{RestFault}
+use Rattle.std.proofs.Common.{Some, sym, subst}
 use Rattle.t85_core.specs.Steps.PieceCode.{SkipsSome}
 use Rattle.t85_core.proofs.Walks.Passed.{skipped_plain, skipped_byte, code_ends}
 use Rattle.t85_core.proofs.Decodings.PieceMarker.{skip_breaks}

@@ -1,6 +1,6 @@
 use Rattle.std.proofs.Common.{◌≡◌, false}
-use Rattle.raster_core.specs.Window.{held, width_of}
-use Rattle.t85_core.specs.Steps.ByRow.{MayGoOn, IsLined}
+use Rattle.raster_core.specs.Window.{width_of}
+use Rattle.t85_core.specs.Steps.ByRow.{MayGoOn}
 use Rattle.tests.proofs.by_row.Rows.run.Given as goal
 
 abbrev pub invariant-rows : goal.invariant-rows
@@ -9,5 +9,4 @@ invariant-rows l = record {
   ready : MayGoOn l.encoder;
   size_is : l.encoder.size ≡ l.self.size;
   width : width_of l.window ≡ l.self.size.width;
-  lined : IsLined (held l.window);
 }

@@ -1,4 +1,4 @@
-use Rattle.std.specs.Prelude.{OnErr, List, Bool, Option, ℕ, ◌++◌, ◌∷◌, []}
+use Rattle.std.specs.Prelude.{OnErr, List, Bool, ℕ, ◌++◌, ◌∷◌, []}
 use Rattle.std.proofs.Common.{refl, sym, subst, arith}
 use Rattle.raster_core.specs.Packed.{Held}
 use Rattle.raster_core.specs.Window.{held}
@@ -6,6 +6,7 @@ use Rattle.t85_core.specs.Jbg.{Settings}
 use Rattle.t85_core.specs.Steps.EncodeRows.{IsCountedTo}
 use Rattle.t85_core.specs.Steps.Written.{row_start_in}
 use Rattle.t85_core.specs.Steps.State.{lines_with}
+use Rattle.t85_core.specs.Steps.Sent.{Origin}
 use Rattle.t85_core.specs.Steps.ByRow.{Runs, StreamCut, IsBelow, view_of}
 use Rattle.t85_core.proofs.Walks.InfoEnds.{exit_all}
 use Rattle.t85_core.proofs.Encodings.RowSteps.{events_more, row_coded, row_cut, lines_are}
@@ -16,18 +17,18 @@ use Rattle.t85_core.proofs.encoding.by_row.RowEncoder.code.Goals as goal
 
 pub returns-in_err-code_row-clause-cut : goal.returns-in_err-code_row-clause-cut
 returns-in_err-code_row-clause-cut g c =
-    exit_all (λ r. OnErr r ((s : Settings) (width limit : ℕ) (rows : List (List Bool)) (row : List Bool) (before : Held) (text : Option (List ℕ)) → IsBelow row before (held c.args.window.now) →
-    Runs s width limit rows (view_of c.args.self.now c.args.learning.now) before text (g.P.ByteTarget.view c.args.target.now).text → StreamCut s width limit (rows ++ row ∷ []) text (g.P.ByteTarget.view c.code_row.new.target).text)) c.from_residual.result c.from_residual.ensures.1
-    (λ s width limit rows row before text below r. row_cut s width limit rows row (view_of c.args.self.now c.args.learning.now) before (held c.args.window.now) text _ _ below c.requires.width r c.writing_laws.ensures c.requires.fewer
+    exit_all (λ r. OnErr r ((s : Settings) (width limit : ℕ) (rows : List (List Bool)) (row : List Bool) (before : Held) (origin : Origin) → IsBelow row before (held c.args.window.now) →
+    Runs s width limit rows (view_of c.args.self.now c.args.learning.now) before origin (g.P.ByteTarget.view c.args.target.now).text → StreamCut s width limit (rows ++ row ∷ []) origin (g.P.ByteTarget.view c.code_row.new.target).text)) c.from_residual.result c.from_residual.ensures.1
+    (λ s width limit rows row before origin below r. row_cut s width limit rows row (view_of c.args.self.now c.args.learning.now) before (held c.args.window.now) origin _ _ below c.requires.width r c.writing_laws.ensures c.requires.fewer
     (c.in_err-code_row.ensures.row (row_start_in s width r.at r.part).state.place r.pushed (lines_with (row_start_in s width r.at r.part) row) r.running.codes
-    (lines_are s width limit rows row (view_of c.args.self.now c.args.learning.now) before (held c.args.window.now) text (g.P.ByteTarget.view c.args.target.now).text (g.P.ByteTarget.view c.args.target.now).text below c.requires.width r)).cut)
+    (lines_are s width limit rows row (view_of c.args.self.now c.args.learning.now) before (held c.args.window.now) origin (g.P.ByteTarget.view c.args.target.now).text (g.P.ByteTarget.view c.args.target.now).text below c.requires.width r)).cut)
 
 pub returns-clause-ok : goal.returns-clause-ok
-returns-clause-ok g c s width limit rows row before text below r =
+returns-clause-ok g c s width limit rows row before origin below r =
     let is = c.counted-counted.ensures.is c.args.learning.now in
-    row_coded s width limit rows row (view_of c.args.self.now c.args.learning.now) before (held c.args.window.now) text _ _ below c.requires.width r c.requires.left c.requires.fewer c.requires.able.few_rows c.code_row.new.kept c.code_row.new.learned c.count_row.new.tally c.code_row.new.encoder _ _ refl refl
+    row_coded s width limit rows row (view_of c.args.self.now c.args.learning.now) before (held c.args.window.now) origin _ _ below c.requires.width r c.requires.left c.requires.fewer c.requires.able.few_rows c.code_row.new.kept c.code_row.new.learned c.count_row.new.tally c.code_row.new.encoder _ _ refl refl
     (c.in_ok-code_row.ensures.row (row_start_in s width r.at r.part).state.place r.pushed (lines_with (row_start_in s width r.at r.part) row) r.running.codes
-    (lines_are s width limit rows row (view_of c.args.self.now c.args.learning.now) before (held c.args.window.now) text (g.P.ByteTarget.view c.args.target.now).text (g.P.ByteTarget.view c.args.target.now).text below c.requires.width r)).ok
+    (lines_are s width limit rows row (view_of c.args.self.now c.args.learning.now) before (held c.args.window.now) origin (g.P.ByteTarget.view c.args.target.now).text (g.P.ByteTarget.view c.args.target.now).text below c.requires.width r)).ok
     (λ lines l few has counted. subst (λ o. IsCountedTo c.args.self.now.size.width o c.count_row.new.tally (lines ++ l ∷ [])) is (c.count_row.ensures.counts lines l few has (subst (λ o. IsCountedTo c.args.self.now.size.width o c.args.learning.now.tally lines) (sym is) counted)))
     c.count_row.ensures.two_line c.count_row.ensures.most
 

@@ -1,0 +1,5 @@
+use Rattle.t85_core.proofs.Encodings.RowCalls.{stands_elsewhere}
+use Rattle.t85_core.proofs.laws.elsewhere.Goals as goal
+
+pub returns : goal.returns
+returns c = stands_elsewhere
