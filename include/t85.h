@@ -108,10 +108,14 @@ enum {
     T85_NO_MORE_PARTS = 52, /* all parts of the stream were told */
 
     /* A stream in pieces. The last three are no faults. */
-    T85_NOT_BEGUN = 53,     /* the decoder was not begun */
+    T85_NOT_BEGUN = 53,     /* the decoder, or the encoder, was not begun */
     T85_HEADER_READ = 60,   /* the header was read */
     T85_ROW = 61,           /* a row was decoded */
-    T85_MORE = 62           /* more bytes are wanted */
+    T85_MORE = 62,          /* more bytes are wanted */
+
+    /* An image whose rows come one by one. */
+    T85_NO_MORE_ROWS = 54,  /* all rows came, or the stream was ended */
+    T85_SHORT_ROW = 55      /* the row is shorter than t85_row_bytes(width) */
 };
 
 #define T85_MOST_WIDTH 1048576
@@ -199,6 +203,14 @@ typedef struct {
 typedef struct {
     uint64_t opaque[T85_DECODER_BYTES / 8];
 } t85_decoder;
+
+#define T85_ENCODER_BYTES 5360
+
+/* An encoder of an image whose rows come one by one. It may be where a decoder may be, and whatever its
+   bytes are, a call is safe; an encoder of zeros is told as T85_NOT_BEGUN. */
+typedef struct {
+    uint64_t opaque[T85_ENCODER_BYTES / 8];
+} t85_encoder;
 
 /* The library's version, as T85_VERSION has it for the header. */
 uint32_t t85_version(void);
@@ -329,6 +341,51 @@ uint32_t t85_decode_certain(const t85_decoder *decoder);
 T85_NO_NULL((1))
 uint32_t t85_decode_height(const t85_decoder *decoder);
 
+/* Begins a stream of an image whose rows come one by one, and writes its header and its comment: 20
+   bytes, and with a comment its length and 6 more. `size` is sizeof(t85_encoder). `height` is the
+   number of rows, or, where options->announces_height, the most that may come.
+
+   From here to the end the window has t85_window_bytes(width) bytes or more, which are the same ones
+   at each call, wherever they lie, and which you don't write to between two calls.
+
+   0: *written bytes of `stream` are the beginning of the stream.
+   Others, with nothing written or changed, *written being 0, by the first that applies: 50; 20, 21,
+   22, 26; 33, 34; 23; 19; T85_NO_ROOM. */
+T85_NO_NULL((1, 5, 12))
+uint8_t t85_encode_start(t85_encoder *encoder, size_t size, uint32_t width, uint32_t height,
+                         const t85_options *options, const uint8_t *comment, size_t comment_len,
+                         uint8_t *window, size_t window_len, uint8_t *stream, size_t stream_room,
+                         size_t *written);
+
+/* Takes the next row, whose first t85_row_bytes(width) bytes are read, and writes what of the stream is
+   certain with it, which may be nothing.
+
+   0: the row was taken, and *written bytes of `stream` are the next of the stream.
+   Others, with nothing written or changed, *written being 0, by the first that applies: 53; 54; 55;
+   19; T85_NO_ROOM, where the room is less than t85_encode_room tells. */
+T85_NO_NULL((1, 8))
+uint8_t t85_encode_row(t85_encoder *encoder, const uint8_t *row, size_t row_len, uint8_t *window,
+                       size_t window_len, uint8_t *stream, size_t stream_room, size_t *written);
+
+/* Ends the stream, with a new height where fewer rows came than were announced.
+
+   0: *written bytes of `stream` are the last of the stream.
+   Others, with nothing written or changed, *written being 0, by the first that applies: 53; 54, where
+   it was ended before; T85_ROWS_MISSING, where no row came or a height is not announced and rows are
+   missing; 19; T85_NO_ROOM, where the room is less than t85_encode_room tells. */
+T85_NO_NULL((1, 6))
+uint8_t t85_encode_end(t85_encoder *encoder, uint8_t *window, size_t window_len, uint8_t *stream,
+                       size_t stream_room, size_t *written);
+
+/* How many rows may still come: 0 of an encoder that was not begun, and of one that was ended. */
+T85_NO_NULL((1))
+uint32_t t85_encode_rows_left(const t85_encoder *encoder);
+
+/* Bytes of room that are enough for the next call, be it for a row or for the end: about four bytes a
+   pixel, and 0 of an encoder that was not begun or was ended. Most rows write far less. */
+T85_NO_NULL((1))
+uint64_t t85_encode_room(const t85_encoder *encoder);
+
 /* Writes what a status means in English, without a line feed and without a zero byte: as much of it
    as there is room for. Gives the length of the whole text. */
 size_t t85_message(uint8_t status, uint8_t *text, size_t room);
@@ -370,6 +427,20 @@ size_t t85_message(uint8_t status, uint8_t *text, size_t room);
     t85_decode_rows(t85_bytes_or_nothing(stream), len, max_rows, stride,                       \
                     t85_room_or_nothing(window), window_len, t85_room_or_nothing(rows),        \
                     rows_room, rows_written)
+
+#define t85_encode_start(encoder, size, width, height, options, comment, comment_len, window, \
+                         window_len, stream, stream_room, written)                            \
+    t85_encode_start(encoder, size, width, height, options, t85_bytes_or_nothing(comment),    \
+                     comment_len, t85_room_or_nothing(window), window_len,                    \
+                     t85_room_or_nothing(stream), stream_room, written)
+
+#define t85_encode_row(encoder, row, row_len, window, window_len, stream, stream_room, written) \
+    t85_encode_row(encoder, t85_bytes_or_nothing(row), row_len, t85_room_or_nothing(window),    \
+                   window_len, t85_room_or_nothing(stream), stream_room, written)
+
+#define t85_encode_end(encoder, window, window_len, stream, stream_room, written) \
+    t85_encode_end(encoder, t85_room_or_nothing(window), window_len,              \
+                   t85_room_or_nothing(stream), stream_room, written)
 
 #define t85_message(status, text, room) t85_message(status, t85_room_or_nothing(text), room)
 

@@ -23,7 +23,7 @@ use Rattle.t85_core.specs.Lent.{decoder_over, decoder_view}
 use Rattle.t85_core.specs.Numbers.{piece_numbers}
 use Rattle.t85_core.specs.Options.{fields_of}
 use Rattle.t85_core.specs.Feeds.{HasFed, IsFeed}
-use Rattle.t85_core.specs.Pieces.{HasDecoded, HandsOut, HoldsImage, MayFollow}
+use Rattle.t85_core.specs.Pieces.{HasDecoded, HandsOut, HoldsImage}
 use Rattle.t85_core.specs.Pieces.{call_of as piece_call}
 use Rattle.t85.specs.Decoded.{window_bytes}
 use Rattle.t85.specs.Decoder.{AnnouncesMore, Answers, BehindHeader, BytesCall, GivesRowAt, HasRead, Hold, InHeader, InRows, IsBrokenStream, IsImageOf, IsShort, StandAt, bytes_of_call, bytes_call, bytes_held_by, hold_of, numbers_of_decoder}
@@ -165,7 +165,7 @@ module _ (laws : HeaderLaws) (d mid new : T85Decoder) (bytes window : List ℕ) 
 -- ---- the rows
 
 -- those of a window are those of its memory, at its place
-window_rows : (window : Window) (place width : ℕ) (memory : List ℕ) → current_place window ≡ place → width_of window ≡ width → memory ≡ window.rows.now → rows_held window ≡ rows_at place width memory
+pub window_rows : (window : Window) (place width : ℕ) (memory : List ℕ) → current_place window ≡ place → width_of window ≡ width → memory ≡ window.rows.now → rows_held window ≡ rows_at place width memory
 window_rows window place width memory at wide is =
     ap (λ p. rows_at p window.width window.rows.now) at ∙ ap (λ n. rows_at place n window.rows.now) wide ∙ ap (λ m. rows_at place width m) (sym is)
 

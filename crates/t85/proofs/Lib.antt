@@ -1,4 +1,5 @@
 pub mod DecoderCalls
+pub mod EncoderCalls
 pub mod Bytes
 pub mod Delivery
 pub mod Digits

@@ -7,6 +7,7 @@ pub mod Decoded
 pub mod DecodedRows
 pub mod Decoder
 pub mod Encoded
+pub mod Encoder
 pub mod Bound
 pub mod Message
 pub mod Parts
@@ -15,3 +16,4 @@ pub mod Laws
 -- How it is proved.
 pub mod LinedOutput
 pub mod DecoderSteps
+pub mod EncoderSteps

@@ -21,7 +21,7 @@ use t85_core::{Fault, Options, encode_in_memory};
 /// The version of `T85Options`.
 const VERSION: u32 = 1;
 /// The status of a call with options of another version.
-const OTHER_VERSION: u8 = 50;
+pub const OTHER_VERSION: u8 = 50;
 /// The status of a call with rows that are closer than they are long.
 pub const SHORT_STRIDE: u8 = 51;
 /// The statuses of a width or height 0, and of a width that is too large.
@@ -29,7 +29,7 @@ const ZERO_SIZE: u8 = 33;
 
 const TOO_WIDE: u8 = 34;
 /// The widest image.
-const MOST_WIDTH: u32 = 1_048_576;
+pub const MOST_WIDTH: u32 = 1_048_576;
 
 /// Writes the stream of an image. Row y begins `y * stride` bytes after the first; a row has a bit a pixel, the first
 /// highest, in whole bytes, and what is after its last pixel is not looked at.
@@ -105,7 +105,7 @@ pub extern "C" fn t85_encode_bound(
 }
 
 /// The size and the choices, or the status of the first refusal.
-fn judge<'a>(
+pub fn judge<'a>(
     width: u32,
     height: u32,
     stride: usize,

@@ -53,6 +53,8 @@ fn message_of(status: u8) -> &'static [u8]
         51 => b"stride is shorter than a row",
         52 => b"all parts of the stream were told",
         53 => b"decoder was not begun",
+        54 => b"no more rows are taken",
+        55 => b"row is shorter than its width",
         60 => b"header was read",
         61 => b"row was decoded",
         62 => b"more bytes are wanted",

@@ -1,6 +1,7 @@
 //! The calls on worked examples.
 
 mod pieces;
+mod rows;
 
 use crate::{
     T85Header, T85Options, T85Summary, t85_decode, t85_decode_rows, t85_encode, t85_encode_bound,
@@ -173,7 +174,7 @@ fn limits_are_told_in_order(rt: HostRuntime) {
 }
 
 /// A stream, where its rows are to go, what is answered, and what is then in memory that was full of AA.
-struct Rows {
+struct RowsAt {
     stream: &'static [u8],
     stride: usize,
     room: usize,
@@ -182,8 +183,8 @@ struct Rows {
     memory: [u8; 6],
 }
 
-static ROWS: [Rows; 9] = [
-    Rows {
+static ROWS: [RowsAt; 9] = [
+    RowsAt {
         stream: TWO_ROWS,
         stride: 1,
         room: 6,
@@ -191,7 +192,7 @@ static ROWS: [Rows; 9] = [
         rows: 2,
         memory: *b"\xff\x32\xaa\xaa\xaa\xaa",
     },
-    Rows {
+    RowsAt {
         stream: TWO_ROWS,
         stride: 3,
         room: 6,
@@ -199,7 +200,7 @@ static ROWS: [Rows; 9] = [
         rows: 2,
         memory: *b"\xff\xaa\xaa\x32\xaa\xaa",
     },
-    Rows {
+    RowsAt {
         stream: TWO_ROWS,
         stride: 3,
         room: 4,
@@ -207,7 +208,7 @@ static ROWS: [Rows; 9] = [
         rows: 2,
         memory: *b"\xff\xaa\xaa\x32\xaa\xaa",
     },
-    Rows {
+    RowsAt {
         stream: TWO_ROWS,
         stride: 3,
         room: 3,
@@ -215,7 +216,7 @@ static ROWS: [Rows; 9] = [
         rows: 1,
         memory: *b"\xff\xaa\xaa\xaa\xaa\xaa",
     },
-    Rows {
+    RowsAt {
         stream: TWO_ROWS,
         stride: usize::MAX,
         room: 1,
@@ -223,7 +224,7 @@ static ROWS: [Rows; 9] = [
         rows: 1,
         memory: *b"\xff\xaa\xaa\xaa\xaa\xaa",
     },
-    Rows {
+    RowsAt {
         stream: TWO_ROWS,
         stride: 3,
         room: 0,
@@ -231,7 +232,7 @@ static ROWS: [Rows; 9] = [
         rows: 0,
         memory: *b"\xaa\xaa\xaa\xaa\xaa\xaa",
     },
-    Rows {
+    RowsAt {
         stream: TWO_ROWS,
         stride: 0,
         room: 6,
@@ -239,7 +240,7 @@ static ROWS: [Rows; 9] = [
         rows: 0,
         memory: *b"\xaa\xaa\xaa\xaa\xaa\xaa",
     },
-    Rows {
+    RowsAt {
         stream: TWICE,
         stride: 2,
         room: 6,
@@ -247,7 +248,7 @@ static ROWS: [Rows; 9] = [
         rows: 1,
         memory: *b"\x80\xaa\xaa\xaa\xaa\xaa",
     },
-    Rows {
+    RowsAt {
         stream: b"\0\0\x01\0\0\0\0\x03\0\0\0\x03\0\0\0\x80\0\0\0\0\xff\0\xc0\xff\x02",
         stride: 2,
         room: 6,
@@ -258,7 +259,7 @@ static ROWS: [Rows; 9] = [
 ];
 
 /// Whether an example's rows are written where they should be.
-fn has_rows(example: &Rows) -> bool {
+fn has_rows(example: &RowsAt) -> bool {
     let mut window = [0; 24];
     let mut memory = [0xaa; 6];
     let mut rows = 77;
@@ -658,6 +659,8 @@ fn other_statuses_have_texts(rt: HostRuntime) {
     assert!(rt; says(51, b"stride is shorter than a row"));
     assert!(rt; says(52, b"all parts of the stream were told"));
     assert!(rt; says(53, b"decoder was not begun"));
+    assert!(rt; says(54, b"no more rows are taken"));
+    assert!(rt; says(55, b"row is shorter than its width"));
     assert!(rt; says(60, b"header was read"));
     assert!(rt; says(61, b"row was decoded"));
     assert!(rt; says(62, b"more bytes are wanted"));

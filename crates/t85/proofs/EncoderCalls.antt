@@ -1,0 +1,519 @@
+-- An encoder that a C caller holds.
+use Rattle.std.proofs.Common.{◌≡◌, ◌≢◌, ◌≤◌, ◌<◌, ◌+◌, ◌-◌, ◌*◌, ◌/◌, ◌%◌, ◌⊎◌, inl, inr, ℕ, zero, suc, ◌==◌, Bool, true, false, not, ◌||◌, nat_lt, nat_le, List, [], ◌∷◌, ◌++◌, length, take, Option, None, Some, Result, Ok, Err, refl, sym, ap, subst, ◌∙◌, arith, append-nil, length-append, length-take, take_all, true≢false}
+use Rattle.std.specs.Prelude.{IfErr, IfSome, IsSomeAnd, MatchOption, OnOk, is_some, is_ok, option_map, option_to_list, replicate, unwrap_or, if◌then◌else◌}
+use Rattle.std.specs.Int.{div_ceil}
+use Rattle.std.specs.List.{AllByRecursion}
+use Rattle.std.proofs.lemmas.Bool.Decides.{nat_tests}
+use Rattle.std.proofs.Math.Nat.{suc-mul}
+use Rattle.std.proofs.lemmas.List.{length-replicate, length-take-le, take-append-le}
+use Rattle.pbm_core.specs.Device.{AppendsBeginning, one_more}
+use Rattle.pbm_core.specs.Image.{pixels_of}
+use Rattle.pbm_core.specs.declared.size.Size.{Size}
+use Rattle.qm_core.specs.Machine.{run_bytes}
+use Rattle.raster_core.specs.Packed.{Held, rows_at}
+use Rattle.raster_core.specs.Raster.{IsRaster, white_row}
+use Rattle.raster_core.specs.Window.{held as rows_held, width_of}
+use Rattle.raster_core.specs.declared.window.Window.{Window}
+use Rattle.t85_core.specs.Denotes.{Denotes}
+use Rattle.t85_core.specs.Encode.{raster_of}
+use Rattle.t85_core.specs.Fault.{fault_number}
+use Rattle.t85_core.specs.Failures.{CountsWrite, writes_after}
+use Rattle.t85_core.specs.Jbg.{AreSettings, Settings, head_of, is_low, jbg, jbg_up_to}
+use Rattle.t85_core.specs.Laws.{CodeDenotes}
+use Rattle.t85_core.specs.Options.{refusal_of, settings_of}
+use Rattle.t85_core.specs.RowNumbers.{row_numbers}
+use Rattle.t85_core.specs.Steps.ByRow.{EndsImage, HaveCome, IsPlan, MayCome, MayGoOn, RowPlan, RowView, RowsGoElsewhere, Stands, TakesNextRow, plan_of, view_of}
+use Rattle.t85_core.specs.Steps.MostBytes.{AppendsAtMost, most_end_bytes, most_row_bytes}
+use Rattle.t85_core.specs.Steps.RowSteps.{IsGoing, given_row}
+use Rattle.t85_core.specs.Steps.Sent.{Origin, Sends, behind, here}
+use Rattle.t85_core.specs.declared.encoding.by_row.RowEncoder.{RowEncoder}
+use Rattle.t85_core.specs.declared.encoding.by_row.numbers.RowNumbers.{RowNumbers}
+use Rattle.t85_core.specs.declared.encoding.learning.Learning.{Learning}
+use Rattle.t85_core.specs.declared.options.Options.{Options}
+use Rattle.t85_core.specs.declared.fault.Fault.{Fault}
+use Rattle.t85_core.specs.declared.fault.Fault.TheVariants.{AnnouncedLow, CommentLong, MoveLarge, OptionBits, StripeZero, Write}
+use Rattle.t85.specs.Decoded.{window_bytes}
+use Rattle.t85.specs.Delivered.{lending}
+use Rattle.t85.specs.Encoded.{or_else, settings_chosen, status_if}
+use Rattle.t85.specs.Encoder.{BeginsStream, EndsStream, HasBeenEnded, HasCome, Image, IsNotBegun, PutsEnd, PutsRow, StartCall, StartsStream, TakesOne, TellsLeft, TellsRoom, encoder_hold, end_refusal, image_of, numbers_of_encoder, room_told, row_refusal, settings_kept, start_refusal, without_comment}
+use Rattle.t85.specs.EncoderSteps.{GoesOnFrom, HasBegun, IsIdle, IsOfNone, IsReady, RefusesCall}
+use Rattle.t85.specs.declared.encoder.T85Encoder.{T85Encoder}
+use Rattle.t85.proofs.DecoderCalls.{not_some, window_rows}
+use Rattle.t85.proofs.Stored.{are_settings}
+
+-- ---- what stands says of the plan, and of the rows
+
+pub plan_in : {s : Settings} {width limit : ℕ} {rows : List (List Bool)} {v : RowView} {window : Held} {origin : Origin} {text : Option (List ℕ)} → Stands s width limit rows v window origin text → IsPlan s width limit v.plan
+plan_in (inl w) = w.plan_is
+plan_in (inr r) = r.0.plan_is
+
+pub come_in : {s : Settings} {width limit : ℕ} {rows : List (List Bool)} {v : RowView} {window : Held} {origin : Origin} {text : Option (List ℕ)} → Stands s width limit rows v window origin text → HaveCome width limit rows v.rows
+come_in (inl w) = w.come
+come_in (inr r) = r.0.come
+
+-- ---- the choices that the struct has
+
+-- a plan doesn't look at the comment
+plan_bare : (s : Settings) (width limit : ℕ) (p : RowPlan) → IsPlan s width limit p → IsPlan (without_comment s) width limit p
+plan_bare s width limit p is = record {
+  width_is = is.width_is;
+  limit_is = is.limit_is;
+  shape_is = record { width_is = is.shape_is.width_is; mode_is = is.shape_is.mode_is };
+  stripe_rows_is = is.stripe_rows_is;
+  some = is.some;
+  announced_is = is.announced_is;
+  may_end_is = is.may_end_is;
+  candidates_are = is.candidates_are;
+  reset_is = is.reset_is;
+  width_from = is.width_from;
+  width_to = is.width_to;
+  limit_to = is.limit_to;
+}
+
+accepted : (p s m : ℕ) (layer : Bool) → p < 128 → p % 8 ≡ 0 → layer ≡ false → 1 ≤ s → m ≤ 127 → (not (p % 8 == 0) || layer || nat_le 128 p ≡ false) × ((s == 0) ≡ false) × (nat_lt 127 m ≡ false)
+accepted p s m layer small low none some within = (grind (arith, nat_tests), grind (arith, nat_tests), grind (arith, nat_tests))
+
+no_fault : (other empty large : Bool) → other ≡ false → empty ≡ false → large ≡ false → (if other then Some OptionBits else if empty then Some StripeZero else if large then Some MoveLarge else None) ≡ None
+no_fault true empty large a b c = absurd (true≢false a)
+no_fault false true large a b c = absurd (true≢false b)
+no_fault false false true a b c = absurd (true≢false c)
+no_fault false false false a b c = refl
+
+-- so the choices of an image that is encoded are not refused
+unrefused : (d : T85Encoder) (s : Settings) (fault : Fault) → settings_kept d ≡ without_comment s → AreSettings s → refusal_of d.options d.stripe_rows d.most_offset None ≡ Some fault → ⊥
+unrefused d s fault same proper refused =
+    let a = accepted s.options s.stripe_rows s.most_offset _ proper.options_to proper.no_low_bit proper.no_layer_bit proper.stripe_from proper.offset_to in
+    let b : refusal_of s.options s.stripe_rows s.most_offset None ≡ Some fault = subst (λ z. refusal_of z.options z.stripe_rows z.most_offset None ≡ Some fault) same refused in
+    let none : refusal_of s.options s.stripe_rows s.most_offset None ≡ None = no_fault _ _ _ a.0 a.1 a.2 in
+    not_some fault (sym none ∙ b)
+
+-- no image is encoded by a struct with choices that are refused
+pub none_refused : (d : T85Encoder) (fault : Fault) → refusal_of d.options d.stripe_rows d.most_offset None ≡ Some fault → IsOfNone d
+none_refused d fault refused = λ window image rows sent k. unrefused d image.settings fault k.settings_are k.proper refused
+
+-- or with a size that none has
+pub none_sized : (d : T85Encoder) → (d.width ≡ 0) ⊎ (1048576 < d.width) ⊎ (d.height ≡ 0) → IsOfNone d
+none_sized d (inl e) = λ window image rows sent k. (let plan = plan_in (k.stands None) in let from = plan.width_from in omega (arith, e, from, k.width_is))
+none_sized d (inr (inl e)) = λ window image rows sent k. (let plan = plan_in (k.stands None) in let to = plan.width_to in omega (arith, e, to, k.width_is))
+none_sized d (inr (inr e)) = λ window image rows sent k. (let from = k.some in omega (arith, e, from, k.limit_is))
+
+-- ---- the engine's encoder
+
+-- the one that has the numbers
+module _ (d : T85Encoder) (o : Settings) (same : o ≡ settings_kept d) (numbers : RowNumbers) (numbers_are : numbers ≡ numbers_of_encoder d) (result : Option RowEncoder)
+    (resumes : (e : RowEncoder) → is_low o d.height ≡ false → IsPlan o d.width d.height (plan_of e) → MayGoOn e → numbers ≡ row_numbers e → IsSomeAnd result (λ r. (l : Learning) → view_of r l ≡ view_of e l)) where
+  found : (window : List ℕ) (image : Image) (rows : List (List Bool)) (sent : List ℕ) (k : HasCome image (encoder_hold d window) rows sent) → IsSomeAnd result (λ r. (l : Learning) → view_of r l ≡ view_of k.engine l)
+  found window image rows sent k =
+      let is : o ≡ without_comment image.settings = same ∙ k.settings_are in
+      let bare : IsPlan (without_comment image.settings) image.width image.limit (plan_of k.engine) = plan_bare image.settings image.width image.limit (plan_of k.engine) (plan_in (k.stands None)) in
+      resumes k.engine
+      (subst (λ z. is_low z d.height ≡ false) (sym is) (subst (λ h. is_low (without_comment image.settings) h ≡ false) (sym k.limit_is) k.not_low))
+      (subst (λ z. IsPlan z d.width d.height (plan_of k.engine)) (sym is) (subst (λ w. IsPlan (without_comment image.settings) w d.height (plan_of k.engine)) (sym k.width_is) (subst (λ h. IsPlan (without_comment image.settings) image.width h (plan_of k.engine)) (sym k.limit_is) bare)))
+      k.ready (numbers_are ∙ k.numbers_are)
+
+pub resumed : (d : T85Encoder) (o : Settings) (size : Size) (same : o ≡ settings_kept d) (numbers : RowNumbers) (numbers_are : numbers ≡ numbers_of_encoder d) (result : Option RowEncoder)
+    (resumes : (e : RowEncoder) → is_low o d.height ≡ false → IsPlan o d.width d.height (plan_of e) → MayGoOn e → numbers ≡ row_numbers e → IsSomeAnd result (λ r. (l : Learning) → view_of r l ≡ view_of e l)) →
+    size.width ≡ d.width → size.height ≡ d.height → IfSome result MayGoOn → IfSome result (λ r. IsPlan o d.width d.height (plan_of r)) → IfSome result (λ r. row_numbers r ≡ numbers) → IfSome result (λ r. r.size ≡ size) → IfSome result IsGoing → MatchOption result (IsOfNone d) (λ r. GoesOnFrom d r)
+resumed d o size same numbers numbers_are None resumes wide high ready plan are sized going = λ window image rows sent k. found d o same numbers numbers_are None resumes window image rows sent k
+resumed d o size same numbers numbers_are (Some r) resumes wide high ready plan are sized going = record {
+  ready = ready;
+  going = going;
+  width_is = ap (λ z. z.width) sized ∙ wide;
+  limit_is = ap (λ z. z.height) sized ∙ high;
+  plan_is = subst (λ z. IsPlan z d.width d.height (plan_of r)) same plan;
+  numbers_are = are ∙ numbers_are;
+  resumes = λ window image rows sent k. found d o same numbers numbers_are (Some r) resumes window image rows sent k;
+}
+
+-- it isn't there
+pub idle_none : (d : T85Encoder) → IsOfNone d → d.version ≡ 1 → d.next ≡ 1 → IsIdle d 53
+idle_none d none version next = record {
+  some = λ e. omega (arith, e);
+  none = none;
+  ended = λ h. absurd (let is = h.next_is in omega (arith, is, next));
+  not_begun = λ h. refl;
+}
+
+pub idle_refuses : (d : T85Encoder) (refusal : Option ℕ) (status : ℕ) → IsIdle d status → RefusesCall d refusal status
+idle_refuses d refusal status i = record {
+  some = i.some;
+  first = λ window image rows sent k. absurd (i.none window image rows sent k);
+  ended = i.ended;
+  not_begun = i.not_begun;
+}
+
+-- one that takes rows refuses a call
+pub ready_refuses : (d : T85Encoder) (e : RowEncoder) (refusal : Option ℕ) (status : ℕ) → IsReady d e → status ≢ 0 → refusal ≡ Some status → RefusesCall d refusal status
+ready_refuses d e refusal status r some is = record {
+  some = some;
+  first = λ window image rows sent k. is;
+  ended = λ h. absurd (let next = h.next_is in let was = r.next_is in omega (arith, next, was));
+  not_begun = λ h. absurd (begun h);
+} where
+  begun : IsNotBegun d → ⊥
+  begun (inl other) = other r.version_is
+  begun (inr other) = other.0 r.next_is
+
+-- ---- how many rows may come, and how many bytes are written at most
+
+pub left_told : (d : T85Encoder) (left : ℕ) → left ≡ d.height - d.rows → TellsLeft d left
+left_told d left is = λ window image rows sent k. (let come = come_in (k.stands None) in let few = come.few in omega (arith, is, few, k.limit_is, k.rows_are))
+
+pub none_left : (d : T85Encoder) (status : ℕ) → IsIdle d status → TellsRoom d 0
+none_left d status i = λ window image rows sent k. absurd (i.none window image rows sent k)
+
+run_length : (zeros : ℕ) (held : Option ℕ) (ones : ℕ) → length (run_bytes zeros held ones) ≡ zeros + ((if is_some held then 1 else 0) + ones)
+run_length zeros None ones =
+    let a = length-append {A = ℕ} (replicate zeros 0) (replicate ones 255) in
+    let b = length-replicate {A = ℕ} zeros 0 in
+    let c = length-replicate {A = ℕ} ones 255 in
+    omega (arith, a, b, c)
+run_length zeros (Some byte) ones =
+    let a = length-append {A = ℕ} (replicate zeros 0) (byte ∷ replicate ones 255) in
+    let b = length-replicate {A = ℕ} zeros 0 in
+    let c = length-replicate {A = ℕ} ones 255 in
+    omega (arith, a, b, c)
+
+-- the numbers of an encoder say it
+pub room_is : (d : T85Encoder) (e : RowEncoder) → GoesOnFrom d e → most_row_bytes e ≡ room_told d
+room_is d e g =
+    let told : RowNumbers → ℕ → ℕ = λ n w. 2 * ((n.encoder.zeros + ((if n.encoder.has_held then 1 else 0) + n.encoder.ones)) + (n.encoder.bits + 7) / 8) + 4 * (w + 1) + 10 in
+    ap (λ t. 2 * (t + (e.encoder.bits + 7) / 8) + 4 * (e.size.width + 1) + 10) (run_length e.encoder.tail.zeros e.encoder.tail.held e.encoder.tail.ones) ∙ ap (λ n. told n e.size.width) g.numbers_are ∙ ap (told (numbers_of_encoder d)) g.width_is
+
+-- ---- a room that is not filled
+
+-- what an empty one holds that took no more bytes than it has room for
+pub never_full : (answer : Result (Unit {0}) Fault) (most len : ℕ) (memory old : List ℕ) (spilled : Option ℕ) (before after : ℕ) → old ≡ [] → AppendsAtMost most (Some old) (Some (take len memory ++ option_to_list spilled)) → most ≤ length memory → len ≤ length memory → (is_some spilled ≡ true → len ≡ length memory) →
+    (0 < after → is_some spilled ≡ true) → before ≡ 0 → CountsWrite before after answer → IfErr answer (λ f. f ≡ Write) → (is_ok answer ≡ true) × (take len memory ++ option_to_list spilled ≡ take len memory)
+never_full answer most len memory old (Some b) before after none few enough within last full fresh counts err =
+    let all : len ≡ length memory = last refl in
+    let grown : length (take len memory ++ b ∷ []) ≡ length old + length few.bytes = ap length few.appended ∙ length-append old few.bytes in
+    let long : length (take len memory ++ b ∷ []) ≡ length (take len memory) + 1 = length-append (take len memory) (b ∷ []) in
+    let cut : length (take len memory) ≡ len = length-take-le len memory within in
+    let start : length old ≡ 0 = ap length none in
+    let most_is = few.few in
+    absurd (omega (arith, all, grown, long, cut, start, most_is, enough))
+never_full (Ok u) most len memory old None before after none few enough within last full fresh counts err = (refl, append-nil (take len memory))
+never_full (Err f) most len memory old None before after none few enough within last full fresh counts err =
+    let one : after ≡ 1 = subst (λ g. after ≡ writes_after g before) err counts ∙ ap one_more fresh in
+    absurd (true≢false (sym (full (omega (arith, one)))))
+
+pub when_right : (answer : Result (Unit {0}) Fault) {P : Type 0} → is_ok answer ≡ true → OnOk answer P → P
+when_right (Ok u) is p = p
+when_right (Err f) is p = cc
+
+-- the end writes no more than a row may
+pub end_within : (e : RowEncoder) (room : ℕ) → most_row_bytes e ≤ room → most_end_bytes e ≤ room
+end_within e room enough = omega (arith, enough)
+
+-- ---- a row
+
+module _ (d : T85Encoder) (e : RowEncoder) (ready : IsReady d e) (memory : List ℕ) (window : Window) (long : length memory ≡ window_bytes d.width) (at : rows_held window ≡ rows_at d.place d.width memory) (image : Image) (rows : List (List Bool)) (sent : List ℕ) (k : HasCome image (encoder_hold d memory) rows sent) where
+  -- what the engine has of an image
+  pub stands_lent : Stands image.settings image.width image.limit rows (view_of e d.learning) (rows_held window) (behind sent (Some [])) (Some [])
+  stands_lent =
+      let same : rows_at d.place image.width (take (window_bytes image.width) memory) ≡ rows_held window =
+      ap (λ m. rows_at d.place image.width m) (take_all (window_bytes image.width) memory (subst (λ w. length memory ≤ window_bytes w) k.width_is (omega (arith, long)))) ∙ ap (λ w. rows_at d.place w memory) (sym k.width_is) ∙ sym at in
+      subst (λ w. Stands image.settings image.width image.limit rows (view_of e d.learning) w (behind sent (Some [])) (Some [])) same
+      (subst (λ v. Stands image.settings image.width image.limit rows v (rows_at d.place image.width (take (window_bytes image.width) memory)) (behind sent (Some [])) (Some [])) (sym (ready.goes_on.resumes memory image rows sent k d.learning)) (k.stands (Some [])))
+
+  -- and once rows have come that the struct has the numbers of
+  pub come_so : (law : RowsGoElsewhere) (kept : T85Encoder) (e' : RowEncoder) (learning : Learning) (memory' bytes : List ℕ) (window' : Window) (all : List (List Bool)) → length memory' ≡ window_bytes d.width → rows_held window' ≡ rows_at kept.place d.width memory' → kept.version ≡ d.version → kept.next ≡ d.next → kept.width ≡ d.width → kept.height ≡ d.height → settings_kept kept ≡ settings_kept d → kept.learning ≡ learning → kept.place < 3 → MayGoOn e' →
+      numbers_of_encoder kept ≡ row_numbers e' → Stands image.settings image.width image.limit all (view_of e' learning) (rows_held window') (behind sent (Some [])) (Some bytes) → HasCome image (encoder_hold kept memory') all (sent ++ bytes)
+  come_so law kept e' learning memory' bytes window' all long' at' version next wide high settings learned small may numbers now =
+      let goes = law image.settings image.width image.limit all (view_of e' learning) (rows_held window') (behind sent (Some [])) (Some bytes) now in
+      let sends = goes.1 in
+      let sent_is : goes.0 ≡ sent ++ bytes = sends.all ∙ ap (λ m. sent ++ m) (sym sends.appended) in
+      let come = come_in now in
+      let same_rows : rows_held window' ≡ rows_at kept.place image.width (take (window_bytes image.width) memory') =
+      at' ∙ ap (λ w. rows_at kept.place w memory') k.width_is ∙ ap (λ m. rows_at kept.place image.width m) (sym (take_all (window_bytes image.width) memory' (subst (λ w. length memory' ≤ window_bytes w) k.width_is (omega (arith, long'))))) in
+      record {
+        version_is = version ∙ k.version_is;
+        next_is = next ∙ k.next_is;
+        width_is = wide ∙ k.width_is;
+        limit_is = high ∙ k.limit_is;
+        rows_are = ap (λ n. n.rows) numbers ∙ come.many;
+        settings_are = settings ∙ k.settings_are;
+        proper = k.proper;
+        not_low = k.not_low;
+        some = k.some;
+        place_to = small;
+        engine = e';
+        ready = may;
+        numbers_are = numbers;
+        stands = λ text.
+            subst (λ b. Stands image.settings image.width image.limit all (view_of e' kept.learning) (rows_at kept.place image.width (take (window_bytes image.width) memory')) (behind b text) text) sent_is
+            (subst (λ l. Stands image.settings image.width image.limit all (view_of e' l) (rows_at kept.place image.width (take (window_bytes image.width) memory')) (behind goes.0 text) text) (sym learned)
+            (subst (λ w. Stands image.settings image.width image.limit all (view_of e' learning) w (behind goes.0 text) text) same_rows (goes.2 text)));
+      }
+
+-- a row was put
+pub row_taken : (law : RowsGoElsewhere) (d kept : T85Encoder) (e e' : RowEncoder) (learning : Learning) (memory memory' row room stream : List ℕ) (n : ℕ) (window window' : Window) → IsReady d e → length memory ≡ window_bytes d.width → length memory' ≡ window_bytes d.width → length row ≡ div_ceil d.width 8 →
+    rows_held window ≡ rows_at d.place d.width memory → rows_held window' ≡ rows_at kept.place d.width memory' → kept.version ≡ d.version → kept.next ≡ d.next → kept.width ≡ d.width → kept.height ≡ d.height → settings_kept kept ≡ settings_kept d → kept.learning ≡ learning → kept.place < 3 → numbers_of_encoder kept ≡ row_numbers e' → room ≡ stream → most_row_bytes e ≤ length stream → (most_row_bytes e ≤ length room → MayGoOn e') →
+    (most_row_bytes e ≤ length room → TakesNextRow (given_row e row) (view_of e d.learning) (view_of e' learning) (rows_held window) (rows_held window') (Some []) (Some (take n room))) → TakesOne (encoder_hold d memory) (encoder_hold kept memory') row (take n stream)
+row_taken law d kept e e' learning memory memory' row room stream n window window' ready long long' whole at at' version next wide high settings learned small numbers same enough may puts = λ image rows sent k.
+    let fits : most_row_bytes e ≤ length room = subst (λ b. most_row_bytes e ≤ length b) (sym same) enough in
+    let pixels : pixels_of e.size.width row ≡ pixels_of image.width (take (div_ceil image.width 8) row) =
+    ap (λ w. pixels_of w row) (ready.goes_on.width_is ∙ k.width_is) ∙ ap (λ r. pixels_of image.width r) (sym (take_all (div_ceil image.width 8) row (subst (λ w. length row ≤ div_ceil w 8) k.width_is (omega (arith, whole))))) in
+    let now = puts fits image.settings image.width image.limit rows (behind sent (Some [])) (stands_lent d e ready memory window long at image rows sent k) in
+    come_so d e ready memory window long at image rows sent k law kept e' learning memory' (take n stream) window' (rows ++ pixels_of image.width (take (div_ceil image.width 8) row) ∷ []) long' at' version next wide high settings learned small (may fits) numbers
+    (subst (λ b. Stands image.settings image.width image.limit (rows ++ pixels_of image.width (take (div_ceil image.width 8) row) ∷ []) (view_of e' learning) (rows_held window') (behind sent (Some [])) (Some (take n b))) same
+    (subst (λ r. Stands image.settings image.width image.limit (rows ++ r ∷ []) (view_of e' learning) (rows_held window') (behind sent (Some [])) (Some (take n room))) pixels now))
+
+-- ---- the end
+
+announced_to : (o : Option ℕ) (n limit : ℕ) → n ≤ limit → nat_lt (unwrap_or o limit) limit ≡ false → n ≤ unwrap_or o n
+announced_to None n limit few low = omega arith
+announced_to (Some a) n limit few low = (let high : limit ≤ a = grind (arith, nat_tests) in omega (arith, high, few))
+
+-- the stream was ended
+pub stream_ended : (denotes : CodeDenotes) (d : T85Encoder) (e : RowEncoder) (memory room stream : List ℕ) (n : ℕ) (window : Window) → IsReady d e → length memory ≡ window_bytes d.width → rows_held window ≡ rows_at d.place d.width memory → 0 < e.rows → room ≡ stream → most_row_bytes e ≤ length stream →
+    (most_row_bytes e ≤ length room → EndsImage (view_of e d.learning) (rows_held window) (Some []) (Some (take n room))) → EndsStream (encoder_hold d memory) (take n stream)
+stream_ended denotes d e memory room stream n window ready long at some same enough ends = λ image rows sent k.
+    let stood = stands_lent d e ready memory window long at image rows sent k in
+    let fits : most_row_bytes e ≤ length room = subst (λ b. most_row_bytes e ≤ length b) (sym same) enough in
+    let sends = ends fits image.settings image.width image.limit rows (behind sent (Some [])) stood in
+    let plan = plan_in stood in
+    let come = come_in stood in
+    let is : sent ++ take n stream ≡ jbg image.settings (raster_of image.width rows) = ap (λ b. sent ++ take n b) (sym same) ∙ ap (λ m. sent ++ m) sends.appended ∙ sym sends.all in
+    let many = come.many in
+    let few = come.few in
+    let tall = plan.limit_to in
+    let wide = plan.width_to in
+    let proper : IsRaster (raster_of image.width rows) = record { width_from = plan.width_from; width_to = omega (arith, wide); height_from = omega (arith, some, many); height_to = omega (arith, few, tall); rows = come.wide } in
+    record {
+      is = is;
+      denotes = subst (λ b. Denotes b (raster_of image.width rows)) (sym is) (denotes image.settings (raster_of image.width rows) k.proper proper (announced_to image.settings.announced (length rows) image.limit few k.not_low));
+    }
+
+-- ---- the beginning
+
+none_whole : (i n : ℕ) → 1 ≤ n → i * n ≡ 0 → i ≡ 0
+none_whole zero n one e = refl
+none_whole (suc i) n one e = absurd (omega (arith, suc-mul i n, one, e))
+
+all_white : (limit width : ℕ) → AllByRecursion (λ row. length row ≡ width) (replicate limit (white_row width))
+all_white zero width = tt
+all_white (suc n) width = (length-replicate width false, all_white n width)
+
+-- what stands before the first row is the head
+head_sent : {s : Settings} {width limit : ℕ} {v : RowView} {window : Held} {origin : Origin} {text : Option (List ℕ)} → 1 ≤ limit → Stands s width limit [] v window origin text → Sends origin text (head_of s width limit)
+head_sent {s} {width} {limit} {v} {window} {origin} {text} some (inl w) =
+    let plan = w.plan_is in
+    let tall = plan.limit_to in
+    let wide = plan.width_to in
+    let many = w.stripes.many in
+    let one = plan.some in
+    let none : w.i ≡ 0 = none_whole w.i s.stripe_rows one (sym many) in
+    let long : length (replicate limit (white_row width)) ≡ limit = length-replicate limit (white_row width) in
+    let proper : IsRaster (raster_of width (replicate limit (white_row width))) = record { width_from = plan.width_from; width_to = omega (arith, wide); height_from = omega (arith, some, long); height_to = omega (arith, tall, long); rows = all_white limit width } in
+    let may : MayCome s width limit [] (raster_of width (replicate limit (white_row width))) = record { proper = proper; width_is = refl; height_to = omega (arith, long); height_is = λ e. long; first = refl } in
+    let front_is : w.front ≡ head_of s width limit =
+    w.stripes.front_is (raster_of width (replicate limit (white_row width))) may ∙ ap (λ i. jbg_up_to s (raster_of width (replicate limit (white_row width))) i) none ∙ append-nil (head_of s width (length (replicate limit (white_row width)))) ∙ ap (λ h. head_of s width h) long in
+    subst (λ b. Sends origin text b) front_is w.sent
+head_sent some (inr (r, from, to)) =
+    let none : length r.part ≡ 0 = (let all = ap length r.all in let sum = length-append r.whole r.part in omega (arith, all, sum)) in
+    absurd (omega (arith, none, from, r.in_stripe))
+
+-- the head was written into room for it
+pub head_written : (s : Settings) (width limit len : ℕ) (v : RowView) (window : Held) (memory old : List ℕ) (spilled : Option ℕ) → 1 ≤ limit → old ≡ [] → len ≤ length memory → (is_some spilled ≡ true → len ≡ length memory) → length (head_of s width limit) ≤ length memory →
+    Stands s width limit [] v window (here (Some old)) (Some (take len memory ++ option_to_list spilled)) → Stands s width limit [] v window (here (Some [])) (Some (take len memory)) × (take len memory ≡ head_of s width limit)
+head_written s width limit len v window memory old (Some b) some none within last enough stands =
+    let at : Stands s width limit [] v window (here (Some [])) (Some (take len memory ++ b ∷ [])) = subst (λ o. Stands s width limit [] v window (here (Some o)) (Some (take len memory ++ b ∷ []))) none stands in
+    let sends = head_sent some at in
+    let long : length (take len memory ++ b ∷ []) ≡ length (head_of s width limit) = ap length (sends.appended ∙ sym sends.all) in
+    let more : length (take len memory ++ b ∷ []) ≡ length (take len memory) + 1 = length-append (take len memory) (b ∷ []) in
+    let cut : length (take len memory) ≡ len = length-take-le len memory within in
+    let all : len ≡ length memory = last refl in
+    absurd (omega (arith, long, more, cut, all, enough))
+head_written s width limit len v window memory old None some none within last enough stands =
+    let at : Stands s width limit [] v window (here (Some [])) (Some (take len memory)) = subst (λ o. Stands s width limit [] v window (here (Some o)) (Some (take len memory))) none (subst (λ t. Stands s width limit [] v window (here (Some old)) (Some t)) (append-nil (take len memory)) stands) in
+    let sends = head_sent some at in
+    (at, sends.appended ∙ sym sends.all)
+
+-- so no write of it fails
+pub head_fails_not : (f : Fault) (s : Settings) (width limit len : ℕ) (memory old : List ℕ) (spilled : Option ℕ) (before after : ℕ) → old ≡ [] → len ≤ length memory → (is_some spilled ≡ true → len ≡ length memory) → (0 < after → is_some spilled ≡ true) → length (head_of s width limit) ≤ length memory → is_low s limit ≡ false → before ≡ 0 →
+    after ≡ writes_after f before → (f ≡ Write) ⊎ (f ≡ AnnouncedLow) → (f ≡ AnnouncedLow → is_low s limit ≡ true) → (f ≡ Write → AppendsBeginning (Some old) (Some (take len memory ++ option_to_list spilled)) (head_of s width limit)) → ⊥
+head_fails_not f s width limit len memory old spilled before after none within last full enough low fresh counts (inr e) refused cut = true≢false (sym (refused e) ∙ low)
+head_fails_not f s width limit len memory old None before after none within last full enough low fresh counts (inl e) refused cut =
+    let one : after ≡ 1 = subst (λ g. after ≡ writes_after g before) e counts ∙ ap one_more fresh in
+    true≢false (sym (full (omega (arith, one))))
+head_fails_not f s width limit len memory old (Some b) before after none within last full enough low fresh counts (inl e) refused cut =
+    let begun = cut e in
+    let grown : length (take len memory ++ b ∷ []) ≡ length old + length begun.front = ap length begun.appends ∙ length-append old begun.front in
+    let start : length old ≡ 0 = ap length none in
+    let whole : length (head_of s width limit) ≡ length begun.front + length begun.rest = ap length begun.text_is ∙ length-append begun.front begun.rest in
+    let more : length (take len memory ++ b ∷ []) ≡ length (take len memory) + 1 = length-append (take len memory) (b ∷ []) in
+    let kept : length (take len memory) ≡ len = length-take-le len memory within in
+    let all : len ≡ length memory = last refl in
+    omega (arith, grown, start, whole, more, kept, all, enough)
+
+pub stream_begun : (law : RowsGoElsewhere) (o : Options) (size : Size) (d : T85Encoder) (memory room stream : List ℕ) (n : ℕ) (window : Window) → is_low (settings_of o) size.height ≡ false → length memory ≡ window_bytes size.width → width_of window ≡ size.width → memory ≡ window.rows.now → room ≡ stream →
+    length (head_of (settings_of o) size.width size.height) ≤ length stream → (length (head_of (settings_of o) size.width size.height) ≤ length room → HasBegun (settings_of o) size d window (take n room)) → BeginsStream (image_of (settings_of o) size.width size.height) (encoder_hold d memory) (take n stream)
+stream_begun law o size d memory room stream n window low long wide is same enough begins =
+    let s = settings_of o in
+    let k = begins (subst (λ b. length (head_of s size.width size.height) ≤ length b) (sym same) enough) in
+    let goes = law s size.width size.height [] (view_of k.engine d.learning) (rows_held window) (here (Some [])) (Some (take n room)) k.stands in
+    let sends = goes.1 in
+    let sent_is : goes.0 ≡ take n stream = sends.all ∙ sym sends.appended ∙ ap (λ b. take n b) same in
+    let come = come_in k.stands in
+    let same_rows : rows_held window ≡ rows_at d.place size.width (take (window_bytes size.width) memory) =
+    window_rows window d.place size.width memory (sym k.place_is) wide is ∙ ap (λ m. rows_at d.place size.width m) (sym (take_all (window_bytes size.width) memory (omega (arith, long)))) in
+    record {
+      head = ap (λ b. take n b) (sym same) ∙ k.head_is;
+      come = record {
+        version_is = k.version_is;
+        next_is = k.next_is;
+        width_is = k.width_is;
+        limit_is = k.limit_is;
+        rows_are = ap (λ n. n.rows) k.numbers_are ∙ come.many;
+        settings_are = k.settings_are;
+        proper = are_settings o;
+        not_low = low;
+        some = size.some_height;
+        place_to = subst (λ p. p < 3) (sym k.place_is) window.within;
+        engine = k.engine;
+        ready = k.ready;
+        numbers_are = k.numbers_are;
+        stands = λ text.
+            subst (λ b. Stands s size.width size.height [] (view_of k.engine d.learning) (rows_at d.place size.width (take (window_bytes size.width) memory)) (behind b text) text) sent_is
+            (subst (λ w. Stands s size.width size.height [] (view_of k.engine d.learning) w (behind goes.0 text) text) same_rows (goes.2 text));
+      };
+    }
+
+-- ---- the calls
+
+-- another window with the same three rows
+other_window : (image : Image) (d : T85Encoder) (window window' : List ℕ) (rows : List (List Bool)) (sent : List ℕ) → take (window_bytes image.width) window ≡ take (window_bytes image.width) window' → HasCome image (encoder_hold d window) rows sent → HasCome image (encoder_hold d window') rows sent
+other_window image d window window' rows sent same k = record {
+  version_is = k.version_is;
+  next_is = k.next_is;
+  width_is = k.width_is;
+  limit_is = k.limit_is;
+  rows_are = k.rows_are;
+  settings_are = k.settings_are;
+  proper = k.proper;
+  not_low = k.not_low;
+  some = k.some;
+  place_to = k.place_to;
+  engine = k.engine;
+  ready = k.ready;
+  numbers_are = k.numbers_are;
+  stands = λ text. subst (λ m. Stands image.settings image.width image.limit rows (view_of k.engine d.learning) (rows_at d.place image.width m) (behind sent text) text) same (k.stands text);
+}
+
+take_twice : (n m : ℕ) (xs : List ℕ) → n ≡ m → take n (take m xs) ≡ take n xs
+take_twice n m xs same = subst (λ k. take n (take k xs) ≡ take n xs) same (take_all n (take n xs) (subst (λ k. k ≤ n) (sym (length-take n xs)) (omega arith)))
+
+ready_begun : (d : T85Encoder) (e : RowEncoder) → IsReady d e → IsNotBegun d → ⊥
+ready_begun d e r (inl other) = other r.version_is
+ready_begun d e r (inr other) = other.0 r.next_is
+
+ready_ended : (d : T85Encoder) (e : RowEncoder) → IsReady d e → HasBeenEnded d → ⊥
+ready_ended d e r h = (let next = h.next_is in let was = r.next_is in omega (arith, next, was))
+
+pub row_refused : (d : T85Encoder) (window stream row : List ℕ) (status : ℕ) → RefusesCall d (row_refusal d (length row) (length window) (length stream)) status → PutsRow (encoder_hold d window) (encoder_hold d window) row (lending stream stream 0 status)
+row_refused d window stream row status r = record {
+  status_is = λ image rows sent k. sym (ap (λ o. unwrap_or o 0) (r.first window image rows sent k));
+  ended = r.ended;
+  not_begun = r.not_begun;
+  refused = λ other. record { same = refl; nothing = refl; stream = refl };
+  taken = λ e. absurd (r.some e);
+  within = omega arith;
+}
+
+pub row_put : (d d' : T85Encoder) (e : RowEncoder) (window memory' rest row stream stream' : List ℕ) (n needed long : ℕ) → IsReady d e → row_refusal d (length row) (length window) (length stream) ≡ None → needed ≡ window_bytes d.width → length memory' ≡ needed → long ≡ div_ceil d.width 8 → n ≤ length stream' →
+    TakesOne (encoder_hold d (take needed window)) (encoder_hold d' memory') (take long row) (take n stream') → PutsRow (encoder_hold d window) (encoder_hold d' (memory' ++ rest)) row (lending stream stream' n 0)
+row_put d d' e window memory' rest row stream stream' n needed long ready none needed_is long' long_is within takes = record {
+  status_is = λ image rows sent k. sym (ap (λ o. unwrap_or o 0) none);
+  ended = λ h. absurd (ready_ended d e ready h);
+  not_begun = λ h. absurd (ready_begun d e ready h);
+  refused = λ other. absurd (other refl);
+  taken = λ zero_is image rows sent k.
+      let wide : window_bytes image.width ≡ needed = ap window_bytes (sym k.width_is) ∙ sym needed_is in
+      let now = takes image rows sent (other_window image d window (take needed window) rows sent (sym (take_twice (window_bytes image.width) needed window wide)) k) in
+      let pixels : pixels_of image.width (take (div_ceil image.width 8) (take long row)) ≡ pixels_of image.width (take (div_ceil image.width 8) row) =
+      ap (pixels_of image.width) (take_twice (div_ceil image.width 8) long row (ap (λ w. div_ceil w 8) (sym k.width_is) ∙ sym long_is)) in
+      subst (λ r. HasCome image (encoder_hold d' (memory' ++ rest)) (rows ++ r ∷ []) (sent ++ take n stream')) pixels
+      (other_window image d' memory' (memory' ++ rest) (rows ++ pixels_of image.width (take (div_ceil image.width 8) (take long row)) ∷ []) (sent ++ take n stream') (sym (take-append-le (window_bytes image.width) memory' rest (omega (arith, wide, long')))) now);
+  within = within;
+}
+
+pub end_refused : (d : T85Encoder) (window stream : List ℕ) (status : ℕ) → RefusesCall d (end_refusal d (length window) (length stream)) status → PutsEnd (encoder_hold d window) (encoder_hold d window) (lending stream stream 0 status)
+end_refused d window stream status r = record {
+  status_is = λ image rows sent k. sym (ap (λ o. unwrap_or o 0) (r.first window image rows sent k));
+  was_ended = r.ended;
+  not_begun = r.not_begun;
+  refused = λ other. record { same = refl; nothing = refl; stream = refl };
+  ends = λ e. absurd (r.some e);
+  ended = λ e. absurd (r.some e);
+  within = omega arith;
+}
+
+pub end_put : (d d' : T85Encoder) (e : RowEncoder) (window window' stream stream' : List ℕ) (n needed : ℕ) → IsReady d e → end_refusal d (length window) (length stream) ≡ None → needed ≡ window_bytes d.width → n ≤ length stream' → HasBeenEnded d' → EndsStream (encoder_hold d (take needed window)) (take n stream') →
+    PutsEnd (encoder_hold d window) (encoder_hold d' window') (lending stream stream' n 0)
+end_put d d' e window window' stream stream' n needed ready none needed_is within ended ends = record {
+  status_is = λ image rows sent k. sym (ap (λ o. unwrap_or o 0) none);
+  was_ended = λ h. absurd (ready_ended d e ready h);
+  not_begun = λ h. absurd (ready_begun d e ready h);
+  refused = λ other. absurd (other refl);
+  ends = λ zero_is image rows sent k.
+      ends image rows sent (other_window image d window (take needed window) rows sent (sym (take_twice (window_bytes image.width) needed window (ap window_bytes (sym k.width_is) ∙ sym needed_is))) k);
+  ended = λ zero_is. ended;
+  within = within;
+}
+
+-- no status of a refusal is 0
+not_first : (a b : Option ℕ) → (a ≡ Some 0 → ⊥) → (b ≡ Some 0 → ⊥) → or_else a b ≡ Some 0 → ⊥
+not_first (Some n) b first next e = first e
+not_first None b first next e = next e
+
+not_told : (test : Bool) (n : ℕ) → n ≢ 0 → status_if test n ≡ Some 0 → ⊥
+not_told true n some e = some (ap (λ o. unwrap_or o 0) e)
+not_told false n some e = cc
+
+fault_told : (other empty large long : Bool) → option_map fault_number (if other then Some OptionBits else if empty then Some StripeZero else if large then Some MoveLarge else if long then Some CommentLong else None) ≡ Some 0 → ⊥
+fault_told true empty large long e = (let n : 20 ≡ 0 = ap (λ o. unwrap_or o 0) e in omega (arith, n))
+fault_told false true large long e = (let n : 21 ≡ 0 = ap (λ o. unwrap_or o 0) e in omega (arith, n))
+fault_told false false true long e = (let n : 22 ≡ 0 = ap (λ o. unwrap_or o 0) e in omega (arith, n))
+fault_told false false false true e = (let n : 26 ≡ 0 = ap (λ o. unwrap_or o 0) e in omega (arith, n))
+fault_told false false false false e = cc
+
+start_some : (call : StartCall) (window room : ℕ) → start_refusal call window room ≡ Some 0 → ⊥
+start_some call window room =
+    not_first _ _ (not_told _ 50 (λ e. omega (arith, e)))
+    (not_first _ _
+    (not_first _ _ (not_told _ 50 (λ e. omega (arith, e)))
+    (not_first _ _ (fault_told _ _ _ _)
+    (not_first _ _ (not_told _ 33 (λ e. omega (arith, e)))
+    (not_first _ _ (not_told _ 34 (λ e. omega (arith, e)))
+    (not_first _ _ (not_told _ 51 (λ e. omega (arith, e)))
+    (not_first _ _ (not_told _ 23 (λ e. omega (arith, e))) (not_told _ 19 (λ e. omega (arith, e)))))))))
+    (not_told _ 18 (λ e. omega (arith, e))))
+
+pub start_refused : (call : StartCall) (d : T85Encoder) (window stream : List ℕ) (status : ℕ) → start_refusal call (length window) (length stream) ≡ Some status → StartsStream call (encoder_hold d window) (encoder_hold d window) (lending stream stream 0 status)
+start_refused call d window stream status told = record {
+  status_is = sym (ap (λ o. unwrap_or o 0) told);
+  refused = λ other. record { same = refl; nothing = refl; stream = refl };
+  begun = λ e. absurd (start_some call (length window) (length stream) (told ∙ ap Some e));
+  within = omega arith;
+}
+
+pub start_done : (call : StartCall) (d d' : T85Encoder) (window memory' rest stream stream' : List ℕ) (n : ℕ) (s : Settings) (size : Size) → start_refusal call (length window) (length stream) ≡ None → s ≡ settings_chosen call.choice call.comment → size.width ≡ call.width → size.height ≡ call.height → length memory' ≡ window_bytes call.width → n ≤ length stream' →
+    BeginsStream (image_of s size.width size.height) (encoder_hold d' memory') (take n stream') → StartsStream call (encoder_hold d window) (encoder_hold d' (memory' ++ rest)) (lending stream stream' n 0)
+start_done call d d' window memory' rest stream stream' n s size none same wide high long within begins =
+    let chosen = settings_chosen call.choice call.comment in
+    let begun : BeginsStream (image_of chosen call.width call.height) (encoder_hold d' memory') (take n stream') =
+    subst (λ h. BeginsStream (image_of chosen call.width h) (encoder_hold d' memory') (take n stream')) high
+    (subst (λ w. BeginsStream (image_of chosen w size.height) (encoder_hold d' memory') (take n stream')) wide
+    (subst (λ z. BeginsStream (image_of z size.width size.height) (encoder_hold d' memory') (take n stream')) same begins)) in
+    record {
+      status_is = sym (ap (λ o. unwrap_or o 0) none);
+      refused = λ other. absurd (other refl);
+      begun = λ zero_is.
+          record {
+            head = begun.head;
+            come = other_window (image_of chosen call.width call.height) d' memory' (memory' ++ rest) [] (take n stream') (sym (take-append-le (window_bytes call.width) memory' rest (omega (arith, long)))) begun.come;
+          };
+      within = within;
+    }

@@ -1,0 +1,213 @@
+-- An encoder that a C caller holds, who hands it the rows of an image one by one.
+use Rattle.std.specs.Prelude.{ℕ, ◌+◌, ◌*◌, ◌/◌, ◌≡◌, ◌≢◌, ◌≤◌, ◌<◌, ◌⊎◌, ◌==◌, ◌||◌, ◌&&◌, not, nat_lt, Bool, false, List, [], ◌∷◌, ◌++◌, length, take, Option, Some, None, unwrap_or, if◌then◌else◌}
+use Rattle.std.specs.Int.{div_ceil}
+use Rattle.pbm_core.specs.Image.{pixels_of}
+use Rattle.raster_core.specs.Packed.{rows_at}
+use Rattle.t85_core.specs.Denotes.{Denotes}
+use Rattle.t85_core.specs.Encode.{raster_of}
+use Rattle.t85_core.specs.Jbg.{AreSettings, Settings, head_of, is_low, jbg}
+use Rattle.t85_core.specs.RowNumbers.{row_numbers}
+use Rattle.t85_core.specs.Steps.ByRow.{MayGoOn, Stands, view_of}
+use Rattle.t85_core.specs.Steps.Sent.{behind}
+use Rattle.t85_core.specs.declared.encoding.by_row.RowEncoder.{RowEncoder}
+use Rattle.t85_core.specs.declared.encoding.by_row.numbers.RowNumbers.{RowNumbers}
+use Rattle.t85.specs.Decoded.{window_bytes}
+use Rattle.t85.specs.Delivered.{Lending}
+use Rattle.t85.specs.Encoded.{or_else, refusal_told, settings_chosen, status_if}
+use Rattle.t85.specs.declared.encoder.T85Encoder.{T85Encoder}
+use Rattle.t85.specs.declared.options.T85Options.{T85Options}
+
+-- the numbers of the engine's encoder that the struct has
+abbrev pub numbers_of_encoder : T85Encoder → RowNumbers
+numbers_of_encoder d = record {
+  rows = d.rows;
+  in_stripe = d.in_stripe;
+  is_counted = not (d.is_counted == 0);
+  offset = d.offset;
+  is_previous_typical = not (d.is_previous_typical == 0);
+  encoder = record {
+    low = d.low;
+    span = d.span;
+    bits = d.bits;
+    zeros = d.zeros;
+    has_held = not (d.has_held == 0);
+    held = d.held;
+    ones = d.ones;
+    events = d.events;
+    has_failed = not (d.has_failed == 0);
+  };
+}
+
+-- the choices that the struct has, which are all but the comment
+abbrev pub settings_kept : T85Encoder → Settings
+settings_kept d = record {
+  options = d.options;
+  stripe_rows = d.stripe_rows;
+  most_offset = d.most_offset;
+  announced = if not (d.announces_height == 0) then Some d.announced_height else None;
+  reset = not (d.reset == 0);
+  comment = None;
+}
+
+-- the same choices without a comment
+abbrev pub without_comment : Settings → Settings
+without_comment s = record s { comment = None }
+
+-- what there is between two calls: the struct, and the bytes of the window
+pub record EncoderHold : Type 0 where
+  pub encoder : T85Encoder
+  pub window : List ℕ
+
+abbrev pub encoder_hold : T85Encoder → List ℕ → EncoderHold
+encoder_hold encoder window = record { encoder = encoder; window = window }
+
+-- an image that is coded with these settings, of this width, and of this many rows or, where a height is announced, at most so many
+pub record Image : Type 0 where
+  pub settings : Settings
+  pub width : ℕ
+  pub limit : ℕ
+
+-- The struct and the window are as calls leave them that began the stream of an image, took these rows of it, and wrote these bytes.
+pub record HasCome (image : Image) (hold : EncoderHold) (rows : List (List Bool)) (sent : List ℕ) : Type 0 where
+  pub version_is : hold.encoder.version ≡ 1
+  pub next_is : hold.encoder.next ≡ 1
+  pub width_is : hold.encoder.width ≡ image.width
+  pub limit_is : hold.encoder.height ≡ image.limit
+  pub rows_are : hold.encoder.rows ≡ length rows
+  pub settings_are : settings_kept hold.encoder ≡ without_comment image.settings
+  pub proper : AreSettings image.settings
+  pub not_low : is_low image.settings image.limit ≡ false
+  pub some : 1 ≤ image.limit
+  pub place_to : hold.encoder.place < 3
+  pub engine : RowEncoder
+  pub ready : MayGoOn engine
+  pub numbers_are : numbers_of_encoder hold.encoder ≡ row_numbers engine
+  pub stands : (text : Option (List ℕ)) →
+      Stands image.settings image.width image.limit rows (view_of engine hold.encoder.learning) (rows_at hold.encoder.place image.width (take (window_bytes image.width) hold.window)) (behind sent text) text
+
+-- what is said of each image whose stream a caller may have begun, of the rows that it handed, and of the bytes that were written
+abbrev pub OfEach : EncoderHold → (Image → List (List Bool) → List ℕ → Type 0) → Type 0
+OfEach hold Q = (image : Image) (rows : List (List Bool)) (sent : List ℕ) → HasCome image hold rows sent → Q image rows sent
+
+-- the stream was ended
+pub record HasBeenEnded (d : T85Encoder) : Type 0 where
+  pub version_is : d.version ≡ 1
+  pub next_is : d.next ≡ 2
+
+-- no encoder was begun here, as is seen at once
+abbrev pub IsNotBegun : T85Encoder → Type 0
+IsNotBegun d = (d.version ≢ 1) ⊎ ((d.next ≢ 1) × (d.next ≢ 2))
+
+-- How many bytes the next call writes at most: twice the bytes of the code that wait, for stuffing may double them; four for each pixel of a row, and for the one before it; and ten for a move or a new height, and end markers.
+abbrev pub room_told : T85Encoder → ℕ
+room_told d = 2 * ((d.zeros + ((if not (d.has_held == 0) then 1 else 0) + d.ones)) + (d.bits + 7) / 8) + 4 * (d.width + 1) + 10
+
+-- What a call leaves that is refused: all that it was lent.
+pub record LeavesAll (old new : EncoderHold) (l : Lending) : Type 0 where
+  pub same : new ≡ old
+  pub nothing : l.written ≡ 0
+  pub stream : l.new ≡ l.old
+
+-- ---- the beginning
+
+-- how many bytes come before the first stripe: the header, and the comment with its length
+abbrev pub head_length : T85Options → ℕ → ℕ
+head_length choice comment_len = if choice.has_comment then 26 + comment_len else 20
+
+-- what is begun: the size of the caller's struct, the image, the choices and the comment
+pub record StartCall : Type 0 where
+  pub size : ℕ
+  pub width : ℕ
+  pub height : ℕ
+  pub choice : T85Options
+  pub comment : List ℕ
+
+abbrev pub start_call : ℕ → ℕ → ℕ → T85Options → List ℕ → StartCall
+start_call size width height choice comment = record { size = size; width = width; height = height; choice = choice; comment = comment }
+
+-- the first refusal, in this order: the size of the struct, those of an encoding call, and the room for what is written at once
+abbrev pub start_refusal : StartCall → ℕ → ℕ → Option ℕ
+start_refusal call window room =
+    or_else (status_if (not (call.size == 5360)) 50)
+    (or_else (refusal_told call.choice call.comment call.width call.height (div_ceil call.width 8) window)
+    (status_if (nat_lt room (head_length call.choice (length call.comment))) 18))
+
+abbrev pub image_of : Settings → ℕ → ℕ → Image
+image_of s width limit = record { settings = s; width = width; limit = limit }
+
+-- The head of an image's stream was written, and no row has come.
+pub record BeginsStream (image : Image) (new : EncoderHold) (bytes : List ℕ) : Type 0 where
+  pub head : bytes ≡ head_of image.settings image.width image.limit
+  pub come : HasCome image new [] bytes
+
+-- what `t85_encode_start` leaves
+pub record StartsStream (call : StartCall) (old new : EncoderHold) (l : Lending) : Type 0 where
+  pub status_is : l.answer ≡ unwrap_or (start_refusal call (length old.window) (length l.old)) 0
+  pub refused : l.answer ≢ 0 → LeavesAll old new l
+  pub begun : l.answer ≡ 0 → BeginsStream (image_of (settings_chosen call.choice call.comment) call.width call.height) new (take l.written l.new)
+  pub within : l.written ≤ length l.new
+
+-- ---- a row
+
+-- the first refusal of a row of so many bytes: all rows came, it is short, so is the window, or the room
+abbrev pub row_refusal : T85Encoder → ℕ → ℕ → ℕ → Option ℕ
+row_refusal d row window room =
+    or_else (status_if (d.rows == d.height) 54)
+    (or_else (status_if (nat_lt row (div_ceil d.width 8)) 55)
+    (or_else (status_if (nat_lt window (window_bytes d.width)) 19)
+    (status_if (nat_lt room (room_told d)) 18)))
+
+-- A row was taken, and the next bytes of the stream were written.
+abbrev pub TakesOne : EncoderHold → EncoderHold → List ℕ → List ℕ → Type 0
+TakesOne old new row bytes = OfEach old (λ image rows sent. HasCome image new (rows ++ pixels_of image.width (take (div_ceil image.width 8) row) ∷ []) (sent ++ bytes))
+
+-- what `t85_encode_row` leaves
+pub record PutsRow (old new : EncoderHold) (row : List ℕ) (l : Lending) : Type 0 where
+  pub status_is : OfEach old (λ image rows sent. l.answer ≡ unwrap_or (row_refusal old.encoder (length row) (length old.window) (length l.old)) 0)
+  pub ended : HasBeenEnded old.encoder → l.answer ≡ 54
+  pub not_begun : IsNotBegun old.encoder → l.answer ≡ 53
+  pub refused : l.answer ≢ 0 → LeavesAll old new l
+  pub taken : l.answer ≡ 0 → TakesOne old new row (take l.written l.new)
+  pub within : l.written ≤ length l.new
+
+-- ---- the end
+
+-- whether an image may not end after so many rows
+abbrev pub are_missing : T85Encoder → Bool
+are_missing d = (d.rows == 0) || ((d.announces_height == 0) && not (d.rows == d.height))
+
+-- the first refusal of the end: rows are missing, the window is short, or the room
+abbrev pub end_refusal : T85Encoder → ℕ → ℕ → Option ℕ
+end_refusal d window room =
+    or_else (status_if (are_missing d) 36)
+    (or_else (status_if (nat_lt window (window_bytes d.width)) 19)
+    (status_if (nat_lt room (room_told d)) 18))
+
+-- These bytes are the stream of an image of these rows, and denote it.
+pub record IsStreamOf (image : Image) (rows : List (List Bool)) (bytes : List ℕ) : Type 0 where
+  pub is : bytes ≡ jbg image.settings (raster_of image.width rows)
+  pub denotes : Denotes bytes (raster_of image.width rows)
+
+-- The last bytes of the stream were written.
+abbrev pub EndsStream : EncoderHold → List ℕ → Type 0
+EndsStream old bytes = OfEach old (λ image rows sent. IsStreamOf image rows (sent ++ bytes))
+
+-- what `t85_encode_end` leaves
+pub record PutsEnd (old new : EncoderHold) (l : Lending) : Type 0 where
+  pub status_is : OfEach old (λ image rows sent. l.answer ≡ unwrap_or (end_refusal old.encoder (length old.window) (length l.old)) 0)
+  pub was_ended : HasBeenEnded old.encoder → l.answer ≡ 54
+  pub not_begun : IsNotBegun old.encoder → l.answer ≡ 53
+  pub refused : l.answer ≢ 0 → LeavesAll old new l
+  pub ends : l.answer ≡ 0 → EndsStream old (take l.written l.new)
+  pub ended : l.answer ≡ 0 → HasBeenEnded new.encoder
+  pub within : l.written ≤ length l.new
+
+-- ---- what is told
+
+-- how many rows may still come
+abbrev pub TellsLeft : T85Encoder → ℕ → Type 0
+TellsLeft d left = (window : List ℕ) → OfEach (encoder_hold d window) (λ image rows sent. left + length rows ≡ image.limit)
+
+-- how many bytes of room are enough for the next call
+abbrev pub TellsRoom : T85Encoder → ℕ → Type 0
+TellsRoom d room = (window : List ℕ) → OfEach (encoder_hold d window) (λ image rows sent. room ≡ room_told d)

@@ -1,0 +1,570 @@
+//! An encoder that a C caller holds, and hands the rows of an image one by one.
+
+ghost use Rattle.std.specs.Prelude.{◌≡◌, ◌≢◌, ◌≤◌, ◌<◌, ◌⊎◌, List, ℕ, length, take, false, true, Some, None, [], MatchOption, MatchResult, IfOk};
+ghost use Rattle.std.specs.Int.{div_ceil};
+ghost use Rattle.raster_core.specs.Window.{current_place, held as rows_of, width_of};
+ghost use Rattle.t85_core.specs.Jbg.{head_of, is_low};
+ghost use Rattle.t85_core.specs.Lent.{KeepsWindow};
+ghost use Rattle.t85_core.specs.Options.{refusal_of, settings_of};
+ghost use Rattle.t85_core.specs.RowNumbers.{row_numbers};
+ghost use Rattle.t85_core.specs.Steps.ByRow.{EndsImage, MayGoOn, TakesNextRow, view_of};
+ghost use Rattle.t85_core.specs.Steps.MostBytes.{most_row_bytes};
+ghost use Rattle.t85_core.specs.Steps.RowSteps.{IsGoing, given_row};
+ghost use Rattle.t85.specs.Decoded.{window_bytes as window_of};
+ghost use Rattle.t85.specs.Delivered.{lending};
+ghost use Rattle.t85.specs.Encoded.{settings_chosen};
+ghost use Rattle.t85.specs.Encoder.{BeginsStream, EndsStream, HasBeenEnded, PutsEnd, PutsRow, StartsStream, TakesOne, TellsLeft, TellsRoom, encoder_hold, end_refusal, head_length, image_of, numbers_of_encoder, row_refusal, settings_kept, start_call, start_refusal, without_comment};
+ghost use Rattle.t85.specs.EncoderSteps.{GoesOnFrom, HasBegun, IsIdle, IsOfNone, IsReady, KeepsChoices, RefusesCall};
+
+use crate::decoding::FULL;
+use crate::devices::Room;
+use crate::encoding::{MOST_WIDTH, OTHER_VERSION, judge};
+use crate::options::T85Options;
+use pbm_core::{Size, row_bytes};
+use qm_core::EncoderRegisters;
+use raster_core::{Window, window_bytes};
+use t85_core::laws::{code_denotes, elsewhere};
+use t85_core::{Fault, Learning, Options, RowEncoder, RowNumbers};
+
+/// The version of `T85Encoder`, and its size in bytes.
+const VERSION: u32 = 1;
+
+const SIZE: usize = 5360;
+/// What comes next: a row or the end, or nothing more.
+const ROWS: u32 = 1;
+
+const ENDED: u32 = 2;
+/// The statuses of a short window, of an encoder that was not begun, of one that takes no more rows, and of a short row.
+const SHORT_WINDOW: u8 = 19;
+
+const ROWS_MISSING: u8 = 36;
+
+const NOT_BEGUN: u8 = 53;
+
+const NO_MORE_ROWS: u8 = 54;
+
+const SHORT_ROW: u8 = 55;
+
+/// What a caller holds of an encoder. Whatever its bytes are, a call is safe.
+#[repr(C)]
+#[derive(Drop)]
+pub struct T85Encoder {
+    pub version: u32,
+    /// What comes next.
+    pub next: u32,
+    /// The image's size: its height is the most rows that may come.
+    pub width: u32,
+    pub height: u32,
+    // What was chosen, but for the comment. What is true is not 0.
+    pub options: u32,
+    pub stripe_rows: u32,
+    pub most_offset: u32,
+    pub announced_height: u32,
+    // What `RowNumbers` has.
+    pub rows: u32,
+    pub in_stripe: u32,
+    pub span: u32,
+    pub bits: u32,
+    pub announces_height: u8,
+    pub reset: u8,
+    pub is_counted: u8,
+    pub offset: u8,
+    pub is_previous_typical: u8,
+    pub has_held: u8,
+    pub held: u8,
+    pub has_failed: u8,
+    /// At which of the three places of the window the last row is.
+    pub place: u8,
+    pub spare: [u8; 7],
+    pub low: u64,
+    pub zeros: u64,
+    pub ones: u64,
+    pub events: u64,
+    pub reserved: [u64; 12],
+    pub learning: Learning,
+}
+
+/// Begins a stream: writes its header and its comment. `size` is the size of the caller's struct. The height is the number
+/// of rows or, where one is announced, the most that may come.
+///
+/// Answers 0, or the first of these, and then nothing is written or changed: 50 where the struct is of another size or the
+/// options are of another version; 20, 21, 22 or 26 where they are refused; 33 where the width or the height is 0; 34 where
+/// the width is above 1048576; 23 where the announced height is below the image's; 19 where the window is shorter than
+/// `t85_window_bytes` of the width; 18 where the stream has less room than 20 bytes, and 6 and its length for a comment.
+///
+/// `written` is how many bytes of `stream` were written.
+#[unsafe(no_mangle)]
+pub extern "C" fn t85_encode_start(
+    encoder: &mut T85Encoder,
+    size: usize,
+    width: u32,
+    height: u32,
+    choice: &T85Options,
+    comment: &[u8],
+    window: &mut [u8],
+    stream: &mut [u8],
+    written: &mut usize,
+) -> u8
+    ensures { StartsStream (start_call size width height choice.now comment.now)
+        (encoder_hold encoder.old window.old) (encoder_hold encoder.new window.new)
+        (lending stream.old stream.new written.new result) }
+{
+    *written = 0;
+    if size != SIZE {
+        return OTHER_VERSION;
+    }
+    let (room, bytes) = (stream.len(), window.len());
+    let (size, options) = match judge_start(width, height, choice, comment, bytes, room) {
+        Ok(job) => job,
+        Err(status) => return status,
+    };
+    let needed = window_bytes(width);
+    *written = encoder.begin(size, &options, &mut window[..needed], stream);
+    0
+}
+
+/// Takes the next row, of which the bytes of the width are read, and writes what of the stream is sure with it.
+///
+/// Answers 0, or the first of these, and then nothing is written or changed: 53 where the encoder was not begun; 54 where
+/// all rows came, or the stream was ended; 55 where the row is shorter than its width; 19 where the window is shorter than
+/// `t85_window_bytes` of the width; 18 where the stream has less room than `t85_encode_room` tells.
+///
+/// `written` is how many bytes of `stream` were written.
+#[unsafe(no_mangle)]
+pub extern "C" fn t85_encode_row(
+    encoder: &mut T85Encoder,
+    row: &[u8],
+    window: &mut [u8],
+    stream: &mut [u8],
+    written: &mut usize,
+) -> u8
+    ensures { PutsRow (encoder_hold encoder.old window.old) (encoder_hold encoder.new window.new)
+        row.now (lending stream.old stream.new written.new result) }
+{
+    *written = 0;
+    let engine = match encoder.judge_row(row.len(), window.len(), stream.len()) {
+        Ok(engine) => engine,
+        Err(status) => return status,
+    };
+    let (long, needed) = (row_bytes(encoder.width), window_bytes(encoder.width));
+    *written = encoder.put(engine, &row[..long], &mut window[..needed], stream);
+    0
+}
+
+/// Ends the stream, with a new height where fewer rows came than were announced.
+///
+/// Answers 0, or the first of these, and then nothing is written or changed: 53 where the encoder was not begun; 54 where
+/// the stream was ended before; 36 where no row came, or where rows are missing and no height was announced; 19 where the
+/// window is shorter than `t85_window_bytes` of the width; 18 where the stream has less room than `t85_encode_room` tells.
+///
+/// `written` is how many bytes of `stream` were written.
+#[unsafe(no_mangle)]
+pub extern "C" fn t85_encode_end(
+    encoder: &mut T85Encoder,
+    window: &mut [u8],
+    stream: &mut [u8],
+    written: &mut usize,
+) -> u8
+    ensures { PutsEnd (encoder_hold encoder.old window.old) (encoder_hold encoder.new window.new)
+        (lending stream.old stream.new written.new result) }
+{
+    *written = 0;
+    let engine = match encoder.judge_end(window.len(), stream.len()) {
+        Ok(engine) => engine,
+        Err(status) => return status,
+    };
+    let needed = window_bytes(encoder.width);
+    *written = encoder.end(engine, &mut window[..needed], stream);
+    0
+}
+
+/// How many rows may still come: none where the encoder was not begun, or the stream was ended.
+#[unsafe(no_mangle)]
+pub extern "C" fn t85_encode_rows_left(encoder: &T85Encoder) -> u32
+    ensures left { TellsLeft encoder.now result }
+    ensures none { (encoder.now.version ≢ 1) ⊎ (encoder.now.next ≢ 1) → result ≡ 0 }
+{
+    if encoder.version != VERSION || encoder.next != ROWS {
+        return 0;
+    }
+    encoder.height.saturating_sub(encoder.rows)
+}
+
+/// How many bytes of room are enough for the next call, be it for a row or for the end: 0 where the encoder was not begun, or
+/// the stream was ended.
+#[unsafe(no_mangle)]
+pub extern "C" fn t85_encode_room(encoder: &T85Encoder) -> u64
+    ensures room { TellsRoom encoder.now result }
+    ensures none { (encoder.now.version ≢ 1) ⊎ (encoder.now.next ≢ 1) → result ≡ 0 }
+{
+    match encoder.engine() {
+        Ok(engine) => engine.most_row_bytes(),
+        Err(_) => 0,
+    }
+}
+
+/// The size and the choices of a stream that begins, or the status of the first refusal.
+fn judge_start<'a>(
+    width: u32,
+    height: u32,
+    choice: &T85Options,
+    comment: &'a [u8],
+    window: usize,
+    room: usize,
+) -> Result<(Size, Options<'a>), u8>
+    ensures judged { MatchResult result
+        (λ _. start_refusal (start_call 5360 width height choice.now comment.now) window room
+        ≡ None)
+        (λ status. start_refusal (start_call 5360 width height choice.now comment.now) window room
+        ≡ Some status) }
+    ensures width { IfOk result (λ job. job.0.width ≡ width) }
+    ensures height { IfOk result (λ job. job.0.height ≡ height) }
+    ensures held { IfOk result (λ job. settings_of job.1 ≡ settings_chosen choice.now comment.now) }
+    ensures not_low { IfOk result (λ job. is_low (settings_of job.1) height ≡ false) }
+    ensures enough { IfOk result (λ _. window_of width ≤ window) }
+    ensures room { IfOk result (λ job. length (head_of (settings_of job.1) width height) ≤ room) }
+{
+    let job = judge(width, height, row_bytes(width), choice, comment, window)?;
+    if room < head_length(choice, comment) {
+        return Err(FULL);
+    }
+    Ok(job)
+}
+
+/// How many bytes come before the first stripe.
+fn head_length(choice: &T85Options, comment: &[u8]) -> usize
+    ensures { result ≡ head_length choice.now (length comment.now) }
+{
+    if choice.has_comment {
+        26 + comment.len()
+    } else {
+        20
+    }
+}
+
+impl T85Encoder {
+    /// The engine's numbers.
+    fn numbers(&self) -> RowNumbers
+        ensures { result ≡ numbers_of_encoder self.now }
+    {
+        RowNumbers {
+            rows: self.rows,
+            in_stripe: self.in_stripe,
+            is_counted: self.is_counted != 0,
+            offset: self.offset,
+            is_previous_typical: self.is_previous_typical != 0,
+            encoder: EncoderRegisters {
+                low: self.low,
+                span: self.span,
+                bits: self.bits,
+                zeros: self.zeros,
+                has_held: self.has_held != 0,
+                held: self.held,
+                ones: self.ones,
+                events: self.events,
+                has_failed: self.has_failed != 0,
+            },
+        }
+    }
+
+    /// Notes the engine's numbers, and where the window has its row.
+    fn keep(&mut self, numbers: RowNumbers, place: u8)
+        ensures numbers { numbers_of_encoder self.new ≡ numbers }
+        ensures place { self.new.place ≡ place }
+        ensures same { KeepsChoices self.old self.new }
+    {
+        self.place = place;
+        self.rows = numbers.rows;
+        self.in_stripe = numbers.in_stripe;
+        self.is_counted = u8::from(numbers.is_counted);
+        self.offset = numbers.offset;
+        self.is_previous_typical = u8::from(numbers.is_previous_typical);
+        self.low = numbers.encoder.low;
+        self.span = numbers.encoder.span;
+        self.bits = numbers.encoder.bits;
+        self.zeros = numbers.encoder.zeros;
+        self.has_held = u8::from(numbers.encoder.has_held);
+        self.held = numbers.encoder.held;
+        self.ones = numbers.encoder.ones;
+        self.events = numbers.encoder.events;
+        self.has_failed = u8::from(numbers.encoder.has_failed);
+    }
+
+    /// Notes the image's size, and what was chosen for its stream.
+    fn choose(&mut self, size: Size, options: &Options<'_>)
+        ensures version { self.new.version ≡ 1 }
+        ensures next { self.new.next ≡ 1 }
+        ensures width { self.new.width ≡ size.width }
+        ensures height { self.new.height ≡ size.height }
+        ensures settings { settings_kept self.new ≡ without_comment (settings_of options.now) }
+        ensures learning { self.new.learning ≡ self.old.learning }
+    {
+        self.version = VERSION;
+        self.next = ROWS;
+        self.width = size.width;
+        self.height = size.height;
+        self.options = u32::from(options.options);
+        self.stripe_rows = options.stripe_rows;
+        self.most_offset = u32::from(options.most_offset);
+        self.announced_height = options.announced.unwrap_or(0);
+        self.announces_height = u8::from(options.announced.is_some());
+        self.reset = u8::from(options.reset);
+        self.spare = [0; 7];
+        self.reserved = [0; 12];
+    }
+
+    /// What was chosen for the stream, but for its comment, if it is accepted.
+    fn options(&self) -> Result<Options<'static>, Fault>
+        ensures judged { MatchResult result
+            (λ o. settings_of o ≡ settings_kept self.now)
+            (λ fault. refusal_of self.now.options self.now.stripe_rows self.now.most_offset None
+            ≡ Some fault) }
+    {
+        let announced = (self.announces_height != 0).then_some(self.announced_height);
+        let reset = self.reset != 0;
+        Options::new(
+            self.options,
+            self.stripe_rows,
+            self.most_offset,
+            announced,
+            reset,
+            None,
+        )
+    }
+
+    /// The engine's encoder that has the numbers, if there is one.
+    fn resume(&self) -> Option<RowEncoder>
+        ensures { MatchOption result (IsOfNone self.now) (λ e. GoesOnFrom self.now e) }
+    {
+        if self.width == 0 || self.width > MOST_WIDTH || self.height == 0 {
+            return None;
+        }
+        let size = Size {
+            width: self.width,
+            height: self.height,
+        };
+        match self.options() {
+            Ok(options) => RowEncoder::resume(size, &options, &self.numbers()),
+            Err(_) => None,
+        }
+    }
+
+    /// The engine's encoder, or the status where nothing is taken.
+    fn engine(&self) -> Result<RowEncoder, u8>
+        ensures { MatchResult result (λ e. IsReady self.now e) (λ status. IsIdle self.now status) }
+    {
+        if self.version != VERSION {
+            return Err(NOT_BEGUN);
+        }
+        if self.next == ENDED {
+            return Err(NO_MORE_ROWS);
+        }
+        if self.next != ROWS || self.place >= 3 {
+            return Err(NOT_BEGUN);
+        }
+        match self.resume() {
+            Some(engine) => Ok(engine),
+            None => Err(NOT_BEGUN),
+        }
+    }
+
+    /// The engine's encoder, or the status of the first refusal, of a row of so many bytes, for which so many bytes are lent.
+    fn judge_row(&self, row: usize, window: usize, room: usize) -> Result<RowEncoder, u8>
+        ensures ready { MatchResult result (λ e. IsReady self.now e)
+            (λ status. RefusesCall self.now (row_refusal self.now row window room) status) }
+        ensures enough { IfOk result (λ _. row_refusal self.now row window room ≡ None) }
+    {
+        let engine = match self.engine() {
+            Ok(engine) => engine,
+            Err(status) => return Err(status),
+        };
+        if self.rows == self.height {
+            return Err(NO_MORE_ROWS);
+        }
+        if row < row_bytes(self.width) {
+            return Err(SHORT_ROW);
+        }
+        if window < window_bytes(self.width) {
+            return Err(SHORT_WINDOW);
+        }
+        if (room as u64) < engine.most_row_bytes() {
+            return Err(FULL);
+        }
+        Ok(engine)
+    }
+
+    /// The same of the end.
+    fn judge_end(&self, window: usize, room: usize) -> Result<RowEncoder, u8>
+        ensures ready { MatchResult result (λ e. IsReady self.now e)
+            (λ status. RefusesCall self.now (end_refusal self.now window room) status) }
+        ensures enough { IfOk result (λ _. end_refusal self.now window room ≡ None) }
+    {
+        let engine = match self.engine() {
+            Ok(engine) => engine,
+            Err(status) => return Err(status),
+        };
+        if self.rows == 0 || self.announces_height == 0 && self.rows != self.height {
+            return Err(ROWS_MISSING);
+        }
+        if window < window_bytes(self.width) {
+            return Err(SHORT_WINDOW);
+        }
+        if (room as u64) < engine.most_row_bytes() {
+            return Err(FULL);
+        }
+        Ok(engine)
+    }
+
+    /// Begins a stream for which there is room, with a window of just three rows, and answers how many bytes were written.
+    fn begin(
+        &mut self,
+        size: Size,
+        options: &Options<'_>,
+        memory: &mut [u8],
+        stream: &mut [u8],
+    ) -> usize
+        requires long { length memory.old ≡ window_of size.width }
+        requires not_low { is_low (settings_of options.now) size.height ≡ false }
+        requires room { length (head_of (settings_of options.now) size.width size.height) ≤ length
+            stream.old }
+        ensures begun { BeginsStream (image_of (settings_of options.now) size.width size.height)
+            (encoder_hold self.new memory.new) (take result stream.new) }
+        ensures within { result ≤ length stream.new }
+    {
+        // What the proof cites of streams in parts.
+        elsewhere();
+        let mut window = Window::over(memory, size.width);
+        let mut room = Room::new(stream);
+        self.start_in(size, options, &mut window, &mut room);
+        room.len
+    }
+
+    /// Writes the head of a stream into room for it. So no write fails.
+    fn start_in(
+        &mut self,
+        size: Size,
+        options: &Options<'_>,
+        window: &mut Window<'_>,
+        room: &mut Room<'_>,
+    )
+        requires width { width_of window.old ≡ size.width }
+        requires not_low { is_low (settings_of options.now) size.height ≡ false }
+        requires fresh { room.old.failures ≡ 0 }
+        requires empty { room.old.len ≡ 0 }
+        requires unspilled { room.old.spilled ≡ None }
+        ensures begun { length (head_of (settings_of options.now) size.width size.height) ≤ length
+            room.new.bytes.now → HasBegun (settings_of options.now) size self.new window.new
+            (take room.new.len room.new.bytes.now) }
+        ensures window { KeepsWindow window.old window.new }
+        ensures same_reference { room.new.bytes.ghost_name ≡ room.old.bytes.ghost_name }
+    {
+        let started = RowEncoder::start(size, options, window, &mut self.learning, room);
+        match started {
+            Ok(engine) => {
+                self.choose(size, options);
+                self.keep(engine.numbers(), window.place());
+            }
+            Err(_) => {}
+        }
+    }
+
+    /// Takes a row for which there is room, with a window of just three rows, and answers how many bytes were written.
+    fn put(
+        &mut self,
+        mut engine: RowEncoder,
+        row: &[u8],
+        memory: &mut [u8],
+        stream: &mut [u8],
+    ) -> usize
+        requires long { length memory.old ≡ window_of self.old.width }
+        requires row { length row.now ≡ div_ceil self.old.width 8 }
+        requires ready { IsReady self.old engine }
+        requires left { engine.rows < engine.size.height }
+        requires room { most_row_bytes engine ≤ length stream.old }
+        ensures taken { TakesOne (encoder_hold self.old memory.old)
+            (encoder_hold self.new memory.new) row.now (take result stream.new) }
+        ensures width { self.new.width ≡ self.old.width }
+        ensures within { result ≤ length stream.new }
+    {
+        // What the proof cites of streams in parts.
+        elsewhere();
+        let mut window = Window::resume(memory, self.width, self.place);
+        let mut room = Room::new(stream);
+        put_in(&mut engine, row, &mut window, &mut self.learning, &mut room);
+        self.keep(engine.numbers(), window.place());
+        room.len
+    }
+
+    /// Ends the stream, where there is room for that, with a window of just three rows, and answers how many bytes were
+    /// written.
+    fn end(&mut self, mut engine: RowEncoder, memory: &mut [u8], stream: &mut [u8]) -> usize
+        requires long { length memory.old ≡ window_of self.old.width }
+        requires ready { IsReady self.old engine }
+        requires some { 0 < engine.rows }
+        requires whole { engine.may_end ≡ false → engine.rows ≡ engine.size.height }
+        requires room { most_row_bytes engine ≤ length stream.old }
+        ensures ends { EndsStream (encoder_hold self.old memory.old) (take result stream.new) }
+        ensures ended { HasBeenEnded self.new }
+        ensures within { result ≤ length stream.new }
+    {
+        // What the proof cites of streams.
+        code_denotes();
+        let mut window = Window::resume(memory, self.width, self.place);
+        let mut room = Room::new(stream);
+        end_in(&mut engine, &mut window, &mut self.learning, &mut room);
+        self.version = VERSION;
+        self.next = ENDED;
+        room.len
+    }
+}
+
+/// Puts a row into room for all that it may write. So no write fails.
+fn put_in(
+    engine: &mut RowEncoder,
+    row: &[u8],
+    window: &mut Window<'_>,
+    learning: &mut Learning,
+    room: &mut Room<'_>,
+)
+    requires width { width_of window.old ≡ engine.old.size.width }
+    requires whole { length row.now ≡ div_ceil engine.old.size.width 8 }
+    requires left { engine.old.rows < engine.old.size.height }
+    requires ready { MayGoOn engine.old }
+    requires going { IsGoing engine.old }
+    requires fresh { room.old.failures ≡ 0 }
+    requires empty { room.old.len ≡ 0 }
+    requires unspilled { room.old.spilled ≡ None }
+    ensures put { most_row_bytes engine.old ≤ length room.new.bytes.now →
+        TakesNextRow (given_row engine.old row.now) (view_of engine.old learning.old)
+        (view_of engine.new learning.new) (rows_of window.old) (rows_of window.new) (Some [])
+        (Some (take room.new.len room.new.bytes.now)) }
+    ensures ready { most_row_bytes engine.old ≤ length room.new.bytes.now → MayGoOn engine.new }
+    ensures window { KeepsWindow window.old window.new }
+    ensures same_reference { room.new.bytes.ghost_name ≡ room.old.bytes.ghost_name }
+{
+    engine.put_row(row, window, learning, room).is_ok();
+}
+
+/// Ends a stream in room for all that this may write. So no write fails.
+fn end_in(
+    engine: &mut RowEncoder,
+    window: &mut Window<'_>,
+    learning: &mut Learning,
+    room: &mut Room<'_>,
+)
+    requires width { width_of window.old ≡ engine.old.size.width }
+    requires some { 0 < engine.old.rows }
+    requires whole { engine.old.may_end ≡ false → engine.old.rows ≡ engine.old.size.height }
+    requires ready { MayGoOn engine.old }
+    requires going { IsGoing engine.old }
+    requires fresh { room.old.failures ≡ 0 }
+    requires empty { room.old.len ≡ 0 }
+    requires unspilled { room.old.spilled ≡ None }
+    ensures ended { most_row_bytes engine.old ≤ length room.new.bytes.now →
+        EndsImage (view_of engine.old learning.old) (rows_of window.old) (Some [])
+        (Some (take room.new.len room.new.bytes.now)) }
+    ensures window { KeepsWindow window.old window.new }
+    ensures same_reference { room.new.bytes.ghost_name ≡ room.old.bytes.ghost_name }
+{
+    engine.finish(window, learning, room).is_ok();
+}

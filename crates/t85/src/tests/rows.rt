@@ -1,0 +1,258 @@
+//! Streams whose rows come one by one.
+
+use crate::tests::{CODED, Coded, PLAIN};
+use crate::{
+    T85Encoder, T85Options, t85_encode_end, t85_encode_room, t85_encode_row, t85_encode_rows_left,
+    t85_encode_start,
+};
+use t85_core::Learning;
+
+/// An encoder of zeros.
+fn zeros() -> T85Encoder {
+    T85Encoder {
+        version: 0,
+        next: 0,
+        width: 0,
+        height: 0,
+        options: 0,
+        stripe_rows: 0,
+        most_offset: 0,
+        announced_height: 0,
+        rows: 0,
+        in_stripe: 0,
+        span: 0,
+        bits: 0,
+        announces_height: 0,
+        reset: 0,
+        is_counted: 0,
+        offset: 0,
+        is_previous_typical: 0,
+        has_held: 0,
+        held: 0,
+        has_failed: 0,
+        place: 0,
+        spare: [0; 7],
+        low: 0,
+        zeros: 0,
+        ones: 0,
+        events: 0,
+        reserved: [0; 12],
+        learning: Learning::new(),
+    }
+}
+
+/// What calls have told of an image whose rows come one by one: the last status, and the bytes that were written.
+#[derive(Drop)]
+struct Sent {
+    status: u8,
+    bytes: [u8; 64],
+    count: usize,
+}
+
+impl Sent {
+    /// Adds what a call has told.
+    fn add(&mut self, status: u8, bytes: &[u8]) {
+        self.status = status;
+        for byte in bytes {
+            if self.count < 64 {
+                self.bytes[self.count] = *byte;
+                self.count += 1;
+            }
+        }
+    }
+
+    /// Whether these are the status and the bytes.
+    fn is(&self, status: u8, bytes: &[u8]) -> bool {
+        self.status == status && &self.bytes[..self.count.min(64)] == bytes
+    }
+}
+
+/// The encoder of an example that was begun with the comment "hi", with a window and a room of so many bytes.
+fn begun(example: &Coded, window: &mut [u8], room: usize) -> (T85Encoder, Sent) {
+    let mut encoder = zeros();
+    let mut sent = Sent {
+        status: 0,
+        bytes: [0; 64],
+        count: 0,
+    };
+    let mut stream = [0xaa; 64];
+    let mut written = 77;
+    let status = t85_encode_start(
+        &mut encoder,
+        5360,
+        example.width,
+        example.height,
+        &example.options,
+        b"hi",
+        window,
+        &mut stream[..room.min(64)],
+        &mut written,
+    );
+    sent.add(status, &stream[..written.min(64)]);
+    (encoder, sent)
+}
+
+/// Goes on with a row, or with the end where there is none, in so many bytes of room fewer than are told.
+fn go_on(
+    encoder: &mut T85Encoder,
+    row: Option<&[u8]>,
+    window: &mut [u8],
+    fewer: usize,
+    sent: &mut Sent,
+) {
+    let mut stream = [0xaa; 128];
+    let mut written = 77;
+    let told = (t85_encode_room(encoder) as usize).min(128);
+    let (room, _) = stream.split_at_mut(told.saturating_sub(fewer));
+    let status = match row {
+        Some(row) => t85_encode_row(encoder, row, window, room, &mut written),
+        None => t85_encode_end(encoder, window, room, &mut written),
+    };
+    sent.add(status, &stream[..written.min(128)]);
+}
+
+/// Whether an example's stream is written where its rows come one by one.
+fn is_sent(example: &Coded) -> bool {
+    let mut window = [0xaa; 24];
+    let (mut encoder, mut sent) = begun(example, &mut window, 64);
+    let mut at = 0;
+    for left in 0..example.height.min(9) {
+        let (_, row) = example.rows.split_at(at.min(example.rows.len()));
+        if sent.status == 0 && !row.is_empty() {
+            if t85_encode_rows_left(&encoder) != example.height.saturating_sub(left) {
+                return false;
+            }
+            go_on(&mut encoder, Some(row), &mut window, 0, &mut sent);
+        }
+        at = at.saturating_add(example.stride);
+    }
+    if sent.status == 0 {
+        go_on(&mut encoder, None, &mut window, 0, &mut sent);
+    }
+    sent.is(example.status, example.stream)
+}
+
+#[test]
+fn rows_that_come_one_by_one_are_encoded(rt: HostRuntime) {
+    for example in &CODED {
+        assert!(rt; example.status == 51 || is_sent(example));
+    }
+}
+
+/// Two rows of a pixel, where nine are announced and may come, in stripes of one.
+static TWO_OF_NINE: Coded = Coded {
+    width: 1,
+    height: 9,
+    rows: b"\x80\x80",
+    stride: 1,
+    options: T85Options {
+        stripe_rows: 1,
+        announced_height: 9,
+        announces_height: true,
+        ..PLAIN
+    },
+    status: 0,
+    stream: b"\0\0\x01\0\0\0\0\x01\0\0\0\x09\0\0\0\x01\0\0\0\x20\xc0\xff\x02\xc0\xff\x02\xff\x05\0\0\0\x02\xff\x02",
+};
+
+#[test]
+fn fewer_rows_than_are_announced_are_encoded(rt: HostRuntime) {
+    let mut window = [0xaa; 24];
+    let (mut encoder, mut sent) = begun(&TWO_OF_NINE, &mut window, 20);
+    go_on(&mut encoder, None, &mut window, 0, &mut sent);
+    assert!(rt; sent.status == 36);
+    go_on(&mut encoder, Some(b"\xff"), &mut window, 0, &mut sent);
+    go_on(&mut encoder, Some(b"\xff"), &mut window, 0, &mut sent);
+    assert!(rt; sent.status == 0 && t85_encode_rows_left(&encoder) == 7);
+    go_on(&mut encoder, None, &mut window, 0, &mut sent);
+    assert!(rt; sent.is(0, TWO_OF_NINE.stream));
+    assert!(rt; t85_encode_rows_left(&encoder) == 0 && t85_encode_room(&encoder) == 0);
+    go_on(&mut encoder, None, &mut window, 0, &mut sent);
+    assert!(rt; sent.is(54, TWO_OF_NINE.stream));
+    go_on(&mut encoder, Some(b"\xff"), &mut window, 0, &mut sent);
+    assert!(rt; sent.is(54, TWO_OF_NINE.stream));
+}
+
+#[test]
+fn refusals_leave_an_encoder_as_it_was(rt: HostRuntime) {
+    let mut window = [0xaa; 24];
+    let (mut encoder, mut sent) = begun(&CODED[0], &mut window, 20);
+    assert!(rt; sent.status == 0 && sent.count == 20);
+    go_on(&mut encoder, Some(b""), &mut window, 0, &mut sent);
+    assert!(rt; sent.status == 55);
+    go_on(&mut encoder, Some(b"\0"), &mut window[..2], 1, &mut sent);
+    assert!(rt; sent.status == 19);
+    go_on(&mut encoder, Some(b"\0"), &mut window, 1, &mut sent);
+    assert!(rt; sent.status == 18);
+    go_on(&mut encoder, None, &mut window[..2], 1, &mut sent);
+    assert!(rt; sent.status == 36);
+    go_on(&mut encoder, Some(b"\0\xff"), &mut window, 0, &mut sent);
+    assert!(rt; sent.status == 0);
+    go_on(&mut encoder, Some(b""), &mut window[..2], 1, &mut sent);
+    assert!(rt; sent.status == 54);
+    go_on(&mut encoder, None, &mut window[..2], 1, &mut sent);
+    assert!(rt; sent.status == 19);
+    go_on(&mut encoder, None, &mut window, 1, &mut sent);
+    assert!(rt; sent.status == 18);
+    go_on(&mut encoder, None, &mut window, 0, &mut sent);
+    assert!(rt; sent.is(0, CODED[0].stream));
+}
+
+/// The statuses of a row, and of the end, of an encoder that was begun and has this version and this as what comes next.
+fn statuses(version: u32, next: u32) -> (u8, u8) {
+    let mut window = [0xaa; 24];
+    let (mut encoder, mut sent) = begun(&CODED[0], &mut window, 64);
+    encoder.version = version;
+    encoder.next = next;
+    go_on(&mut encoder, Some(b""), &mut window[..2], 1, &mut sent);
+    let of_row = sent.status;
+    go_on(&mut encoder, None, &mut window[..2], 1, &mut sent);
+    (of_row, sent.status)
+}
+
+#[test]
+fn encoders_that_were_not_begun_are_told(rt: HostRuntime) {
+    assert!(rt; statuses(1, 1) == (55, 36));
+    assert!(rt; statuses(1, 2) == (54, 54));
+    assert!(rt; statuses(1, 0) == (53, 53));
+    assert!(rt; statuses(2, 1) == (53, 53));
+    assert!(rt; statuses(0, 2) == (53, 53));
+}
+
+/// The status of the beginning of an example in a room of so many bytes, and how many bytes were written.
+fn starts(example: &Coded, room: usize) -> (u8, usize) {
+    let mut window = [0xaa; 24];
+    let (_, sent) = begun(example, &mut window, room);
+    (sent.status, sent.count)
+}
+
+#[test]
+fn beginnings_want_room_for_the_head(rt: HostRuntime) {
+    assert!(rt; starts(&CODED[0], 19) == (18, 0));
+    assert!(rt; starts(&CODED[0], 20) == (0, 20));
+    assert!(rt; starts(&CODED[4], 27) == (18, 0));
+    assert!(rt; starts(&CODED[4], 28) == (0, 28));
+}
+
+/// The status of a row of an encoder with a number that none has: another place of its window, a wider image, more rows in a
+/// stripe than it may have, another offset.
+fn status_with(change: fn(&mut T85Encoder)) -> u8 {
+    let mut window = [0xaa; 24];
+    let (mut encoder, mut sent) = begun(&CODED[0], &mut window, 64);
+    change(&mut encoder);
+    go_on(&mut encoder, Some(b"\0"), &mut window, 0, &mut sent);
+    sent.status
+}
+
+#[test]
+fn numbers_of_no_encoder_are_told(rt: HostRuntime) {
+    assert!(rt; status_with(|e| e.place = 3) == 53);
+    assert!(rt; status_with(|e| e.width = 0) == 53);
+    assert!(rt; status_with(|e| e.width = 1_048_577) == 53);
+    assert!(rt; status_with(|e| e.stripe_rows = 0) == 53);
+    assert!(rt; status_with(|e| e.in_stripe = 2) == 53);
+    assert!(rt; status_with(|e| e.offset = 128) == 53);
+    assert!(rt; status_with(|e| e.bits = 40) == 53);
+    assert!(rt; status_with(|e| e.has_failed = 1) == 53);
+    assert!(rt; status_with(|_| {}) == 0);
+}
