@@ -15,14 +15,14 @@ use Rattle.raster_core.specs.Raster.{IsRaster, white_row}
 use Rattle.raster_core.specs.Window.{held as rows_held, width_of}
 use Rattle.raster_core.specs.declared.window.Window.{Window}
 use Rattle.t85_core.specs.Denotes.{Denotes}
-use Rattle.t85_core.specs.Encode.{raster_of}
+use Rattle.t85_core.specs.Encode.{HoldsStripes, raster_of}
 use Rattle.t85_core.specs.Fault.{fault_number}
 use Rattle.t85_core.specs.Failures.{CountsWrite, writes_after}
 use Rattle.t85_core.specs.Jbg.{AreSettings, Settings, head_of, is_low, jbg, jbg_up_to}
 use Rattle.t85_core.specs.Laws.{CodeDenotes}
 use Rattle.t85_core.specs.Options.{refusal_of, settings_of}
 use Rattle.t85_core.specs.RowNumbers.{row_numbers}
-use Rattle.t85_core.specs.Steps.ByRow.{EndsImage, HaveCome, IsPlan, MayCome, MayGoOn, RowPlan, RowView, RowsGoElsewhere, Stands, TakesNextRow, plan_of, view_of}
+use Rattle.t85_core.specs.Steps.ByRow.{EndsImage, HaveCome, IsPlan, MayCome, MayGoOn, RowPlan, RowFronts, RowView, RowsGoElsewhere, Stands, TakesNextRow, plan_of, view_of}
 use Rattle.t85_core.specs.Steps.MostBytes.{AppendsAtMost, most_end_bytes, most_row_bytes}
 use Rattle.t85_core.specs.Steps.RowSteps.{IsGoing, given_row}
 use Rattle.t85_core.specs.Steps.Sent.{Origin, Sends, behind, here}
@@ -36,7 +36,8 @@ use Rattle.t85.specs.Decoded.{window_bytes}
 use Rattle.t85.specs.Delivered.{lending}
 use Rattle.t85.specs.Encoded.{or_else, settings_chosen, status_if}
 use Rattle.t85.specs.Encoder.{BeginsStream, EndsStream, HasBeenEnded, HasCome, Image, IsNotBegun, PutsEnd, PutsRow, StartCall, StartsStream, TakesOne, TellsLeft, TellsRoom, encoder_hold, end_refusal, image_of, numbers_of_encoder, room_told, row_refusal, settings_kept, start_refusal, without_comment}
-use Rattle.t85.specs.EncoderSteps.{GoesOnFrom, HasBegun, IsIdle, IsOfNone, IsReady, RefusesCall}
+use Rattle.t85.specs.EncoderSteps.{GoesOnFrom, HasBegun, IsIdle, IsOfNone, AwaitsCall, RefusesCall}
+use Rattle.t85.specs.Laws.{SentIsFront}
 use Rattle.t85.specs.declared.encoder.T85Encoder.{T85Encoder}
 use Rattle.t85.proofs.DecoderCalls.{not_some, window_rows}
 use Rattle.t85.proofs.Stored.{are_settings}
@@ -143,7 +144,7 @@ idle_refuses d refusal status i = record {
 }
 
 -- one that takes rows refuses a call
-pub ready_refuses : (d : T85Encoder) (e : RowEncoder) (refusal : Option ℕ) (status : ℕ) → IsReady d e → status ≢ 0 → refusal ≡ Some status → RefusesCall d refusal status
+pub ready_refuses : (d : T85Encoder) (e : RowEncoder) (refusal : Option ℕ) (status : ℕ) → AwaitsCall d e → status ≢ 0 → refusal ≡ Some status → RefusesCall d refusal status
 ready_refuses d e refusal status r some is = record {
   some = some;
   first = λ window image rows sent k. is;
@@ -208,7 +209,7 @@ end_within e room enough = omega (arith, enough)
 
 -- ---- a row
 
-module _ (d : T85Encoder) (e : RowEncoder) (ready : IsReady d e) (memory : List ℕ) (window : Window) (long : length memory ≡ window_bytes d.width) (at : rows_held window ≡ rows_at d.place d.width memory) (image : Image) (rows : List (List Bool)) (sent : List ℕ) (k : HasCome image (encoder_hold d memory) rows sent) where
+module _ (d : T85Encoder) (e : RowEncoder) (ready : AwaitsCall d e) (memory : List ℕ) (window : Window) (long : length memory ≡ window_bytes d.width) (at : rows_held window ≡ rows_at d.place d.width memory) (image : Image) (rows : List (List Bool)) (sent : List ℕ) (k : HasCome image (encoder_hold d memory) rows sent) where
   -- what the engine has of an image
   pub stands_lent : Stands image.settings image.width image.limit rows (view_of e d.learning) (rows_held window) (behind sent (Some [])) (Some [])
   stands_lent =
@@ -248,7 +249,7 @@ module _ (d : T85Encoder) (e : RowEncoder) (ready : IsReady d e) (memory : List 
       }
 
 -- a row was put
-pub row_taken : (law : RowsGoElsewhere) (d kept : T85Encoder) (e e' : RowEncoder) (learning : Learning) (memory memory' row room stream : List ℕ) (n : ℕ) (window window' : Window) → IsReady d e → length memory ≡ window_bytes d.width → length memory' ≡ window_bytes d.width → length row ≡ div_ceil d.width 8 →
+pub row_taken : (law : RowsGoElsewhere) (d kept : T85Encoder) (e e' : RowEncoder) (learning : Learning) (memory memory' row room stream : List ℕ) (n : ℕ) (window window' : Window) → AwaitsCall d e → length memory ≡ window_bytes d.width → length memory' ≡ window_bytes d.width → length row ≡ div_ceil d.width 8 →
     rows_held window ≡ rows_at d.place d.width memory → rows_held window' ≡ rows_at kept.place d.width memory' → kept.version ≡ d.version → kept.next ≡ d.next → kept.width ≡ d.width → kept.height ≡ d.height → settings_kept kept ≡ settings_kept d → kept.learning ≡ learning → kept.place < 3 → numbers_of_encoder kept ≡ row_numbers e' → room ≡ stream → most_row_bytes e ≤ length stream → (most_row_bytes e ≤ length room → MayGoOn e') →
     (most_row_bytes e ≤ length room → TakesNextRow (given_row e row) (view_of e d.learning) (view_of e' learning) (rows_held window) (rows_held window') (Some []) (Some (take n room))) → TakesOne (encoder_hold d memory) (encoder_hold kept memory') row (take n stream)
 row_taken law d kept e e' learning memory memory' row room stream n window window' ready long long' whole at at' version next wide high settings learned small numbers same enough may puts = λ image rows sent k.
@@ -267,7 +268,7 @@ announced_to None n limit few low = omega arith
 announced_to (Some a) n limit few low = (let high : limit ≤ a = grind (arith, nat_tests) in omega (arith, high, few))
 
 -- the stream was ended
-pub stream_ended : (denotes : CodeDenotes) (d : T85Encoder) (e : RowEncoder) (memory room stream : List ℕ) (n : ℕ) (window : Window) → IsReady d e → length memory ≡ window_bytes d.width → rows_held window ≡ rows_at d.place d.width memory → 0 < e.rows → room ≡ stream → most_row_bytes e ≤ length stream →
+pub stream_ended : (denotes : CodeDenotes) (d : T85Encoder) (e : RowEncoder) (memory room stream : List ℕ) (n : ℕ) (window : Window) → AwaitsCall d e → length memory ≡ window_bytes d.width → rows_held window ≡ rows_at d.place d.width memory → 0 < e.rows → room ≡ stream → most_row_bytes e ≤ length stream →
     (most_row_bytes e ≤ length room → EndsImage (view_of e d.learning) (rows_held window) (Some []) (Some (take n room))) → EndsStream (encoder_hold d memory) (take n stream)
 stream_ended denotes d e memory room stream n window ready long at some same enough ends = λ image rows sent k.
     let stood = stands_lent d e ready memory window long at image rows sent k in
@@ -405,11 +406,11 @@ other_window image d window window' rows sent same k = record {
 take_twice : (n m : ℕ) (xs : List ℕ) → n ≡ m → take n (take m xs) ≡ take n xs
 take_twice n m xs same = subst (λ k. take n (take k xs) ≡ take n xs) same (take_all n (take n xs) (subst (λ k. k ≤ n) (sym (length-take n xs)) (omega arith)))
 
-ready_begun : (d : T85Encoder) (e : RowEncoder) → IsReady d e → IsNotBegun d → ⊥
+ready_begun : (d : T85Encoder) (e : RowEncoder) → AwaitsCall d e → IsNotBegun d → ⊥
 ready_begun d e r (inl other) = other r.version_is
 ready_begun d e r (inr other) = other.0 r.next_is
 
-ready_ended : (d : T85Encoder) (e : RowEncoder) → IsReady d e → HasBeenEnded d → ⊥
+ready_ended : (d : T85Encoder) (e : RowEncoder) → AwaitsCall d e → HasBeenEnded d → ⊥
 ready_ended d e r h = (let next = h.next_is in let was = r.next_is in omega (arith, next, was))
 
 pub row_refused : (d : T85Encoder) (window stream row : List ℕ) (status : ℕ) → RefusesCall d (row_refusal d (length row) (length window) (length stream)) status → PutsRow (encoder_hold d window) (encoder_hold d window) row (lending stream stream 0 status)
@@ -422,7 +423,7 @@ row_refused d window stream row status r = record {
   within = omega arith;
 }
 
-pub row_put : (d d' : T85Encoder) (e : RowEncoder) (window memory' rest row stream stream' : List ℕ) (n needed long : ℕ) → IsReady d e → row_refusal d (length row) (length window) (length stream) ≡ None → needed ≡ window_bytes d.width → length memory' ≡ needed → long ≡ div_ceil d.width 8 → n ≤ length stream' →
+pub row_put : (d d' : T85Encoder) (e : RowEncoder) (window memory' rest row stream stream' : List ℕ) (n needed long : ℕ) → AwaitsCall d e → row_refusal d (length row) (length window) (length stream) ≡ None → needed ≡ window_bytes d.width → length memory' ≡ needed → long ≡ div_ceil d.width 8 → n ≤ length stream' →
     TakesOne (encoder_hold d (take needed window)) (encoder_hold d' memory') (take long row) (take n stream') → PutsRow (encoder_hold d window) (encoder_hold d' (memory' ++ rest)) row (lending stream stream' n 0)
 row_put d d' e window memory' rest row stream stream' n needed long ready none needed_is long' long_is within takes = record {
   status_is = λ image rows sent k. sym (ap (λ o. unwrap_or o 0) none);
@@ -450,7 +451,7 @@ end_refused d window stream status r = record {
   within = omega arith;
 }
 
-pub end_put : (d d' : T85Encoder) (e : RowEncoder) (window window' stream stream' : List ℕ) (n needed : ℕ) → IsReady d e → end_refusal d (length window) (length stream) ≡ None → needed ≡ window_bytes d.width → n ≤ length stream' → HasBeenEnded d' → EndsStream (encoder_hold d (take needed window)) (take n stream') →
+pub end_put : (d d' : T85Encoder) (e : RowEncoder) (window window' stream stream' : List ℕ) (n needed : ℕ) → AwaitsCall d e → end_refusal d (length window) (length stream) ≡ None → needed ≡ window_bytes d.width → n ≤ length stream' → HasBeenEnded d' → EndsStream (encoder_hold d (take needed window)) (take n stream') →
     PutsEnd (encoder_hold d window) (encoder_hold d' window') (lending stream stream' n 0)
 end_put d d' e window window' stream stream' n needed ready none needed_is within ended ends = record {
   status_is = λ image rows sent k. sym (ap (λ o. unwrap_or o 0) none);
@@ -517,3 +518,13 @@ start_done call d d' window memory' rest stream stream' n s size none same wide 
           };
       within = within;
     }
+
+-- ---- what was sent so far
+
+pub sent_is_front : RowFronts → SentIsFront
+sent_is_front law = λ image hold rows sent raster k may.
+    let stands = k.stands (Some []) in
+    let front = law image.settings image.width image.limit rows (view_of k.engine hold.encoder.learning) (rows_at hold.encoder.place image.width (take (window_bytes image.width) hold.window)) (behind sent (Some [])) (Some []) stands in
+    let sends = front.sent in
+    let is : front.bytes ≡ sent = sends.all ∙ ap (λ m. sent ++ m) (sym sends.appended) ∙ append-nil sent in
+    subst (λ b. HoldsStripes image.settings raster (length rows) b) is (front.begun raster may)

@@ -184,13 +184,13 @@ end_refusal d window room =
     (status_if (nat_lt room (room_told d)) 18))
 
 -- These bytes are the stream of an image of these rows, and denote it.
-pub record IsStreamOf (image : Image) (rows : List (List Bool)) (bytes : List ℕ) : Type 0 where
+pub record IsStreamOfRows (image : Image) (rows : List (List Bool)) (bytes : List ℕ) : Type 0 where
   pub is : bytes ≡ jbg image.settings (raster_of image.width rows)
   pub denotes : Denotes bytes (raster_of image.width rows)
 
 -- The last bytes of the stream were written.
 abbrev pub EndsStream : EncoderHold → List ℕ → Type 0
-EndsStream old bytes = OfEach old (λ image rows sent. IsStreamOf image rows (sent ++ bytes))
+EndsStream old bytes = OfEach old (λ image rows sent. IsStreamOfRows image rows (sent ++ bytes))
 
 -- what `t85_encode_end` leaves
 pub record PutsEnd (old new : EncoderHold) (l : Lending) : Type 0 where

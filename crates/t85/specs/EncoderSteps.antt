@@ -40,8 +40,8 @@ pub record GoesOnFrom (d : T85Encoder) (e : RowEncoder) : Type 0 where
 abbrev pub IsOfNone : T85Encoder → Type 0
 IsOfNone d = (window : List ℕ) → OfEach (encoder_hold d window) (λ image rows sent. ⊥)
 
--- A struct takes the next row, or the end.
-pub record IsReady (d : T85Encoder) (e : RowEncoder) : Type 0 where
+-- A struct awaits the next row, or the end.
+pub record AwaitsCall (d : T85Encoder) (e : RowEncoder) : Type 0 where
   pub version_is : d.version ≡ 1
   pub next_is : d.next ≡ 1
   pub place_to : d.place < 3

@@ -1,17 +1,20 @@
 -- What the answer 0 means, in the words of the engine's definitions.
-use Rattle.std.specs.Prelude.{ℕ, ◌≡◌, List, take, flat_map}
+use Rattle.std.specs.Prelude.{ℕ, ◌≡◌, Bool, List, length, take, flat_map}
 use Rattle.std.specs.Int.{div_ceil}
 use Rattle.pbm_core.specs.Image.{HoldsRows}
 use Rattle.pbm_core.specs.declared.form.Form.TheVariants.{Raw}
 use Rattle.raster_core.specs.Packed.{packed_row}
 use Rattle.raster_core.specs.Raster.{Raster, height}
 use Rattle.t85_core.specs.Denotes.{Denotes}
+use Rattle.t85_core.specs.Encode.{HoldsStripes}
 use Rattle.t85_core.specs.Jbg.{jbg}
 use Rattle.t85_core.specs.Outcome.{pbm_text}
+use Rattle.t85_core.specs.Steps.ByRow.{MayCome}
 use Rattle.t85.specs.Decoded.{DecodesImage}
 use Rattle.t85.specs.DecodedRows.{DecodesRows}
 use Rattle.t85.specs.Encoded.{EncodingCall, EncodesImage, settings_chosen}
 use Rattle.t85.specs.Delivered.{lending, lined}
+use Rattle.t85.specs.Encoder.{EncoderHold, HasCome, Image}
 
 -- the one raster that a stream denotes
 pub record IsOnly (stream : List ℕ) (raster : Raster) : Type 0 where
@@ -46,3 +49,10 @@ abbrev pub EncodedIsStream : Type 0
 EncodedIsStream =
     (call : EncodingCall) (rows old new : List ℕ) (written : ℕ) → EncodesImage call rows (lending old new written 0)
     → IsStreamOf call rows (take written new)
+
+-- What was written of an image whose rows come one by one is a beginning of the stream of each image that may still come,
+-- and has each stripe whose rows all came.
+abbrev pub SentIsFront : Type 0
+SentIsFront =
+    (image : Image) (hold : EncoderHold) (rows : List (List Bool)) (sent : List ℕ) (raster : Raster) → HasCome image hold rows sent → MayCome image.settings image.width image.limit rows raster
+    → HoldsStripes image.settings raster (length rows) sent

@@ -14,7 +14,7 @@ ghost use Rattle.t85.specs.Decoded.{window_bytes as window_of};
 ghost use Rattle.t85.specs.Delivered.{lending};
 ghost use Rattle.t85.specs.Encoded.{settings_chosen};
 ghost use Rattle.t85.specs.Encoder.{BeginsStream, EndsStream, HasBeenEnded, PutsEnd, PutsRow, StartsStream, TakesOne, TellsLeft, TellsRoom, encoder_hold, end_refusal, head_length, image_of, numbers_of_encoder, row_refusal, settings_kept, start_call, start_refusal, without_comment};
-ghost use Rattle.t85.specs.EncoderSteps.{GoesOnFrom, HasBegun, IsIdle, IsOfNone, IsReady, KeepsChoices, RefusesCall};
+ghost use Rattle.t85.specs.EncoderSteps.{GoesOnFrom, HasBegun, IsIdle, IsOfNone, AwaitsCall, KeepsChoices, RefusesCall};
 
 use crate::decoding::FULL;
 use crate::devices::Room;
@@ -351,7 +351,7 @@ impl T85Encoder {
 
     /// The engine's encoder, or the status where nothing is taken.
     fn engine(&self) -> Result<RowEncoder, u8>
-        ensures { MatchResult result (λ e. IsReady self.now e) (λ status. IsIdle self.now status) }
+        ensures { MatchResult result (λ e. AwaitsCall self.now e) (λ status. IsIdle self.now status) }
     {
         if self.version != VERSION {
             return Err(NOT_BEGUN);
@@ -370,7 +370,7 @@ impl T85Encoder {
 
     /// The engine's encoder, or the status of the first refusal, of a row of so many bytes, for which so many bytes are lent.
     fn judge_row(&self, row: usize, window: usize, room: usize) -> Result<RowEncoder, u8>
-        ensures ready { MatchResult result (λ e. IsReady self.now e)
+        ensures ready { MatchResult result (λ e. AwaitsCall self.now e)
             (λ status. RefusesCall self.now (row_refusal self.now row window room) status) }
         ensures enough { IfOk result (λ _. row_refusal self.now row window room ≡ None) }
     {
@@ -395,7 +395,7 @@ impl T85Encoder {
 
     /// The same of the end.
     fn judge_end(&self, window: usize, room: usize) -> Result<RowEncoder, u8>
-        ensures ready { MatchResult result (λ e. IsReady self.now e)
+        ensures ready { MatchResult result (λ e. AwaitsCall self.now e)
             (λ status. RefusesCall self.now (end_refusal self.now window room) status) }
         ensures enough { IfOk result (λ _. end_refusal self.now window room ≡ None) }
     {
@@ -409,7 +409,7 @@ impl T85Encoder {
         if window < window_bytes(self.width) {
             return Err(SHORT_WINDOW);
         }
-        if (room as u64) < engine.most_row_bytes() {
+        if engine.most_row_bytes() > room as u64 {
             return Err(FULL);
         }
         Ok(engine)
@@ -478,7 +478,7 @@ impl T85Encoder {
     ) -> usize
         requires long { length memory.old ≡ window_of self.old.width }
         requires row { length row.now ≡ div_ceil self.old.width 8 }
-        requires ready { IsReady self.old engine }
+        requires ready { AwaitsCall self.old engine }
         requires left { engine.rows < engine.size.height }
         requires room { most_row_bytes engine ≤ length stream.old }
         ensures taken { TakesOne (encoder_hold self.old memory.old)
@@ -491,7 +491,8 @@ impl T85Encoder {
         let mut window = Window::resume(memory, self.width, self.place);
         let mut room = Room::new(stream);
         put_in(&mut engine, row, &mut window, &mut self.learning, &mut room);
-        self.keep(engine.numbers(), window.place());
+        let place = window.place();
+        self.keep(engine.numbers(), place);
         room.len
     }
 
@@ -499,7 +500,7 @@ impl T85Encoder {
     /// written.
     fn end(&mut self, mut engine: RowEncoder, memory: &mut [u8], stream: &mut [u8]) -> usize
         requires long { length memory.old ≡ window_of self.old.width }
-        requires ready { IsReady self.old engine }
+        requires ready { AwaitsCall self.old engine }
         requires some { 0 < engine.rows }
         requires whole { engine.may_end ≡ false → engine.rows ≡ engine.size.height }
         requires room { most_row_bytes engine ≤ length stream.old }

@@ -1,8 +1,8 @@
 //! What the answers of the calls mean.
 
-ghost use Rattle.t85.specs.Laws.{DecodedAreRows, DecodedIsImage, EncodedIsStream};
+ghost use Rattle.t85.specs.Laws.{DecodedAreRows, DecodedIsImage, EncodedIsStream, SentIsFront};
 
-use t85_core::laws::rasters;
+use t85_core::laws::{fronts, rasters};
 
 /// What the answer 0 means.
 pub fn answers()
@@ -14,4 +14,11 @@ pub fn answers()
     ensures stream { EncodedIsStream }
 {
     rasters();
+}
+
+/// What has been written of an image whose rows come one by one.
+pub fn sent_rows()
+    ensures { SentIsFront }
+{
+    fronts();
 }
