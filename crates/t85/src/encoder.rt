@@ -34,7 +34,8 @@ const SIZE: usize = 5360;
 const ROWS: u32 = 1;
 
 const ENDED: u32 = 2;
-/// The statuses of a short window, of an encoder that was not begun, of one that takes no more rows, and of a short row.
+/// The statuses of a short window, of rows that are missing, of an encoder that was not begun, of one that takes no more
+/// rows, and of a short row.
 const SHORT_WINDOW: u8 = 19;
 
 const ROWS_MISSING: u8 = 36;

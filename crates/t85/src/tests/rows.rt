@@ -173,27 +173,46 @@ fn fewer_rows_than_are_announced_are_encoded(rt: HostRuntime) {
     assert!(rt; sent.is(54, TWO_OF_NINE.stream));
 }
 
+/// The status of a row, or of the end, of an encoder, with a window of so many bytes and so many bytes of room fewer than
+/// are told.
+fn status_of(
+    encoder: &mut T85Encoder,
+    row: Option<&[u8]>,
+    window: &mut [u8; 24],
+    len: usize,
+    fewer: usize,
+) -> u8 {
+    let mut sent = Sent {
+        status: 0,
+        bytes: [0; 64],
+        count: 0,
+    };
+    go_on(encoder, row, &mut window[..len.min(24)], fewer, &mut sent);
+    sent.status
+}
+
 #[test]
-fn refusals_leave_an_encoder_as_it_was(rt: HostRuntime) {
+fn refused_rows_leave_an_encoder_as_it_was(rt: HostRuntime) {
     let mut window = [0xaa; 24];
     let (mut encoder, mut sent) = begun(&CODED[0], &mut window, 20);
     assert!(rt; sent.status == 0 && sent.count == 20);
-    go_on(&mut encoder, Some(b""), &mut window, 0, &mut sent);
-    assert!(rt; sent.status == 55);
-    go_on(&mut encoder, Some(b"\0"), &mut window[..2], 1, &mut sent);
-    assert!(rt; sent.status == 19);
-    go_on(&mut encoder, Some(b"\0"), &mut window, 1, &mut sent);
-    assert!(rt; sent.status == 18);
-    go_on(&mut encoder, None, &mut window[..2], 1, &mut sent);
-    assert!(rt; sent.status == 36);
+    assert!(rt; status_of(&mut encoder, Some(b""), &mut window, 2, 1) == 55);
+    assert!(rt; status_of(&mut encoder, Some(b"\0"), &mut window, 2, 1) == 19);
+    assert!(rt; status_of(&mut encoder, Some(b"\0"), &mut window, 24, 1) == 18);
+    assert!(rt; status_of(&mut encoder, None, &mut window, 2, 1) == 36);
     go_on(&mut encoder, Some(b"\0\xff"), &mut window, 0, &mut sent);
-    assert!(rt; sent.status == 0);
-    go_on(&mut encoder, Some(b""), &mut window[..2], 1, &mut sent);
-    assert!(rt; sent.status == 54);
-    go_on(&mut encoder, None, &mut window[..2], 1, &mut sent);
-    assert!(rt; sent.status == 19);
-    go_on(&mut encoder, None, &mut window, 1, &mut sent);
-    assert!(rt; sent.status == 18);
+    go_on(&mut encoder, None, &mut window, 0, &mut sent);
+    assert!(rt; sent.is(0, CODED[0].stream));
+}
+
+#[test]
+fn refused_ends_leave_an_encoder_as_it_was(rt: HostRuntime) {
+    let mut window = [0xaa; 24];
+    let (mut encoder, mut sent) = begun(&CODED[0], &mut window, 20);
+    go_on(&mut encoder, Some(b"\0"), &mut window, 0, &mut sent);
+    assert!(rt; status_of(&mut encoder, Some(b""), &mut window, 2, 1) == 54);
+    assert!(rt; status_of(&mut encoder, None, &mut window, 2, 1) == 19);
+    assert!(rt; status_of(&mut encoder, None, &mut window, 24, 1) == 18);
     go_on(&mut encoder, None, &mut window, 0, &mut sent);
     assert!(rt; sent.is(0, CODED[0].stream));
 }
@@ -234,25 +253,30 @@ fn beginnings_want_room_for_the_head(rt: HostRuntime) {
     assert!(rt; starts(&CODED[4], 28) == (0, 28));
 }
 
-/// The status of a row of an encoder with a number that none has: another place of its window, a wider image, more rows in a
-/// stripe than it may have, another offset.
-fn status_with(change: fn(&mut T85Encoder)) -> u8 {
+/// The status of a row of an encoder, one of whose numbers is none that an encoder has, and which: another place of the
+/// window, another width, no rows in a stripe, more of them than came, another offset, more bits, a write that failed.
+fn status_with(which: u32) -> u8 {
     let mut window = [0xaa; 24];
     let (mut encoder, mut sent) = begun(&CODED[0], &mut window, 64);
-    change(&mut encoder);
+    match which {
+        0 => encoder.place = 3,
+        1 => encoder.width = 0,
+        2 => encoder.width = 1_048_577,
+        3 => encoder.stripe_rows = 0,
+        4 => encoder.in_stripe = 2,
+        5 => encoder.offset = 128,
+        6 => encoder.bits = 40,
+        7 => encoder.has_failed = 1,
+        _ => {}
+    }
     go_on(&mut encoder, Some(b"\0"), &mut window, 0, &mut sent);
     sent.status
 }
 
 #[test]
 fn numbers_of_no_encoder_are_told(rt: HostRuntime) {
-    assert!(rt; status_with(|e| e.place = 3) == 53);
-    assert!(rt; status_with(|e| e.width = 0) == 53);
-    assert!(rt; status_with(|e| e.width = 1_048_577) == 53);
-    assert!(rt; status_with(|e| e.stripe_rows = 0) == 53);
-    assert!(rt; status_with(|e| e.in_stripe = 2) == 53);
-    assert!(rt; status_with(|e| e.offset = 128) == 53);
-    assert!(rt; status_with(|e| e.bits = 40) == 53);
-    assert!(rt; status_with(|e| e.has_failed = 1) == 53);
-    assert!(rt; status_with(|_| {}) == 0);
+    for which in 0..8 {
+        assert!(rt; status_with(which) == 53);
+    }
+    assert!(rt; status_with(8) == 0);
 }
