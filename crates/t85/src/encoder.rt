@@ -352,7 +352,8 @@ impl T85Encoder {
 
     /// The engine's encoder, or the status where nothing is taken.
     fn engine(&self) -> Result<RowEncoder, u8>
-        ensures { MatchResult result (λ e. AwaitsCall self.now e) (λ status. IsIdle self.now status) }
+        ensures { MatchResult result (λ e. AwaitsCall self.now e)
+            (λ status. IsIdle self.now status) }
     {
         if self.version != VERSION {
             return Err(NOT_BEGUN);
