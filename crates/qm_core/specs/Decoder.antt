@@ -1,5 +1,6 @@
 -- What a decoder stands for.
-use Rattle.std.specs.Prelude.{ℕ, ◌≡◌, ◌≢◌, ◌≤◌, ◌↔◌, Bool, List, ◌++◌, length, replicate, Result, IfOk, OnErr, IsErr}
+use Rattle.std.specs.Prelude.{ℕ, ◌≡◌, ◌≢◌, ◌≤◌, ◌↔◌, Bool, List, ◌++◌, length, replicate, Result, IfOk, OnOk, OnErr, IsErr, IsTrue, false}
+use Rattle.qm_core.specs.Counts.{one_more}
 use Rattle.qm_core.specs.Place.{Place, State, Estimate, step}
 use Rattle.qm_core.specs.Code.{IsBytes, Lies, wanted_bytes}
 use Rattle.qm_core.specs.Source.{bytes_of, heard_of, is_stopped, is_ended, IsClosed, Agrees, HasAsked, Gives}
@@ -13,6 +14,12 @@ use Rattle.qm_core.specs.declared.registers.DecoderRegisters.{DecoderRegisters}
 -- whether the source of a decoder has failed
 abbrev pub has_stopped : Decoder → Bool
 has_stopped d = is_stopped d.heard
+
+-- A decoder that has stopped does nothing. It stops just where the answer is an error, and as often its source fails.
+abbrev pub StopsOnce : {S T E : Type 0} → (S → ℕ) → Decoder → Decoder → S → S → Result T E → Type 0
+StopsOnce failed d d' from to result =
+    (IsTrue (has_stopped d) → IsErr result × (d' ≡ d) × (to ≡ from)) × (IsTrue (has_stopped d') ↔ IsErr result)
+    × OnOk result (failed to ≡ failed from) × (has_stopped d ≡ false → OnErr result (failed to ≡ one_more (failed from)))
 
 -- the numbers of a decoder
 abbrev pub decoder_registers : Decoder → DecoderRegisters

@@ -5,7 +5,7 @@ ghost use Rattle.std.specs.Int.{div_ceil};
 ghost use Rattle.qm_core.specs.Counts.{one_more};
 ghost use Rattle.qm_core.specs.Source.{Pulls};
 ghost use Rattle.qm_core.specs.Place.{Place, State};
-ghost use Rattle.qm_core.specs.Decoder.{DecoderIsAt, has_stopped};
+ghost use Rattle.qm_core.specs.Decoder.{StopsOnce, DecoderIsAt, has_stopped};
 ghost use Rattle.qm_core.specs.declared.source.Pulled.{Pulled};
 ghost use Rattle.raster_core.specs.Lines.{Lines};
 ghost use Rattle.raster_core.specs.Window.{shape_mode, held, width_of, current_place, memory_of};
@@ -32,12 +32,7 @@ fn decode_flag<S: CodeBytes>(
     source: &mut S,
 ) -> Result<bool, Stop>
     requires typical { shape.typical ≡ true }
-    ensures stopped { IsTrue (has_stopped decoder.old) → IsErr result ×
-        (decoder.new ≡ decoder.old) × (source.new ≡ source.old) }
-    ensures stops { IsTrue (has_stopped decoder.new) ↔ IsErr result }
-    ensures same { OnOk result (S.failed source.new ≡ S.failed source.old) }
-    ensures counted { has_stopped decoder.old ≡ false →
-        OnErr result (S.failed source.new ≡ one_more (S.failed source.old)) }
+    ensures stop { StopsOnce S.failed decoder.old decoder.new source.old source.new result }
     ensures ok { IfOk result (λ flag. (p : Place) (answers : List Pulled) →
         DecoderIsAt decoder.old p answers →
         FirstDecoded (Pulls S.gives S.failed) source.old source.new (shape_mode shape) previous flag
@@ -104,12 +99,7 @@ fn decode_below<S: CodeBytes>(
     requires going { place.old.is_begun ≡ true → has_stopped decoder.old ≡ false }
     requires current { length current.old ≡ div_ceil shape.width 8 }
     requires above { length above.now ≡ div_ceil shape.width 8 }
-    ensures stopped { IsTrue (has_stopped decoder.old) → IsErr result ×
-        (decoder.new ≡ decoder.old) × (source.new ≡ source.old) }
-    ensures stops { IsTrue (has_stopped decoder.new) ↔ IsErr result }
-    ensures same { OnOk result (S.failed source.new ≡ S.failed source.old) }
-    ensures counted { has_stopped decoder.old ≡ false →
-        OnErr result (S.failed source.new ≡ one_more (S.failed source.old)) }
+    ensures stop { StopsOnce S.failed decoder.old decoder.new source.old source.new result }
     ensures offset { OnOk result (kept.new.offset ≡ kept.old.offset) }
     ensures kept { OnErr result (kept.new ≡ kept.old) }
     ensures within { OnErr result (place.new.done < shape.width) }
@@ -198,12 +188,7 @@ fn decode_beside<S: CodeBytes>(
     requires row { length row.old ≡ div_ceil shape.width 8 }
     requires tail { length head.now + length tail.now ≡ 2 * div_ceil shape.width 8 }
     requires at { at < 3 }
-    ensures stopped { IsTrue (has_stopped decoder.old) → IsErr result ×
-        (decoder.new ≡ decoder.old) × (source.new ≡ source.old) }
-    ensures stops { IsTrue (has_stopped decoder.new) ↔ IsErr result }
-    ensures same { OnOk result (S.failed source.new ≡ S.failed source.old) }
-    ensures counted { has_stopped decoder.old ≡ false →
-        OnErr result (S.failed source.new ≡ one_more (S.failed source.old)) }
+    ensures stop { StopsOnce S.failed decoder.old decoder.new source.old source.new result }
     ensures offset { OnOk result (kept.new.offset ≡ kept.old.offset) }
     ensures kept { OnErr result (kept.new ≡ kept.old) }
     ensures within { OnErr result (place.new.done < shape.width) }
@@ -239,12 +224,7 @@ fn decode_at<S: CodeBytes>(
     requires going { place.old.is_begun ≡ true → has_stopped decoder.old ≡ false }
     requires long { length rows.old ≡ 3 * div_ceil shape.width 8 }
     requires current { current < 3 }
-    ensures stopped { IsTrue (has_stopped decoder.old) → IsErr result ×
-        (decoder.new ≡ decoder.old) × (source.new ≡ source.old) }
-    ensures stops { IsTrue (has_stopped decoder.new) ↔ IsErr result }
-    ensures same { OnOk result (S.failed source.new ≡ S.failed source.old) }
-    ensures counted { has_stopped decoder.old ≡ false →
-        OnErr result (S.failed source.new ≡ one_more (S.failed source.old)) }
+    ensures stop { StopsOnce S.failed decoder.old decoder.new source.old source.new result }
     ensures offset { OnOk result (kept.new.offset ≡ kept.old.offset) }
     ensures kept { OnErr result (kept.new ≡ kept.old) }
     ensures within { OnErr result (place.new.done < shape.width) }
@@ -280,12 +260,7 @@ pub fn decode_row<S: CodeBytes>(
     requires offset { kept.old.offset ≤ 127 }
     requires width { width_of window.old ≡ shape.width }
     requires some { 1 ≤ shape.width }
-    ensures stopped { IsTrue (has_stopped decoder.old) → IsErr result ×
-        (decoder.new ≡ decoder.old) × (source.new ≡ source.old) }
-    ensures stops { IsTrue (has_stopped decoder.new) ↔ IsErr result }
-    ensures same { OnOk result (S.failed source.new ≡ S.failed source.old) }
-    ensures counted { has_stopped decoder.old ≡ false →
-        OnErr result (S.failed source.new ≡ one_more (S.failed source.old)) }
+    ensures stop { StopsOnce S.failed decoder.old decoder.new source.old source.new result }
     ensures offset { OnOk result (kept.new.offset ≡ kept.old.offset) }
     ensures above { SameAbove (held window.old) (held window.new) }
     ensures same_place { current_place window.new ≡ current_place window.old }

@@ -1,6 +1,7 @@
 //! Whole files: the image of a stream, and the stream of an image.
 
 ghost use Rattle.std.specs.Prelude.{◌≡◌, ◌≤◌, is_some, true, if◌then◌else◌};
+ghost use Rattle.t85_core.specs.Steps.HeightWalk.{MayBeHeight};
 ghost use Rattle.t85_core.specs.Change.{input_change, output_change};
 ghost use Rattle.t85_core.specs.Options.{fields_of, settings_of};
 ghost use Rattle.t85_core.specs.Header.{is_variable};
@@ -104,8 +105,7 @@ fn convert<R: Input, W: Output>(
     input: &mut R,
     output: &mut W,
 ) -> Result<(), Fault>
-    requires from { 1 ≤ height }
-    requires to { height ≤ header.now.yd }
+    requires height { MayBeHeight header.now.yd height }
     ensures outcome { ToPbmAt (fields_of header.now) height max_rows (input_change R.view input.old
         input.new) (output_change W.view output.old output.new) (W.view output.new).flushed result }
     ensures flushes { FlushesOnce (W.view output.old).flushes (W.view output.new).flushes result }

@@ -2,6 +2,7 @@
 
 ghost use Rattle.std.specs.Prelude.{◌≡◌, ◌≢◌, ◌≤◌, ◌<◌, [], Bool, true, Ok, Err, OnOk, IfErr, IsErrOf};
 ghost use Rattle.raster_core.specs.Window.{held, width_of};
+ghost use Rattle.t85_core.specs.Steps.HeightWalk.{MayBeHeight};
 ghost use Rattle.t85_core.specs.Options.{fields_of};
 ghost use Rattle.t85_core.specs.Change.{input_change, output_change};
 ghost use Rattle.t85_core.specs.Decode.{Decode};
@@ -41,8 +42,7 @@ pub fn decode<R: Input, W: Output>(
     output: &mut W,
 ) -> Result<(), Fault>
     requires width { width_of window.old ≡ header.now.xd }
-    requires from { 1 ≤ height }
-    requires to { height ≤ header.now.yd }
+    requires height { MayBeHeight header.now.yd height }
     ensures outcome { Decode (fields_of header.now) height (input_change R.view input.old input.new)
         (output_change W.view output.old output.new) result }
     ensures no_flush { (W.view output.new).flushes ≡ (W.view output.old).flushes }
@@ -65,8 +65,7 @@ pub fn decode_in_memory<R: Input, W: Output>(
     output: &mut W,
 ) -> Result<(), Fault>
     requires width { width_of window.old ≡ header.now.xd }
-    requires from { 1 ≤ height }
-    requires to { height ≤ header.now.yd }
+    requires height { MayBeHeight header.now.yd height }
     ensures outcome { Decode (fields_of header.now) height (input_change R.view input.old input.new)
         (output_change W.view output.old output.new) result }
     ensures no_flush { (W.view output.new).flushes ≡ (W.view output.old).flushes }
@@ -88,8 +87,7 @@ fn decode_by<R: Input, W: Output, const AHEAD: usize, const HELD: usize>(
     requires few_ahead { AHEAD ≤ 4096 }
     requires held { 0 < HELD }
     requires few_held { HELD ≤ 4096 }
-    requires from { 1 ≤ height }
-    requires to { height ≤ header.now.yd }
+    requires height { MayBeHeight header.now.yd height }
     ensures outcome { Decode (fields_of header.now) height (input_change R.view input.old input.new)
         (output_change W.view output.old output.new) result }
     ensures no_flush { (W.view output.new).flushes ≡ (W.view output.old).flushes }
@@ -132,8 +130,7 @@ fn decode_buffered<S: HeldSource, W: Output, const HELD: usize>(
 ) -> Result<(), Fault>
     requires stands { WalkStands (fields_of header.now) height
         (walk_over walk.old window.old learned.old) [] [] }
-    requires from { 1 ≤ height }
-    requires to { height ≤ header.now.yd }
+    requires height { MayBeHeight header.now.yd height }
     ensures ok { OnOk result (ImageRead (fields_of header.now) height (S.view stream.old).known
         (S.view stream.new).known (text_taken buffer.old) (W.view buffer.new.output.now).contents) }
     ensures err { IfErr result (λ f. f ≢ Write → ImageCut (fields_of header.now) height
@@ -176,8 +173,7 @@ fn decode_image<S: HeldSource, P: ByteTarget>(
 ) -> Result<(), Fault>
     requires stands { WalkStands (fields_of header.now) height
         (walk_over walk.old window.old learned.old) [] [] }
-    requires from { 1 ≤ height }
-    requires to { height ≤ header.now.yd }
+    requires height { MayBeHeight header.now.yd height }
     ensures ok { OnOk result (ImageRead (fields_of header.now) height (S.view stream.old).known
         (S.view stream.new).known (P.view target.old).text (P.view target.new).text) }
     ensures err { IfErr result (λ f. f ≢ Write → ImageCut (fields_of header.now) height (S.view
@@ -213,8 +209,7 @@ fn next_rows<S: HeldSource>(
     learned: &mut Learned,
     stream: &mut S,
 ) -> Result<u32, Fault>
-    requires from { 1 ≤ height }
-    requires to { height ≤ header.now.yd }
+    requires height { MayBeHeight header.now.yd height }
     ensures turn { RowsTurn (fields_of header.now) height (walk_over walk.old window.old
         learned.old) (walk_over walk.new window.new learned.new) (S.view stream.old) (S.view
         stream.new) result }
@@ -236,8 +231,7 @@ fn next_row<S: HeldSource>(
     learned: &mut Learned,
     stream: &mut S,
 ) -> Result<bool, Fault>
-    requires from { 1 ≤ height }
-    requires to { height ≤ header.now.yd }
+    requires height { MayBeHeight header.now.yd height }
     ensures turn { ReadTurn (fields_of header.now) height (walk_over walk.old window.old
         learned.old) (walk_over walk.new window.new learned.new) (S.view stream.old) (S.view
         stream.new) result }
@@ -263,8 +257,7 @@ fn turn_held<S: HeldSource>(
     learned: &mut Learned,
     stream: &mut S,
 ) -> Result<bool, Fault>
-    requires from { 1 ≤ height }
-    requires to { height ≤ header.now.yd }
+    requires height { MayBeHeight header.now.yd height }
     ensures turn { HeldTurn (fields_of header.now) height (walk_over walk.old window.old
         learned.old) (walk_over walk.new window.new learned.new) (S.view stream.old).known (S.view
         stream.new).known (S.bytes stream.new) result }

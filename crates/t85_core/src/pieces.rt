@@ -77,7 +77,7 @@ pub struct PieceDecoder {
 }
 
 impl PieceDecoder {
-    ghost use Rattle.t85_core.specs.Lent.{decoder_over, decoder_view};
+    ghost use Rattle.t85_core.specs.Lent.{KeepsWindow, decoder_over, decoder_view};
     ghost use Rattle.t85_core.specs.Pieces.{HasDecoded, IsCall, AreCertain, call_of};
 
     /// Before the first byte after the header. The window is made white, and the contexts forget.
@@ -85,8 +85,7 @@ impl PieceDecoder {
         requires width { width_of window.old ≡ header.xd }
         ensures stream { result.header ≡ header }
         ensures none { HasDecoded (decoder_over result window.new learned.new) [] [] }
-        ensures same_memory { memory_of window.new ≡ memory_of window.old }
-        ensures same_width { width_of window.new ≡ width_of window.old }
+        ensures window { KeepsWindow window.old window.new }
     {
         let is_open = header.is_variable();
         PieceDecoder {
@@ -109,8 +108,7 @@ impl PieceDecoder {
     ) -> Progress
         ensures call { IsCall (decoder_over self.old window.old learned.old)
             (call_of piece.now false result (decoder_over self.new window.new learned.new)) }
-        ensures same_memory { memory_of window.new ≡ memory_of window.old }
-        ensures same_width { width_of window.new ≡ width_of window.old }
+        ensures window { KeepsWindow window.old window.new }
     {
         self.take(window, learned, piece, false)
     }
@@ -125,8 +123,7 @@ impl PieceDecoder {
     ) -> Progress
         ensures call { IsCall (decoder_over self.old window.old learned.old)
             (call_of piece.now true result (decoder_over self.new window.new learned.new)) }
-        ensures same_memory { memory_of window.new ≡ memory_of window.old }
-        ensures same_width { width_of window.new ≡ width_of window.old }
+        ensures window { KeepsWindow window.old window.new }
     {
         self.take(window, learned, piece, true)
     }
@@ -141,8 +138,7 @@ impl PieceDecoder {
     ) -> Progress
         ensures call { IsCall (decoder_over self.old window.old learned.old)
             (call_of piece.now is_all result (decoder_over self.new window.new learned.new)) }
-        ensures same_memory { memory_of window.new ≡ memory_of window.old }
-        ensures same_width { width_of window.new ≡ width_of window.old }
+        ensures window { KeepsWindow window.old window.new }
     {
         if let Some(end) = self.end {
             return Progress {

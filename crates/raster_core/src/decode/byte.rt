@@ -5,11 +5,11 @@ ghost use Rattle.qm_core.specs.Counts.{one_more};
 ghost use Rattle.qm_core.specs.Source.{Pulls};
 ghost use Rattle.qm_core.specs.Place.{Place};
 ghost use Rattle.qm_core.specs.Skipping.{CanSkip};
-ghost use Rattle.qm_core.specs.Decoder.{DecoderIsAt, has_stopped};
+ghost use Rattle.qm_core.specs.Decoder.{StopsOnce, DecoderIsAt, has_stopped};
 ghost use Rattle.qm_core.specs.declared.source.Pulled.{Pulled};
 ghost use Rattle.raster_core.specs.Machine.Decoded.{Along, StopsAlong, AlongMore, StopsMore, SkipsAlong};
 ghost use Rattle.raster_core.specs.Window.{shape_mode};
-ghost use Rattle.raster_core.specs.Machine.Registers.{bit, is_moved};
+ghost use Rattle.raster_core.specs.Machine.Registers.{AreFew, IsTemplate, bit, is_moved};
 ghost use Rattle.raster_core.specs.Machine.Uniform.{uniform_event, AreAllOf};
 
 use crate::context::{context_of, past_and};
@@ -34,19 +34,9 @@ pub(crate) fn decode_byte<S: CodeBytes, const TWO_LINE: bool, const MOVED: bool>
     decoder: &mut Decoder,
     source: &mut S,
 ) -> Result<u128, Pause>
-    requires offset { offset ≤ 127 }
-    requires template { TWO_LINE ≡ shape.two_line }
-    requires moved { MOVED ≡ is_moved offset }
-    requires second { second_bytes < 2 ^ 24 }
-    requires above { above_bytes < 2 ^ 24 }
-    requires some { 1 ≤ n }
-    requires few { n ≤ 8 }
-    ensures stopped { IsTrue (has_stopped decoder.old) → IsErr result ×
-        (decoder.new ≡ decoder.old) × (source.new ≡ source.old) }
-    ensures stops { IsTrue (has_stopped decoder.new) ↔ IsErr result }
-    ensures same { OnOk result (S.failed source.new ≡ S.failed source.old) }
-    ensures counted { has_stopped decoder.old ≡ false →
-        OnErr result (S.failed source.new ≡ one_more (S.failed source.old)) }
+    requires template { IsTemplate TWO_LINE MOVED shape offset }
+    requires few { AreFew second_bytes above_bytes n }
+    ensures stop { StopsOnce S.failed decoder.old decoder.new source.old source.new result }
     ensures ok { IfOk result (λ past. Along (Pulls S.gives S.failed) source.old source.new
         (shape_mode shape) offset second_bytes above_bytes before
         decoder.old learned.old n past decoder.new learned.new) }
@@ -80,12 +70,7 @@ fn decode_one<S: CodeBytes>(
     decoder: &mut Decoder,
     source: &mut S,
 ) -> Result<u128, Pause>
-    ensures stopped { IsTrue (has_stopped decoder.old) → IsErr result ×
-        (decoder.new ≡ decoder.old) × (source.new ≡ source.old) }
-    ensures stops { IsTrue (has_stopped decoder.new) ↔ IsErr result }
-    ensures same { OnOk result (S.failed source.new ≡ S.failed source.old) }
-    ensures counted { has_stopped decoder.old ≡ false →
-        OnErr result (S.failed source.new ≡ one_more (S.failed source.old)) }
+    ensures stop { StopsOnce S.failed decoder.old decoder.new source.old source.new result }
     ensures ok { IfOk result (λ past. AlongMore (Pulls S.gives S.failed) source.old source.new
         lanes before decoder.old learned.old 1 past decoder.new learned.new) }
     ensures few { IfErr result (λ pause. pause.count < 1) }
@@ -112,12 +97,7 @@ fn decode_two<S: CodeBytes>(
     decoder: &mut Decoder,
     source: &mut S,
 ) -> Result<u128, Pause>
-    ensures stopped { IsTrue (has_stopped decoder.old) → IsErr result ×
-        (decoder.new ≡ decoder.old) × (source.new ≡ source.old) }
-    ensures stops { IsTrue (has_stopped decoder.new) ↔ IsErr result }
-    ensures same { OnOk result (S.failed source.new ≡ S.failed source.old) }
-    ensures counted { has_stopped decoder.old ≡ false →
-        OnErr result (S.failed source.new ≡ one_more (S.failed source.old)) }
+    ensures stop { StopsOnce S.failed decoder.old decoder.new source.old source.new result }
     ensures ok { IfOk result (λ past. AlongMore (Pulls S.gives S.failed) source.old source.new
         lanes before decoder.old learned.old 2 past decoder.new learned.new) }
     ensures few { IfErr result (λ pause. pause.count < 2) }
@@ -140,12 +120,7 @@ fn decode_four<S: CodeBytes>(
     decoder: &mut Decoder,
     source: &mut S,
 ) -> Result<u128, Pause>
-    ensures stopped { IsTrue (has_stopped decoder.old) → IsErr result ×
-        (decoder.new ≡ decoder.old) × (source.new ≡ source.old) }
-    ensures stops { IsTrue (has_stopped decoder.new) ↔ IsErr result }
-    ensures same { OnOk result (S.failed source.new ≡ S.failed source.old) }
-    ensures counted { has_stopped decoder.old ≡ false →
-        OnErr result (S.failed source.new ≡ one_more (S.failed source.old)) }
+    ensures stop { StopsOnce S.failed decoder.old decoder.new source.old source.new result }
     ensures ok { IfOk result (λ past. AlongMore (Pulls S.gives S.failed) source.old source.new
         lanes before decoder.old learned.old 4 past decoder.new learned.new) }
     ensures few { IfErr result (λ pause. pause.count < 4) }
@@ -171,12 +146,7 @@ fn decode_eight<S: CodeBytes>(
     source: &mut S,
 ) -> Result<u128, Pause>
     requires template { shape.two_line ≡ false }
-    ensures stopped { IsTrue (has_stopped decoder.old) → IsErr result ×
-        (decoder.new ≡ decoder.old) × (source.new ≡ source.old) }
-    ensures stops { IsTrue (has_stopped decoder.new) ↔ IsErr result }
-    ensures same { OnOk result (S.failed source.new ≡ S.failed source.old) }
-    ensures counted { has_stopped decoder.old ≡ false →
-        OnErr result (S.failed source.new ≡ one_more (S.failed source.old)) }
+    ensures stop { StopsOnce S.failed decoder.old decoder.new source.old source.new result }
     ensures ok { IfOk result (λ past. Along (Pulls S.gives S.failed) source.old source.new
         (shape_mode shape) 0 second_bytes above_bytes before
         decoder.old learned.old 8 past decoder.new learned.new) }
@@ -207,19 +177,9 @@ fn decode_plain<S: CodeBytes, const TWO_LINE: bool, const MOVED: bool>(
     decoder: &mut Decoder,
     source: &mut S,
 ) -> Result<u128, Pause>
-    requires offset { offset ≤ 127 }
-    requires template { TWO_LINE ≡ shape.two_line }
-    requires moved { MOVED ≡ is_moved offset }
-    requires second { second_bytes < 2 ^ 24 }
-    requires above { above_bytes < 2 ^ 24 }
-    requires some { 1 ≤ n }
-    requires few { n ≤ 8 }
-    ensures stopped { IsTrue (has_stopped decoder.old) → IsErr result ×
-        (decoder.new ≡ decoder.old) × (source.new ≡ source.old) }
-    ensures stops { IsTrue (has_stopped decoder.new) ↔ IsErr result }
-    ensures same { OnOk result (S.failed source.new ≡ S.failed source.old) }
-    ensures counted { has_stopped decoder.old ≡ false →
-        OnErr result (S.failed source.new ≡ one_more (S.failed source.old)) }
+    requires template { IsTemplate TWO_LINE MOVED shape offset }
+    requires few { AreFew second_bytes above_bytes n }
+    ensures stop { StopsOnce S.failed decoder.old decoder.new source.old source.new result }
     ensures ok { IfOk result (λ past. Along (Pulls S.gives S.failed) source.old source.new
         (shape_mode shape) offset second_bytes above_bytes before
         decoder.old learned.old n past decoder.new learned.new) }
@@ -304,19 +264,9 @@ pub(crate) fn decode_step<S: CodeBytes, const TWO_LINE: bool, const MOVED: bool>
     decoder: &mut Decoder,
     source: &mut S,
 ) -> Result<u128, Pause>
-    requires offset { offset ≤ 127 }
-    requires template { TWO_LINE ≡ shape.two_line }
-    requires moved { MOVED ≡ is_moved offset }
-    requires second { second_bytes < 2 ^ 24 }
-    requires above { above_bytes < 2 ^ 24 }
-    requires some { 1 ≤ n }
-    requires few { n ≤ 8 }
-    ensures stopped { IsTrue (has_stopped decoder.old) → IsErr result ×
-        (decoder.new ≡ decoder.old) × (source.new ≡ source.old) }
-    ensures stops { IsTrue (has_stopped decoder.new) ↔ IsErr result }
-    ensures same { OnOk result (S.failed source.new ≡ S.failed source.old) }
-    ensures counted { has_stopped decoder.old ≡ false →
-        OnErr result (S.failed source.new ≡ one_more (S.failed source.old)) }
+    requires template { IsTemplate TWO_LINE MOVED shape offset }
+    requires few { AreFew second_bytes above_bytes n }
+    ensures stop { StopsOnce S.failed decoder.old decoder.new source.old source.new result }
     ensures ok { IfOk result (λ past. Along (Pulls S.gives S.failed) source.old source.new
         (shape_mode shape) offset second_bytes above_bytes before
         decoder.old learned.old n past decoder.new learned.new) }

@@ -4,10 +4,10 @@ ghost use Rattle.std.specs.Prelude.{◌≡◌, ◌+◌, ◌-◌, ◌*◌, ◌%�
 ghost use Rattle.std.specs.Int.{div_ceil};
 ghost use Rattle.qm_core.specs.Counts.{one_more};
 ghost use Rattle.qm_core.specs.Source.{Pulls};
-ghost use Rattle.qm_core.specs.Decoder.{has_stopped};
+ghost use Rattle.qm_core.specs.Decoder.{StopsOnce, has_stopped};
 ghost use Rattle.raster_core.specs.Machine.Decoded.{ByteEnds, RowAlong, RowStops};
 ghost use Rattle.raster_core.specs.Window.{shape_mode};
-ghost use Rattle.raster_core.specs.Machine.Registers.{is_moved};
+ghost use Rattle.raster_core.specs.Machine.Registers.{IsTemplate, is_moved};
 
 use crate::bytes::byte_at;
 use crate::context::by_template;
@@ -30,18 +30,11 @@ fn end_byte<S: CodeBytes, const TWO_LINE: bool, const MOVED: bool>(
     decoder: &mut Decoder,
     source: &mut S,
 ) -> Result<RowPlace, RowPlace>
-    requires offset { offset ≤ 127 }
-    requires template { TWO_LINE ≡ shape.two_line }
-    requires moved { MOVED ≡ is_moved offset }
+    requires template { IsTemplate TWO_LINE MOVED shape offset }
     requires part { 1 ≤ place.done % 8 }
     requires within { place.done < shape.width }
     requires long { length current.old ≡ div_ceil shape.width 8 }
-    ensures stopped { IsTrue (has_stopped decoder.old) → IsErr result ×
-        (decoder.new ≡ decoder.old) × (source.new ≡ source.old) }
-    ensures stops { IsTrue (has_stopped decoder.new) ↔ IsErr result }
-    ensures same { OnOk result (S.failed source.new ≡ S.failed source.old) }
-    ensures counted { has_stopped decoder.old ≡ false →
-        OnErr result (S.failed source.new ≡ one_more (S.failed source.old)) }
+    ensures stop { StopsOnce S.failed decoder.old decoder.new source.old source.new result }
     ensures whole { IfOk result (λ to. to.done < shape.width → to.done % 8 ≡ 0) }
     ensures within { IfOk result (λ to. to.done ≤ shape.width) }
     ensures inside { IfErr result (λ at. at.done < shape.width) }
@@ -88,18 +81,11 @@ fn decode_bytes<S: CodeBytes, const TWO_LINE: bool, const MOVED: bool>(
     decoder: &mut Decoder,
     source: &mut S,
 ) -> Result<(), RowPlace>
-    requires offset { offset ≤ 127 }
-    requires template { TWO_LINE ≡ shape.two_line }
-    requires moved { MOVED ≡ is_moved offset }
+    requires template { IsTemplate TWO_LINE MOVED shape offset }
     requires whole { place.done % 8 ≡ 0 }
     requires within { place.done < shape.width }
     requires long { length current.old ≡ div_ceil shape.width 8 }
-    ensures stopped { IsTrue (has_stopped decoder.old) → IsErr result ×
-        (decoder.new ≡ decoder.old) × (source.new ≡ source.old) }
-    ensures stops { IsTrue (has_stopped decoder.new) ↔ IsErr result }
-    ensures same { OnOk result (S.failed source.new ≡ S.failed source.old) }
-    ensures counted { has_stopped decoder.old ≡ false →
-        OnErr result (S.failed source.new ≡ one_more (S.failed source.old)) }
+    ensures stop { StopsOnce S.failed decoder.old decoder.new source.old source.new result }
     ensures inside { IfErr result (λ at. at.done < shape.width) }
     ensures ok { OnOk result (RowAlong (Pulls S.gives S.failed) source.old source.new
         (shape_mode shape) offset above.now second.now place current.old
@@ -187,17 +173,10 @@ fn decode_rest<S: CodeBytes, const TWO_LINE: bool, const MOVED: bool>(
     decoder: &mut Decoder,
     source: &mut S,
 ) -> Result<(), RowPlace>
-    requires offset { offset ≤ 127 }
-    requires template { TWO_LINE ≡ shape.two_line }
-    requires moved { MOVED ≡ is_moved offset }
+    requires template { IsTemplate TWO_LINE MOVED shape offset }
     requires within { place.done < shape.width }
     requires long { length current.old ≡ div_ceil shape.width 8 }
-    ensures stopped { IsTrue (has_stopped decoder.old) → IsErr result ×
-        (decoder.new ≡ decoder.old) × (source.new ≡ source.old) }
-    ensures stops { IsTrue (has_stopped decoder.new) ↔ IsErr result }
-    ensures same { OnOk result (S.failed source.new ≡ S.failed source.old) }
-    ensures counted { has_stopped decoder.old ≡ false →
-        OnErr result (S.failed source.new ≡ one_more (S.failed source.old)) }
+    ensures stop { StopsOnce S.failed decoder.old decoder.new source.old source.new result }
     ensures inside { IfErr result (λ at. at.done < shape.width) }
     ensures ok { OnOk result (RowAlong (Pulls S.gives S.failed) source.old source.new
         (shape_mode shape) offset above.now second.now place current.old
@@ -238,12 +217,7 @@ pub(crate) fn decode_pixels<S: CodeBytes>(
     requires offset { offset ≤ 127 }
     requires within { place.done < shape.width }
     requires long { length current.old ≡ div_ceil shape.width 8 }
-    ensures stopped { IsTrue (has_stopped decoder.old) → IsErr result ×
-        (decoder.new ≡ decoder.old) × (source.new ≡ source.old) }
-    ensures stops { IsTrue (has_stopped decoder.new) ↔ IsErr result }
-    ensures same { OnOk result (S.failed source.new ≡ S.failed source.old) }
-    ensures counted { has_stopped decoder.old ≡ false →
-        OnErr result (S.failed source.new ≡ one_more (S.failed source.old)) }
+    ensures stop { StopsOnce S.failed decoder.old decoder.new source.old source.new result }
     ensures inside { IfErr result (λ at. at.done < shape.width) }
     ensures ok { OnOk result (RowAlong (Pulls S.gives S.failed) source.old source.new
         (shape_mode shape) offset above.now second.now place current.old

@@ -78,6 +78,10 @@ pub record WritesOn {T : Type 0} (old new : TargetView) (result : Result T Fault
   pub grows : old.written ≤ new.written
   pub same_writer : new.writer ≡ old.writer
 
+-- the same of a step that fails just where a write does
+abbrev pub WritesOrFails : {T : Type 0} → TargetView → TargetView → Result T Fault → Type 0
+WritesOrFails old new result = IfErr result (λ f. f ≡ Write) × WritesOn old new result
+
 -- the bytes were taken, or a beginning of them
 pub record PutsBytes (bytes : List ℕ) (old new : TargetView) (result : Result (Unit {0}) Fault) : Type 0 where
   pub ok : OnOk result (Appends old.text new.text bytes)

@@ -193,3 +193,7 @@ pub record BodyRefused (h : Fields) (fault : Fault) (body : List ℕ) : Type 0 w
 -- a body that ends too early at its height, or before that is known
 abbrev pub BodyUnfinished : Fields → List ℕ → Type 0
 BodyUnfinished h given = BodyRefused h Truncated given ⊎ IsOpen h given
+
+-- an image may have this height whose header announces that one
+abbrev pub MayBeHeight : ℕ → ℕ → Type 0
+MayBeHeight announced height = (1 ≤ height) × (height ≤ announced)

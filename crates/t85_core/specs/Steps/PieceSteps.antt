@@ -4,6 +4,7 @@ use Rattle.t85_core.specs.declared.fault.Fault.{Fault}
 use Rattle.t85_core.specs.declared.fault.Fault.TheVariants.{Truncated}
 use Rattle.t85_core.specs.Lent.{PieceView, WalkView}
 use Rattle.t85_core.specs.declared.pieces.Outcome.{Outcome}
+use Rattle.t85_core.specs.declared.pieces.PieceDecoder.{PieceDecoder}
 use Rattle.t85_core.specs.declared.pieces.Outcome.TheVariants as outcome
 use Rattle.t85_core.specs.Options.{fields_of}
 use Rattle.t85_core.specs.Steps.PieceStands.{DecoderStands, WalkWaits, place_behind}
@@ -17,6 +18,10 @@ use Rattle.t85_core.specs.Steps.HeightWalk.{LookEnds}
 use Rattle.t85_core.specs.Steps.Behind.{BehindStands}
 use Rattle.t85_core.specs.Steps.Pieces.{WalkStands, IsInCode, HasMarker}
 use Rattle.t85_core.specs.Pieces.{HandsOut, HoldsImage, MayFollow, row_held, rows_given, stream_of}
+
+-- a decoder with late heights that looks for one
+abbrev pub LooksForHeight : PieceDecoder → Type 0
+LooksForHeight d = (d.is_open ≡ true) × (d.waits ≡ true)
 
 -- it stands somewhere
 abbrev pub SomeStand : PieceView → Type 0

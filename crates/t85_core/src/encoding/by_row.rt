@@ -50,7 +50,7 @@ impl RowEncoder {
     ghost use Rattle.raster_core.specs.Packed.{Held};
     ghost use Rattle.t85_core.specs.Jbg.{Settings, head_of, is_low};
     ghost use Rattle.t85_core.specs.Options.{settings_of};
-    ghost use Rattle.t85_core.specs.Steps.Buffers.{WritesOn};
+    ghost use Rattle.t85_core.specs.Steps.Buffers.{WritesOrFails, WritesOn};
     ghost use Rattle.t85_core.specs.Steps.MostBytes.{AppendsAtMost, AppendsRow, AppendsEnd, CodesFew, most_code_bytes, most_end_bytes, most_row_bytes};
     ghost use Rattle.t85_core.specs.declared.fault.Fault.TheVariants.{Write};
     ghost use Rattle.t85_core.specs.declared.encoding.learning.Learning.{Learning};
@@ -223,8 +223,7 @@ impl RowEncoder {
         ensures stripe_rows { self.new.stripe_rows ≡ self.old.stripe_rows }
         ensures size { self.new.size ≡ self.old.size }
         ensures same_closed { self.new.is_closed ≡ self.old.is_closed }
-        ensures err { IfErr result (λ f. f ≡ Write) }
-        ensures writes { WritesOn (P.view target.old) (P.view target.new) result }
+        ensures fails { WritesOrFails (P.view target.old) (P.view target.new) result }
     {
         if self.in_stripe == 0 {
             self.begin_stripe(learning, target)
@@ -253,8 +252,7 @@ impl RowEncoder {
         ensures stripe_rows { self.new.stripe_rows ≡ self.old.stripe_rows }
         ensures size { self.new.size ≡ self.old.size }
         ensures same_closed { self.new.is_closed ≡ self.old.is_closed }
-        ensures err { IfErr result (λ f. f ≡ Write) }
-        ensures writes { WritesOn (P.view target.old) (P.view target.new) result }
+        ensures fails { WritesOrFails (P.view target.old) (P.view target.new) result }
     {
         move_pixel(&mut self.kept, &learning.tally, target)?;
         learning.tally.restart();
@@ -295,8 +293,7 @@ impl RowEncoder {
         ensures stripe_rows { self.new.stripe_rows ≡ self.old.stripe_rows }
         ensures size { self.new.size ≡ self.old.size }
         ensures same_closed { self.new.is_closed ≡ self.old.is_closed }
-        ensures err { IfErr result (λ f. f ≡ Write) }
-        ensures writes { WritesOn (P.view target.old) (P.view target.new) result }
+        ensures fails { WritesOrFails (P.view target.old) (P.view target.new) result }
     {
         // What the proof cites of the coder.
         writing_laws();
@@ -351,8 +348,7 @@ impl RowEncoder {
         ensures same_closed { self.new.is_closed ≡ self.old.is_closed }
         ensures lined { OnOk result (IsLined (held window.new)) }
         ensures window { StaysWindow window.old window.new }
-        ensures err { IfErr result (λ f. f ≡ Write) }
-        ensures writes { WritesOn (P.view target.old) (P.view target.new) result }
+        ensures fails { WritesOrFails (P.view target.old) (P.view target.new) result }
     {
         if self.in_stripe == self.stripe_rows {
             self.end_stripe(window, learning, target)
@@ -389,8 +385,7 @@ impl RowEncoder {
         ensures same_closed { self.new.is_closed ≡ self.old.is_closed }
         ensures lined { OnOk result (IsLined (held window.new)) }
         ensures window { StaysWindow window.old window.new }
-        ensures err { IfErr result (λ f. f ≡ Write) }
-        ensures writes { WritesOn (P.view target.old) (P.view target.new) result }
+        ensures fails { WritesOrFails (P.view target.old) (P.view target.new) result }
     {
         // What the proof cites of the coder.
         writing_laws();
@@ -458,8 +453,7 @@ impl RowEncoder {
         ensures size { self.new.size ≡ self.old.size }
         ensures same_closed { self.new.is_closed ≡ self.old.is_closed }
         ensures window { StaysWindow window.old window.new }
-        ensures err { IfErr result (λ f. f ≡ Write) }
-        ensures writes { WritesOn (P.view target.old) (P.view target.new) result }
+        ensures fails { WritesOrFails (P.view target.old) (P.view target.new) result }
     {
         if self.in_stripe == 0 {
             Ok(())

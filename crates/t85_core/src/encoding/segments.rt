@@ -4,7 +4,7 @@ ghost use Rattle.std.specs.Prelude.{◌≡◌, ◌<◌, ◌+◌, ◌^◌, length
 ghost use Rattle.std.specs.Io.KnownBytes.{Appends};
 ghost use Rattle.pbm_core.specs.Device.{AppendsBeginning};
 ghost use Rattle.t85_core.specs.Grammar.{Move, Comment, segment_bytes, marker_bytes, NewLength};
-ghost use Rattle.t85_core.specs.Steps.Buffers.{WritesOn};
+ghost use Rattle.t85_core.specs.Steps.Buffers.{WritesOrFails, WritesOn};
 ghost use Rattle.t85_core.specs.Steps.Written.{ending_of};
 ghost use Rattle.t85_core.specs.declared.fault.Fault.TheVariants.{Write};
 
@@ -21,8 +21,7 @@ pub fn write_comment<P: ByteTarget>(text: &[u8], target: &mut P) -> Result<(), F
         (segment_bytes (Comment text.now))) }
     ensures cut { OnErr result (AppendsBeginning (P.view target.old).text (P.view target.new).text
         (segment_bytes (Comment text.now))) }
-    ensures err { IfErr result (λ f. f ≡ Write) }
-    ensures writes { WritesOn (P.view target.old) (P.view target.new) result }
+    ensures fails { WritesOrFails (P.view target.old) (P.view target.new) result }
 {
     let mut head = [ESCAPE, COMMENT, 0, 0, 0, 0];
     BigEndian::write_u32(&mut head[2..], text.len() as u32);
@@ -36,8 +35,7 @@ pub fn write_move<P: ByteTarget>(offset: u8, target: &mut P) -> Result<(), Fault
         (segment_bytes (Move 0 offset))) }
     ensures cut { OnErr result (AppendsBeginning (P.view target.old).text (P.view target.new).text
         (segment_bytes (Move 0 offset))) }
-    ensures err { IfErr result (λ f. f ≡ Write) }
-    ensures writes { WritesOn (P.view target.old) (P.view target.new) result }
+    ensures fails { WritesOrFails (P.view target.old) (P.view target.new) result }
 {
     target.put(&[ESCAPE, ATMOVE, 0, 0, 0, 0, offset, 0])
 }
@@ -48,8 +46,7 @@ pub fn write_marker<P: ByteTarget>(reset: bool, target: &mut P) -> Result<(), Fa
         (marker_bytes reset)) }
     ensures cut { OnErr result (AppendsBeginning (P.view target.old).text (P.view target.new).text
         (marker_bytes reset)) }
-    ensures err { IfErr result (λ f. f ≡ Write) }
-    ensures writes { WritesOn (P.view target.old) (P.view target.new) result }
+    ensures fails { WritesOrFails (P.view target.old) (P.view target.new) result }
 {
     target.push(ESCAPE)?;
     target.push(if reset { SDRST } else { SDNORM })
@@ -66,8 +63,7 @@ pub fn write_ending<P: ByteTarget>(
         (ending_of announced reset height)) }
     ensures cut { OnErr result (AppendsBeginning (P.view target.old).text (P.view target.new).text
         (ending_of announced reset height)) }
-    ensures err { IfErr result (λ f. f ≡ Write) }
-    ensures writes { WritesOn (P.view target.old) (P.view target.new) result }
+    ensures fails { WritesOrFails (P.view target.old) (P.view target.new) result }
 {
     if height < announced {
         write_new_height(height, reset, target)
@@ -82,8 +78,7 @@ fn write_new_height<P: ByteTarget>(height: u32, reset: bool, target: &mut P) -> 
         (segment_bytes (NewLength height) ++ marker_bytes reset)) }
     ensures cut { OnErr result (AppendsBeginning (P.view target.old).text (P.view target.new).text
         (segment_bytes (NewLength height) ++ marker_bytes reset)) }
-    ensures err { IfErr result (λ f. f ≡ Write) }
-    ensures writes { WritesOn (P.view target.old) (P.view target.new) result }
+    ensures fails { WritesOrFails (P.view target.old) (P.view target.new) result }
 {
     let mut bytes = [
         ESCAPE,

@@ -18,7 +18,7 @@ ghost use Rattle.t85_core.specs.Steps.Written.{EncoderStart};
 ghost use Rattle.t85_core.specs.Steps.EncodeRows.{IsCountedTo};
 ghost use Rattle.t85_core.specs.Steps.EncodeStripes.{IsTallied};
 ghost use Rattle.t85_core.specs.Steps.ByRow.{IsSomewhere, IsLined, IsHeldBy};
-ghost use Rattle.t85_core.specs.Steps.Buffers.{WritesOn};
+ghost use Rattle.t85_core.specs.Steps.Buffers.{WritesOrFails, WritesOn};
 ghost use Rattle.t85_core.specs.Steps.MostBytes.{AppendsAtMost};
 ghost use Rattle.t85_core.specs.Steps.RowSteps.{MoveMade, MoveCut, RowOutcome, RowSent, EndSent, CodeFinished, CodeEnded};
 ghost use Rattle.t85_core.specs.Failures.{CountsWrite};
@@ -44,8 +44,7 @@ pub fn write_head<P: ByteTarget>(
         (head_of (settings_of options.now) size.width size.height)) }
     ensures cut { OnErr result (AppendsBeginning (P.view target.old).text (P.view target.new).text
         (head_of (settings_of options.now) size.width size.height)) }
-    ensures err { IfErr result (λ f. f ≡ Write) }
-    ensures writes { WritesOn (P.view target.old) (P.view target.new) result }
+    ensures fails { WritesOrFails (P.view target.old) (P.view target.new) result }
 {
     let header = options.header(size);
     target.put(&header.bytes())?;
@@ -70,8 +69,7 @@ pub fn move_pixel<P: ByteTarget>(
         kept.old.offset ≡ at.carry.offset → IsTallied s width at tally.now →
         MoveCut s width at (P.view target.old).text (P.view target.new).text) }
     ensures few { AppendsAtMost 8 (P.view target.old).text (P.view target.new).text }
-    ensures err { IfErr result (λ f. f ≡ Write) }
-    ensures writes { WritesOn (P.view target.old) (P.view target.new) result }
+    ensures fails { WritesOrFails (P.view target.old) (P.view target.new) result }
 {
     match tally.choose(kept.offset) {
         Some(offset) => {
@@ -178,8 +176,7 @@ pub fn end_entity<P: ByteTarget>(encoder: Encoder, reset: bool, target: &mut P) 
     requires somewhere { IsSomewhere encoder }
     ensures ended { (p : Place) (pushed : List ℕ) → EncoderIsAt encoder p pushed →
         CodeEnded p reset pushed (P.view target.old).text (P.view target.new).text result }
-    ensures err { IfErr result (λ f. f ≡ Write) }
-    ensures writes { WritesOn (P.view target.old) (P.view target.new) result }
+    ensures fails { WritesOrFails (P.view target.old) (P.view target.new) result }
 {
     end_code(encoder, target)?;
     write_marker(reset, target)

@@ -104,7 +104,7 @@ impl HeldBytes {
 }
 
 impl PieceDecoder {
-    ghost use Rattle.t85_core.specs.Lent.{decoder_over};
+    ghost use Rattle.t85_core.specs.Lent.{KeepsWindow, decoder_over};
     ghost use Rattle.t85_core.specs.Pieces.{call_of};
     ghost use Rattle.t85_core.specs.Feeds.{held_bytes, IsFeed};
 
@@ -119,8 +119,7 @@ impl PieceDecoder {
         ensures feed { IsFeed (decoder_over self.old window.old learned.old) (held_bytes held.old)
             (held_bytes held.new)
             (call_of piece.now false result (decoder_over self.new window.new learned.new)) }
-        ensures same_memory { memory_of window.new ≡ memory_of window.old }
-        ensures same_width { width_of window.new ≡ width_of window.old }
+        ensures window { KeepsWindow window.old window.new }
     {
         self.feed_some(window, learned, held, piece, false)
     }
@@ -136,8 +135,7 @@ impl PieceDecoder {
         ensures feed { IsFeed (decoder_over self.old window.old learned.old) (held_bytes held.old)
             (held_bytes held.new)
             (call_of piece.now true result (decoder_over self.new window.new learned.new)) }
-        ensures same_memory { memory_of window.new ≡ memory_of window.old }
-        ensures same_width { width_of window.new ≡ width_of window.old }
+        ensures window { KeepsWindow window.old window.new }
     {
         self.feed_some(window, learned, held, piece, true)
     }
@@ -154,8 +152,7 @@ impl PieceDecoder {
         ensures feed { IsFeed (decoder_over self.old window.old learned.old) (held_bytes held.old)
             (held_bytes held.new)
             (call_of piece.now is_all result (decoder_over self.new window.new learned.new)) }
-        ensures same_memory { memory_of window.new ≡ memory_of window.old }
-        ensures same_width { width_of window.new ≡ width_of window.old }
+        ensures window { KeepsWindow window.old window.new }
     {
         let count = held.count();
         if count == 0 {
@@ -189,8 +186,7 @@ impl PieceDecoder {
         ensures feed { IsFeed (decoder_over self.old window.old learned.old) []
             (held_bytes held.new)
             (call_of piece.now is_all result (decoder_over self.new window.new learned.new)) }
-        ensures same_memory { memory_of window.new ≡ memory_of window.old }
-        ensures same_width { width_of window.new ≡ width_of window.old }
+        ensures window { KeepsWindow window.old window.new }
     {
         let call = self.take(window, learned, piece, is_all);
         held.settle(piece, 0, call)

@@ -9,7 +9,7 @@ ghost use Rattle.t85_core.specs.declared.fault.Fault.TheVariants.{Truncated};
 ghost use Rattle.raster_core.specs.Window.{memory_of, width_of};
 ghost use Rattle.qm_core.specs.Place.{Estimate};
 ghost use Rattle.raster_core.specs.Packed.{Held};
-ghost use Rattle.t85_core.specs.Lent.{decoder_over, decoder_view};
+ghost use Rattle.t85_core.specs.Lent.{KeepsWindow, decoder_over, decoder_view};
 
 use crate::fault::Fault;
 use crate::input_buffer::ESCAPE;
@@ -39,8 +39,7 @@ impl PieceDecoder {
         ensures leaves { StepLeaves is_all (decoder_over self.old window.old learned.old)
             (decoder_over self.new window.new learned.new) piece.old.rest.now piece.new.rest.now
             (Some result) }
-        ensures same_memory { memory_of window.new ≡ memory_of window.old }
-        ensures same_width { width_of window.new ≡ width_of window.old }
+        ensures window { KeepsWindow window.old window.new }
     {
         'steps: loop {
             if let Some(outcome) = self.step(window, learned, piece, is_all) {
@@ -62,8 +61,7 @@ impl PieceDecoder {
             result }
         ensures lowers { result ≡ None → steps_left self.new.waits piece.new.rest.now < steps_left
             self.old.waits piece.old.rest.now }
-        ensures same_memory { memory_of window.new ≡ memory_of window.old }
-        ensures same_width { width_of window.new ≡ width_of window.old }
+        ensures window { KeepsWindow window.old window.new }
     {
         if !self.is_open {
             return Some(self.take_turn(window, learned, piece, is_all));
@@ -87,8 +85,7 @@ impl PieceDecoder {
         ensures leaves { StepLeaves is_all (decoder_over self.old window.old learned.old)
             (decoder_over self.new window.new learned.new) piece.old.rest.now piece.new.rest.now
             (Some result) }
-        ensures same_memory { memory_of window.new ≡ memory_of window.old }
-        ensures same_width { width_of window.new ≡ width_of window.old }
+        ensures window { KeepsWindow window.old window.new }
     {
         match self
             .walk
@@ -115,8 +112,7 @@ impl PieceDecoder {
             result }
         ensures lowers { result ≡ None → steps_left self.new.waits piece.new.rest.now < steps_left
             self.old.waits piece.old.rest.now }
-        ensures same_memory { memory_of window.new ≡ memory_of window.old }
-        ensures same_width { width_of window.new ≡ width_of window.old }
+        ensures window { KeepsWindow window.old window.new }
     {
         if !self.is_in_code() {
             return Some(Outcome::Broken(Fault::Truncated));
@@ -175,8 +171,7 @@ impl PieceDecoder {
             result }
         ensures lowers { result ≡ None → steps_left self.new.waits piece.new.rest.now < steps_left
             self.old.waits piece.old.rest.now }
-        ensures same_memory { memory_of window.new ≡ memory_of window.old }
-        ensures same_width { width_of window.new ≡ width_of window.old }
+        ensures window { KeepsWindow window.old window.new }
     {
         let bytes = piece.rest;
         let (front, behind) = bytes.split_at(code_len(bytes));

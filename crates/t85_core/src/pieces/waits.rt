@@ -3,7 +3,8 @@
 ghost use Rattle.t85_core.specs.declared.fault.Fault.TheVariants.{Truncated};
 ghost use Rattle.std.specs.Prelude.{◌≡◌, ◌≢◌, ◌≤◌, ◌<◌, ◌+◌, ◌-◌, ◌*◌, ◌^◌, ◌++◌, ◌⊎◌, [], ℕ, Bool, None, Some, length, min, true, false};
 ghost use Rattle.raster_core.specs.Window.{memory_of, width_of};
-ghost use Rattle.t85_core.specs.Lent.{decoder_over, walk_over};
+ghost use Rattle.t85_core.specs.Steps.PieceSteps.{LooksForHeight};
+ghost use Rattle.t85_core.specs.Lent.{KeepsWindow, decoder_over, walk_over};
 
 use crate::fault::Fault;
 use crate::laws::coder_laws;
@@ -33,15 +34,13 @@ impl PieceDecoder {
         piece: &mut Piece<'_>,
         is_all: bool,
     ) -> Option<Outcome>
-        requires late { self.old.is_open ≡ true }
-        requires waits { self.old.waits ≡ true }
+        requires looks { LooksForHeight self.old }
         ensures leaves { StepLeaves is_all (decoder_over self.old window.old learned.old)
             (decoder_over self.new window.new learned.new) piece.old.rest.now piece.new.rest.now
             result }
         ensures lowers { result ≡ None → steps_left self.new.waits piece.new.rest.now < steps_left
             self.old.waits piece.old.rest.now }
-        ensures same_memory { memory_of window.new ≡ memory_of window.old }
-        ensures same_width { width_of window.new ≡ width_of window.old }
+        ensures window { KeepsWindow window.old window.new }
     {
         if self.walk.entities == u32::MAX {
             return Some(Outcome::Broken(Fault::Truncated));
@@ -69,8 +68,7 @@ impl PieceDecoder {
         is_all: bool,
         piece: &mut Piece<'c>,
     ) -> Option<Outcome>
-        requires late { self.old.is_open ≡ true }
-        requires waits { self.old.waits ≡ true }
+        requires looks { LooksForHeight self.old }
         requires between { self.old.behind.comment ≡ None }
         requires last { is_last ≡ last_behind
             (fields_of self.old.header) self.old.walk.stage self.old.walk.left }
@@ -82,8 +80,7 @@ impl PieceDecoder {
             result }
         ensures lowers { result ≡ None → steps_left self.new.waits piece.new.rest.now < steps_left
             self.old.waits piece.old.rest.now }
-        ensures same_memory { memory_of window.new ≡ memory_of window.old }
-        ensures same_width { width_of window.new ≡ width_of window.old }
+        ensures window { KeepsWindow window.old window.new }
     {
         match coming.next {
             Next::Height(height) => self.take_height(window, learned, height, coming.rest, piece),
@@ -106,8 +103,7 @@ impl PieceDecoder {
         is_all: bool,
         piece: &Piece<'_>,
     ) -> Outcome
-        requires late { self.old.is_open ≡ true }
-        requires waits { self.old.waits ≡ true }
+        requires looks { LooksForHeight self.old }
         requires last { is_last ≡ last_behind
             (fields_of self.old.header) self.old.walk.stage self.old.walk.left }
         requires end { fault ≡ Truncated → is_all ≡ true }
@@ -117,8 +113,7 @@ impl PieceDecoder {
         ensures leaves { StepLeaves is_all (decoder_over self.old window.old learned.old)
             (decoder_over self.new window.new learned.new) piece.now.rest.now piece.now.rest.now
             (Some result) }
-        ensures same_memory { memory_of window.new ≡ memory_of window.old }
-        ensures same_width { width_of window.new ≡ width_of window.old }
+        ensures window { KeepsWindow window.old window.new }
     {
         if is_last {
             return self.end_look(window, learned, is_all, piece);
@@ -176,8 +171,7 @@ impl PieceDecoder {
 
     /// Gives the next row of the stripe before, where that is below this one. It waited for what its end marker decides.
     fn gives_below(&mut self, window: &mut Window<'_>, learned: &mut Learned, limit: u32) -> bool
-        requires late { self.old.is_open ≡ true }
-        requires waits { self.old.waits ≡ true }
+        requires looks { LooksForHeight self.old }
         requires limit { limit ≤ min self.old.walk.left self.old.header.l0 }
         ensures keeps { KeepsDecoder (decoder_over self.old window.old learned.old)
             (decoder_over self.new window.new learned.new) }
@@ -186,8 +180,7 @@ impl PieceDecoder {
             (decoder_over self.new window.new learned.new) limit }
         ensures stays { result ≡ false → StaysAbove (decoder_over self.old window.old learned.old)
             (decoder_over self.new window.new learned.new) limit }
-        ensures same_memory { memory_of window.new ≡ memory_of window.old }
-        ensures same_width { width_of window.new ≡ width_of window.old }
+        ensures window { KeepsWindow window.old window.new }
     {
         if !self.is_in_code() || self.walk.row >= limit {
             return false;
@@ -203,8 +196,7 @@ impl PieceDecoder {
 
     /// Ends the stripe before, if there is one, all of whose rows are given. The segments that came behind begin the next.
     fn enter_head(&mut self, window: &mut Window<'_>, learned: &mut Learned)
-        requires late { self.old.is_open ≡ true }
-        requires waits { self.old.waits ≡ true }
+        requires looks { LooksForHeight self.old }
         requires all { RowsAreGiven (decoder_over self.old window.old learned.old) }
         ensures keeps { KeepsDecoder (decoder_over self.old window.old learned.old)
             (decoder_over self.new window.new learned.new) }
@@ -212,8 +204,7 @@ impl PieceDecoder {
             self.old.walk.left ≡ false → SomeStand (decoder_over self.old window.old learned.old) →
             HeadEntered (decoder_over self.old window.old learned.old) (decoder_over self.new
             window.new learned.new) }
-        ensures same_memory { memory_of window.new ≡ memory_of window.old }
-        ensures same_width { width_of window.new ≡ width_of window.old }
+        ensures window { KeepsWindow window.old window.new }
     {
         self.close_stripe(window, learned);
         self.walk.at = self.behind.at;
@@ -226,8 +217,7 @@ impl PieceDecoder {
 
     /// Ends the stripe before, if there is one, all of whose rows are given.
     fn close_stripe(&mut self, window: &mut Window<'_>, learned: &mut Learned)
-        requires late { self.old.is_open ≡ true }
-        requires waits { self.old.waits ≡ true }
+        requires looks { LooksForHeight self.old }
         requires all { RowsAreGiven (decoder_over self.old window.old learned.old) }
         ensures keeps { KeepsDecoder (decoder_over self.old window.old learned.old)
             (decoder_over self.new window.new learned.new) }
@@ -235,8 +225,7 @@ impl PieceDecoder {
             self.old.walk.left ≡ false → SomeStand (decoder_over self.old window.old learned.old) →
             StripeClosed (decoder_over self.old window.old learned.old) (decoder_over self.new
             window.new learned.new) }
-        ensures same_memory { memory_of window.new ≡ memory_of window.old }
-        ensures same_width { width_of window.new ≡ width_of window.old }
+        ensures window { KeepsWindow window.old window.new }
     {
         if !self.is_in_code() {
             return;
@@ -246,16 +235,14 @@ impl PieceDecoder {
 
     /// Ends the stripe before, all of whose rows are given. Its end marker came.
     fn end_stripe(&mut self, window: &mut Window<'_>, learned: &mut Learned)
-        requires late { self.old.is_open ≡ true }
-        requires waits { self.old.waits ≡ true }
+        requires looks { LooksForHeight self.old }
         requires all { RowsAreGiven (decoder_over self.old window.old learned.old) }
         ensures keeps { KeepsDecoder (decoder_over self.old window.old learned.old)
             (decoder_over self.new window.new learned.new) }
         ensures ends { IsInCode self.old.walk.stage → SomeStand (decoder_over self.old window.old
             learned.old) → StripeLeft (decoder_over self.old window.old learned.old) (decoder_over
             self.new window.new learned.new) }
-        ensures same_memory { memory_of window.new ≡ memory_of window.old }
-        ensures same_width { width_of window.new ≡ width_of window.old }
+        ensures window { KeepsWindow window.old window.new }
     {
         let Stage::Code = self.walk.stage else {
             return;
@@ -277,8 +264,7 @@ impl PieceDecoder {
         rest: &'c [u8],
         piece: &mut Piece<'c>,
     ) -> Option<Outcome>
-        requires late { self.old.is_open ≡ true }
-        requires waits { self.old.waits ≡ true }
+        requires looks { LooksForHeight self.old }
         requires between { self.old.behind.comment ≡ None }
         requires comes { HeightComes (fields_of self.old.header) (walk_over self.old.walk window.old
             learned.old) height piece.old.rest.now rest.now }
@@ -287,8 +273,7 @@ impl PieceDecoder {
             piece.new.rest.now result }
         ensures lowers { result ≡ None → steps_left self.new.waits piece.new.rest.now < steps_left
             self.old.waits piece.old.rest.now }
-        ensures same_memory { memory_of window.new ≡ memory_of window.old }
-        ensures same_width { width_of window.new ≡ width_of window.old }
+        ensures window { KeepsWindow window.old window.new }
     {
         // What the proof cites of the coder.
         coder_laws();
@@ -320,8 +305,7 @@ impl PieceDecoder {
         rest: &'c [u8],
         piece: &mut Piece<'c>,
     ) -> Option<Outcome>
-        requires late { self.old.is_open ≡ true }
-        requires waits { self.old.waits ≡ true }
+        requires looks { LooksForHeight self.old }
         requires between { self.old.behind.comment ≡ None }
         requires more { last_behind
             (fields_of self.old.header) self.old.walk.stage self.old.walk.left ≡ false }
@@ -332,8 +316,7 @@ impl PieceDecoder {
             piece.new.rest.now result }
         ensures lowers { result ≡ None → steps_left self.new.waits piece.new.rest.now < steps_left
             self.old.waits piece.old.rest.now }
-        ensures same_memory { memory_of window.new ≡ memory_of window.old }
-        ensures same_width { width_of window.new ≡ width_of window.old }
+        ensures window { KeepsWindow window.old window.new }
     {
         if self.gives_below(window, learned, self.walk.left.min(self.header.l0)) {
             return Some(Outcome::Row);
@@ -358,8 +341,7 @@ impl PieceDecoder {
         is_all: bool,
         piece: &Piece<'_>,
     ) -> Outcome
-        requires late { self.old.is_open ≡ true }
-        requires waits { self.old.waits ≡ true }
+        requires looks { LooksForHeight self.old }
         requires more { last_behind
             (fields_of self.old.header) self.old.walk.stage self.old.walk.left ≡ false }
         requires end { fault ≡ Truncated → is_all ≡ true }
@@ -369,8 +351,7 @@ impl PieceDecoder {
         ensures leaves { StepLeaves is_all (decoder_over self.old window.old learned.old)
             (decoder_over self.new window.new learned.new) piece.now.rest.now piece.now.rest.now
             (Some result) }
-        ensures same_memory { memory_of window.new ≡ memory_of window.old }
-        ensures same_width { width_of window.new ≡ width_of window.old }
+        ensures window { KeepsWindow window.old window.new }
     {
         // What the proof cites of the coder.
         coder_laws();
@@ -389,8 +370,7 @@ impl PieceDecoder {
         is_all: bool,
         piece: &Piece<'_>,
     ) -> Outcome
-        requires late { self.old.is_open ≡ true }
-        requires waits { self.old.waits ≡ true }
+        requires looks { LooksForHeight self.old }
         requires last { last_behind
             (fields_of self.old.header) self.old.walk.stage self.old.walk.left ≡ true }
         requires over { SomeStand (decoder_over self.old window.old learned.old) → LookIsOver is_all
@@ -398,8 +378,7 @@ impl PieceDecoder {
         ensures leaves { StepLeaves is_all (decoder_over self.old window.old learned.old)
             (decoder_over self.new window.new learned.new) piece.now.rest.now piece.now.rest.now
             (Some result) }
-        ensures same_memory { memory_of window.new ≡ memory_of window.old }
-        ensures same_width { width_of window.new ≡ width_of window.old }
+        ensures window { KeepsWindow window.old window.new }
     {
         // What the proof cites of the coder.
         coder_laws();

@@ -4,12 +4,13 @@ ghost use Rattle.std.specs.Prelude.{◌≡◌, ◌≢◌, false, ◌≤◌, ◌<
 ghost use Rattle.qm_core.specs.Place.{Estimate};
 ghost use Rattle.raster_core.specs.Packed.{Held};
 ghost use Rattle.raster_core.specs.Window.{held, memory_of, width_of};
+ghost use Rattle.t85_core.specs.Steps.HeightWalk.{MayBeHeight};
 ghost use Rattle.t85_core.specs.declared.fault.Fault.TheVariants.{Truncated, Changed};
 ghost use Rattle.t85_core.specs.declared.pieces.walk.Stage.TheVariants as stage;
 ghost use Rattle.t85_core.specs.Options.{fields_of};
 ghost use Rattle.t85_core.specs.Steps.Buffers.{copies};
 ghost use Rattle.t85_core.specs.Steps.Segments.{IsByteOrMarker};
-ghost use Rattle.t85_core.specs.Lent.{walk_view, walk_over};
+ghost use Rattle.t85_core.specs.Lent.{KeepsWindow, walk_view, walk_over};
 ghost use Rattle.t85_core.specs.Steps.Pieces.{WalkStands, SomeStands, RowFits, IsOver, Alone, Step, RowStep, RowLeaves, KeepsPlace, MarkerRead, RowIsLeft, StripesOn, IsFirstWalk, Turn};
 
 use crate::decoding::rows::{is_settled, offset_in, skip_many};
@@ -88,8 +89,7 @@ impl Walk {
         ensures stands { WalkStands (fields_of header.now) height
             (walk_over result window.new learned.new) [] [] }
         ensures first { IsFirstWalk (walk_over result window.new learned.new) }
-        ensures same_memory { memory_of window.new ≡ memory_of window.old }
-        ensures same_width { width_of window.new ≡ width_of window.old }
+        ensures window { KeepsWindow window.old window.new }
     {
         // The proof reads from this value that a stripe has rows.
         let _rows = header.l0;
@@ -120,8 +120,7 @@ impl Walk {
         height: u32,
         piece: &mut Piece<'_>,
     ) -> Result<(), Fault>
-        requires from { 1 ≤ height }
-        requires to { height ≤ header.now.yd }
+        requires height { MayBeHeight header.now.yd height }
         requires stage { (self.old.stage ≡ stage.Head) ⊎ (self.old.stage ≡ stage.Comment) }
         ensures step { Alone (λ w w'. Step (fields_of header.now) height w w'
             piece.old.rest.now piece.new.rest.now result) self.old self.new }
@@ -142,8 +141,7 @@ impl Walk {
         height: u32,
         piece: &mut Piece<'_>,
     ) -> Result<(), Fault>
-        requires from { 1 ≤ height }
-        requires to { height ≤ header.now.yd }
+        requires height { MayBeHeight header.now.yd height }
         requires stage { self.old.stage ≡ stage.Comment }
         ensures step { Alone (λ w w'. Step (fields_of header.now) height w w'
             piece.old.rest.now piece.new.rest.now result) self.old self.new }
@@ -170,8 +168,7 @@ impl Walk {
         height: u32,
         piece: &mut Piece<'_>,
     ) -> Result<(), Fault>
-        requires from { 1 ≤ height }
-        requires to { height ≤ header.now.yd }
+        requires height { MayBeHeight header.now.yd height }
         requires stage { self.old.stage ≡ stage.Head }
         ensures step { Alone (λ w w'. Step (fields_of header.now) height w w'
             piece.old.rest.now piece.new.rest.now result) self.old self.new }
@@ -194,8 +191,7 @@ impl Walk {
         height: u32,
         piece: &mut Piece<'_>,
     ) -> Result<(), Fault>
-        requires from { 1 ≤ height }
-        requires to { height ≤ header.now.yd }
+        requires height { MayBeHeight header.now.yd height }
         requires stage { self.old.stage ≡ stage.Head }
         requires comment { (rest : List ℕ) × (piece.old.rest.now ≡ 255 ∷ 7 ∷ rest) }
         ensures step { Alone (λ w w'. Step (fields_of header.now) height w w'
@@ -228,8 +224,7 @@ impl Walk {
         height: u32,
         piece: &mut Piece<'_>,
     ) -> Result<(), Fault>
-        requires from { 1 ≤ height }
-        requires to { height ≤ header.now.yd }
+        requires height { MayBeHeight header.now.yd height }
         requires stage { self.old.stage ≡ stage.Head }
         requires other { (rest : List ℕ) → piece.old.rest.now ≡ 255 ∷ 7 ∷ rest → ⊥ }
         ensures step { Alone (λ w w'. Step (fields_of header.now) height w w'
@@ -287,8 +282,7 @@ impl Walk {
         height: u32,
         piece: &mut Piece<'_>,
     ) -> Result<(), Fault>
-        requires from { 1 ≤ height }
-        requires to { height ≤ header.now.yd }
+        requires height { MayBeHeight header.now.yd height }
         requires stage { (self.old.stage ≡ stage.Head) ⊎ (self.old.stage ≡ stage.Comment) }
         ensures step { Alone (λ w w'. Step (fields_of header.now) height w w'
             piece.old.rest.now piece.new.rest.now result) self.old self.new }
@@ -330,8 +324,7 @@ impl Walk {
         ensures stage { self.new.stage ≡ stage.Row }
         ensures place { (rows rows' : Held) (learned learned' : List Estimate) →
             KeepsPlace (walk_view self.old rows learned) (walk_view self.new rows' learned') }
-        ensures same_memory { memory_of window.new ≡ memory_of window.old }
-        ensures same_width { width_of window.new ≡ width_of window.old }
+        ensures window { KeepsWindow window.old window.new }
         ensures same { (self.new.row ≡ self.old.row) × (self.new.first ≡ self.old.first) ×
             (self.new.marker ≡ self.old.marker) }
     {
@@ -353,8 +346,7 @@ impl Walk {
         learned: &mut Learned,
         piece: &mut Piece<'_>,
     ) -> Result<(), Fault>
-        requires from { 1 ≤ height }
-        requires to { height ≤ header.now.yd }
+        requires height { MayBeHeight header.now.yd height }
         requires stage { self.old.stage ≡ stage.Row }
         requires fits { RowFits header.now.xd self.old (held window.old) }
         ensures step { RowStep (fields_of header.now) height
@@ -364,8 +356,7 @@ impl Walk {
             learned.old) → RowLeaves (walk_over self.old window.old learned.old) (walk_over self.new
             window.new learned.new) piece.old.rest.now piece.new.rest.now result }
         ensures code { OnOk result (self.new.stage ≡ stage.Code) }
-        ensures same_memory { memory_of window.new ≡ memory_of window.old }
-        ensures same_width { width_of window.new ≡ width_of window.old }
+        ensures window { KeepsWindow window.old window.new }
     {
         // What the proof cites of the coder.
         coder_laws();
@@ -401,8 +392,7 @@ impl Walk {
         learned: &mut Learned,
         piece: &mut Piece<'_>,
     ) -> Result<(), Fault>
-        requires from { 1 ≤ height }
-        requires to { height ≤ header.now.yd }
+        requires height { MayBeHeight header.now.yd height }
         requires stage { self.old.stage ≡ stage.Code }
         requires row { self.old.row < min self.old.left header.now.l0 }
         requires fits { RowFits header.now.xd self.old (held window.old) }
@@ -413,8 +403,7 @@ impl Walk {
             learned.old) → RowLeaves (walk_over self.old window.old learned.old) (walk_over self.new
             window.new learned.new) piece.old.rest.now piece.new.rest.now result }
         ensures code { OnOk result (self.new.stage ≡ stage.Code) }
-        ensures same_memory { memory_of window.new ≡ memory_of window.old }
-        ensures same_width { width_of window.new ≡ width_of window.old }
+        ensures window { KeepsWindow window.old window.new }
     {
         self.enter_row(header, height, window);
         self.finish_row::<WHOLE_ROW>(header, height, window, learned, piece)
@@ -430,8 +419,7 @@ impl Walk {
         learned: &mut Learned,
         piece: &mut Piece<'_>,
     ) -> Result<(), Fault>
-        requires from { 1 ≤ height }
-        requires to { height ≤ header.now.yd }
+        requires height { MayBeHeight header.now.yd height }
         requires wants { RowIsLeft header.now.l0 self.old }
         ensures step { RowStep (fields_of header.now) height
             (walk_over self.old window.old learned.old) (walk_over self.new window.new learned.new)
@@ -440,8 +428,7 @@ impl Walk {
             learned.old) → RowLeaves (walk_over self.old window.old learned.old) (walk_over self.new
             window.new learned.new) piece.old.rest.now piece.new.rest.now result }
         ensures code { OnOk result (self.new.stage ≡ stage.Code) }
-        ensures same_memory { memory_of window.new ≡ memory_of window.old }
-        ensures same_width { width_of window.new ≡ width_of window.old }
+        ensures window { KeepsWindow window.old window.new }
     {
         if !self.has_row_that_fits(header, window) {
             piece.rest = &[];
@@ -566,8 +553,7 @@ impl Walk {
         height: u32,
         piece: &mut Piece<'_>,
     ) -> Result<(), Fault>
-        requires from { 1 ≤ height }
-        requires to { height ≤ header.now.yd }
+        requires height { MayBeHeight header.now.yd height }
         requires stage { self.old.stage ≡ stage.Code }
         requires row { min self.old.left header.now.l0 ≤ self.old.row }
         requires unmarked { self.old.marker ≡ None }
@@ -597,8 +583,7 @@ impl Walk {
         learned: &mut Learned,
         piece: &mut Piece<'_>,
     ) -> Result<(), Fault>
-        requires from { 1 ≤ height }
-        requires to { height ≤ header.now.yd }
+        requires height { MayBeHeight header.now.yd height }
         requires stage { self.old.stage ≡ stage.Code }
         requires row { min self.old.left header.now.l0 ≤ self.old.row }
         ensures step { Step (fields_of header.now) height
@@ -615,8 +600,7 @@ impl Walk {
             × (self.new.given ≡ self.old.given) × (self.new.at ≡ None)) }
         ensures entities { SomeStands (fields_of header.now) height (walk_over self.old window.old
             learned.old) → OnOk result (self.new.entities ≡ self.old.entities + 1) }
-        ensures same_memory { memory_of window.new ≡ memory_of window.old }
-        ensures same_width { width_of window.new ≡ width_of window.old }
+        ensures window { KeepsWindow window.old window.new }
     {
         // What the proof cites of the coder.
         coder_laws();
@@ -646,15 +630,13 @@ impl Walk {
         learned: &mut Learned,
         piece: &mut Piece<'_>,
     ) -> Result<bool, Fault>
-        requires from { 1 ≤ height }
-        requires to { height ≤ header.now.yd }
+        requires height { MayBeHeight header.now.yd height }
         requires stage { (self.old.stage ≡ stage.Head) ⊎ (self.old.stage ≡ stage.Comment) }
         ensures step { Turn (fields_of header.now) height
             (walk_over self.old window.old learned.old) (walk_over self.new window.new learned.new)
             piece.old.rest.now piece.new.rest.now result }
         ensures code { result ≡ Ok true → self.new.stage ≡ stage.Code }
-        ensures same_memory { memory_of window.new ≡ memory_of window.old }
-        ensures same_width { width_of window.new ≡ width_of window.old }
+        ensures window { KeepsWindow window.old window.new }
     {
         // The proof reads from this value that a stripe has rows.
         let _rows = header.l0;
@@ -679,16 +661,14 @@ impl Walk {
         learned: &mut Learned,
         piece: &mut Piece<'_>,
     ) -> Result<bool, Fault>
-        requires from { 1 ≤ height }
-        requires to { height ≤ header.now.yd }
+        requires height { MayBeHeight header.now.yd height }
         requires stage { self.old.stage ≡ stage.Code }
         requires row { min self.old.left header.now.l0 ≤ self.old.row }
         ensures step { Turn (fields_of header.now) height
             (walk_over self.old window.old learned.old) (walk_over self.new window.new learned.new)
             piece.old.rest.now piece.new.rest.now result }
         ensures code { result ≡ Ok true → self.new.stage ≡ stage.Code }
-        ensures same_memory { memory_of window.new ≡ memory_of window.old }
-        ensures same_width { width_of window.new ≡ width_of window.old }
+        ensures window { KeepsWindow window.old window.new }
     {
         self.finish_stripe(header, height, window, learned, piece)?;
         if let Stage::Done = self.stage {
@@ -706,14 +686,12 @@ impl Walk {
         learned: &mut Learned,
         piece: &mut Piece<'_>,
     ) -> Result<bool, Fault>
-        requires from { 1 ≤ height }
-        requires to { height ≤ header.now.yd }
+        requires height { MayBeHeight header.now.yd height }
         ensures step { Turn (fields_of header.now) height
             (walk_over self.old window.old learned.old) (walk_over self.new window.new learned.new)
             piece.old.rest.now piece.new.rest.now result }
         ensures code { result ≡ Ok true → self.new.stage ≡ stage.Code }
-        ensures same_memory { memory_of window.new ≡ memory_of window.old }
-        ensures same_width { width_of window.new ≡ width_of window.old }
+        ensures window { KeepsWindow window.old window.new }
     {
         match self.stage {
             Stage::Head | Stage::Comment => self.begin_stripe(

@@ -45,14 +45,14 @@ returns-in_err-put_copies-clause-unwritten g c =
     let some : 0 < c.in_ok-count.count = omega (arith, c.if-count-eq0.false) in
     exit (λ _. ImageUnwritten _ _ _ _ _ _) _ c.from_residual-in_err-put_copies.ensures.1
     (image_rows_unset (fields_of c.args.header.now) c.args.height (walk_over c.rows.walk c.rows.window c.rows.learned) (walk_over c.next_rows.new.walk c.next_rows.new.window c.next_rows.new.learned) _ _ _ _ _ _ c.rows.invariant.so_far c.in_ok-count.count some
-    (in_use c.args.header.now c.args.height c.requires.from c.requires.to) c.coder_laws.ensures (c.in_ok-count.ensures.turn.some some) _
+    (in_use c.args.header.now c.args.height c.requires.height.0 c.requires.height.1) c.coder_laws.ensures (c.in_ok-count.ensures.turn.some some) _
     (subst (λ z. AppendsBeginning (g.P.ByteTarget.view c.rows.target).text (g.P.ByteTarget.view c.put_copies.new.target).text (copies c.in_ok-count.count z)) c.row.ensures c.in_err-put_copies.ensures.cut))
 
 pub overflow_add-row : goal.overflow_add-row
 overflow_add-row g c =
     let some : 0 < c.in_ok-count.count = omega (arith, c.if-count-eq0.false) in
     let few = rows_few (fields_of c.args.header.now) c.args.height (walk_over c.rows.walk c.rows.window c.rows.learned) (walk_over c.next_rows.new.walk c.next_rows.new.window c.next_rows.new.learned) _ _ _ _ _ _ c.rows.invariant.so_far c.in_ok-count.count some
-    (in_use c.args.header.now c.args.height c.requires.from c.requires.to) c.coder_laws.ensures (c.in_ok-count.ensures.turn.some some) in
+    (in_use c.args.header.now c.args.height c.requires.height.0 c.requires.height.1) c.coder_laws.ensures (c.in_ok-count.ensures.turn.some some) in
     let most = c.ranges.height.fits in
     omega (arith, few, most)
 
@@ -60,7 +60,7 @@ pub rows-smaller : goal.rows-smaller
 rows-smaller g c =
     let some : 0 < c.in_ok-count.count = omega (arith, c.if-count-eq0.false) in
     let few = rows_few (fields_of c.args.header.now) c.args.height (walk_over c.rows.walk c.rows.window c.rows.learned) (walk_over c.next_rows.new.walk c.next_rows.new.window c.next_rows.new.learned) _ _ _ _ _ _ c.rows.invariant.so_far c.in_ok-count.count some
-    (in_use c.args.header.now c.args.height c.requires.from c.requires.to) c.coder_laws.ensures (c.in_ok-count.ensures.turn.some some) in
+    (in_use c.args.header.now c.args.height c.requires.height.0 c.requires.height.1) c.coder_laws.ensures (c.in_ok-count.ensures.turn.some some) in
     omega (arith, few, some)
 
 pub rows-preserved : goal.rows-preserved
@@ -69,7 +69,7 @@ rows-preserved g c =
     let reads = c.in_ok-count.ensures.turn.reads (c.rows.invariant.so_far.bytes, c.rows.invariant.so_far.out, c.rows.invariant.so_far.stands) in
     record {
       so_far = so_far_next (fields_of c.args.header.now) c.args.height (walk_over c.rows.walk c.rows.window c.rows.learned) (walk_over c.next_rows.new.walk c.next_rows.new.window c.next_rows.new.learned) _ _ _ _ _ _ c.rows.invariant.so_far c.in_ok-count.count some
-          (in_use c.args.header.now c.args.height c.requires.from c.requires.to) c.coder_laws.ensures (c.in_ok-count.ensures.turn.some some) _
+          (in_use c.args.header.now c.args.height c.requires.height.0 c.requires.height.1) c.coder_laws.ensures (c.in_ok-count.ensures.turn.some some) _
           (subst (λ z. Appends (g.P.ByteTarget.view c.rows.target).text (g.P.ByteTarget.view c.put_copies.new.target).text (copies c.in_ok-count.count z)) c.row.ensures c.in_ok-put_copies.ensures.ok);
       unfailed = reads.counts ∙ c.rows.invariant.unfailed;
       unwritten = c.in_ok-put_copies.ensures.counts ∙ c.rows.invariant.unwritten;

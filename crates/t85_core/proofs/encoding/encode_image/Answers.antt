@@ -31,9 +31,9 @@ rows-init g c =
       lined = (white_lines c.args.size.width, white);
       reads = refl;
       same_source = refl;
-      writes = put.writes.counts;
-      grows = put.writes.grows;
-      same_writer = put.writes.same_writer;
+      writes = put.fails.1.counts;
+      grows = put.fails.1.grows;
+      same_writer = put.fails.1.same_writer;
     }
 
 same_fault : (a b : PbmFault) (e : Fault) → e ≡ Pbm a → e ≡ Pbm b → a ≡ b

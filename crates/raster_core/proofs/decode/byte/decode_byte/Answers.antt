@@ -42,8 +42,8 @@ loop-j-preserved g c =
       above_small = grows _ _ _ c.loop-j.invariant.above_small;
       along = along_next (Pulls g.S.CodeBytes.gives g.S.CodeBytes.failed) c.args.source.now c.loop-j.source c.next.new.source (shape_mode c.args.shape) c.args.offset c.args.second_bytes c.args.above_bytes c.args.before c.args.decoder.now c.args.learned.now
           c.loop-j.j c.loop-j.past _ c.loop-j.decoder c.next.new.self c.loop-j.learned c.next.new.learned c.context_of-cx.result.number (Ok c.in-Ok.pixel) c.in-Ok.pixel
-          (omega arith) refl (c.past_and-past.ensures c.args.offset c.requires.moved)
-          (λ lines x r. subst (λ t. c.context_of-cx.result.number ≡ context_at (record { two_line = t; typical = c.args.shape.typical }) lines c.args.offset x) c.requires.template (c.context_of-cx.ensures c.args.shape.typical lines x (subst (λ z. AreAt lines c.args.offset c.loop-j.second z c.loop-j.past x) (sym c.loop-j.invariant.above) (subst (λ z. AreAt lines c.args.offset z (c.args.above_bytes / 2 ^ 6 * 2 ^ c.loop-j.j) c.loop-j.past x) (sym c.loop-j.invariant.second) r)))) c.in-Ok.ensures.next c.loop-j.invariant.along;
+          (omega arith) refl (c.past_and-past.ensures c.args.offset c.requires.template.2)
+          (λ lines x r. subst (λ t. c.context_of-cx.result.number ≡ context_at (record { two_line = t; typical = c.args.shape.typical }) lines c.args.offset x) c.requires.template.1 (c.context_of-cx.ensures c.args.shape.typical lines x (subst (λ z. AreAt lines c.args.offset c.loop-j.second z c.loop-j.past x) (sym c.loop-j.invariant.above) (subst (λ z. AreAt lines c.args.offset z (c.args.above_bytes / 2 ^ 6 * 2 ^ c.loop-j.j) c.loop-j.past x) (sym c.loop-j.invariant.second) r)))) c.in-Ok.ensures.next c.loop-j.invariant.along;
     }
 
 pub returns-clause-ok : goal.returns-clause-ok

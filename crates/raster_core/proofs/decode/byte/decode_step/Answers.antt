@@ -10,7 +10,7 @@ pub returns-then-skip_byte-clause-ok : goal.returns-then-skip_byte-clause-ok
 returns-then-skip_byte-clause-ok g c =
     let eight : c.args.n ≡ 8 = c.skip_byte.ensures.eight c.if-skip_byte.true in
     rw eight (skipped_along (Pulls g.S.CodeBytes.gives g.S.CodeBytes.failed) c.args.source.now (shape_mode c.args.shape) c.args.offset c.args.second_bytes c.args.above_bytes _ c.args.before c.past_eight.result c.args.decoder.now c.skip_byte.new.decoder c.args.learned.now
-    (c.skip_byte.ensures.skipped c.if-skip_byte.true) (c.past_eight.ensures c.args.offset c.requires.moved))
+    (c.skip_byte.ensures.skipped c.if-skip_byte.true) (c.past_eight.ensures c.args.offset c.requires.template.2))
 
 pub returns-else-skip_byte-clause-ok : goal.returns-else-skip_byte-clause-ok
 returns-else-skip_byte-clause-ok g c =

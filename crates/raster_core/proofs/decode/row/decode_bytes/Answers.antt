@@ -42,8 +42,8 @@ bytes-preserved-then-words-gt0 g c =
     let left : c.bytes.left - 64 * c.skip_filled-words.result ≡ c.args.shape.width - 8 * (c.bytes.i + 8 * c.skip_filled-words.result) = omega (arith, c.bytes.invariant.left, c.skip_filled-words.ensures.inside) in
     let along = bytes_skipped (Pulls g.S.CodeBytes.gives g.S.CodeBytes.failed) c.args.source.now c.bytes.source (shape_mode c.args.shape) c.args.offset c.args.above.now c.args.second.now c.args.place c.args.current.now c.args.decoder.now c.args.learned.now
     c.args.shape.width c.bytes.left (c.bytes.left - 64 * c.skip_filled-words.result) c.bytes.i (8 * c.skip_filled-words.result) c.bytes.second_bytes c.bytes.above_bytes c.bytes.past c.bytes.current c.skip_filled-words.new.current c.bytes.decoder c.skip_filled-words.new.decoder c.bytes.learned (colour_of c.bytes.above_bytes)
-    c.requires.offset c.bytes.invariant.left (omega (arith, inside)) (omega (arith, c.skip_filled-words.ensures.inside)) (omega arith) (omega (arith, c.if-words-gt0.true))
-    (c.skip_filled-words.ensures.second c.if-words-gt0.true) (c.skip_filled-words.ensures.above c.if-words-gt0.true) (c.skip_filled-words.ensures.before c.if-words-gt0.true c.args.offset c.requires.moved) (c.skip_filled-words.ensures.going c.if-words-gt0.true)
+    c.requires.template.0 c.bytes.invariant.left (omega (arith, inside)) (omega (arith, c.skip_filled-words.ensures.inside)) (omega arith) (omega (arith, c.if-words-gt0.true))
+    (c.skip_filled-words.ensures.second c.if-words-gt0.true) (c.skip_filled-words.ensures.above c.if-words-gt0.true) (c.skip_filled-words.ensures.before c.if-words-gt0.true c.args.offset c.requires.template.2) (c.skip_filled-words.ensures.going c.if-words-gt0.true)
     c.skip_filled-words.ensures.filled c.skip_filled-words.ensures.kept c.skip_filled-words.ensures.skipped c.bytes.invariant.along in
     record {
       same = c.bytes.invariant.same;
@@ -60,11 +60,11 @@ bytes-preserved g c =
     let along = kept_along (Pulls g.S.CodeBytes.gives g.S.CodeBytes.failed) c.args.source.now c.bytes.source (shape_mode c.args.shape) c.args.offset c.args.above.now c.args.second.now c.args.place c.args.current.now c.args.decoder.now c.args.learned.now
     c.args.shape.width c.bytes.left c.bytes.i c.bytes.second_bytes c.bytes.above_bytes c.bytes.past c.bytes.current c.skip_filled-words.new.current c.bytes.decoder c.skip_filled-words.new.decoder c.bytes.learned
     same c.skip_filled-words.ensures.kept c.bytes.invariant.along in
-    let going : has_stopped c.skip_filled-words.new.decoder ≡ false = had_not_stopped {E = Pause} (has_stopped c.skip_filled-words.new.decoder) (Ok c.in-Ok.past) c.in-Ok.past (λ t. (c.in-Ok.ensures.stopped t).0) (refl) in
+    let going : has_stopped c.skip_filled-words.new.decoder ≡ false = had_not_stopped {E = Pause} (has_stopped c.skip_filled-words.new.decoder) (Ok c.in-Ok.past) c.in-Ok.past (λ t. (c.in-Ok.ensures.stop.0 t).0) (refl) in
     let was : has_stopped c.args.decoder.now ≡ false = sym c.bytes.invariant.going ∙ (sym c.skip_filled-words.ensures.stopped ∙ going) in
     record {
-      same = c.in-Ok.ensures.same ∙ c.bytes.invariant.same;
-      going = has_not_failed {E = Pause} (has_stopped c.decode_step.new.decoder) (Ok c.in-Ok.past) c.in-Ok.past c.in-Ok.ensures.stops (refl) ∙ sym was;
+      same = c.in-Ok.ensures.stop.2 ∙ c.bytes.invariant.same;
+      going = has_not_failed {E = Pause} (has_stopped c.decode_step.new.decoder) (Ok c.in-Ok.past) c.in-Ok.past c.in-Ok.ensures.stop.1 (refl) ∙ sym was;
       stuck = λ t. absurd (not_both (has_stopped c.args.decoder.now) t was);
       left = omega arith;
       along = rw (c.byte_at.ensures.byte, c.byte_at-in-bytes.ensures.byte)

@@ -10,7 +10,7 @@ returns-clause-keeps c = c.end_stripe.ensures.keeps
 pub returns-clause-closes : goal.returns-clause-closes
 returns-clause-closes c = λ more some.
     let code = c.if-not-is_in_code.ensures.yes (search rules) in
-    closed_ended (decoder_over c.args.self.now c.args.window.now c.args.learned.now) (decoder_over c.end_stripe.new.self c.end_stripe.new.window c.end_stripe.new.learned) c.requires.late c.requires.waits some code more (c.end_stripe.ensures.ends code some)
+    closed_ended (decoder_over c.args.self.now c.args.window.now c.args.learned.now) (decoder_over c.end_stripe.new.self c.end_stripe.new.window c.end_stripe.new.learned) c.requires.looks.0 c.requires.looks.1 some code more (c.end_stripe.ensures.ends code some)
 
 pub returns-then-not-is_in_code-clause-keeps : goal.returns-then-not-is_in_code-clause-keeps
 returns-then-not-is_in_code-clause-keeps c = record { header = refl; height = refl; is_open = refl; waits = refl; behind = refl; going = refl }
@@ -18,4 +18,4 @@ returns-then-not-is_in_code-clause-keeps c = record { header = refl; height = re
 pub returns-then-not-is_in_code-clause-closes : goal.returns-then-not-is_in_code-clause-closes
 returns-then-not-is_in_code-clause-closes c =
     let same : KeepsDecoder (decoder_over c.args.self.now c.args.window.now c.args.learned.now) (decoder_over c.args.self.now c.args.window.now c.args.learned.now) = record { header = refl; height = refl; is_open = refl; waits = refl; behind = refl; going = refl } in
-    λ _ some. closed_none (decoder_over c.args.self.now c.args.window.now c.args.learned.now) (decoder_over c.args.self.now c.args.window.now c.args.learned.now) c.requires.late c.requires.waits some (c.if-not-is_in_code.ensures.no (search rules)) same refl
+    λ _ some. closed_none (decoder_over c.args.self.now c.args.window.now c.args.learned.now) (decoder_over c.args.self.now c.args.window.now c.args.learned.now) c.requires.looks.0 c.requires.looks.1 some (c.if-not-is_in_code.ensures.no (search rules)) same refl

@@ -14,8 +14,8 @@ steps-preserved c =
     record {
       header = c.step.ensures.leaves.header ∙ c.steps.invariant.header;
       going = c.step.ensures.leaves.going ∙ c.steps.invariant.going;
-      same_memory = c.step.ensures.same_memory ∙ c.steps.invariant.same_memory;
-      same_width = c.step.ensures.same_width ∙ c.steps.invariant.same_width;
+      same_width = c.step.ensures.window.0 ∙ c.steps.invariant.same_width;
+      same_memory = c.step.ensures.window.1 ∙ c.steps.invariant.same_memory;
       so_far = on_compose (decoder_over c.args.self.now c.args.window.now c.args.learned.now) (decoder_over c.steps.self c.steps.window c.steps.learned) (decoder_over c.step.new.self c.step.new.window c.step.new.learned) c.args.piece.now.rest.now c.steps.piece.rest.now c.step.new.piece.rest.now [] c.steps.invariant.so_far on;
     }
 

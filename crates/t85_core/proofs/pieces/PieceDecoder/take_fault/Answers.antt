@@ -11,7 +11,7 @@ use Rattle.t85_core.proofs.pieces.PieceDecoder.take_fault.Goals as goal
 pub returns-then-gives_below-clause-leaves : goal.returns-then-gives_below-clause-leaves
 returns-then-gives_below-clause-leaves c =
     row_where c.args.is_all (decoder_over c.args.self.now c.args.window.now c.args.learned.now) (decoder_over c.gives_below.new.self c.gives_below.new.window c.gives_below.new.learned) c.args.piece.now.rest.now c.args.piece.now.rest.now c.gives_below.ensures.keeps.header c.gives_below.ensures.keeps.going (λ some.
-    leaves_fault (decoder_over c.args.self.now c.args.window.now c.args.learned.now) (decoder_over c.gives_below.new.self c.gives_below.new.window c.gives_below.new.learned) c.requires.late c.requires.waits c.min.result (c.gives_below.ensures.gives (search rules) some) c.args.fault c.args.piece.now.rest.now c.requires.more c.requires.stops (let e = c.min.ensures in omega (arith, e)) (let e = c.min.ensures in omega (arith, e)) c.args.is_all c.requires.end)
+    leaves_fault (decoder_over c.args.self.now c.args.window.now c.args.learned.now) (decoder_over c.gives_below.new.self c.gives_below.new.window c.gives_below.new.learned) c.requires.looks.0 c.requires.looks.1 c.min.result (c.gives_below.ensures.gives (search rules) some) c.args.fault c.args.piece.now.rest.now c.requires.more c.requires.stops (let e = c.min.ensures in omega (arith, e)) (let e = c.min.ensures in omega (arith, e)) c.args.is_all c.requires.end)
 
 pub returns-clause-leaves : goal.returns-clause-leaves
 returns-clause-leaves c =
@@ -21,5 +21,5 @@ returns-clause-leaves c =
     let h = c.enter_head.ensures.head (subst (λ z. last_behind (fields_of z.header) z.walk.stage z.walk.left ≡ false) (sym above.same) c.requires.more) (subst SomeStand (sym above.same) some) in
     leaves_of above.same
     (leaves_broken c.args.is_all (decoder_over c.gives_below.new.self c.gives_below.new.window c.gives_below.new.learned) (decoder_over c.enter_head.new.self c.enter_head.new.window c.enter_head.new.learned) c.args.piece.now.rest.now c.args.piece.now.rest.now c.args.fault h.keeps.header h.keeps.going
-    (behind_broken (decoder_over c.gives_below.new.self c.gives_below.new.window c.gives_below.new.learned) (decoder_over c.enter_head.new.self c.enter_head.new.window c.enter_head.new.learned) c.coder_laws.ensures (ap (λ z. z.is_open) above.same ∙ c.requires.late) (ap (λ z. z.waits) above.same ∙ c.requires.waits) h c.args.piece.now.rest.now c.args.fault
+    (behind_broken (decoder_over c.gives_below.new.self c.gives_below.new.window c.gives_below.new.learned) (decoder_over c.enter_head.new.self c.enter_head.new.window c.enter_head.new.learned) c.coder_laws.ensures (ap (λ z. z.is_open) above.same ∙ c.requires.looks.0) (ap (λ z. z.waits) above.same ∙ c.requires.looks.1) h c.args.piece.now.rest.now c.args.fault
     (subst (λ z. StopsBehind (fields_of z.header) (place_behind (fields_of z.header) z.walk.stage z.walk.entities) false z.behind c.args.piece.now.rest.now c.args.fault) (sym above.same) c.requires.stops) c.args.is_all c.requires.end)))

@@ -35,7 +35,7 @@ returns-in-Err-clause-step c =
     λ rows learned. record {
       ok = tt;
       err = λ text out s.
-          head_cut (at_stage c.requires.stage s) c.coder_laws.ensures (in_use c.args.header.now c.args.height c.requires.from c.requires.to) c.args.piece.now.rest.now c.number.new.stream.rest.now c.in-Err.fault (counted_of c.in-Err.fault c.in-Err.ensures.reads.counts)
+          head_cut (at_stage c.requires.stage s) c.coder_laws.ensures (in_use c.args.header.now c.args.height c.requires.height.0 c.requires.height.1) c.args.piece.now.rest.now c.number.new.stream.rest.now c.in-Err.fault (counted_of c.in-Err.fault c.in-Err.ensures.reads.counts)
           (length_breaks (fields_of c.args.header.now) (record { height = c.args.height; entities = c.args.self.now.entities; given = c.args.self.now.given }) _ c.args.piece.now.rest.now c.split_at.result.1.now c.number.new.stream.rest.now c.in-Err.fault is c.in-Err.ensures.err);
       more = λ e. (stays (fields_of c.args.header.now) c.args.height (walk_view c.args.self.now rows learned) c.args.piece.now.rest.now, comment_few c.args.piece.now.rest.now c.split_at.result.1.now c.number.new.stream.rest.now c.in-Err.fault is c.in-Err.ensures.err (let same : c.in-Err.fault ≡ Truncated = cc in same));
     }

@@ -1,4 +1,4 @@
-use Rattle.std.proofs.Common.{refl, ◌∙◌, ap, arith}
+use Rattle.std.proofs.Common.{rules, refl, ◌∙◌, ap, arith}
 use Rattle.t85_core.proofs.Decodings.PieceSteps.{at_stage}
 use Rattle.t85_core.proofs.Decodings.PieceFits.{row_in_stripe}
 use Rattle.t85_core.proofs.Decodings.PieceWalk.{row_entered}
@@ -31,5 +31,5 @@ returns-clause-fits c = record {
   behind = c.requires.fits.behind;
 }
 
-pub returns-clause-same_width : goal.returns-clause-same_width
-returns-clause-same_width c = ap (λ w. w.width) c.turn.ensures.turned
+pub returns-clause-window : goal.returns-clause-window
+returns-clause-window c = (ap (λ w. w.width) c.turn.ensures.turned, search rules)

@@ -16,7 +16,7 @@ returns-in_err-reset-clause-step c =
     λ rows learned. step_exit (fields_of c.args.header.now) c.args.height (walk_view c.args.self.now rows learned) (walk_view (record c.args.self.now { first = c.find_marker.new.first }) rows learned) c.args.piece.now.rest.now c.find_marker.new.piece.rest.now c.from_residual.result c.in_err-reset.field-0.0 c.from_residual.ensures.1
     (λ text out s.
     let k = at_stage c.requires.stage s in
-    marker_off k c.coder_laws.ensures (in_use c.args.header.now c.args.height c.requires.from c.requires.to) (rows_all c.requires.stage s c.requires.row) c.args.piece.now.rest.now c.in_err-reset.field-0.0 (c.in_err-reset.ensures.err k.read.answers k.extra k.code k.code_is))
+    marker_off k c.coder_laws.ensures (in_use c.args.header.now c.args.height c.requires.height.0 c.requires.height.1) (rows_all c.requires.stage s c.requires.row) c.args.piece.now.rest.now c.in_err-reset.field-0.0 (c.in_err-reset.ensures.err k.read.answers k.extra k.code k.code_is))
     (λ e. (
       (λ text out s.
           let k = at_stage c.requires.stage s in

@@ -21,7 +21,7 @@ returns-in_err-went-clause-step g c =
     row_exit (fields_of c.args.header.now) c.args.height (walk_over c.args.self.now c.args.window.now c.args.learned.now) (walk_over (record c.args.self.now { kept = c.go_on_in_row-went.new.kept; decoder = c.go_on_in_row-went.new.decoder; place = c.go_on_in_row-went.new.place; first = c.go_on_in_row-went.new.first; marker = c.go_on_in_row-went.new.marker }) c.go_on_in_row-went.new.window c.go_on_in_row-went.new.learned) c.args.piece.now.rest.now c.go_on_in_row-went.new.piece.rest.now c.from_residual.result c.in_err-went.field-0.0 c.from_residual.ensures.1
     (λ text out s.
     let k = at_stage c.requires.stage (resumed c.resume.new.self c.requires.stage (λ going. c.resume.ensures.unchanged (ap has_stopped c.replace-decoder.ensures.value ∙ going) ∙ c.replace-decoder.ensures.value) s) in
-    row_off k c.coder_laws.ensures (in_use c.args.header.now c.args.height c.requires.from c.requires.to) c.args.piece.now.rest.now c.in_err-went.field-0.0
+    row_off k c.coder_laws.ensures (in_use c.args.header.now c.args.height c.requires.height.0 c.requires.height.1) c.args.piece.now.rest.now c.in_err-went.field-0.0
     (subst (λ z. BreaksRow z (row_state (carried_by c.args.window.now c.args.self.now.kept c.args.learned.now) c.resume.new.self c.args.self.now.place c.args.self.now.first c.args.self.now.marker c.args.piece.now) c.in_err-went.field-0.0) (in_row_shape k c.shape.result shape) c.in_err-went.ensures.err (fields_of c.args.header.now) k.head.stripes.next k.head.passed.segments c.args.self.now.row k.began out k.code k.begun k.code_is _ (let few = k.few in omega arith)))
     (λ e. (
       (λ text out s.

@@ -16,7 +16,7 @@ returns-in_err-reset-clause-step c =
     step_exit (fields_of c.args.header.now) c.args.height (walk_over c.args.self.now c.args.window.now c.args.learned.now) (walk_over (record c.args.self.now { first = c.find_marker.new.first }) c.args.window.now c.args.learned.now) c.args.piece.now.rest.now c.find_marker.new.piece.rest.now c.from_residual.result c.in_err-reset.field-0.0 c.from_residual.ensures.1
     (λ text out s.
     let k = at_stage c.requires.stage s in
-    marker_off k c.coder_laws.ensures (in_use c.args.header.now c.args.height c.requires.from c.requires.to) (rows_all c.requires.stage s c.requires.row) c.args.piece.now.rest.now c.in_err-reset.field-0.0 (c.in_err-reset.ensures.err k.read.answers k.extra k.code k.code_is))
+    marker_off k c.coder_laws.ensures (in_use c.args.header.now c.args.height c.requires.height.0 c.requires.height.1) (rows_all c.requires.stage s c.requires.row) c.args.piece.now.rest.now c.in_err-reset.field-0.0 (c.in_err-reset.ensures.err k.read.answers k.extra k.code k.code_is))
     (λ e. (
       (λ text out s.
           let k = at_stage c.requires.stage s in
@@ -55,7 +55,7 @@ returns-then-self-eq0-clause-step c = record {
         code_is = tt;
         behind = tt;
         within = s.within;
-        stands = stripe_last k c.coder_laws.ensures (in_use c.args.header.now c.args.height c.requires.from c.requires.to) (rows_all c.requires.stage s c.requires.row) c.args.piece.now.rest.now c.find_marker.new.piece.rest.now c.in_ok-reset.reset m (carried_by c.next_stripe.new.window c.next_stripe.new.kept c.next_stripe.new.learned) next last;
+        stands = stripe_last k c.coder_laws.ensures (in_use c.args.header.now c.args.height c.requires.height.0 c.requires.height.1) (rows_all c.requires.stage s c.requires.row) c.args.piece.now.rest.now c.find_marker.new.piece.rest.now c.in_ok-reset.reset m (carried_by c.next_stripe.new.window c.next_stripe.new.kept c.next_stripe.new.learned) next last;
       }));
   err = tt;
   more = λ e. absurd (let bot : ⊥ = cc in bot);
@@ -82,7 +82,7 @@ returns-clause-step c = record {
         code_is = tt;
         behind = tt;
         within = s.within;
-        stands = stripe_on k c.coder_laws.ensures (in_use c.args.header.now c.args.height c.requires.from c.requires.to) (rows_all c.requires.stage s c.requires.row) c.args.piece.now.rest.now c.find_marker.new.piece.rest.now c.in_ok-reset.reset m (carried_by c.next_stripe.new.window c.next_stripe.new.kept c.next_stripe.new.learned) next on;
+        stands = stripe_on k c.coder_laws.ensures (in_use c.args.header.now c.args.height c.requires.height.0 c.requires.height.1) (rows_all c.requires.stage s c.requires.row) c.args.piece.now.rest.now c.find_marker.new.piece.rest.now c.in_ok-reset.reset m (carried_by c.next_stripe.new.window c.next_stripe.new.kept c.next_stripe.new.learned) next on;
       }));
   err = tt;
   more = λ e. absurd (let bot : ⊥ = cc in bot);
@@ -96,14 +96,14 @@ returns-then-self-eq0-clause-read c = λ text out s.
     let k = at_stage c.requires.stage s in
     let m = c.in_ok-reset.ensures.ok k.read.answers k.extra k.code k.code_is in
     let next = kept_wide (held c.args.window.now).width (fields_of c.args.header.now).xd c.in_ok-reset.reset (carried_by c.args.window.now c.args.self.now.kept c.args.learned.now) (carried_by c.next_stripe.new.window c.next_stripe.new.kept c.next_stripe.new.learned) s.width_is c.next_stripe.ensures.next k.read.last k.read.is_carried in
-    (m.given, m.taken, whole k c.coder_laws.ensures (in_use c.args.header.now c.args.height c.requires.from c.requires.to) (rows_all c.requires.stage s c.requires.row) c.args.piece.now.rest.now c.find_marker.new.piece.rest.now c.in_ok-reset.reset m (carried_by c.next_stripe.new.window c.next_stripe.new.kept c.next_stripe.new.learned) next)
+    (m.given, m.taken, whole k c.coder_laws.ensures (in_use c.args.header.now c.args.height c.requires.height.0 c.requires.height.1) (rows_all c.requires.stage s c.requires.row) c.args.piece.now.rest.now c.find_marker.new.piece.rest.now c.in_ok-reset.reset m (carried_by c.next_stripe.new.window c.next_stripe.new.kept c.next_stripe.new.learned) next)
 
 pub returns-clause-read : goal.returns-clause-read
 returns-clause-read c = λ text out s.
     let k = at_stage c.requires.stage s in
     let m = c.in_ok-reset.ensures.ok k.read.answers k.extra k.code k.code_is in
     let next = kept_wide (held c.args.window.now).width (fields_of c.args.header.now).xd c.in_ok-reset.reset (carried_by c.args.window.now c.args.self.now.kept c.args.learned.now) (carried_by c.next_stripe.new.window c.next_stripe.new.kept c.next_stripe.new.learned) s.width_is c.next_stripe.ensures.next k.read.last k.read.is_carried in
-    (m.given, m.taken, whole k c.coder_laws.ensures (in_use c.args.header.now c.args.height c.requires.from c.requires.to) (rows_all c.requires.stage s c.requires.row) c.args.piece.now.rest.now c.find_marker.new.piece.rest.now c.in_ok-reset.reset m (carried_by c.next_stripe.new.window c.next_stripe.new.kept c.next_stripe.new.learned) next)
+    (m.given, m.taken, whole k c.coder_laws.ensures (in_use c.args.header.now c.args.height c.requires.height.0 c.requires.height.1) (rows_all c.requires.stage s c.requires.row) c.args.piece.now.rest.now c.find_marker.new.piece.rest.now c.in_ok-reset.reset m (carried_by c.next_stripe.new.window c.next_stripe.new.kept c.next_stripe.new.learned) next)
 
 pub returns-then-self-eq0-clause-entities : goal.returns-then-self-eq0-clause-entities
 returns-then-self-eq0-clause-entities c = λ some.

@@ -10,8 +10,7 @@ returns-clause-step c =
 
 pub begin_stripe-requires : goal.begin_stripe-requires
 begin_stripe-requires c = record {
-  from = c.requires.from;
-  to = c.requires.to;
+  height = c.requires.height;
   stage = elim c.in_ok-finish_stripe.ensures.stage [
     | inl done ↦ absurd (c.in_default.not-Done done)
     | inr head ↦ inl head

@@ -16,7 +16,7 @@ returns-then-self-gt0-clause-step c =
     sym (append-nil c.args.piece.now.rest.now) ∙ ap (λ (z : List ℕ). c.args.piece.now.rest.now ++ z) (sym (nil_of c.split_at.result.1.now (omega (arith, c.split_at.ensures.back_len, all)))) in
     λ rows learned. record {
       ok = tt;
-      err = λ text out s. comment_off (at_stage c.requires.stage s) c.coder_laws.ensures (in_use c.args.header.now c.args.height c.requires.from c.requires.to) c.args.piece.now.rest.now few;
+      err = λ text out s. comment_off (at_stage c.requires.stage s) c.coder_laws.ensures (in_use c.args.header.now c.args.height c.requires.height.0 c.requires.height.1) c.args.piece.now.rest.now few;
       more = λ _. (
         (λ text out s. on_same (fields_of c.args.header.now) c.args.height _ text out c.args.piece.now.rest.now c.split_at.result.1.now c.args.piece.now.rest.now taken (record {
           left_is = s.left_is;

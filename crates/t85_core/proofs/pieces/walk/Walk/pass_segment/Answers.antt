@@ -15,7 +15,7 @@ pub returns-in-Err-clause-step : goal.returns-in-Err-clause-step
 returns-in-Err-clause-step c = λ rows learned. record {
   ok = tt;
   err = λ text out s.
-      head_cut (at_stage c.requires.stage s) c.coder_laws.ensures (in_use c.args.header.now c.args.height c.requires.from c.requires.to) c.args.piece.now.rest.now c.next_piece.new.stream.rest.now c.in-Err.fault (counted_of c.in-Err.fault c.in-Err.ensures.reads.counts)
+      head_cut (at_stage c.requires.stage s) c.coder_laws.ensures (in_use c.args.header.now c.args.height c.requires.height.0 c.requires.height.1) c.args.piece.now.rest.now c.next_piece.new.stream.rest.now c.in-Err.fault (counted_of c.in-Err.fault c.in-Err.ensures.reads.counts)
       (subst (λ m. Ends Truncated (Some c.args.piece.now.rest.now) (Some c.next_piece.new.stream.rest.now) (PieceFault (fields_of c.args.header.now) (record { height = c.args.height; entities = c.args.self.now.entities; given = c.args.self.now.given }) m) c.in-Err.fault) c.is_some.ensures c.in-Err.ensures.err);
   more = λ e. (stays (fields_of c.args.header.now) c.args.height (walk_view c.args.self.now rows learned) c.args.piece.now.rest.now, piece_few (fields_of c.args.header.now) (record { height = c.args.height; entities = c.args.self.now.entities; given = c.args.self.now.given }) c.is_some.result c.args.piece.now.rest.now c.next_piece.new.stream.rest.now c.in-Err.fault c.in-Err.ensures.err c.requires.other (let same : c.in-Err.fault ≡ Truncated = cc in same));
 }
@@ -97,6 +97,6 @@ returns-else-other-height-clause-step c =
     let h = rw c.in-NewLength.is at c.in-Ok.ensures.ok in
     λ rows learned. record {
       ok = tt;
-      err = λ text out s. head_other (at_stage c.requires.stage s) c.coder_laws.ensures (in_use c.args.header.now c.args.height c.requires.from c.requires.to) c.args.piece.now.rest.now c.next_piece.new.stream.rest.now c.in-NewLength.other h.0 h.1 h.2.legal c.if-other-height.false h.2.taken;
+      err = λ text out s. head_other (at_stage c.requires.stage s) c.coder_laws.ensures (in_use c.args.header.now c.args.height c.requires.height.0 c.requires.height.1) c.args.piece.now.rest.now c.next_piece.new.stream.rest.now c.in-NewLength.other h.0 h.1 h.2.legal c.if-other-height.false h.2.taken;
       more = λ e. absurd (let bot : ⊥ = cc in bot);
     }
