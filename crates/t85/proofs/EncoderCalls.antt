@@ -10,9 +10,9 @@ use Rattle.pbm_core.specs.Device.{AppendsBeginning, one_more}
 use Rattle.pbm_core.specs.Image.{pixels_of}
 use Rattle.pbm_core.specs.declared.size.Size.{Size}
 use Rattle.qm_core.specs.Machine.{run_bytes}
-use Rattle.raster_core.specs.Packed.{Held, rows_at}
+use Rattle.raster_core.specs.Packed.{Held, next_place, rows_at}
 use Rattle.raster_core.specs.Raster.{IsRaster, white_row}
-use Rattle.raster_core.specs.Window.{held as rows_held, width_of}
+use Rattle.raster_core.specs.Window.{current_place, held as rows_held, width_of}
 use Rattle.raster_core.specs.declared.window.Window.{Window}
 use Rattle.t85_core.specs.Denotes.{Denotes}
 use Rattle.t85_core.specs.Encode.{HoldsStripes, raster_of}
@@ -22,7 +22,8 @@ use Rattle.t85_core.specs.Jbg.{AreSettings, Settings, head_of, is_low, jbg, jbg_
 use Rattle.t85_core.specs.Laws.{CodeDenotes}
 use Rattle.t85_core.specs.Options.{refusal_of, settings_of}
 use Rattle.t85_core.specs.RowNumbers.{row_numbers}
-use Rattle.t85_core.specs.Steps.ByRow.{EndsImage, HaveCome, IsPlan, MayCome, MayGoOn, RowPlan, RowFronts, RowView, RowsGoElsewhere, Stands, TakesNextRow, plan_of, view_of}
+use Rattle.t85_core.specs.Steps.ByRow.{EndsImage, HaveCome, IsPlan, MayCome, MayGoOn, RowPlan, RowView, Stands, TakesNextRow, plan_of, view_of}
+use Rattle.t85_core.specs.Steps.RowLaws.{RowFronts, RowsGoElsewhere}
 use Rattle.t85_core.specs.Steps.MostBytes.{AppendsAtMost, most_end_bytes, most_row_bytes}
 use Rattle.t85_core.specs.Steps.RowSteps.{IsGoing, given_row}
 use Rattle.t85_core.specs.Steps.Sent.{Origin, Sends, behind, here}
@@ -219,9 +220,9 @@ module _ (d : T85Encoder) (e : RowEncoder) (ready : AwaitsCall d e) (memory : Li
       (subst (λ v. Stands image.settings image.width image.limit rows v (rows_at d.place image.width (take (window_bytes image.width) memory)) (behind sent (Some [])) (Some [])) (sym (ready.goes_on.resumes memory image rows sent k d.learning)) (k.stands (Some [])))
 
   -- and once rows have come that the struct has the numbers of
-  pub come_so : (law : RowsGoElsewhere) (kept : T85Encoder) (e' : RowEncoder) (learning : Learning) (memory' bytes : List ℕ) (window' : Window) (all : List (List Bool)) → length memory' ≡ window_bytes d.width → rows_held window' ≡ rows_at kept.place d.width memory' → kept.version ≡ d.version → kept.next ≡ d.next → kept.width ≡ d.width → kept.height ≡ d.height → settings_kept kept ≡ settings_kept d → kept.learning ≡ learning → kept.place < 3 → MayGoOn e' →
+  pub come_so : (law : RowsGoElsewhere) (kept : T85Encoder) (e' : RowEncoder) (learning : Learning) (memory' bytes : List ℕ) (window' : Window) (all : List (List Bool)) → length memory' ≡ window_bytes d.width → rows_held window' ≡ rows_at kept.place d.width memory' → kept.version ≡ d.version → kept.next ≡ d.next → kept.width ≡ d.width → kept.height ≡ d.height → settings_kept kept ≡ settings_kept d → kept.learning ≡ learning → kept.place ≡ 2 * length all % 3 → MayGoOn e' →
       numbers_of_encoder kept ≡ row_numbers e' → Stands image.settings image.width image.limit all (view_of e' learning) (rows_held window') (behind sent (Some [])) (Some bytes) → HasCome image (encoder_hold kept memory') all (sent ++ bytes)
-  come_so law kept e' learning memory' bytes window' all long' at' version next wide high settings learned small may numbers now =
+  come_so law kept e' learning memory' bytes window' all long' at' version next wide high settings learned placed may numbers now =
       let goes = law image.settings image.width image.limit all (view_of e' learning) (rows_held window') (behind sent (Some [])) (Some bytes) now in
       let sends = goes.1 in
       let sent_is : goes.0 ≡ sent ++ bytes = sends.all ∙ ap (λ m. sent ++ m) (sym sends.appended) in
@@ -238,7 +239,7 @@ module _ (d : T85Encoder) (e : RowEncoder) (ready : AwaitsCall d e) (memory : Li
         proper = k.proper;
         not_low = k.not_low;
         some = k.some;
-        place_to = small;
+        place_is = placed;
         engine = e';
         ready = may;
         numbers_are = numbers;
@@ -248,16 +249,28 @@ module _ (d : T85Encoder) (e : RowEncoder) (ready : AwaitsCall d e) (memory : Li
             (subst (λ w. Stands image.settings image.width image.limit all (view_of e' learning) w (behind goes.0 text) text) same_rows (goes.2 text)));
       }
 
+-- a row further in the window
+next_but_one : (place next : ℕ) → place < 3 → next ≡ (place + 2) % 3 → next_place (next_place place) ≡ next
+next_but_one zero next small is = sym is
+next_but_one (suc zero) next small is = sym is
+next_but_one (suc (suc zero)) next small is = sym is
+next_but_one (suc (suc (suc place))) next small is = absurd (omega (arith, small))
+
+place_on : (place : ℕ) (rows : List (List Bool)) (row : List Bool) → place ≡ 2 * length rows % 3 → next_place (next_place place) ≡ 2 * length (rows ++ row ∷ []) % 3
+place_on place rows row is =
+    next_but_one place (2 * length (rows ++ row ∷ []) % 3) (omega (arith, is))
+    (let long : length (rows ++ row ∷ []) ≡ length rows + 1 = length-append rows (row ∷ []) in ap (λ n. 2 * n % 3) long ∙ (omega (arith, is)))
+
 -- a row was put
 pub row_taken : (law : RowsGoElsewhere) (d kept : T85Encoder) (e e' : RowEncoder) (learning : Learning) (memory memory' row room stream : List ℕ) (n : ℕ) (window window' : Window) → AwaitsCall d e → length memory ≡ window_bytes d.width → length memory' ≡ window_bytes d.width → length row ≡ div_ceil d.width 8 →
-    rows_held window ≡ rows_at d.place d.width memory → rows_held window' ≡ rows_at kept.place d.width memory' → kept.version ≡ d.version → kept.next ≡ d.next → kept.width ≡ d.width → kept.height ≡ d.height → settings_kept kept ≡ settings_kept d → kept.learning ≡ learning → kept.place < 3 → numbers_of_encoder kept ≡ row_numbers e' → room ≡ stream → most_row_bytes e ≤ length stream → (most_row_bytes e ≤ length room → MayGoOn e') →
+    rows_held window ≡ rows_at d.place d.width memory → rows_held window' ≡ rows_at kept.place d.width memory' → kept.version ≡ d.version → kept.next ≡ d.next → kept.width ≡ d.width → kept.height ≡ d.height → settings_kept kept ≡ settings_kept d → kept.learning ≡ learning → (most_row_bytes e ≤ length room → kept.place ≡ next_place (next_place d.place)) → numbers_of_encoder kept ≡ row_numbers e' → room ≡ stream → most_row_bytes e ≤ length stream → (most_row_bytes e ≤ length room → MayGoOn e') →
     (most_row_bytes e ≤ length room → TakesNextRow (given_row e row) (view_of e d.learning) (view_of e' learning) (rows_held window) (rows_held window') (Some []) (Some (take n room))) → TakesOne (encoder_hold d memory) (encoder_hold kept memory') row (take n stream)
-row_taken law d kept e e' learning memory memory' row room stream n window window' ready long long' whole at at' version next wide high settings learned small numbers same enough may puts = λ image rows sent k.
+row_taken law d kept e e' learning memory memory' row room stream n window window' ready long long' whole at at' version next wide high settings learned turned numbers same enough may puts = λ image rows sent k.
     let fits : most_row_bytes e ≤ length room = subst (λ b. most_row_bytes e ≤ length b) (sym same) enough in
     let pixels : pixels_of e.size.width row ≡ pixels_of image.width (take (div_ceil image.width 8) row) =
     ap (λ w. pixels_of w row) (ready.goes_on.width_is ∙ k.width_is) ∙ ap (λ r. pixels_of image.width r) (sym (take_all (div_ceil image.width 8) row (subst (λ w. length row ≤ div_ceil w 8) k.width_is (omega (arith, whole))))) in
     let now = puts fits image.settings image.width image.limit rows (behind sent (Some [])) (stands_lent d e ready memory window long at image rows sent k) in
-    come_so d e ready memory window long at image rows sent k law kept e' learning memory' (take n stream) window' (rows ++ pixels_of image.width (take (div_ceil image.width 8) row) ∷ []) long' at' version next wide high settings learned small (may fits) numbers
+    come_so d e ready memory window long at image rows sent k law kept e' learning memory' (take n stream) window' (rows ++ pixels_of image.width (take (div_ceil image.width 8) row) ∷ []) long' at' version next wide high settings learned (turned fits ∙ place_on d.place rows (pixels_of image.width (take (div_ceil image.width 8) row)) k.place_is) (may fits) numbers
     (subst (λ b. Stands image.settings image.width image.limit (rows ++ pixels_of image.width (take (div_ceil image.width 8) row) ∷ []) (view_of e' learning) (rows_held window') (behind sent (Some [])) (Some (take n b))) same
     (subst (λ r. Stands image.settings image.width image.limit (rows ++ r ∷ []) (view_of e' learning) (rows_held window') (behind sent (Some [])) (Some (take n room))) pixels now))
 
@@ -349,9 +362,9 @@ head_fails_not f s width limit len memory old (Some b) before after none within 
     let all : len ≡ length memory = last refl in
     omega (arith, grown, start, whole, more, kept, all, enough)
 
-pub stream_begun : (law : RowsGoElsewhere) (o : Options) (size : Size) (d : T85Encoder) (memory room stream : List ℕ) (n : ℕ) (window : Window) → is_low (settings_of o) size.height ≡ false → length memory ≡ window_bytes size.width → width_of window ≡ size.width → memory ≡ window.rows.now → room ≡ stream →
+pub stream_begun : (law : RowsGoElsewhere) (o : Options) (size : Size) (d : T85Encoder) (memory room stream : List ℕ) (n : ℕ) (window : Window) → is_low (settings_of o) size.height ≡ false → length memory ≡ window_bytes size.width → width_of window ≡ size.width → current_place window ≡ 0 → memory ≡ window.rows.now → room ≡ stream →
     length (head_of (settings_of o) size.width size.height) ≤ length stream → (length (head_of (settings_of o) size.width size.height) ≤ length room → HasBegun (settings_of o) size d window (take n room)) → BeginsStream (image_of (settings_of o) size.width size.height) (encoder_hold d memory) (take n stream)
-stream_begun law o size d memory room stream n window low long wide is same enough begins =
+stream_begun law o size d memory room stream n window low long wide first is same enough begins =
     let s = settings_of o in
     let k = begins (subst (λ b. length (head_of s size.width size.height) ≤ length b) (sym same) enough) in
     let goes = law s size.width size.height [] (view_of k.engine d.learning) (rows_held window) (here (Some [])) (Some (take n room)) k.stands in
@@ -372,7 +385,7 @@ stream_begun law o size d memory room stream n window low long wide is same enou
         proper = are_settings o;
         not_low = low;
         some = size.some_height;
-        place_to = subst (λ p. p < 3) (sym k.place_is) window.within;
+        place_is = k.place_is ∙ first;
         engine = k.engine;
         ready = k.ready;
         numbers_are = k.numbers_are;
@@ -396,7 +409,7 @@ other_window image d window window' rows sent same k = record {
   proper = k.proper;
   not_low = k.not_low;
   some = k.some;
-  place_to = k.place_to;
+  place_is = k.place_is;
   engine = k.engine;
   ready = k.ready;
   numbers_are = k.numbers_are;

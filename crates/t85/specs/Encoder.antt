@@ -1,5 +1,5 @@
 -- An encoder that a C caller holds, who hands it the rows of an image one by one.
-use Rattle.std.specs.Prelude.{ℕ, ◌+◌, ◌*◌, ◌/◌, ◌≡◌, ◌≢◌, ◌≤◌, ◌<◌, ◌⊎◌, ◌==◌, ◌||◌, ◌&&◌, not, nat_lt, Bool, false, List, [], ◌∷◌, ◌++◌, length, take, Option, Some, None, unwrap_or, if◌then◌else◌}
+use Rattle.std.specs.Prelude.{ℕ, ◌+◌, ◌*◌, ◌/◌, ◌%◌, ◌≡◌, ◌≢◌, ◌≤◌, ◌⊎◌, ◌==◌, ◌||◌, ◌&&◌, not, nat_lt, Bool, false, List, [], ◌∷◌, ◌++◌, length, take, Option, Some, None, unwrap_or, if◌then◌else◌}
 use Rattle.std.specs.Int.{div_ceil}
 use Rattle.pbm_core.specs.Image.{pixels_of}
 use Rattle.raster_core.specs.Packed.{rows_at}
@@ -78,7 +78,8 @@ pub record HasCome (image : Image) (hold : EncoderHold) (rows : List (List Bool)
   pub proper : AreSettings image.settings
   pub not_low : is_low image.settings image.limit ≡ false
   pub some : 1 ≤ image.limit
-  pub place_to : hold.encoder.place < 3
+  -- row n, counted from 1, is at this of the three places of the window
+  pub place_is : hold.encoder.place ≡ 2 * length rows % 3
   pub engine : RowEncoder
   pub ready : MayGoOn engine
   pub numbers_are : numbers_of_encoder hold.encoder ≡ row_numbers engine

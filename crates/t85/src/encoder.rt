@@ -4,7 +4,8 @@ ghost use Rattle.std.specs.Prelude.{◌≡◌, ◌≢◌, ◌≤◌, ◌<◌, �
 ghost use Rattle.std.specs.Int.{div_ceil};
 ghost use Rattle.raster_core.specs.Window.{current_place, held as rows_of, width_of};
 ghost use Rattle.t85_core.specs.Jbg.{head_of, is_low};
-ghost use Rattle.t85_core.specs.Lent.{KeepsWindow};
+ghost use Rattle.raster_core.specs.Packed.{next_place};
+ghost use Rattle.t85_core.specs.Lent.{KeepsWindow, StaysWindow};
 ghost use Rattle.t85_core.specs.Options.{refusal_of, settings_of};
 ghost use Rattle.t85_core.specs.RowNumbers.{row_numbers};
 ghost use Rattle.t85_core.specs.Steps.ByRow.{EndsImage, MayGoOn, TakesNextRow, view_of};
@@ -457,7 +458,7 @@ impl T85Encoder {
         ensures begun { length (head_of (settings_of options.now) size.width size.height) ≤ length
             room.new.bytes.now → HasBegun (settings_of options.now) size self.new window.new
             (take room.new.len room.new.bytes.now) }
-        ensures window { KeepsWindow window.old window.new }
+        ensures window { StaysWindow window.old window.new }
         ensures same_reference { room.new.bytes.ghost_name ≡ room.old.bytes.ghost_name }
     {
         let started = RowEncoder::start(size, options, window, &mut self.learning, room);
@@ -542,6 +543,8 @@ fn put_in(
         (view_of engine.new learning.new) (rows_of window.old) (rows_of window.new) (Some [])
         (Some (take room.new.len room.new.bytes.now)) }
     ensures ready { most_row_bytes engine.old ≤ length room.new.bytes.now → MayGoOn engine.new }
+    ensures place { most_row_bytes engine.old ≤ length room.new.bytes.now →
+        current_place window.new ≡ next_place (next_place (current_place window.old)) }
     ensures window { KeepsWindow window.old window.new }
     ensures same_reference { room.new.bytes.ghost_name ≡ room.old.bytes.ghost_name }
 {
