@@ -8,7 +8,9 @@
 # make wheel         the Python module with the library inside, for `pip install`, into dist/
 # make manuals       checks the manual pages
 # make debian        builds the packages of packaging/debian, and has lintian look at them
-# make interop       exchanges streams with JBIG-KIT's programs, and compares the images
+# make jbig85        builds bin/libjbig85.a: the library with JBIG-KIT's calls over it
+# make interop       exchanges streams with JBIG-KIT's programs and library, and compares the images; has JBIG-KIT's own
+#                    programs run over the library, for which `apt-get` fetches its source
 # make charts        has programs and library code the test charts of the CCITT, beside JBIG-KIT's programs; `apt-get`
 #                    fetches them
 # make libtiff       builds Debian's libtiff with the library in the place of JBIG-KIT's, and exchanges TIFFs with Debian's
@@ -53,7 +55,7 @@ BUILT = $(PROGRAMS:%=bin/%)
 LIBRARY = bin/libt85.a bin/$(SHARED) bin/$(SONAME) bin/libt85.so
 # The targets that build the programs first, and those that build the library first.
 OF_PROGRAMS = show static test turns library-test interop charts libtiff against bench pictures
-OF_LIBRARY = test library-test charts libtiff fuzz bench wheel pictures
+OF_LIBRARY = test library-test interop charts libtiff fuzz bench wheel pictures jbig85
 
 # quoted TEXT: one word of a shell, with its blanks
 quoted = '$(subst ','\'',$(1))'
@@ -110,6 +112,14 @@ bin/$(SHARED): bin/libt85.a t85.map
 
 bin/$(SONAME) bin/libt85.so: bin/$(SHARED)
 	cp $< $@.$$$$ && mv -f $@.$$$$ $@
+
+# JBIG-KIT's calls, in C, and what they call: a program that is linked with it wants nothing else.
+jbig85: bin/libjbig85.a
+
+bin/libjbig85.a: bin/libt85.a $(wildcard bindings/jbig85/jbig85.*) include/t85.h
+	made=bin/jbig85.$$$$ && mkdir $$made && \
+		$(CC) -std=c99 -O2 -fPIC -Wall -Wextra -Wpedantic $(CFLAGS) -I include -c bindings/jbig85/jbig85.c -o $$made/jbig85.o && \
+		cp bin/libt85.a $$made && $(AR) rs $$made/libt85.a $$made/jbig85.o && mv -f $$made/libt85.a $@ && rm -r $$made
 
 # What was proved and compiled is linked again, so that no loader is asked: a start takes half the instructions.
 static:
@@ -178,17 +188,19 @@ manuals:
 debian:
 	tests/debian
 
-interop:
+interop: bin/libjbig85.a
 	tests/interop bin
+	tests/jbig85 bin
 
 # The charts are fetched, since they may not be kept.
 bin/charts:
 	bench/charts $@
 
-charts: bin/charts
+charts: bin/charts bin/libjbig85.a
 	tests/library bin bin/charts/*.pbm
 	tests/python bin bin/charts/*.pbm
 	tests/interop bin bin/charts/*.pbm
+	tests/jbig85 bin bin/charts/*.pbm
 
 libtiff:
 	tests/libtiff bin
@@ -275,5 +287,5 @@ endif
 clean:
 	rm -rf bin dist crates/*/out
 
-.PHONY: show build library static processor documents test turns library-test wheel pictures manuals debian interop \
-	charts libtiff fuzz against bench install install-programs install-library uninstall clean
+.PHONY: show build library static processor documents test turns library-test wheel pictures manuals debian jbig85 \
+	interop charts libtiff fuzz against bench install install-programs install-library uninstall clean

@@ -1,0 +1,385 @@
+/* JBIG-KIT's calls for T.85, each by those of libt85. jbig85.h is their header. */
+#include "jbig85.h"
+
+#include <stdlib.h>
+#include <string.h>
+#include <t85.h>
+
+#define MARKER_ESC 0xff
+#define MARKER_SDNORM 0x02
+#define MARKER_SDRST 0x03
+#define MARKER_ABORT 0x04
+#define MARKER_NEWLEN 0x05
+
+/* Stages of an encoder. */
+enum { NOT_BEGUN, BEGUN, ENDED };
+
+/* A struct of libt85 has just the room that the header has for it. */
+typedef char
+    encoder_fits[sizeof(t85_encoder) == sizeof(((struct jbg85_enc_state *)0)->encoder) ? 1 : -1];
+typedef char
+    decoder_fits[sizeof(t85_decoder) == sizeof(((struct jbg85_dec_state *)0)->decoder) ? 1 : -1];
+
+static t85_encoder *encoder_of(struct jbg85_enc_state *s)
+{
+    return (t85_encoder *)(void *)s->encoder;
+}
+
+static t85_decoder *decoder_of(struct jbg85_dec_state *s)
+{
+    return (t85_decoder *)(void *)s->decoder;
+}
+
+/* A number in 32 bits: the greatest for all that are above it, as for -1. */
+static uint32_t word(unsigned long number)
+{
+    return number < UINT32_MAX ? (uint32_t)number : UINT32_MAX;
+}
+
+/* The encoder */
+
+void jbg85_enc_init(struct jbg85_enc_state *s, unsigned long x0, unsigned long y0,
+                    void (*data_out)(unsigned char *start, size_t len, void *file), void *file)
+{
+    memset(s, 0, sizeof *s);
+    s->x0 = x0;
+    s->y0 = word(y0);
+    s->l0 = 128;
+    s->options = JBG_TPBON | JBG_VLENGTH;
+    s->mx = T85_MOST_OFFSET;
+    s->data_out = data_out;
+    s->file = file;
+}
+
+void jbg85_enc_options(struct jbg85_enc_state *s, int options, unsigned long l0, int mx)
+{
+    if (s->y > 0)
+        return;
+    if (options >= 0)
+        s->options = options;
+    if (l0 > 0)
+        s->l0 = l0;
+    if (mx >= 0 && mx <= T85_MOST_OFFSET)
+        s->mx = (unsigned)mx;
+}
+
+/* Nothing more is written. */
+static void stop(struct jbg85_enc_state *s)
+{
+    s->stage = ENDED;
+    s->y = s->y0;
+}
+
+void jbg85_enc_abort(struct jbg85_enc_state *s)
+{
+    unsigned char marker[2] = {MARKER_ESC, MARKER_ABORT};
+    s->data_out(marker, sizeof marker, s->file);
+    stop(s);
+}
+
+/* No call says that a stream can't go on. What was begun ends as one that was aborted, so that its reader knows. */
+static void fail(struct jbg85_enc_state *s, int status)
+{
+    s->status = status;
+    if (s->stage == BEGUN)
+        jbg85_enc_abort(s);
+    stop(s);
+}
+
+static t85_options options_of(const struct jbg85_enc_state *s)
+{
+    t85_options options = T85_OPTIONS;
+    options.options = (uint32_t)s->options & (T85_TWO_LINES | T85_TYPICAL);
+    options.stripe_rows = word(s->l0);
+    options.most_offset = s->mx;
+    options.announces_height = (s->options & JBG_VLENGTH) != 0;
+    options.announced_height = word(s->y0);
+    options.has_comment = s->comment != NULL;
+    return options;
+}
+
+/* Puts a row into its place of the window, without what is behind its last pixel; where there is none, a white one. */
+static void put_row(unsigned char *window, uint32_t width, unsigned long place,
+                    const unsigned char *row)
+{
+    size_t len = t85_row_bytes(width);
+    unsigned char *to = window + place * len;
+    if (!row) {
+        memset(to, 0, len);
+        return;
+    }
+    memcpy(to, row, len);
+    to[len - 1] &= (unsigned char)(0xff << (len * 8 - width));
+}
+
+/* Makes the window as the row before left it, of so many rows. The first of them is at the last of the three places, and
+   each other one a place before the one above it, or at the last place where that is at the first. */
+static void put_rows(unsigned char *window, uint32_t width, unsigned long rows,
+                     const unsigned char *above, const unsigned char *second)
+{
+    unsigned long place = (3 - rows % 3) % 3;
+    put_row(window, width, place, rows > 0 ? above : NULL);
+    put_row(window, width, (place + 1) % 3, rows > 1 ? second : NULL);
+}
+
+/* How long the stream's beginning is, where it is not refused. */
+static size_t beginning(const struct jbg85_enc_state *s)
+{
+    return 26 + (s->comment && s->comment_len <= UINT32_MAX ? s->comment_len : 0);
+}
+
+typedef enum { START, ROW, END } step;
+
+/* Takes a step of the stream in memory of its own, hands on what that wrote, and says whether it succeeded. */
+static bool take(struct jbg85_enc_state *s, step what, const unsigned char *line,
+                 const unsigned char *above, const unsigned char *second)
+{
+    uint32_t width = word(s->x0);
+    size_t window_len = width <= T85_MOST_WIDTH ? t85_window_bytes(width) : 0, written = 0;
+    size_t room = what == START ? beginning(s) : (size_t)t85_encode_room(encoder_of(s));
+    unsigned char *window = malloc(window_len + room), *stream;
+    int status;
+    if (!window) {
+        fail(s, T85_NO_ROOM);
+        return false;
+    }
+    stream = window + window_len;
+    if (what == START) {
+        t85_options options = options_of(s);
+        status = t85_encode_start(encoder_of(s), sizeof(t85_encoder), width, word(s->y0), &options,
+                                  s->comment, s->comment ? s->comment_len : 0, window, window_len,
+                                  stream, room, &written);
+    } else {
+        put_rows(window, width, s->y, above, second);
+        if (what == ROW)
+            status = t85_encode_row(encoder_of(s), line, t85_row_bytes(width), window, window_len,
+                                    stream, room, &written);
+        else
+            status = t85_encode_end(encoder_of(s), window, window_len, stream, room, &written);
+    }
+    if (written > 0)
+        s->data_out(stream, written, s->file);
+    free(window);
+    if (status != T85_OK)
+        fail(s, status);
+    return status == T85_OK;
+}
+
+static void finish(struct jbg85_enc_state *s)
+{
+    if (!take(s, END, NULL, NULL, NULL))
+        return;
+    if (s->newlen == 1)
+        s->newlen = 2;
+    stop(s);
+}
+
+void jbg85_enc_lineout(struct jbg85_enc_state *s, unsigned char *line, unsigned char *prevline,
+                       unsigned char *prevprevline)
+{
+    if (s->stage == ENDED || s->y >= s->y0)
+        return;
+    if (s->stage == NOT_BEGUN) {
+        if (!take(s, START, NULL, NULL, NULL))
+            return;
+        s->stage = BEGUN;
+        s->comment = NULL;
+    }
+    if (!take(s, ROW, line, prevline, prevprevline))
+        return;
+    s->y++;
+    if (s->y == s->y0)
+        finish(s);
+}
+
+void jbg85_enc_newlen(struct jbg85_enc_state *s, unsigned long y0)
+{
+    if (s->stage == ENDED || y0 < 1 || y0 >= s->y0 || !(s->options & JBG_VLENGTH))
+        return;
+    /* Rows that came are not taken back. */
+    s->y0 = y0 > s->y ? y0 : s->y;
+    if (s->stage == NOT_BEGUN)
+        return;
+    s->newlen = 1;
+    if (s->y == s->y0)
+        finish(s);
+}
+
+/* The decoder */
+
+void jbg85_dec_init(struct jbg85_dec_state *s, unsigned char *buf, size_t buflen,
+                    int (*line_out)(const struct jbg85_dec_state *s, unsigned char *start,
+                                    size_t len, unsigned long y, void *file),
+                    void *file)
+{
+    memset(s, 0, sizeof *s);
+    s->linebuf = buf;
+    s->linebuf_len = buf ? buflen : 0;
+    s->line_out = line_out;
+    s->file = file;
+    t85_decode_start(decoder_of(s), sizeof(t85_decoder), UINT32_MAX);
+}
+
+static unsigned long number_at(const unsigned char *bytes)
+{
+    return (unsigned long)bytes[0] << 24 | (unsigned long)bytes[1] << 16 |
+           (unsigned long)bytes[2] << 8 | bytes[3];
+}
+
+/* Keeps of bytes that were taken those of the header, and the last ones. */
+static void keep(struct jbg85_dec_state *s, const unsigned char *bytes, size_t len)
+{
+    size_t kept = len < sizeof s->last ? len : sizeof s->last, at;
+    if (len == 0)
+        return;
+    memmove(s->last, s->last + kept, sizeof s->last - kept);
+    memcpy(s->last + sizeof s->last - kept, bytes + len - kept, kept);
+    if (s->bie_len == sizeof s->buffer)
+        return;
+    for (at = 0; at < len && s->bie_len < sizeof s->buffer; at++)
+        s->buffer[s->bie_len++] = bytes[at];
+    if (s->bie_len < sizeof s->buffer)
+        return;
+    s->x0 = number_at(s->buffer + 4);
+    s->y0 = number_at(s->buffer + 8);
+    s->l0 = number_at(s->buffer + 12);
+    s->mx = s->buffer[16];
+    s->options = s->buffer[19];
+    s->bpl = t85_row_bytes((uint32_t)s->x0);
+}
+
+/* Takes the height in use from libt85. A lower one is the last. */
+static void take_height(struct jbg85_dec_state *s)
+{
+    unsigned long height = t85_decode_height(decoder_of(s));
+    if (s->bie_len < sizeof s->buffer || height == 0 || height == s->y0)
+        return;
+    s->y0 = height;
+    s->options &= ~JBG_VLENGTH;
+}
+
+/* What libjbig returns of a header with this fault, or of a stream behind its header. */
+static int code_of(const struct jbg85_dec_state *s, int status)
+{
+    const unsigned char *header = s->buffer;
+    switch (status) {
+    case T85_OK: return JBG_EOK;
+    case T85_MORE:
+    case T85_SHORT_HEADER:
+    case T85_TRUNCATED: return JBG_EAGAIN;
+    case T85_SHORT_WINDOW: return JBG_ENOMEM;
+    case T85_ABORTED: return JBG_EABORT;
+    case T85_BAD_ESCAPE: return JBG_EMARKER;
+    case T85_RESERVED_BITS: return JBG_EINVAL | (header[3] ? 2 : header[18] & 0xf0 ? 3 : 4);
+    case T85_LAYERS:
+        return header[1] < header[0] ? JBG_EINVAL | 1 : JBG_EIMPL | (header[0] ? 8 : 9);
+    case T85_PLANES: return header[2] ? JBG_EIMPL | 10 : JBG_EINVAL | 5;
+    case T85_ZERO_SIZE: return JBG_EINVAL | (!s->x0 ? 6 : !s->y0 ? 7 : 8);
+    case T85_MOVE_RANGE: return JBG_EINVAL | 9;
+    case T85_TOO_WIDE: return JBG_EIMPL;
+    case T85_PRIVATE_TABLE: return JBG_EIMPL | 13;
+    case T85_MOVE_REFUSED: return JBG_EINVAL | 11;
+    case T85_SECOND_MOVE: return JBG_EIMPL | 14;
+    case T85_LENGTH_REFUSED: return JBG_EINVAL | (header[19] & JBG_VLENGTH ? 12 : 13);
+    case T85_SECOND_LENGTH: return JBG_EINVAL | 13;
+    default: return JBG_EINVAL;
+    }
+}
+
+/* How many bytes of `rest` are those of a height behind the last stripe. libt85 has seen it, and has taken but those of its
+   bytes that came in pieces before. */
+static size_t late_height(const struct jbg85_dec_state *s, const unsigned char *rest, size_t len)
+{
+    const unsigned char segment[6] = {MARKER_ESC,
+                                      MARKER_NEWLEN,
+                                      (unsigned char)(s->y0 >> 24),
+                                      (unsigned char)(s->y0 >> 16),
+                                      (unsigned char)(s->y0 >> 8),
+                                      (unsigned char)s->y0};
+    size_t before, more;
+    if (!(s->buffer[19] & JBG_VLENGTH))
+        return 0;
+    for (before = 0; before < sizeof segment; before++) {
+        more = sizeof segment - before;
+        if (len >= more && !memcmp(s->last + sizeof s->last - before, segment, before) &&
+            !memcmp(rest, segment + before, more))
+            return more;
+    }
+    return 0;
+}
+
+/* Takes the empty data entity behind such a height, where it comes, so that all bytes of the stream are taken. */
+static int take_empty(struct jbg85_dec_state *s, const unsigned char *data, size_t len,
+                      size_t *cnt)
+{
+    while (s->ending < 3 && *cnt < len) {
+        unsigned char byte = data[*cnt];
+        if (s->ending == 1 ? byte != MARKER_ESC : byte != MARKER_SDNORM && byte != MARKER_SDRST) {
+            s->ending = 3;
+            break;
+        }
+        s->ending++;
+        ++*cnt;
+    }
+    return s->ending < 3 && !s->end_of_bie ? JBG_EAGAIN : JBG_EOK;
+}
+
+int jbg85_dec_in(struct jbg85_dec_state *s, unsigned char *data, size_t len, size_t *cnt)
+{
+    size_t none, row, more;
+    int status;
+    if (!cnt)
+        cnt = &none;
+    *cnt = 0;
+    if (s->end_of_bie)
+        len = 0;
+    for (s->intr = 0; s->ending == 0;) {
+        /* How long the window has to be is known once the header is. */
+        unsigned char *window = s->bie_len == sizeof s->buffer ? s->linebuf : NULL;
+        unsigned char *rest = *cnt < len ? data + *cnt : NULL;
+        size_t window_len = window ? s->linebuf_len : 0, taken = 0;
+        if (s->end_of_bie)
+            status = t85_decode_end(decoder_of(s), window, window_len, &row);
+        else
+            status = t85_decode_bytes(decoder_of(s), rest, len - *cnt, window, window_len, &taken,
+                                      &row);
+        keep(s, rest, taken);
+        *cnt += taken;
+        rest = *cnt < len ? data + *cnt : NULL;
+        take_height(s);
+        if (status == T85_ROW) {
+            s->intr = s->line_out(s, window + row, s->bpl, s->y, s->file);
+            s->y++;
+            if (s->intr)
+                return JBG_EOK_INTR;
+        } else if (status == T85_OK && (more = late_height(s, rest, len - *cnt)) > 0) {
+            *cnt += more;
+            s->ending = 1;
+        } else if (status != T85_HEADER_READ) {
+            return code_of(s, status);
+        }
+    }
+    return take_empty(s, data, len, cnt);
+}
+
+int jbg85_dec_end(struct jbg85_dec_state *s)
+{
+    s->end_of_bie = 1;
+    return jbg85_dec_in(s, NULL, 0, NULL);
+}
+
+const char *jbg85_strerror(int errnum)
+{
+    static const char *const texts[] = {
+        "the image is whole",
+        "interrupted behind a row, as was asked for",
+        "the stream ends too early",
+        "the buffer is too short for three rows of the image",
+        "the image was aborted by its sender",
+        "unexpected escape code in the stream",
+        "the stream breaks the rules of T.85",
+        "the stream has what is not supported",
+    };
+    unsigned number = (unsigned)errnum >> 4;
+    return number < sizeof texts / sizeof *texts ? texts[number] : "no such return code";
+}
