@@ -112,12 +112,12 @@ static void put_row(unsigned char *window, uint32_t width, unsigned long place,
     to[len - 1] &= (unsigned char)(0xff << (len * 8 - width));
 }
 
-/* Makes the window as the row before left it, of so many rows. The first of them is at the last of the three places, and
-   each other one a place before the one above it, or at the last place where that is at the first. */
+/* Makes the window as it was left when so many rows had come: the last of them, row n counted from 1, is at place 2 n % 3,
+   and the one above it at the next place in a ring. The third place is written by libt85. */
 static void put_rows(unsigned char *window, uint32_t width, unsigned long rows,
                      const unsigned char *above, const unsigned char *second)
 {
-    unsigned long place = (3 - rows % 3) % 3;
+    unsigned long place = 2 * (rows % 3) % 3;
     put_row(window, width, place, rows > 0 ? above : NULL);
     put_row(window, width, (place + 1) % 3, rows > 1 ? second : NULL);
 }
