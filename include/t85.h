@@ -360,6 +360,11 @@ uint8_t t85_encode_start(t85_encoder *encoder, size_t size, uint32_t width, uint
 /* Takes the next row, whose first t85_row_bytes(width) bytes are read, and writes what of the stream is
    certain with it, which may be nothing.
 
+   Row n, counted from 1, is at place 2 * n % 3 of the window then, each of the three places having
+   t85_row_bytes(width) bytes, with the bits after its last pixel 0. Nothing of the window is read but
+   the two rows above the one that comes, at their places; above the first row, and with `reset` above
+   each stripe, they are white. So who has these rows may make the window anew for each call.
+
    0: the row was taken, and *written bytes of `stream` are the next of the stream.
    Others, with nothing written or changed, *written being 0, by the first that applies: 53; 54; 55;
    19; T85_NO_ROOM, where the room is less than t85_encode_room tells. */
