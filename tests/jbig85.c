@@ -3,7 +3,8 @@
      jbig85 write FILE SEED COUNT [PAGE.pbm ..]          the streams of the pages, with some sets of options, and of COUNT random
                                                          images, each behind its length
      jbig85 read FILE SEED COUNT [PAGE.pbm ..]           whether such streams are those of these images: as a whole, by single
-                                                         bytes and in pieces of any length, and with interrupts
+                                                         bytes and in pieces of any length, with interrupts, and with others
+                                                         behind them
      jbig85 same OURS THEIRS SEED COUNT [PAGE.pbm ..]    whether streams differ in nothing but what README.md of bindings/jbig85
                                                          tells
      jbig85 broken SEED COUNT                            streams that are cut, turned and made up
@@ -266,7 +267,14 @@ static int decode(reading *now, const text *stream, size_t piece, byte *lines, s
     return result;
 }
 
-static void read_back(const image *of, const text *stream, size_t piece, unsigned long one_in)
+/* Whether the stream of an image has an end of its own: none has one whose height may still come. */
+static int has_end(const image *of)
+{
+    return !(of->options & JBG_VLENGTH) || (of->known != NEVER && of->known != 0);
+}
+
+/* Whether a stream is that of an image, with `behind` bytes behind it that are of another. */
+static void read_back(const image *of, const text *stream, size_t behind, size_t piece, unsigned long one_in)
 {
     struct jbg85_dec_state s;
     reading now = {of, &s, 0, one_in};
@@ -274,9 +282,8 @@ static void read_back(const image *of, const text *stream, size_t piece, unsigne
     size_t taken;
     int was_ended;
     CHECK(decode(&now, stream, piece, lines, 3 * of->row, &taken, &was_ended) == JBG_EOK);
-    CHECK(taken == stream->len);
-    /* A stream whose height may still come has no end of its own. */
-    CHECK(!was_ended || one_in || (of->options & JBG_VLENGTH && (of->known == NEVER || of->known == 0)));
+    CHECK(taken == stream->len - behind);
+    CHECK(!was_ended || one_in || !has_end(of));
     CHECK(now.rows == of->height);
     CHECK(jbg85_dec_getwidth(&s) == of->width && jbg85_dec_getheight(&s) == of->height);
     CHECK(jbg85_dec_finished(&s));
@@ -576,11 +583,17 @@ int main(int count, char **words)
             free(stream.bytes);
         } else if (is_read) {
             text stream = next_stream(file);
-            read_back(&of, &stream, stream.len, 0);
-            read_back(&of, &stream, 1, 0);
-            read_back(&of, &stream, 0, 0);
-            read_back(&of, &stream, 0, 7);
-            read_back(&of, &stream, stream.len, 1);
+            read_back(&of, &stream, 0, stream.len, 0);
+            read_back(&of, &stream, 0, 1, 0);
+            read_back(&of, &stream, 0, 0, 0);
+            read_back(&of, &stream, 0, 0, 7);
+            read_back(&of, &stream, 0, stream.len, 1);
+            if (has_end(&of)) {
+                add(&stream, (const byte *)"\0\0\1\0\0", 5);
+                read_back(&of, &stream, 5, stream.len, 0);
+                read_back(&of, &stream, 5, 1, 0);
+                read_back(&of, &stream, 5, 0, 0);
+            }
             free(stream.bytes);
         } else if (is_same) {
             text ours = next_stream(file), theirs = next_stream(other);
