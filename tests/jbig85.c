@@ -9,6 +9,7 @@
                                                          tells
      jbig85 broken SEED COUNT                            streams that are cut, turned and made up
      jbig85 odd                                          what no program should do
+     jbig85 differs ours|theirs                          what README.md of bindings/jbig85 tells of both
    A page is a raw PBM whose header has no comment. Buffers have no byte more than they may have, so that a sanitizer sees what
    is read or written beyond. */
 #include <jbig85.h>
@@ -215,6 +216,7 @@ typedef struct {
     const image *of; /* or NULL */
     struct jbg85_dec_state *s;
     unsigned long rows, one_in; /* how often an interrupt is wanted, 0 for never */
+    unsigned long height;
 } reading;
 
 static int line_out(const struct jbg85_dec_state *s, byte *start, size_t len, unsigned long y, void *file)
@@ -277,7 +279,7 @@ static int has_end(const image *of)
 static void read_back(const image *of, const text *stream, size_t behind, size_t piece, unsigned long one_in)
 {
     struct jbg85_dec_state s;
-    reading now = {of, &s, 0, one_in};
+    reading now = {of, &s, 0, one_in, 0};
     byte *lines = room(3 * of->row);
     size_t taken;
     int was_ended;
@@ -390,7 +392,7 @@ static void compare(const image *of, const text *ours, const text *theirs)
 static int decode_any(const text *stream, const image *of, byte *lines, size_t lines_len)
 {
     struct jbg85_dec_state s;
-    reading now = {of, &s, 0, roll(3) ? 0 : 1 + roll(5)};
+    reading now = {of, &s, 0, roll(3) ? 0 : 1 + roll(5), 0};
     size_t taken, cnt;
     int was_ended, result = decode(&now, stream, roll(3) ? 0 : 1 + roll(stream->len + 1), lines, lines_len, &taken, &was_ended);
     unsigned long rows = now.rows;
@@ -490,7 +492,7 @@ static void abort_after(const image *of, unsigned long rows)
 {
     struct jbg85_enc_state s;
     struct jbg85_dec_state d;
-    reading now = {of, &d, 0, 0};
+    reading now = {of, &d, 0, 0, 0};
     text stream = {NULL, 0};
     byte *lines = room(3 * of->row);
     unsigned long y;
@@ -538,6 +540,106 @@ static void odd(void)
     }
 }
 
+/* What differs */
+
+static int is_ours;
+
+/* What is answered to a stream and its end, but for the four lowest bits. */
+static int answer(const text *stream, size_t lines_len, reading *now)
+{
+    struct jbg85_dec_state s;
+    byte *lines = room(lines_len);
+    size_t taken;
+    int was_ended, result;
+    now->s = &s;
+    result = decode(now, stream, stream->len, lines, lines_len, &taken, &was_ended) & ~0xf;
+    now->height = s.y0;
+    free(lines);
+    return result;
+}
+
+/* The stream of the image with a byte of its header changed by bits, and other bytes behind byte `at`. */
+static void told(const image *of, int options, size_t changed, byte bits, size_t at, const char *more, size_t more_len,
+                 int ours, int theirs)
+{
+    image asked = *of;
+    text whole, stream = {NULL, 0};
+    reading now = {NULL, NULL, 0, 0, 0};
+    asked.options = options;
+    asked.announced += options & JBG_VLENGTH ? 10 : 0;
+    asked.known = options & JBG_VLENGTH ? of->height : NEVER;
+    whole = encode(&asked);
+    whole.bytes[changed] |= bits;
+    /* Behind all that is before the new height. */
+    if (at > whole.len)
+        at = whole.len - 8;
+    add(&stream, whole.bytes, at);
+    add(&stream, (const byte *)more, more_len);
+    if (at <= 20)
+        add(&stream, whole.bytes + at, whole.len - at);
+    CHECK(answer(&stream, 3 * of->row, &now) == (is_ours ? ours : theirs));
+    /* A height that leaves out stripes. */
+    if (at > 20 && more_len == 8)
+        CHECK(now.height == (is_ours ? asked.announced : 5));
+    free(whole.bytes);
+    free(stream.bytes);
+}
+
+static void differs(void)
+{
+    image of = random_image();
+    struct jbg85_enc_state s;
+    text stream = {NULL, 0};
+    reading now = {NULL, NULL, 0, 0, 0};
+    byte line[8];
+    size_t all = (size_t)-1;
+    drop(&of);
+    memset(&of, 0, sizeof of);
+    of.width = 61;
+    of.height = 40;
+    of.l0 = 10;
+    of.mx = 8;
+    of.announced = 40;
+    of.known = NEVER;
+    draw(&of);
+    told(&of, 8, 0, 0, 20, "", 0, JBG_EOK, JBG_EOK);
+    told(&of, 8, 17, 1, 20, "", 0, JBG_EOK, JBG_EIMPL);
+    told(&of, 8, 19, 0x14, 20, "", 0, JBG_EOK, JBG_EIMPL);
+    told(&of, 8, 4, 0x10, 20, "", 0, JBG_EIMPL, JBG_ENOMEM);
+    told(&of, 8, 0, 0, 20, "\377\6\0\0\0\0\1\0", 8, JBG_EOK, JBG_EINVAL);
+    told(&of, 8, 0, 0, 20, "\377\6\0\0\0\12\5\0", 8, JBG_EINVAL, JBG_EOK);
+    told(&of, 8, 0, 0, 20, "\377\6\0\0\0\0\11\0", 8, JBG_EINVAL, JBG_EINVAL);
+    told(&of, 8, 0, 0, 20, "\377\5\0\0\0\24", 6, JBG_EINVAL, JBG_EINVAL);
+    told(&of, 40, 0, 0, 20, "\377\5\0\0\0\0", 6, JBG_EINVAL, JBG_EINVAL);
+    told(&of, 8, 0, 0, 20, "\377\11", 2, JBG_EMARKER, JBG_EMARKER);
+    told(&of, 8, 0, 0, 20, "\377\4", 2, JBG_EABORT, JBG_EABORT);
+    told(&of, 40, 0, 0, all, "\377\5\0\0\0\50", 6, JBG_EOK, JBG_EAGAIN);
+    told(&of, 40, 0, 0, all, "\377\5\0\0\0\5\377\2", 8, JBG_EINVAL, JBG_EOK);
+    of.options = JBG_VLENGTH;
+    stream = encode(&of);
+    add(&stream, (const byte *)"\377\5\0\0\0\5\377\2", 8);
+    CHECK(answer(&stream, 3 * of.row, &now) == JBG_EOK && now.height == (is_ours ? 40 : 5));
+    free(stream.bytes);
+    now.rows = 0;
+    of.options = JBG_LRLTWO;
+    stream = encode(&of);
+    CHECK(answer(&stream, 2 * of.row, &now) == (is_ours ? JBG_ENOMEM : JBG_EOK));
+    /* The row is left as it is, and a comment is taken at the front alone. */
+    memset(line, 0xff, sizeof line);
+    free(stream.bytes);
+    memset(&stream, 0, sizeof stream);
+    jbg85_enc_init(&s, of.width, 4, put, &stream);
+    jbg85_enc_options(&s, JBG_TPBON, 1, 0);
+    jbg85_enc_lineout(&s, line, NULL, NULL);
+    CHECK(line[7] == (is_ours ? 0xff : 0xf8));
+    s.comment = line;
+    s.comment_len = 3;
+    jbg85_enc_lineout(&s, line, line, NULL);
+    CHECK(is_ours ? s.comment == line : !s.comment);
+    free(stream.bytes);
+    drop(&of);
+}
+
 static image any_image(unsigned long seed, int pages, char **names)
 {
     /* What an image is hangs on its number alone. */
@@ -562,6 +664,11 @@ int main(int count, char **words)
     if (!strcmp(about, "odd")) {
         odd();
         puts("what no program should do: done");
+        return 0;
+    }
+    if (count == 3 && !strcmp(about, "differs")) {
+        is_ours = !strcmp(words[2], "ours");
+        differs();
         return 0;
     }
     first = is_same ? 4 : is_write || is_read ? 3 : 2;
