@@ -3,12 +3,15 @@
     T85_LIBRARY=bin/libt85.so.1 python3 -m unittest discover bindings/python
 """
 import asyncio
+import io
+import itertools
 import mmap
 import os
 import pickle
 import random
 import subprocess
 import sys
+import tempfile
 import textwrap
 import threading
 import tracemalloc
@@ -30,6 +33,14 @@ def head(width, height, stripe_rows, most_offset, options):
     """H(..) of docs/EXAMPLES.md."""
     numbers = b"".join(number.to_bytes(4, "big") for number in (width, height, stripe_rows))
     return bytes([0, 0, 1, 0]) + numbers + bytes([most_offset, 0, 0, options])
+
+
+def of_page(line):
+    """The lines of an example in docs/PYTHON.md that begins so."""
+    with open(os.path.join(HERE, "../../docs/PYTHON.md"), encoding="utf-8") as page:
+        text = page.read()
+    begin = text.index(line)
+    return textwrap.dedent(text[begin : text.index("\n\n", begin)])
 
 
 PBM, STREAM = example("letter.pbm"), example("letter.jbg")
@@ -90,12 +101,8 @@ class Pieces(unittest.TestCase):
 
     def test_asyncio(self):
         # The example of docs/PYTHON.md.
-        with open(os.path.join(HERE, "../../docs/PYTHON.md"), encoding="utf-8") as page:
-            text = page.read()
-        begin = text.index("    async def show_page")
-        example = textwrap.dedent(text[begin : text.index("\n\n", begin)])
         names = {"t85": t85}
-        exec(example, names)
+        exec(of_page("    async def show_page"), names)
 
         async def pour():
             reader, shown = asyncio.StreamReader(), []
@@ -118,6 +125,358 @@ class Pieces(unittest.TestCase):
         with self.assertRaises(t85.BrokenPart) as raised:
             list(t85.parts(stream[:28]))
         self.assertEqual((raised.exception.number, raised.exception.offset, raised.exception.stripe), (9, 23, 1))
+
+
+# Streams that docs/EXAMPLES.md has worked by hand: the rows, the width, the options, and the stream.
+WORKED = {
+    20: ([b"\xff"], 8, dict(typical=False), head(8, 1, 128, 0, 0) + b"\xf0\xff\x02"),
+    39: ([b"\0"], 8, dict(typical=False), head(8, 1, 128, 0, 0) + b"\x60\xff\x02"),
+    40: ([b"\0"] * 3, 8, {}, head(8, 3, 128, 0, 8) + b"\xff\x02"),
+    41: ([b"\x80"] * 2, 1, dict(stripe_rows=1), head(1, 2, 1, 0, 8) + b"\xe0\xff\x02" * 2),
+    42: ([b"\x80"] * 2, 1, dict(stripe_rows=1, reset=True), head(1, 2, 1, 0, 8) + b"\xe0\xff\x03" * 2),
+    43: (
+        [b"\xff"] * 2,
+        8,
+        dict(typical=False, stripe_rows=1, most_offset=3),
+        head(8, 2, 1, 3, 0) + b"\xf0\xff\x02\xff\x06\0\0\0\0\x03\0\xf8\xff\x02",
+    ),
+    44: ([b"\0"], 8, dict(comment=b"hi"), head(8, 1, 128, 0, 8) + b"\xff\x07\0\0\0\x02hi\xff\x02"),
+}
+# The same with a height that is announced: where it comes late, and where it is the image's.
+LATE = [
+    (
+        [b"\x80"],
+        dict(typical=False, announced_height=5),
+        head(1, 5, 128, 0, 0x20) + b"\xc0\xff\x02\xff\x05\0\0\0\x01\xff\x02",
+    ),
+    ([b"\x80"], dict(typical=False, announced_height=1), head(1, 1, 128, 0, 0x20) + b"\xc0\xff\x02"),
+    (
+        [b"\x80"] * 2,
+        dict(typical=False, stripe_rows=1, announced_height=9),
+        head(1, 9, 1, 0, 0x20) + b"\xc0\xff\x02" * 2 + b"\xff\x05\0\0\0\x02\xff\x02",
+    ),
+]
+
+
+def row_by_row(rows, width, height, **names):
+    """The pieces of the stream of rows that are given one by one."""
+    encoder = t85.Encoder(width, height, **names)
+    return [*map(encoder.row, rows), encoder.end()]
+
+
+class RowByRow(unittest.TestCase):
+    def refused(self, number, call, *words):
+        with self.assertRaises(t85.Error) as caught:
+            call(*words)
+        self.assertEqual((caught.exception.number, caught.exception.partial), (number, b""))
+
+    def test_worked(self):
+        for number, (rows, width, names, stream) in WORKED.items():
+            with self.subTest(number=number):
+                self.assertEqual(b"".join(row_by_row(rows, width, len(rows), **names)), stream)
+        for rows, names, stream in LATE:
+            with self.subTest(**names):
+                # The height is the most rows that may come.
+                for most in range(len(rows), names["announced_height"] + 1):
+                    self.assertEqual(b"".join(row_by_row(rows, 1, most, **names)), stream)
+
+    def test_page(self):
+        rows = [ROWS[at : at + 52] for at in range(0, len(ROWS), 52)]
+        self.assertEqual(b"".join(row_by_row(rows, 416, 160, most_offset=127)), STREAM)
+        with t85.Encoder(416, 200, announced_height=200, stripe_rows=20, comment=bytearray(b"said")) as encoder:
+            pieces = []
+            for count, row in enumerate(rows):
+                self.assertEqual((encoder.rows_left, encoder.is_done), (200 - count, False))
+                pieces.append(encoder.row(memoryview(bytearray(row + b"more"))))
+            self.assertTrue(pieces[0].startswith(head(416, 200, 20, 0, 0x28) + b"\xff\x07\0\0\0\x04said"))
+            pieces.append(encoder.end())
+            self.assertEqual((encoder.rows_left, encoder.is_done), (0, True))
+        whole = t85.encode(ROWS, 416, 160, announced_height=200, stripe_rows=20, comment=b"said")
+        self.assertEqual(b"".join(pieces), whole)
+
+    def test_as_whole(self):
+        noise = random.Random(2)
+        for width, height, stripe_rows in ((1, 40, 1), (9, 33, 4), (300, 20, 7), (5000, 6, 128)):
+            length = (width + 7) // 8
+            rows = [noise.randbytes(length) if noise.random() < 0.7 else bytes(length) for _ in range(height)]
+            for two_lines, typical, reset in itertools.product((False, True), repeat=3):
+                names = dict(two_lines=two_lines, typical=typical, reset=reset, stripe_rows=stripe_rows, most_offset=127)
+                with self.subTest(width=width, **names):
+                    whole = t85.encode(b"".join(rows), width, height, **names)
+                    self.assertEqual(b"".join(row_by_row(rows, width, height, **names)), whole)
+
+    def test_two_at_once(self):
+        encoders = [t85.Encoder(416, 160, most_offset=127) for _ in range(2)]
+        found = [b"", b""]
+        for at in range(0, len(ROWS), 52):
+            for number, encoder in enumerate(encoders):
+                found[number] += encoder.row(ROWS[at : at + 52])
+        self.assertEqual([part + encoder.end() for part, encoder in zip(found, encoders)], [STREAM] * 2)
+
+    def test_misused(self):
+        encoder = t85.Encoder(9, 2)
+        self.refused(36, encoder.end)
+        first = encoder.row(b"\xa5\0")
+        for short in (b"", b"\xff"):
+            self.refused(55, encoder.row, short)
+        self.refused(36, encoder.end)
+        self.assertFalse(encoder.is_done)
+        found = first + encoder.row(b"\x5a\x80")
+        self.refused(54, encoder.row, b"\0\0")
+        # What is refused changes nothing.
+        self.assertEqual(found + encoder.end(), t85.encode(b"\xa5\0\x5a\x80", 9, 2))
+        self.refused(54, encoder.end)
+        self.refused(54, encoder.row, b"\0\0")
+        self.assertTrue(encoder.is_done)
+        late = t85.Encoder(9, 2, announced_height=2)
+        self.refused(36, late.end)
+        with late:
+            pass
+        self.refused(19, late.row, b"\0\0")
+
+    def test_refused(self):
+        numbers = {
+            33: dict(width=0), 34: dict(width=(1 << 20) + 1), 21: dict(stripe_rows=0), 22: dict(most_offset=128),
+            23: dict(announced_height=159),
+        }
+        for number, changed in numbers.items():
+            with self.subTest(number=number):
+                self.refused(number, lambda: t85.Encoder(**{**dict(width=416, height=160), **changed}))
+        self.refused(33, t85.Encoder, 416, 0)
+        for words, names in (((-1, 1), {}), ((1, 1 << 32), {}), ((1, 1), dict(stripe_rows=-1))):
+            with self.assertRaises(OverflowError):
+                t85.Encoder(*words, **names)
+        for wrong in ("text", 7, None):
+            with self.assertRaises(TypeError):
+                t85.Encoder(8, 1).row(wrong)
+
+    def test_given_back(self):
+        row, said = bytearray(52), bytearray(b"said")
+        encoder = t85.Encoder(416, 2, comment=said)
+        encoder.row(row)
+        row.append(0)
+        said.append(0)
+
+    def test_scanner(self):
+        # The example of docs/PYTHON.md.
+        names = {"t85": t85}
+        exec(of_page("    def scan("), names)
+        sent = io.BytesIO()
+        lines = (ROWS[at : at + 52] for at in range(0, len(ROWS), 52))
+        self.assertEqual(names["scan"](lines, 416, sent.write), 160)
+        self.assertEqual(sent.getvalue(), t85.encode(ROWS, 416, 160, announced_height=20000, most_offset=127))
+
+
+class Dribble(io.RawIOBase):
+    """A file that gives, or takes, a few bytes at a time, and can't be set back."""
+
+    def __init__(self, data=b"", step=7):
+        self.data, self.step, self.taken = data, step, b""
+
+    def read(self, size=-1):
+        part, self.data = self.data[: min(size, self.step)], self.data[min(size, self.step) :]
+        return part
+
+    def write(self, data):
+        self.taken += data[: self.step]
+        return len(data[: self.step])
+
+
+# Encodes or decodes standard input to standard output, and says how much memory that took beside Python and the module.
+POURED = """
+import resource, sys, t85
+
+before = resource.getrusage(resource.RUSAGE_SELF).ru_maxrss
+call = getattr(t85, sys.argv[1])
+call(sys.stdin.buffer, sys.stdout.buffer, **eval(sys.argv[2]))
+print(resource.getrusage(resource.RUSAGE_SELF).ru_maxrss - before, file=sys.stderr)
+"""
+
+
+class FromFileToFile(unittest.TestCase):
+    def setUp(self):
+        folder = tempfile.TemporaryDirectory()
+        self.addCleanup(folder.cleanup)
+        self.folder = folder.name
+
+    def path(self, name, data=None):
+        path = os.path.join(self.folder, name)
+        if data is not None:
+            with open(path, "wb") as file:
+                file.write(data)
+        return path
+
+    def encoded(self, image, **names):
+        """The stream of an image by each way that it may come and go."""
+        stream = io.BytesIO()
+        count = t85.encode_file(io.BytesIO(image), stream, **names)
+        self.assertEqual(count, len(stream.getvalue()))
+        output = Dribble()
+        self.assertEqual(t85.encode_file(Dribble(image), output, **names), count)
+        name = self.path("to")
+        self.assertEqual(t85.encode_file(self.path("from", image), name, **names), count)
+        with open(name, "rb") as file:
+            self.assertEqual([file.read(), output.taken], [stream.getvalue()] * 2)
+        return stream.getvalue()
+
+    def decoded(self, stream, **names):
+        """The image of a stream in the same ways, and what is behind the place where a file object stands."""
+        image = io.BytesIO()
+        source = io.BytesIO(b"before" + stream)
+        source.seek(6)
+        height = t85.decode_file(source, image, **names)
+        output = Dribble()
+        self.assertEqual(t85.decode_file(Dribble(stream), output, **names), height)
+        name = self.path("to")
+        self.assertEqual(t85.decode_file(self.path("from", stream), name, **names), height)
+        with open(name, "rb") as file:
+            self.assertEqual([file.read(), output.taken], [image.getvalue()] * 2)
+        self.assertEqual(os.listdir(self.folder).count("to"), 1)
+        return image.getvalue(), height
+
+    def fault(self, call, source, **names):
+        """The fault of a call, and what a file object has then. A file with a name is not there."""
+        target, name = io.BytesIO(), self.path("broken")
+        with self.assertRaises(t85.Error) as caught:
+            call(io.BytesIO(source), target, **names)
+        for place, path in ((Dribble(source), Dribble()), (self.path("from", source), name)):
+            with self.assertRaises(t85.Error) as again:
+                call(place, path, **names)
+            self.assertEqual(again.exception.number, caught.exception.number)
+        self.assertEqual([entry for entry in os.listdir(self.folder) if "broken" in entry], [])
+        return caught.exception, target.getvalue()
+
+    def test_page(self):
+        self.assertEqual(self.encoded(PBM, most_offset=127), STREAM)
+        self.assertEqual(self.decoded(STREAM), (PBM, 160))
+
+    def test_worked(self):
+        # Numbers of docs/EXAMPLES.md, and streams before others.
+        for number, (rows, width, names, stream) in WORKED.items():
+            with self.subTest(number=number):
+                image = b"P4\n%d %d\n" % (width, len(rows)) + b"".join(rows)
+                self.assertEqual(self.encoded(image, **names), stream)
+                self.assertEqual(self.decoded(stream + b"more"), (image, len(rows)))
+        for rows, names, stream in LATE:
+            image = b"P4\n1 %d\n" % len(rows) + b"".join(rows)
+            self.assertEqual(self.encoded(image, **names), stream)
+            self.assertEqual(self.decoded(stream + b"more"), (image, len(rows)))
+        # Rows beyond a late height were given before it: 5 of docs/EXAMPLES.md has one of five.
+        stream = head(1, 5, 128, 0, 0x20) + b"\xc0\xff\x02\xff\x05\0\0\0\x01\xff\x02"
+        self.assertEqual(self.decoded(stream), (b"P4\n1 1\n\x80", 1))
+
+    def test_plain(self):
+        # Numbers of docs/EXAMPLES.md, and headers of docs/PBM.md.
+        images = {
+            b"P1 1 1 1": head(1, 1, 128, 0, 0) + b"\xc0\xff\x02",
+            b"P1\n3 2\n1 1 1\n111\n": head(3, 2, 128, 0, 0) + b"\xfe\xff\x02",
+            b"P4 008 01#c\n\xff": head(8, 1, 128, 0, 0) + b"\xf0\xff\x02",
+            b"P4#" + b"a" * 9000 + b"\n 8#" + b"b" * 9000 + b"\r" + b" " * 99999 + b"1\n\xff": head(8, 1, 128, 0, 0) + b"\xf0\xff\x02",
+        }
+        for image, stream in images.items():
+            with self.subTest(image=image[:30]):
+                self.assertEqual(self.encoded(image, typical=False), stream)
+        width, noise = 1001, random.Random(4)
+        digits = "".join(noise.choice("01") for _ in range(width * 90))
+        plain = "".join(digit + noise.choice(["", "", " ", "\n", "\r\n"]) for digit in digits)
+        rows = [int(digits[at : at + width] + "0" * 7, 2).to_bytes(126, "big") for at in range(0, len(digits), width)]
+        self.assertEqual(self.encoded(b"P1 1001 90\n" + plain.encode()), t85.encode(b"".join(rows), width, 90))
+
+    def test_no_image(self):
+        for image in (b"", b"P", b"P4", b"P5 8 1 \xff", b"P4 x", b"P4\n8 1", b"P4 8 1x\xff", b"P4 8 " + b"0" * 200000):
+            with self.subTest(image=image[:9]):
+                error, written = self.fault(t85.encode_file, image)
+                self.assertEqual((error.number, written), (31, b""))
+        error, written = self.fault(t85.encode_file, b"P1\n8 2\n11111111 0 2 000000", typical=False, stripe_rows=1)
+        self.assertEqual((error.number, written), (38, head(8, 2, 1, 0, 0) + b"\xf0\xff\x02"))
+        for image, number in ((b"P4 0 1\n", 33), (b"P4 1 0\n", 33), (b"P4 1048577 1\n", 34)):
+            self.assertEqual(self.fault(t85.encode_file, image)[0].number, number)
+        with self.assertRaises(OverflowError):
+            t85.encode_file(io.BytesIO(b"P4 1 4294967296 "), io.BytesIO())
+
+    def test_missing_rows(self):
+        whole = t85.encode(ROWS, 416, 160, stripe_rows=20)
+        for names in ({}, dict(announced_height=160), dict(announced_height=200)):
+            error, written = self.fault(t85.encode_file, PBM[:-1], stripe_rows=20, **names)
+            self.assertEqual((error.number, error.partial), (36, b""))
+            if not names:
+                self.assertTrue(whole.startswith(written))
+                self.assertEqual([part.kind for part in itertools.islice(t85.parts(written), 8)], ["header", *["data entity"] * 7])
+
+    def test_late_height(self):
+        for height, names in ((1 << 20, {}), (160, {}), (161, dict(stripe_rows=160)), (1 << 31, dict(stripe_rows=1))):
+            with self.subTest(height=height, **names):
+                stream = t85.encode(ROWS, 416, 160, announced_height=height, **names)
+                self.assertEqual(self.decoded(stream), (PBM, 160))
+
+    def test_broken(self):
+        late = t85.encode(ROWS, 416, 160, announced_height=200, stripe_rows=20)
+        for stream in (STREAM[:500], STREAM[:20], STREAM[:-1], late[:500], late[:20], STREAM[:400] + b"\xff\x04", STREAM[:19]):
+            with self.subTest(length=len(stream)):
+                with self.assertRaises(t85.Error) as caught:
+                    t85.decode(stream)
+                error, written = self.fault(t85.decode_file, stream)
+                self.assertEqual((error.number, written), (caught.exception.number, caught.exception.partial))
+                if len(stream) > 19:
+                    self.assertEqual(error.partial.count * 52 + len(b"P4\n416 160\n"), len(written))
+
+    def test_limits(self):
+        late = t85.encode(ROWS, 416, 160, announced_height=1 << 31)
+        for stream in (STREAM, late):
+            self.assertEqual(self.decoded(stream, max_bytes=len(ROWS)), (PBM, 160))
+            for most in (0, 1, len(ROWS) - 1):
+                error, written = self.fault(t85.decode_file, stream, max_bytes=most)
+                self.assertEqual((error.number, written), (18, b""))
+                self.assertIn(f"max_bytes is {most}: give a greater max_bytes", str(error))
+        error, written = self.fault(t85.decode_file, STREAM, max_rows=159)
+        self.assertEqual((error.number, written), (24, b""))
+        self.assertEqual(self.decoded(STREAM, max_rows=160, max_bytes=None), (PBM, 160))
+        with self.assertRaises(OverflowError):
+            t85.decode_file(io.BytesIO(STREAM), io.BytesIO(), max_rows=-1)
+
+    def test_names(self):
+        # A file that is there stays as it is until the other is whole; what is no regular file is written in its place.
+        name = self.path("there", b"kept")
+        with self.assertRaises(t85.Error):
+            t85.decode_file(self.path("from", STREAM[:500]), name)
+        with open(name, "rb") as file:
+            self.assertEqual(file.read(), b"kept")
+        t85.encode_file(self.path("from", PBM), self.path("from"), most_offset=127)
+        with open(self.path("from"), "rb") as file:
+            self.assertEqual(file.read(), STREAM)
+        self.assertEqual(sorted(os.listdir(self.folder)), ["from", "there"])
+        t85.decode_file(self.path("from"), os.devnull)
+        with self.assertRaises(FileNotFoundError):
+            t85.decode_file(self.path("none"), self.path("to"))
+
+    def poured(self, call, source, **names):
+        """What a process writes that has this on standard input, by a pipe, and the kilobytes that it took."""
+        environment = {**os.environ, "PYTHONPATH": HERE}
+        command = [sys.executable, "-c", POURED, call, repr(names)]
+        ran = subprocess.run(command, env=environment, input=source, capture_output=True, timeout=300)
+        self.assertEqual(ran.returncode, 0, ran.stderr)
+        return ran.stdout, int(ran.stderr)
+
+    # 54 MB of rows, by pipes, with a height in time and a late one.
+    MANY = 1 << 18
+    HEIGHTS = ({}, dict(announced_height=1 << 19))
+
+    def many_rows(self):
+        return (bytes(100) + bytes(range(116))) * self.MANY
+
+    def test_memory_to_encode(self):
+        rows = self.many_rows()
+        for names in self.HEIGHTS:
+            stream, taken = self.poured("encode_file", b"P4\n1728 %d\n" % self.MANY + rows, **names)
+            self.assertLess(taken, 4000)
+            self.assertTrue(stream == t85.encode(rows, 1728, self.MANY, **names))
+
+    def test_memory_to_decode(self):
+        rows = self.many_rows()
+        for names in self.HEIGHTS:
+            image, taken = self.poured("decode_file", t85.encode(rows, 1728, self.MANY, **names))
+            self.assertLess(taken, 4000)
+            self.assertTrue(image == b"P4\n1728 %d\n" % self.MANY + rows)
 
 
 class Whole(unittest.TestCase):

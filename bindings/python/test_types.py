@@ -15,7 +15,10 @@ HERE = os.path.dirname(os.path.abspath(__file__))
 STRICT = ["--strict", "--config-file=", "--cache-dir=" + os.devnull]
 
 USER = """
+import io
 import mmap
+import pathlib
+import sys
 import t85
 from t85 import many
 
@@ -29,6 +32,11 @@ count: int = t85.decode_into(stream, bytearray(100), stride=9)
 bits = t85.unpack(page, black=True), t85.to_array(page)
 job = many.Job("encode", folder="streams", options={"most_offset": 127})
 states: list[str] = [outcome.state for outcome in many.run(job, ["a.pbm"], workers=2)]
+with t85.Encoder(8, 2, announced_height=2, comment=b"said") as encoder:
+    pieces: list[bytes] = [encoder.row(bytearray(1)), encoder.end()]
+    left: int = encoder.rows_left
+length: int = t85.encode_file(pathlib.Path("a.pbm"), sys.stdout.buffer, most_offset=127)
+height: int = t85.decode_file(open("a.jbg", "rb"), "a.pbm", max_rows=9) + t85.decode_file(sys.stdin.buffer, io.BytesIO())
 try:
     t85.decode(image)
 except t85.Error as error:
@@ -43,6 +51,11 @@ WRONG = {
     "t85.pack([[0, 1]])": "call-arg",
     "t85.from_image(b'')": "arg-type",
     "t85.decode_into(b'', b'')": "arg-type",
+    "t85.Encoder(8)": "call-arg",
+    "t85.Encoder(8, 1).row('text')": "arg-type",
+    "t85.encode_file('a', 'b', stride=1)": "call-arg",
+    "t85.decode_file(open('a'), 'b')": "arg-type",
+    "t85.decode_file('a', 7)": "arg-type",
 }
 
 

@@ -23,8 +23,9 @@ Packed arrays are encoded in place, and decode_into has the rows written into on
 Beside these calls are t85.pillow, with which Pillow opens and saves streams, and t85.many for many files; python3 -m t85 is
 the command for these.
 
-A stream that comes in pieces is given to a Decoder, which has the rows as soon as their bytes are there; parts tells what a
-stream is made of.
+A stream that comes in pieces is given to a Decoder, which has the rows as soon as their bytes are there; an image whose rows
+come one by one is given to an Encoder, which has the stream as far as it is certain. encode_file and decode_file go from
+file to file in this way, in memory that does not grow with the image. parts tells what a stream is made of.
 
 A stream of a few bytes may have an image of terabytes. So decode and decode_rows refuse images whose rows take more than
 MAX_BYTES, 1 GiB, where max_bytes says nothing else. For a moment a call has twice what the rows take, and where a stream
@@ -53,15 +54,18 @@ __all__ = [
     "MAX_BYTES",
     "BrokenPart",
     "Decoder",
+    "Encoder",
     "Error",
     "Header",
     "Part",
     "Rows",
     "Summary",
     "decode",
+    "decode_file",
     "decode_into",
     "decode_rows",
     "encode",
+    "encode_file",
     "from_image",
     "header",
     "info",
@@ -152,6 +156,10 @@ class _Decoder(ctypes.Structure):
     _fields_ = [("opaque", c_uint64 * 160)]
 
 
+class _Encoder(ctypes.Structure):
+    _fields_ = [("opaque", c_uint64 * 670)]
+
+
 def _named() -> str:
     """The library's name, as the loader takes it."""
     beside = os.path.join(os.path.dirname(os.path.abspath(__file__)), _SONAME)
@@ -161,7 +169,8 @@ def _named() -> str:
 def _load() -> ctypes.CDLL:
     library = ctypes.CDLL(_named())
     read, write, size, word = [c_void_p, c_size_t], [POINTER(c_char), c_size_t], c_size_t, c_uint32
-    encoded = [word, word, *read, size, POINTER(_Options), *read, *write, *write, POINTER(size)]
+    chosen = [POINTER(_Options), *read]
+    encoded = [word, word, *read, size, *chosen, *write, *write, POINTER(size)]
     types = {
         "t85_version": (word, []),
         "t85_window_bytes": (size, [word]),
@@ -179,6 +188,11 @@ def _load() -> ctypes.CDLL:
         "t85_decode_end": (c_uint8, [POINTER(_Decoder), *write, POINTER(size)]),
         "t85_decode_height": (word, [POINTER(_Decoder)]),
         "t85_decode_certain": (word, [POINTER(_Decoder)]),
+        "t85_encode_start": (c_uint8, [POINTER(_Encoder), size, word, word, *chosen, *write, *write, POINTER(size)]),
+        "t85_encode_row": (c_uint8, [POINTER(_Encoder), *read, *write, *write, POINTER(size)]),
+        "t85_encode_end": (c_uint8, [POINTER(_Encoder), *write, *write, POINTER(size)]),
+        "t85_encode_rows_left": (word, [POINTER(_Encoder)]),
+        "t85_encode_room": (c_uint64, [POINTER(_Encoder)]),
     }
     for name, (result, words) in types.items():
         call = getattr(library, name)
@@ -278,6 +292,30 @@ def _length(name: str, value: int) -> int:
     if not 0 <= value < 1 << 63:
         raise OverflowError(f"{name} is not from 0 to 9223372036854775807")
     return value
+
+
+def _chosen(
+    stripe_rows: int,
+    most_offset: int,
+    two_lines: bool,
+    typical: bool,
+    variable_height: bool,
+    announced_height: Optional[int],
+    reset: bool,
+    has_comment: bool,
+) -> _Options:
+    return _Options(
+        version=1,
+        options=(_Option.TWO_LINES if two_lines else 0)
+        | (_Option.VARIABLE_HEIGHT if variable_height else 0)
+        | (_Option.TYPICAL if typical else 0),
+        stripe_rows=_word("stripe_rows", stripe_rows),
+        most_offset=_word("most_offset", most_offset),
+        announced_height=_word("announced_height", announced_height or 0),
+        announces_height=announced_height is not None,
+        reset=bool(reset),
+        has_comment=has_comment,
+    )
 
 
 def _window(width: int) -> _Memory:
@@ -420,6 +458,7 @@ class Decoder:
         self.is_done = False
         self.unused = b""
         self._front = b""
+        self._status = _MORE
         self._state = _Decoder()
         self._window = ctypes.create_string_buffer(0)
         limit = _NO_LIMIT if max_rows is None else _word("max_rows", max_rows)
@@ -441,44 +480,136 @@ class Decoder:
 
     def feed(self, data: Buffer) -> list[bytes]:
         """The rows that these bytes complete."""
-        piece = bytes(memoryview(data))
-        taken, row = c_size_t(), c_size_t()
-        rows: list[bytes] = []
-        while True:
-            lent = piece, len(piece), self._window, len(self._window), byref(taken), byref(row)
-            status = _LIBRARY.t85_decode_bytes(byref(self._state), *lent)
-            if self.header is None:
-                self._front += piece[: taken.value]
-            piece = piece[taken.value :]
-            if status == _HEADER_READ:
-                self.header = header(self._front)
-                self._window = _window(self.header.width)
-            elif status == _ROW:
-                rows.append(self._row(row.value))
-            else:
-                self.unused = piece
-                return self._told(status, rows)
+        return self._told(list(self._fed(bytes(memoryview(data)))))
 
     def end(self) -> list[bytes]:
         """The rows that are still to be given, where no bytes come any more."""
-        row = c_size_t()
-        rows: list[bytes] = []
+        return self._told(list(self._ended()))
+
+    def _fed(self, piece: bytes) -> Iterator[bytes]:
+        """The rows that a piece completes, one after another. Once they are taken, the status is that of the last call."""
+        taken, row = c_size_t(), c_size_t()
         while True:
-            status = _LIBRARY.t85_decode_end(byref(self._state), self._window, len(self._window), byref(row))
-            if status != _ROW:
-                return self._told(status, rows)
-            rows.append(self._row(row.value))
+            lent = piece, len(piece), self._window, len(self._window), byref(taken), byref(row)
+            self._status = _LIBRARY.t85_decode_bytes(byref(self._state), *lent)
+            if self.header is None:
+                self._front += piece[: taken.value]
+            piece = piece[taken.value :]
+            if self._status == _HEADER_READ:
+                self.header = header(self._front)
+                self._window = _window(self.header.width)
+            elif self._status == _ROW:
+                yield self._row(row.value)
+            else:
+                self.unused = piece
+                self.is_done = not self._status
+                return
+
+    def _ended(self) -> Iterator[bytes]:
+        """The same where no bytes come any more."""
+        row = c_size_t()
+        while True:
+            lent = self._window, len(self._window), byref(row)
+            self._status = _LIBRARY.t85_decode_end(byref(self._state), *lent)
+            if self._status != _ROW:
+                self.is_done = not self._status
+                return
+            yield self._row(row.value)
 
     def _row(self, place: int) -> bytes:
         assert self.header is not None
         return self._window.raw[place : place + _row_bytes(self.header.width)]
 
-    def _told(self, status: int, rows: list[bytes]) -> list[bytes]:
-        self.is_done = not status
-        if status in (0, _MORE):
+    def _told(self, rows: list[bytes]) -> list[bytes]:
+        if self._status in (0, _MORE):
             return rows
         width = self.header.width if self.header else 0
-        raise Error(status, Rows(width, len(rows), _row_bytes(width), b"".join(rows)))
+        raise Error(self._status, Rows(width, len(rows), _row_bytes(width), b"".join(rows)))
+
+
+class Encoder:
+    """Encodes an image whose rows come one by one.
+
+        >>> encoder = Encoder(1728, 2200, most_offset=127)
+        >>> for row in rows:
+        ...     send(encoder.row(row))
+        >>> send(encoder.end())
+
+    row and end give the bytes of the stream that are certain with them, which may be none; all that they give, one after
+    another, is the stream that encode gives of the whole image. The header and the comment come with the first row. The
+    options are those of encode. With announced_height the height is the most rows that may come, and end gives the number
+    of those that came.
+
+    An Error is raised, and the encoder is as it was, where a row comes after the last one or after the end (number 54),
+    where a row is too short (55), and where the end comes before all rows, or before the first (36).
+
+    rows_left  how many rows may still come
+    is_done    whether the stream is whole
+    """
+
+    def __init__(
+        self,
+        width: int,
+        height: int,
+        *,
+        stripe_rows: int = 128,
+        most_offset: int = 0,
+        two_lines: bool = False,
+        typical: bool = True,
+        variable_height: bool = False,
+        announced_height: Optional[int] = None,
+        reset: bool = False,
+        comment: Optional[Buffer] = None,
+    ) -> None:
+        chosen = _chosen(
+            stripe_rows, most_offset, two_lines, typical, variable_height, announced_height, reset, comment is not None
+        )
+        said = b"" if comment is None else comment
+        self.width = _word("width", width)
+        self.is_done = False
+        self._state = _Encoder()
+        self._window = _window(min(width, 1 << 20))
+        # The header and the comment, which go out with the first row.
+        self._output = ctypes.create_string_buffer(26 + _size(said))
+        self._head = b""
+        self._head = self._taken(
+            _LIBRARY.t85_encode_start, ctypes.sizeof(self._state), width, _word("height", height), byref(chosen),
+            _bytes(said), _size(said),
+        )
+
+    def __enter__(self) -> Encoder:
+        return self
+
+    def __exit__(self, *_: object) -> None:
+        self._window, self._output = ctypes.create_string_buffer(0), ctypes.create_string_buffer(0)
+
+    @property
+    def rows_left(self) -> int:
+        return int(_LIBRARY.t85_encode_rows_left(byref(self._state)))
+
+    def row(self, data: Buffer) -> bytes:
+        """Takes the next row, packed, and gives what of the stream is certain with it. Bytes after the row are ignored."""
+        _refuse_pixels(data, self.width, 1, None)
+        return self._taken(_LIBRARY.t85_encode_row, _bytes(data), _size(data))
+
+    def end(self) -> bytes:
+        """The last bytes of the stream. Where fewer rows came than were announced, they give the height."""
+        last = self._taken(_LIBRARY.t85_encode_end)
+        self.is_done = True
+        return last
+
+    def _taken(self, call: Callable[..., int], *words: Any) -> bytes:
+        """What a call writes, behind what is still to be given."""
+        room = int(_LIBRARY.t85_encode_room(byref(self._state)))
+        if len(self._output) < room:
+            self._output = ctypes.create_string_buffer(2 * room)
+        written = c_size_t()
+        lent = self._window, len(self._window), self._output, len(self._output), byref(written)
+        status = call(byref(self._state), *words, *lent)
+        if status:
+            raise Error(status)
+        found, self._head = self._head + ctypes.string_at(self._output, written.value), b""
+        return found
 
 
 def encode(
@@ -511,17 +642,8 @@ def encode(
     Where rows are missing the Error has the stream of the stripes that are whole, and a beginning of the next.
     """
     _refuse_pixels(rows, width, height, stride)
-    chosen = _Options(
-        version=1,
-        options=(_Option.TWO_LINES if two_lines else 0)
-        | (_Option.VARIABLE_HEIGHT if variable_height else 0)
-        | (_Option.TYPICAL if typical else 0),
-        stripe_rows=_word("stripe_rows", stripe_rows),
-        most_offset=_word("most_offset", most_offset),
-        announced_height=_word("announced_height", announced_height or 0),
-        announces_height=announced_height is not None,
-        reset=bool(reset),
-        has_comment=comment is not None,
+    chosen = _chosen(
+        stripe_rows, most_offset, two_lines, typical, variable_height, announced_height, reset, comment is not None
     )
     said = b"" if comment is None else comment
     window = _window(min(_word("width", width), 1 << 20))
@@ -629,3 +751,7 @@ def decode_into(
     if status:
         raise Error(status, Rows(fields.width, written.value, step, b""))
     return written.value
+
+
+# At the end, since it stands on what is above.
+from ._conversion import decode_file, encode_file  # noqa: E402

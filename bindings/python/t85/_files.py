@@ -1,9 +1,11 @@
 """Files that are read whole, and written under another name until they are whole. A name with `://` is fsspec's."""
 from __future__ import annotations
 
+import contextlib
 import importlib
+import io
 import os
-from typing import Any
+from typing import Any, Iterator
 
 
 def is_remote(name: str) -> bool:
@@ -63,14 +65,28 @@ def write(name: str, data: bytes) -> None:
         system, path = _located(name)
         system.pipe_file(path, data)
         return
+    with writing(name) as file:
+        rest = memoryview(data)
+        while rest:
+            rest = rest[file.write(rest) :]
+
+
+@contextlib.contextmanager
+def writing(name: str) -> Iterator[io.FileIO]:
+    """A file under another name in the folder where it belongs, which is renamed when it is whole, and else removed.
+
+    What is there and is no regular file, as a pipe or a terminal, is written as it is.
+    """
+    if os.path.exists(name) and not os.path.isfile(name):
+        with open(name, "wb", buffering=0) as special:
+            yield special
+        return
     folder, base = os.path.split(name)
     other = os.path.join(folder, f".{base}.{os.urandom(6).hex()}.part")
     number = os.open(other, os.O_WRONLY | os.O_CREAT | os.O_EXCL | os.O_CLOEXEC, 0o666)
     try:
         with open(number, "wb", buffering=0) as file:
-            rest = memoryview(data)
-            while rest:
-                rest = rest[file.write(rest) :]
+            yield file
         os.replace(other, name)
     except BaseException:
         os.unlink(other)

@@ -3,6 +3,7 @@ from __future__ import annotations
 
 import re
 from dataclasses import dataclass
+from typing import Iterator, Optional, Protocol
 
 from . import Error
 from ._rows import row_bytes
@@ -11,6 +12,11 @@ _SPACE = rb"(?:[ \t-\r]|#[^\r\n]*[\r\n])"
 _HEADER = re.compile(rb"P([14])%b+0*(\d{1,10})%b+0*(\d{1,10})%b" % (_SPACE, _SPACE, _SPACE))
 _WHITE = b" \t\n\v\f\r"
 _NO_PBM, _BAD_DIGIT = 31, 38
+# What a header may have that says no more than one white space: a comment, and white space after white space.
+_SAYS_NOTHING = re.compile(rb"#[^\r\n]*[\r\n]|[ \t-\r]+")
+_OPEN_COMMENT = re.compile(rb"#[^\r\n]+\Z")
+# Bytes that are read at once, and the most of a header without those.
+_PIECE, _MOST_HEADER = 1 << 16, 1 << 16
 
 
 @dataclass(frozen=True)
@@ -26,7 +32,7 @@ def read_page(data: bytes) -> Page:
     """The image of a PBM. Where rows are missing, it has fewer than its height says."""
     found = _HEADER.match(data)
     if not found:
-        raise Error(_NO_PBM, text="input is not a PBM bitmap")
+        raise _no_pbm()
     width, height = int(found[2]), int(found[3])
     rest = memoryview(data)[found.end() :]
     if found[1] == b"4":
@@ -43,6 +49,70 @@ def _packed(text: bytes, width: int, height: int) -> bytes:
     padding = b"0" * (8 * length - width)
     starts = range(0, len(digits) - width + 1, width) if width else ()
     return b"".join(int(digits[at : at + width] + padding, 2).to_bytes(length, "big") for at in starts)
+
+
+class Readable(Protocol):
+    """What is asked of a file that is read."""
+
+    def read(self, size: int = ..., /) -> Optional[bytes]: ...
+
+
+class PageReader:
+    """Reads a PBM from a file object, row by row. It may read beyond the image."""
+
+    def __init__(self, file: Readable) -> None:
+        self._file = file
+        front = b""
+        while True:
+            found = _HEADER.match(front)
+            if found:
+                break
+            # All of this is of the header.
+            front = _OPEN_COMMENT.sub(b"#", _SAYS_NOTHING.sub(b"\n", front))
+            more = self._more(4096)
+            if not more or len(front) > _MOST_HEADER:
+                raise _no_pbm()
+            front += more
+            if front[:2] not in (b"P", b"P1", b"P4"):
+                raise _no_pbm()
+        self._is_raw = found[1] == b"4"
+        self.width, self.height = int(found[2]), int(found[3])
+        self._held = front[found.end() :]
+
+    def rows(self) -> Iterator[bytes]:
+        """The rows, packed, one after another: as many as there are bytes or digits for."""
+        row = row_bytes(self.width)
+        if self._is_raw:
+            yield from self._parts(row, b"")
+            return
+        padding = b"0" * (8 * row - self.width)
+        self._held = self._held.translate(None, _WHITE)
+        for digits in self._parts(self.width, _WHITE):
+            if digits.strip(b"01"):
+                raise Error(_BAD_DIGIT, text="PBM raster has a byte that is no digit")
+            yield int(digits + padding, 2).to_bytes(row, "big")
+
+    def _parts(self, length: int, left_out: bytes) -> Iterator[bytes]:
+        """So many bytes for each row, without those that are left out, as long as there are any."""
+        held, at = self._held, 0
+        for _ in range(self.height):
+            while len(held) - at < length:
+                more = self._more(max(_PIECE, length))
+                if not more:
+                    return
+                held, at = held[at:] + more.translate(None, left_out), 0
+            yield held[at : at + length]
+            at += length
+
+    def _more(self, size: int) -> bytes:
+        data = self._file.read(size)
+        if data is None:
+            raise BlockingIOError("source has no bytes now")
+        return bytes(data)
+
+
+def _no_pbm() -> Error:
+    return Error(_NO_PBM, text="input is not a PBM bitmap")
 
 
 def head_of(width: int, height: int) -> bytes:

@@ -1,0 +1,245 @@
+"""From file to file, piece by piece, in memory that does not grow with the image."""
+from __future__ import annotations
+
+import contextlib
+import io
+import os
+import tempfile
+from typing import IO, Any, Iterator, Optional, Protocol, Union, cast
+
+from . import _MORE, _NO_LIMIT, _NO_ROOM, MAX_BYTES, Buffer, Decoder, Encoder, Error, Header, Rows, _length, _Option, _word
+from ._files import writing
+from ._pbm import PageReader, Readable, head_of
+from ._rows import row_bytes
+
+_ROWS_MISSING = 36
+_HEADER_BYTES = 20
+# Bytes of a stream that are read at once, and of an output that are written at once.
+_PIECE, _HELD = 4096, 1 << 16
+
+
+class Writable(Protocol):
+    """What is asked of a file object that is written."""
+
+    def write(self, data: bytes, /) -> Optional[int]: ...
+
+
+Source = Union[str, "os.PathLike[str]", Readable]
+Target = Union[str, "os.PathLike[str]", Writable]
+
+
+def encode_file(
+    source: Source,
+    target: Target,
+    *,
+    stripe_rows: int = 128,
+    most_offset: int = 0,
+    two_lines: bool = False,
+    typical: bool = True,
+    variable_height: bool = False,
+    announced_height: Optional[int] = None,
+    reset: bool = False,
+    comment: Optional[Buffer] = None,
+) -> int:
+    """Writes the stream of a PBM image, raw or plain, and gives its length in bytes.
+
+    source  the name of a file, or a file object of bytes, of which more than the image may be read
+    target  the same; a file with a name is there when it is whole, and not before
+
+    The options are those of encode. The image is read row by row, and the stream is written as it is made: pipes will do on
+    both sides. Where rows are missing an Error is raised; a file object has the stream of the stripes that are whole, then,
+    and a beginning of the next.
+    """
+    with _reading(source) as file, _writing(target) as output:
+        page = PageReader(file)
+        encoder = Encoder(
+            page.width,
+            page.height,
+            stripe_rows=stripe_rows,
+            most_offset=most_offset,
+            two_lines=two_lines,
+            typical=typical,
+            variable_height=variable_height,
+            announced_height=announced_height,
+            reset=reset,
+            comment=comment,
+        )
+        for row in page.rows():
+            output.put(encoder.row(row))
+        if encoder.rows_left:
+            raise Error(_ROWS_MISSING)
+        output.put(encoder.end())
+        return output.length
+
+
+def decode_file(
+    source: Source,
+    target: Target,
+    *,
+    max_rows: Optional[int] = None,
+    max_bytes: Optional[int] = MAX_BYTES,
+) -> int:
+    """Writes the image of a stream as a raw PBM, and gives its height.
+
+    source     the name of a file, or a file object of bytes, of which more than the stream may be read
+    target     the same; a file with a name is there when it is whole, and not before
+    max_rows   an image of more rows is refused; without one, or with None, none is
+    max_bytes  an image whose rows take more bytes is refused; with None none is
+
+    The rows are written as they are decoded: pipes will do on both sides. A PBM begins with the height. So a stream that may
+    give its height late is decoded twice, and nothing is written before its end has come; where the source can't be set
+    back to its beginning, the stream is kept in a temporary file.
+
+    Where the stream is broken an Error is raised, whose partial has the number of the rows that can be had. A file object
+    has the header with the full height, then, and these rows.
+    """
+    limit = None if max_bytes is None else _length("max_bytes", max_bytes)
+    most = _NO_LIMIT if max_rows is None else _word("max_rows", max_rows)
+    with _reading(source) as file, _writing(target) as output, contextlib.ExitStack() as stack:
+        begin, stream = _place(file), _Stream(file, most)
+        height, width = stream.header.height, stream.header.width
+        if stream.header.options & _Option.VARIABLE_HEIGHT:
+            kept = None if begin is not None else stack.enter_context(tempfile.TemporaryFile())
+            height = _late_height(stream, kept, limit)
+            again = cast(IO[bytes], file if kept is None else kept)
+            again.seek(begin or 0)
+            stream = _Stream(again, most)
+        else:
+            _refuse_large(height * row_bytes(width), limit)
+        output.put(head_of(width, height))
+        count = 0
+        for row in stream.rows():
+            # A late height cuts off rows that were given before it.
+            if count < height:
+                output.put(row)
+                count += 1
+        if stream.status:
+            raise Error(stream.status, Rows(width, count, row_bytes(width), b""))
+    return height
+
+
+def _is_name(file: Any) -> bool:
+    return isinstance(file, (str, os.PathLike))
+
+
+@contextlib.contextmanager
+def _reading(source: Source) -> Iterator[Readable]:
+    if _is_name(source):
+        with open(cast(str, source), "rb", buffering=0) as file:
+            yield file
+    else:
+        yield cast(Readable, source)
+
+
+class _Output:
+    """Bytes on their way to a file object: those of many rows go there at once."""
+
+    def __init__(self, file: Writable) -> None:
+        self._file, self._held, self.length = file, bytearray(), 0
+
+    def put(self, data: bytes) -> None:
+        self._held += data
+        self.length += len(data)
+        if len(self._held) >= _HELD:
+            self.send()
+
+    def send(self) -> None:
+        """Writes what is held. A file object without a buffer may take a part of it at a time."""
+        rest = bytes(self._held)
+        self._held.clear()
+        while rest:
+            count = self._file.write(rest)
+            if count is None and isinstance(self._file, io.RawIOBase):
+                raise BlockingIOError("target takes no bytes now")
+            rest = b"" if count is None else rest[count:]
+
+
+@contextlib.contextmanager
+def _writing(target: Target) -> Iterator[_Output]:
+    """What is written to a target: up to a fault, too."""
+    with contextlib.ExitStack() as stack:
+        if _is_name(target):
+            file: Writable = stack.enter_context(writing(os.fspath(cast(str, target))))
+        else:
+            file = cast(Writable, target)
+        output = _Output(file)
+        try:
+            yield output
+        except Error:
+            output.send()
+            raise
+        output.send()
+
+
+class _Stream:
+    """A stream in a file, of which the header has been read."""
+
+    def __init__(self, file: Readable, max_rows: int) -> None:
+        self._file, self._decoder, self._front = file, Decoder(max_rows=max_rows), b""
+        while self._decoder.header is None:
+            piece = self._more()
+            if not piece:
+                self._decoder.end()
+            self._decoder.feed(piece[: _HEADER_BYTES - len(self._front)])
+            self._front += piece
+        self.header: Header = self._decoder.header
+
+    def _more(self) -> bytes:
+        piece = self._file.read(_PIECE)
+        if piece is None:
+            raise BlockingIOError("source has no bytes now")
+        return bytes(piece)
+
+    def rows(self, kept: Optional[IO[bytes]] = None) -> Iterator[bytes]:
+        """The rows, one after another. All that is read of the stream is written to `kept`."""
+        piece = self._front[_HEADER_BYTES:]
+        if kept is not None:
+            kept.write(self._front)
+        while True:
+            yield from self._decoder._fed(piece)
+            if self._decoder._status != _MORE:
+                return
+            piece = self._more()
+            if not piece:
+                yield from self._decoder._ended()
+                return
+            if kept is not None:
+                kept.write(piece)
+
+    @property
+    def status(self) -> int:
+        """0 where all rows came, or the stream's fault."""
+        return self._decoder._status
+
+    @property
+    def certain(self) -> int:
+        return self._decoder.certain
+
+    @property
+    def height(self) -> int:
+        """The height of the image; of a broken stream it is the header's."""
+        return self.header.height if self.status else self._decoder.height
+
+
+def _place(file: Readable) -> Optional[int]:
+    """Where a file object stands, if it can be set back to there."""
+    seekable = getattr(file, "seekable", None)
+    return cast(IO[bytes], file).tell() if seekable is not None and seekable() else None
+
+
+def _late_height(stream: _Stream, kept: Optional[IO[bytes]], max_bytes: Optional[int]) -> int:
+    """The height that a stream has at its end."""
+    count, row = 0, row_bytes(stream.header.width)
+    for _ in stream.rows(kept):
+        count += 1
+        # More rows may have been given than the image has.
+        if count % 1024 == 0:
+            _refuse_large(stream.certain * row, max_bytes)
+    _refuse_large((count if stream.status else stream.height) * row, max_bytes)
+    return stream.height
+
+
+def _refuse_large(taken: int, max_bytes: Optional[int]) -> None:
+    if max_bytes is not None and taken > max_bytes:
+        text = f"rows take {taken} bytes, and max_bytes is {max_bytes}: give a greater max_bytes, or max_bytes=None for no limit"
+        raise Error(_NO_ROOM, text=text)
