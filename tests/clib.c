@@ -1,5 +1,6 @@
 /* Calls the library as a C program does, and compares with files that the commands in bin/ wrote.
      clib encode IMAGE.pbm STREAM OPTIONS ROWS OFFSET ANNOUNCED|- RESET COMMENT|-
+                                             as a whole and row by row
      clib decode STREAM IMAGE.pbm INFO       INFO is what `jbgtopbm85 --info` wrote
      clib cuts STREAM FOLDER                 FOLDER/N is what `jbgtopbm85` wrote of the first N bytes, FOLDER/N.text its
                                              message without its name, or `done`; FOLDER/N.line and FOLDER/N.line.text
@@ -152,6 +153,120 @@ static void encode_in(uint32_t width, uint32_t height, buffer rows, size_t strid
     give_back(window);
 }
 
+/* An encoder of rows and its window, which have two places each, and room for a call. */
+typedef struct {
+    buffer states[2], windows[2], room;
+    size_t turn;
+} row_by_row;
+
+static row_by_row places_for(uint32_t width, size_t room)
+{
+    row_by_row by;
+    for (by.turn = 0; by.turn < 2; by.turn++) {
+        by.states[by.turn] = filled(sizeof(t85_encoder));
+        by.windows[by.turn] = filled(t85_window_bytes(width));
+    }
+    by.room = lend(room);
+    by.turn = 0;
+    return by;
+}
+
+static void move_on(row_by_row *by)
+{
+    size_t from = by->turn, to = 1 - from;
+    memcpy(by->states[to].bytes, by->states[from].bytes, by->states[from].len);
+    memcpy(by->windows[to].bytes, by->windows[from].bytes, by->windows[from].len);
+    memset(by->states[from].bytes, FILL, by->states[from].len);
+    memset(by->windows[from].bytes, FILL, by->windows[from].len);
+    by->turn = to;
+}
+
+/* Just so much room, which ends at a page that can't be touched. */
+static buffer room_of(row_by_row *by, size_t len)
+{
+    buffer part;
+    if (len > by->room.len) {
+        give_back(by->room);
+        by->room = lend(2 * len);
+    }
+    part = by->room;
+    part.len = len;
+    if (!at_front)
+        part.bytes += by->room.len - len;
+    return part;
+}
+
+static t85_encoder *encoder_of(row_by_row *by)
+{
+    return (t85_encoder *)by->states[by->turn].bytes;
+}
+
+/* Takes a row, or ends the stream where there is none. */
+static uint8_t encode_next(row_by_row *by, const uint8_t *row, size_t row_len, buffer room,
+                           size_t *written)
+{
+    buffer window = by->windows[by->turn];
+    if (row)
+        return t85_encode_row(encoder_of(by), row, row_len, window.bytes, window.len, room.bytes,
+                              room.len, written);
+    return t85_encode_end(encoder_of(by), window.bytes, window.len, room.bytes, room.len, written);
+}
+
+static void leave(row_by_row *by)
+{
+    for (by->turn = 0; by->turn < 2; by->turn++) {
+        give_back(by->states[by->turn]);
+        give_back(by->windows[by->turn]);
+    }
+    give_back(by->room);
+}
+
+/* The next bytes of a stream. */
+static void goes_on(buffer whole, size_t *at, buffer room, size_t written)
+{
+    if (written > room.len || written > whole.len - *at ||
+        memcmp(room.bytes, whole.bytes + *at, written))
+        fail("t85_encode_row: other bytes from %zu of %zu on", *at, whole.len);
+    *at += written;
+}
+
+/* The same image row by row, where `most_rows` may come: in just the room that is told, by an encoder and a window that
+   are elsewhere at each call; of a tall image they stay now and then. */
+static void encode_rows_in(uint32_t width, uint32_t height, uint32_t most_rows, buffer rows,
+                           const t85_options *options, buffer comment, buffer whole)
+{
+    size_t row = t85_row_bytes(width), at = 0, written = 77;
+    size_t front = options->has_comment ? 26 + comment.len : 20;
+    row_by_row by = places_for(width, front);
+    buffer room = room_of(&by, front);
+    uint32_t y;
+    uint8_t status =
+        t85_encode_start(encoder_of(&by), sizeof(t85_encoder), width, most_rows, options,
+                         comment.bytes, comment.len, by.windows[0].bytes, by.windows[0].len,
+                         room.bytes, room.len, &written);
+    if (status != T85_OK || written != front)
+        fail("t85_encode_start: status %d and %zu bytes", status, written);
+    goes_on(whole, &at, room, written);
+    for (y = 0; y <= height; y++) {
+        if (y < 1000 || y % 61 == 0)
+            move_on(&by);
+        if (t85_encode_rows_left(encoder_of(&by)) != most_rows - y ||
+            !t85_encode_room(encoder_of(&by)))
+            fail("t85_encode_rows_left: %u, or no room, after %u rows",
+                 t85_encode_rows_left(encoder_of(&by)), y);
+        room = room_of(&by, (size_t)t85_encode_room(encoder_of(&by)));
+        written = 77;
+        status = encode_next(&by, y < height ? rows.bytes + y * row : NULL, row, room, &written);
+        if (status != T85_OK)
+            fail("t85_encode_row: status %d after %u rows", status, y);
+        goes_on(whole, &at, room, written);
+    }
+    if (at != whole.len || t85_encode_rows_left(encoder_of(&by)) ||
+        t85_encode_room(encoder_of(&by)))
+        fail("t85_encode_end: %zu bytes of %zu, or rows left", at, whole.len);
+    leave(&by);
+}
+
 static void encode(char **words)
 {
     buffer image = read_file(words[0]), whole = read_file(words[1]), rows, wide, lent, comment;
@@ -177,6 +292,9 @@ static void encode(char **words)
     wide = spread(rows, row, row + 5);
     encode_in(width, height, wide, row + 5, &options, comment, whole, whole.len);
     give_back(wide);
+    encode_rows_in(width, height, height, lent, &options, comment, whole);
+    if (options.announces_height)
+        encode_rows_in(width, height, options.announced_height, lent, &options, comment, whole);
     give_back(lent);
     give_back(comment);
 }
@@ -643,6 +761,160 @@ static void decoder_states(void)
         fail("no bytes have a header");
 }
 
+static void is_filled(const char *call, buffer lent)
+{
+    size_t i;
+    for (i = 0; i < lent.len; i++)
+        if (lent.bytes[i] != FILL)
+            fail("%s: byte %zu of %zu was touched", call, i, lent.len);
+}
+
+/* A beginning that has to be refused, with nothing written or changed. */
+static void unstarted(uint8_t wanted, size_t size, uint32_t width, uint32_t height,
+                      const t85_options *options, size_t comment_len, size_t window_len,
+                      size_t stream_room)
+{
+    buffer state = filled(sizeof(t85_encoder)), window = filled(window_len);
+    buffer stream = filled(stream_room), comment = lend(comment_len);
+    size_t written = 77;
+    uint8_t status = t85_encode_start((t85_encoder *)state.bytes, size, width, height, options,
+                                      comment.bytes, comment.len, window.bytes, window.len,
+                                      stream.bytes, stream.len, &written);
+    if (status != wanted || written)
+        fail("t85_encode_start: status %d and %zu bytes where %d was wanted", status, written,
+             wanted);
+    is_filled("t85_encode_start", state);
+    is_filled("t85_encode_start", window);
+    is_filled("t85_encode_start", stream);
+    give_back(comment);
+    give_back(stream);
+    give_back(window);
+    give_back(state);
+}
+
+/* What t85_encode_start refuses, with as much of what is judged later wrong as can be. */
+static void starts(uint32_t width, uint32_t height)
+{
+    size_t size = sizeof(t85_encoder), three = t85_window_bytes(width), len;
+    t85_options options = T85_OPTIONS;
+    for (len = 0; len < 2 * size; len += 8)
+        if (len != size)
+            unstarted(T85_OTHER_VERSION, len, 0, 0, &options, 0, 0, 0);
+    options.version = T85_OPTIONS_VERSION + 1;
+    unstarted(T85_OTHER_VERSION, size, width, height, &options, 0, three, 100);
+    options.version = T85_OPTIONS_VERSION;
+    options.options = 1;
+    options.stripe_rows = 0;
+    options.most_offset = T85_MOST_OFFSET + 1;
+    unstarted(T85_OPTION_BITS, size, 0, 0, &options, 0, 0, 0);
+    options.options = T85_TYPICAL;
+    unstarted(T85_STRIPE_ZERO, size, 0, 0, &options, 0, 0, 0);
+    options.stripe_rows = 1;
+    unstarted(T85_OFFSET_LARGE, size, 0, 0, &options, 0, 0, 0);
+    options.most_offset = T85_MOST_OFFSET;
+    options.has_comment = true;
+    unstarted(T85_COMMENT_LONG, size, 0, 0, &options, (size_t)1 << 32, 0, 0);
+    unstarted(T85_NO_PIXELS, size, 0, height, &options, 0, 0, 0);
+    options.announces_height = true;
+    unstarted(T85_NO_PIXELS, size, width, 0, &options, 0, 0, 0);
+    unstarted(T85_IMAGE_WIDE, size, T85_MOST_WIDTH + 1, height, &options, 0, 0, 0);
+    unstarted(T85_IMAGE_WIDE, size, UINT32_MAX, height, &options, 0, 0, 0);
+    options.announced_height = height - 1;
+    unstarted(T85_ANNOUNCED_LOW, size, width, height, &options, 0, 0, 0);
+    options.announced_height = height;
+    for (len = 0; len < three; len++)
+        unstarted(T85_SHORT_WINDOW, size, width, height, &options, 0, len, 0);
+    for (len = 0; len < 26 + 5; len++)
+        unstarted(T85_NO_ROOM, size, width, height, &options, 5, three, len);
+    options.has_comment = false;
+    for (len = 0; len < 20; len++)
+        unstarted(T85_NO_ROOM, size, width, height, &options, 5, three, len);
+}
+
+/* A call with a row, or of the end, that has to be refused, with nothing written or changed. */
+static void unmoved(uint8_t wanted, row_by_row *by, const uint8_t *row, size_t row_len,
+                    size_t window_len, size_t room_len)
+{
+    buffer state = by->states[by->turn], window = by->windows[by->turn], room = filled(room_len);
+    buffer kept = copied(state.bytes, state.len), lines = copied(window.bytes, window_len);
+    size_t written = 77;
+    uint8_t status;
+    by->windows[by->turn] = lines;
+    status = encode_next(by, row, row_len, room, &written);
+    by->windows[by->turn] = window;
+    if (status != wanted || written)
+        fail("t85_encode_row: status %d and %zu bytes where %d was wanted", status, written,
+             wanted);
+    if (memcmp(kept.bytes, state.bytes, state.len) || memcmp(lines.bytes, window.bytes, window_len))
+        fail("t85_encode_row: changes something at status %d", status);
+    is_filled("t85_encode_row", room);
+    give_back(lines);
+    give_back(kept);
+    give_back(room);
+}
+
+/* What the next call refuses that may be a row or the end, by what it is lent. */
+static void lent_little(row_by_row *by, const uint8_t *row, size_t row_len, size_t three)
+{
+    size_t told = (size_t)t85_encode_room(encoder_of(by)), len;
+    for (len = 0; row && len < row_len; len++)
+        unmoved(T85_SHORT_ROW, by, row, len, 0, 0);
+    for (len = 0; len < three; len++)
+        unmoved(T85_SHORT_WINDOW, by, row, row_len, len, 0);
+    unmoved(T85_NO_ROOM, by, row, row_len, three, 0);
+    unmoved(T85_NO_ROOM, by, row, row_len, three, told - 1);
+}
+
+/* An encoder of two rows, at each of its calls. */
+static void row_encoder_states(buffer rows, uint32_t width)
+{
+    size_t row = t85_row_bytes(width), three = t85_window_bytes(width), at = 0, written, y;
+    row_by_row by = places_for(width, 20);
+    t85_options options = T85_OPTIONS;
+    buffer whole = filled(100000), room;
+    if (t85_encode(width, 2, rows.bytes, rows.len, row, &options, T85_NOTHING, 0,
+                   by.windows[0].bytes, three, whole.bytes, whole.len, &whole.len))
+        fail("t85_encode");
+    memset(by.states[0].bytes, 0, by.states[0].len);
+    unmoved(T85_NOT_BEGUN, &by, rows.bytes, 0, 0, 0);
+    unmoved(T85_NOT_BEGUN, &by, NULL, 0, 0, 0);
+    if (t85_encode_rows_left(encoder_of(&by)) || t85_encode_room(encoder_of(&by)))
+        fail("an encoder of zeros goes on");
+    room = room_of(&by, 20);
+    if (t85_encode_start(encoder_of(&by), sizeof(t85_encoder), width, 2, &options, NULL, 0,
+                         by.windows[0].bytes, three, room.bytes, room.len, &written))
+        fail("t85_encode_start");
+    goes_on(whole, &at, room, written);
+    for (y = 0; y < 2; y++) {
+        unmoved(T85_ROWS_MISSING, &by, NULL, 0, 0, 0);
+        lent_little(&by, rows.bytes, row, three);
+        room = room_of(&by, (size_t)t85_encode_room(encoder_of(&by)));
+        if (encode_next(&by, rows.bytes + y * row, row, room, &written))
+            fail("t85_encode_row");
+        goes_on(whole, &at, room, written);
+    }
+    unmoved(T85_NO_MORE_ROWS, &by, rows.bytes, 0, 0, 0);
+    lent_little(&by, NULL, 0, three);
+    room = room_of(&by, (size_t)t85_encode_room(encoder_of(&by)));
+    if (encode_next(&by, NULL, 0, room, &written))
+        fail("t85_encode_end");
+    goes_on(whole, &at, room, written);
+    if (at != whole.len)
+        fail("t85_encode_end: %zu bytes of %zu", at, whole.len);
+    unmoved(T85_NO_MORE_ROWS, &by, rows.bytes, row, three, 1000);
+    unmoved(T85_NO_MORE_ROWS, &by, NULL, 0, 0, 0);
+    options.announces_height = true;
+    options.announced_height = 9;
+    room = room_of(&by, 20);
+    if (t85_encode_start(encoder_of(&by), sizeof(t85_encoder), width, 5, &options, NULL, 0,
+                         by.windows[0].bytes, three, room.bytes, room.len, &written))
+        fail("t85_encode_start where one was ended");
+    unmoved(T85_ROWS_MISSING, &by, NULL, 0, 0, 0);
+    if (t85_encode_rows_left(encoder_of(&by)) != 5)
+        fail("t85_encode_rows_left: %u of 5", t85_encode_rows_left(encoder_of(&by)));
+    leave(&by);
+}
+
 static void faults(char **words)
 {
     buffer image = read_file(words[0]), rows;
@@ -661,6 +933,8 @@ static void faults(char **words)
     bounds();
     messages();
     decoder_states();
+    starts(width, height);
+    row_encoder_states(rows, width);
 }
 
 static void or_nothing(void)
@@ -720,6 +994,32 @@ static uint8_t see_decode_rows(const uint8_t *stream, size_t len, uint32_t max_r
     return in_order ? see(stream, window, rows, NULL) : 255;
 }
 
+static uint8_t see_encode_start(t85_encoder *encoder, size_t size, uint32_t width, uint32_t height,
+                                const t85_options *options, const uint8_t *comment,
+                                size_t comment_len, uint8_t *window, size_t window_len,
+                                uint8_t *stream, size_t stream_room, size_t *written)
+{
+    bool in_order = encoder && size == 1 && width == 2 && height == 3 && comment_len == 4 &&
+                    window_len == 5 && stream_room == 6 && *written == 7 && options->version == 9;
+    return in_order ? see(comment, window, stream, NULL) : 255;
+}
+
+static uint8_t see_encode_row(t85_encoder *encoder, const uint8_t *row, size_t row_len,
+                              uint8_t *window, size_t window_len, uint8_t *stream,
+                              size_t stream_room, size_t *written)
+{
+    bool in_order =
+        encoder && row_len == 1 && window_len == 2 && stream_room == 3 && *written == 7;
+    return in_order ? see(row, window, stream, NULL) : 255;
+}
+
+static uint8_t see_encode_end(t85_encoder *encoder, uint8_t *window, size_t window_len,
+                              uint8_t *stream, size_t stream_room, size_t *written)
+{
+    bool in_order = encoder && window_len == 1 && stream_room == 2 && *written == 7;
+    return in_order ? see(window, stream, NULL, NULL) : 255;
+}
+
 static size_t see_message(uint8_t status, uint8_t *text, size_t room)
 {
     return status == room ? see(text, NULL, NULL, NULL) : 255;
@@ -735,6 +1035,12 @@ typedef struct {
     uint8_t (*t85_decode_rows)(const uint8_t *, size_t, uint32_t, size_t, uint8_t *, size_t,
                                uint8_t *, size_t, uint32_t *);
     size_t (*t85_message)(uint8_t, uint8_t *, size_t);
+    uint8_t (*t85_encode_start)(t85_encoder *, size_t, uint32_t, uint32_t, const t85_options *,
+                                const uint8_t *, size_t, uint8_t *, size_t, uint8_t *, size_t,
+                                size_t *);
+    uint8_t (*t85_encode_row)(t85_encoder *, const uint8_t *, size_t, uint8_t *, size_t, uint8_t *,
+                              size_t, size_t *);
+    uint8_t (*t85_encode_end)(t85_encoder *, uint8_t *, size_t, uint8_t *, size_t, size_t *);
 } calls;
 
 static void have_come(const char *call, size_t status, unsigned count, const uint8_t *wanted)
@@ -749,12 +1055,14 @@ static void have_come(const char *call, size_t status, unsigned count, const uin
    functions of the calls' names, which lie in a struct. */
 static void passed(uint8_t *a)
 {
-    static const calls seen = {see_header, see_info,        see_encode,
-                               see_decode, see_decode_rows, see_message};
+    static const calls seen = {see_header,       see_info,        see_encode,
+                               see_decode,       see_decode_rows, see_message,
+                               see_encode_start, see_encode_row,  see_encode_end};
     uint8_t *b = a ? a + 1 : NULL, *c = a ? a + 2 : NULL, *d = a ? a + 3 : NULL;
     t85_header_fields fields = {8, 0, 0, 0, 0};
     t85_summary summary = {8, 0, 0, 0, 0, 0, 0, 0, 0};
     t85_options options = T85_OPTIONS;
+    t85_encoder encoder;
     size_t written = 8;
     uint32_t rows_written = 6;
     options.version = 9;
@@ -767,6 +1075,11 @@ static void passed(uint8_t *a)
     have_come("t85_decode_rows",
               seen.t85_decode_rows(a, 1, 2, 3, b, 4, c, 5, &rows_written), 3, a);
     have_come("t85_message", seen.t85_message(8, a, 8), 1, a);
+    written = 7;
+    have_come("t85_encode_start",
+              seen.t85_encode_start(&encoder, 1, 2, 3, &options, a, 4, b, 5, c, 6, &written), 3, a);
+    have_come("t85_encode_row", seen.t85_encode_row(&encoder, a, 1, b, 2, c, 3, &written), 3, a);
+    have_come("t85_encode_end", seen.t85_encode_end(&encoder, a, 1, b, 2, &written), 2, a);
 }
 
 /* Whether arguments are evaluated once: each goes on by one. */
@@ -856,12 +1169,67 @@ static void write_null(void)
     give_back(window);
 }
 
+/* The encoder of rows with null pointers and 0, for an image of eight pixels. */
+static void write_row_null(void)
+{
+    buffer window = filled(3), row = filled(1);
+    t85_options options = T85_OPTIONS;
+    t85_encoder encoder;
+    uint8_t code[2][200];
+    size_t front = 77, more = 77, last = 77, whole = 77;
+    options.has_comment = true;
+    if (t85_encode_start(&encoder, sizeof encoder, 8, 1, &options, NULL, 0, NULL, 0, NULL, 0,
+                         &front) != T85_SHORT_WINDOW ||
+        front != 0)
+        fail("t85_encode_start with no window");
+    front = 77;
+    if (t85_encode_start(&encoder, sizeof encoder, 8, 1, &options, NULL, 0, window.bytes, 3, NULL,
+                         0, &front) != T85_NO_ROOM ||
+        front != 0)
+        fail("t85_encode_start with no room");
+    if (t85_encode_start(&encoder, sizeof encoder, 8, 1, &options, NULL, 0, window.bytes, 3,
+                         code[0], 26, &front) != T85_OK ||
+        front != 26)
+        fail("t85_encode_start with an empty comment");
+    if (t85_encode_row(&encoder, NULL, 0, NULL, 0, NULL, 0, &more) != T85_SHORT_ROW || more != 0)
+        fail("t85_encode_row with no row");
+    more = 77;
+    if (t85_encode_row(&encoder, row.bytes, 1, NULL, 0, NULL, 0, &more) != T85_SHORT_WINDOW ||
+        more != 0)
+        fail("t85_encode_row with no window");
+    more = 77;
+    if (t85_encode_row(&encoder, row.bytes, 1, window.bytes, 3, NULL, 0, &more) != T85_NO_ROOM ||
+        more != 0)
+        fail("t85_encode_row with no room");
+    if (t85_encode_room(&encoder) > 174)
+        fail("t85_encode_room: %llu bytes for a row of eight pixels",
+             (unsigned long long)t85_encode_room(&encoder));
+    if (t85_encode_row(&encoder, row.bytes, 1, window.bytes, 3, code[0] + 26, 174, &more) != T85_OK)
+        fail("t85_encode_row");
+    if (t85_encode_end(&encoder, NULL, 0, NULL, 0, &last) != T85_SHORT_WINDOW || last != 0)
+        fail("t85_encode_end with no window");
+    last = 77;
+    if (t85_encode_end(&encoder, window.bytes, 3, NULL, 0, &last) != T85_NO_ROOM || last != 0)
+        fail("t85_encode_end with no room");
+    if (t85_encode_room(&encoder) > 174 - more ||
+        t85_encode_end(&encoder, window.bytes, 3, code[0] + 26 + more, 174 - more, &last) != T85_OK)
+        fail("t85_encode_end");
+    if (t85_encode(8, 1, row.bytes, 1, 1, &options, NULL, 0, window.bytes, 3, code[1], 200,
+                   &whole) != T85_OK ||
+        whole != front + more + last || memcmp(code[0], code[1], whole))
+        fail("t85_encode_end: another stream than t85_encode's");
+    give_back(row);
+    give_back(window);
+}
+
 /* The functions, by their addresses and in parentheses: no macro stands before them. */
 static void by_address(buffer stream)
 {
-    static const calls table = {&t85_header, &t85_info,        &t85_encode,
-                                &t85_decode, &t85_decode_rows, &t85_message};
+    static const calls table = {&t85_header,       &t85_info,        &t85_encode,
+                                &t85_decode,       &t85_decode_rows, &t85_message,
+                                &t85_encode_start, &t85_encode_row,  &t85_encode_end};
     t85_options options = T85_OPTIONS;
+    t85_encoder encoder;
     t85_header_fields fields, same;
     t85_summary summary;
     size_t written = 77;
@@ -884,6 +1252,13 @@ static void by_address(buffer stream)
         (t85_decode_rows)(T85_NOTHING, 0, 9, 9, T85_NOTHING, 0, T85_NOTHING, 0, &rows) !=
             T85_SHORT_HEADER)
         fail("t85_decode or t85_decode_rows in parentheses");
+    memset(&encoder, 0, sizeof encoder);
+    if ((t85_encode_start)(&encoder, sizeof encoder, 8, 1, &options, T85_NOTHING, 0, T85_NOTHING, 0,
+                           T85_NOTHING, 0, &written) != T85_SHORT_WINDOW ||
+        (*table.t85_encode_row)(&encoder, T85_NOTHING, 0, T85_NOTHING, 0, T85_NOTHING, 0,
+                                &written) != T85_NOT_BEGUN ||
+        (t85_encode_end)(&encoder, T85_NOTHING, 0, T85_NOTHING, 0, &written) != T85_NOT_BEGUN)
+        fail("t85_encode_start, t85_encode_row or t85_encode_end in parentheses");
     if ((t85_message)(T85_OK, T85_NOTHING, 0) != 4)
         fail("t85_message in parentheses");
 }
@@ -901,6 +1276,7 @@ static void null(char **words)
         fail("t85_header");
     read_null(stream, t85_window_bytes(fields.width));
     write_null();
+    write_row_null();
     by_address(stream);
     give_back(stream);
     free(file.bytes);
