@@ -1,5 +1,6 @@
 /* Calls the library with streams that libFuzzer makes, and stops where a call breaks its word, or where JBIG-KIT's library
-   reads another image than t85_decode, both having accepted the stream. What is read is encoded again, by both.
+   reads another image than t85_decode, both having accepted the stream. What is read is encoded again, by both, and by an
+   encoder that is given its rows one by one.
    What the calls are lent lies between pages that can't be touched: at the end of its place, or at the front. */
 #define _GNU_SOURCE
 #include "t85.h"
@@ -174,6 +175,109 @@ static void theirs_again(uint32_t width, uint32_t height, const t85_options *opt
     CHECK(!memcmp(image.bytes + back - row * height, rows.bytes, row * height));
 }
 
+/* Whether nothing was written to what a call is lent. */
+static void untouched(const place *of)
+{
+    size_t i;
+    for (i = 0; i < of->len; i++)
+        CHECK(of->bytes[i] == FILL);
+}
+
+/* A row of the encoder, or the end where there is none, in so much room. */
+static uint8_t put_row(t85_encoder *encoder, const uint8_t *row, size_t row_len, size_t room, size_t *written)
+{
+    lend(&again, room);
+    memset(again.bytes, FILL, room);
+    *written = SIZE_MAX;
+    return row ? t85_encode_row(encoder, row, row_len, lines.bytes, lines.len, again.bytes, room, written)
+               : t85_encode_end(encoder, lines.bytes, lines.len, again.bytes, room, written);
+}
+
+/* What is refused leaves encoder and window as they were, and writes nothing. */
+static void refused(t85_encoder *encoder, const uint8_t *row, size_t row_len, size_t room, uint8_t wanted)
+{
+    static uint8_t window_kept[PLACE];
+    t85_encoder kept = *encoder;
+    size_t written;
+    memcpy(window_kept, lines.bytes, lines.len);
+    CHECK(put_row(encoder, row, row_len, room, &written) == wanted && written == 0);
+    CHECK(!memcmp(&kept, encoder, sizeof kept) && !memcmp(window_kept, lines.bytes, lines.len));
+    untouched(&again);
+}
+
+/* The same image row by row, in just the room that is told, gives the same stream: `code` has `written` bytes of it. */
+static void by_rows(uint32_t width, uint32_t height, const t85_options *options, size_t written)
+{
+    size_t row = t85_row_bytes(width), at, more, told;
+    uint32_t most = options->announces_height ? height + roll(options->announced_height - height + 1) : height, y;
+    t85_encoder *encoder;
+    lend(&state, sizeof *encoder);
+    encoder = (t85_encoder *)state.bytes;
+    lend(&lines, 3 * row + roll(9));
+    lend(&again, options->has_comment ? 26 + comment.len : 20);
+    memset(state.bytes, FILL, state.len);
+    CHECK(t85_encode_start(encoder, sizeof *encoder, width, most, options, comment.bytes, comment.len, lines.bytes,
+                           lines.len, again.bytes, again.len, &at) == T85_OK);
+    CHECK(at == again.len && !memcmp(again.bytes, code.bytes, at));
+    for (y = 0; y <= height; y++) {
+        const uint8_t *pixels = y < height ? rows.bytes + y * row : NULL;
+        told = (size_t)t85_encode_room(encoder);
+        CHECK(t85_encode_rows_left(encoder) == most - y && told > 0 && told <= 4 * width + 2 * written + 100);
+        if (roll(4) == 0) {
+            refused(encoder, pixels, row, roll((uint32_t)told), T85_NO_ROOM);
+            if (pixels)
+                refused(encoder, pixels, row - 1, told, T85_SHORT_ROW);
+            if (y == 0 || (y < most && !options->announces_height))
+                refused(encoder, NULL, 0, told, T85_ROWS_MISSING);
+        }
+        CHECK(put_row(encoder, pixels, row, told, &more) == T85_OK);
+        CHECK(more <= told && more <= written - at && !memcmp(again.bytes, code.bytes + at, more));
+        at += more;
+    }
+    CHECK(at == written && t85_encode_rows_left(encoder) == 0 && t85_encode_room(encoder) == 0);
+    refused(encoder, rows.bytes, row, 100, T85_NO_MORE_ROWS);
+    refused(encoder, NULL, 0, 100, T85_NO_MORE_ROWS);
+}
+
+/* An encoder of any bytes, or of one's with some turned, over a window of any bytes. */
+static void encoder_of_any_bytes(uint32_t width, uint32_t height, const t85_options *options)
+{
+    size_t row = t85_row_bytes(width), calls = roll(20), i, written, told;
+    t85_encoder *encoder;
+    uint8_t status;
+    lend(&state, sizeof *encoder);
+    encoder = (t85_encoder *)state.bytes;
+    lend(&lines, 3 * row + roll(9));
+    lend(&again, 100);
+    for (i = 0; i < lines.len; i++)
+        lines.bytes[i] = (uint8_t)roll(256);
+    CHECK(t85_encode_start(encoder, sizeof *encoder, width, height, options, comment.bytes, comment.len, lines.bytes,
+                           lines.len, again.bytes, again.len, &written) == T85_OK);
+    if (roll(2)) {
+        /* The fields before what was learned are the first 192 bytes. */
+        for (i = roll(9); i > 0; i--)
+            state.bytes[roll(roll(4) ? 192 : (uint32_t)state.len)] = (uint8_t)(roll(2) ? roll(4) : roll(256));
+        if (roll(2))
+            for (i = 192; i < state.len; i++)
+                state.bytes[i] = (uint8_t)roll(256);
+    } else {
+        for (i = roll(2) ? 4 * roll(8) : 0; i < state.len; i++)
+            state.bytes[i] = (uint8_t)(roll(3) ? roll(256) : roll(4));
+    }
+    while (calls--) {
+        told = (size_t)t85_encode_room(encoder);
+        (void)t85_encode_rows_left(encoder);
+        if (told > PLACE)
+            return;
+        told = roll(4) ? told : roll((uint32_t)told + 1);
+        status = put_row(encoder, roll(8) ? rows.bytes : NULL, roll(8) ? rows.len : roll((uint32_t)rows.len + 1), told,
+                         &written);
+        CHECK(written <= told && (status == T85_OK || written == 0));
+        for (i = written; i < told && status != T85_OK; i++)
+            CHECK(again.bytes[i] == FILL);
+    }
+}
+
 /* Encodes an image with options of any kind, in a room that is enough, and in one that is too little. Its rows come back,
    from JBIG-KIT's decoder, too. */
 static void encode_again(const uint8_t *packed, uint32_t width, uint32_t height)
@@ -198,6 +302,8 @@ static void encode_again(const uint8_t *packed, uint32_t width, uint32_t height)
     CHECK(t85_encode(width, height, rows.bytes, rows.len, row, &options, comment.bytes, comment.len, window.bytes,
                      window.len, again.bytes, again.len, &less) == T85_NO_ROOM);
     CHECK(less == again.len && !memcmp(again.bytes, code.bytes, less));
+    by_rows(width, height, &options, written);
+    encoder_of_any_bytes(width, height, &options);
     lend(&stream, written);
     memmove(stream.bytes, code.bytes, written);
     lend(&image, 22 + row * height);
