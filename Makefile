@@ -222,6 +222,7 @@ bench:
 	bench/plain bin/pbmtojbg85
 	bench/classes bin $$(find bin/charts -name '*.pbm' 2> /dev/null | sort)
 	bench/pieces
+	bench/calls bin
 	bench/formats bin $$(find bin/charts -name '*.pbm' 2> /dev/null | sort)
 	bench/broken bin
 	bench/many bin
