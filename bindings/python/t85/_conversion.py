@@ -7,12 +7,12 @@ import os
 import tempfile
 from typing import IO, Any, Iterator, Optional, Protocol, Union, cast
 
-from . import _MORE, _NO_LIMIT, _NO_ROOM, MAX_BYTES, Buffer, Decoder, Encoder, Error, Header, Rows, _length, _Option, _word
+from . import _MORE, _NO_LIMIT, _NO_ROOM, _ROWS_MISSING, MAX_BYTES
+from . import Buffer, Decoder, Encoder, Error, Header, Rows, _length, _Option, _word
 from ._files import writing
 from ._pbm import PageReader, Readable, head_of
 from ._rows import row_bytes
 
-_ROWS_MISSING = 36
 _HEADER_BYTES = 20
 # Bytes of a stream that are read at once, and of an output that are written at once.
 _PIECE, _HELD = 4096, 1 << 16
