@@ -150,6 +150,7 @@ documents:
 test: documents
 	tests/makefile
 	tests/interface
+	tests/abi
 	tests/links
 	tools/must-not-compile
 	tests/turns bin
@@ -172,6 +173,7 @@ library-test:
 	tests/readme bin
 	tests/library bin
 	tests/python bin
+	tests/abi
 	tests/installed bin
 	tests/wheel bin
 
