@@ -449,6 +449,36 @@ class FromFileToFile(unittest.TestCase):
         with self.assertRaises(FileNotFoundError):
             t85.decode_file(self.path("none"), self.path("to"))
 
+    def piped(self, call, first, rest, most, **names):
+        """What comes out of a pipe, of which `most` bytes come before the rest of the source does."""
+        (from_source, to_call), (from_call, to_target) = os.pipe(), os.pipe()
+        thread = threading.Thread(target=self.closing, args=(call, from_source, to_target), kwargs=names)
+        thread.start()
+        with os.fdopen(from_call, "rb") as target, os.fdopen(to_call, "wb", buffering=0) as source:
+            source.write(first)
+            # If they do not come, the source ends.
+            timer = threading.Timer(60, source.close)
+            timer.start()
+            found = target.read(most)
+            timer.cancel()
+            source.write(rest)
+            source.close()
+            found += target.read()
+        thread.join()
+        return found
+
+    def closing(self, call, source, target, **names):
+        with os.fdopen(source, "rb") as file, os.fdopen(target, "wb", buffering=0) as output:
+            call(file, output, **names)
+
+    def test_pipes(self):
+        # What is certain goes out before more comes: of the page the first of two stripes, and its rows.
+        first = list(itertools.islice(t85.parts(STREAM), 2))[1]
+        end = first.offset + first.length
+        cut = len(PBM) - 32 * 52
+        self.assertEqual(self.piped(t85.encode_file, PBM[:cut], PBM[cut:], end, most_offset=127), STREAM)
+        self.assertEqual(self.piped(t85.decode_file, STREAM[:end], STREAM[end:], cut), PBM)
+
     def poured(self, call, source, **names):
         """What a process writes that has this on standard input, by a pipe, and the kilobytes that it took."""
         environment = {**os.environ, "PYTHONPATH": HERE}

@@ -5,17 +5,23 @@ import contextlib
 import io
 import os
 import tempfile
-from typing import IO, Any, Iterator, Optional, Protocol, Union, cast
+from typing import IO, Any, Callable, Iterator, Optional, Protocol, Union, cast
 
 from . import _MORE, _NO_LIMIT, _NO_ROOM, _ROWS_MISSING, MAX_BYTES
 from . import Buffer, Decoder, Encoder, Error, Header, Rows, _length, _Option, _word
 from ._files import writing
-from ._pbm import PageReader, Readable, head_of
+from ._pbm import PageReader, head_of
 from ._rows import row_bytes
 
 _HEADER_BYTES = 20
 # Bytes of a stream that are read at once, and of an output that are written at once.
 _PIECE, _HELD = 4096, 1 << 16
+
+
+class Readable(Protocol):
+    """What is asked of a file object that is read."""
+
+    def read(self, size: int = ..., /) -> Optional[bytes]: ...
 
 
 class Writable(Protocol):
@@ -47,11 +53,11 @@ def encode_file(
     target  the same; a file with a name is there when it is whole, and not before
 
     The options are those of encode. The image is read row by row, and the stream is written as it is made: pipes will do on
-    both sides. Where rows are missing an Error is raised; a file object has the stream of the stripes that are whole, then,
-    and a beginning of the next.
+    both sides, and what of it is certain is written before more is read. Where rows are missing an Error is raised; a file
+    object has the stream of the stripes that are whole, then, and a beginning of the next.
     """
     with _reading(source) as file, _writing(target) as output:
-        page = PageReader(file)
+        page = PageReader(_more_of(file, output))
         encoder = Encoder(
             page.width,
             page.height,
@@ -86,7 +92,7 @@ def decode_file(
     max_rows   an image of more rows is refused; without one, or with None, none is
     max_bytes  an image whose rows take more bytes is refused; with None none is
 
-    The rows are written as they are decoded: pipes will do on both sides. A PBM begins with the height. So a stream that may
+    The rows are written as they are decoded, and before more is read: pipes will do on both sides. A PBM begins with the height. So a stream that may
     give its height late is decoded twice, and nothing is written before its end has come; where the source can't be set
     back to its beginning, the stream is kept in a temporary file.
 
@@ -96,14 +102,14 @@ def decode_file(
     limit = None if max_bytes is None else _length("max_bytes", max_bytes)
     most = _NO_LIMIT if max_rows is None else _word("max_rows", max_rows)
     with _reading(source) as file, _writing(target) as output, contextlib.ExitStack() as stack:
-        begin, stream = _place(file), _Stream(file, most)
+        begin, stream = _place(file), _Stream(_more_of(file, output), most)
         height, width = stream.header.height, stream.header.width
         if stream.header.options & _Option.VARIABLE_HEIGHT:
             kept = None if begin is not None else stack.enter_context(tempfile.TemporaryFile())
             height = _late_height(stream, kept, limit)
             again = cast(IO[bytes], file if kept is None else kept)
             again.seek(begin or 0)
-            stream = _Stream(again, most)
+            stream = _Stream(_more_of(again, output), most)
         else:
             _refuse_large(height * row_bytes(width), limit)
         output.put(head_of(width, height))
@@ -171,24 +177,32 @@ def _writing(target: Target) -> Iterator[_Output]:
         output.send()
 
 
-class _Stream:
-    """A stream in a file, of which the header has been read."""
+def _more_of(file: Readable, output: _Output) -> Callable[[int], bytes]:
+    """A call that gives up to so many bytes of a file: those that are there, if it tells. All that is held goes out before."""
+    read = getattr(file, "read1", file.read)
 
-    def __init__(self, file: Readable, max_rows: int) -> None:
-        self._file, self._decoder, self._front = file, Decoder(max_rows=max_rows), b""
+    def more(size: int) -> bytes:
+        output.send()
+        data = read(size)
+        if data is None:
+            raise BlockingIOError("source has no bytes now")
+        return bytes(data)
+
+    return more
+
+
+class _Stream:
+    """A stream of which the header has been read, by a call that gives up to so many bytes, and none at the end."""
+
+    def __init__(self, more: Callable[[int], bytes], max_rows: int) -> None:
+        self._more, self._decoder, self._front = more, Decoder(max_rows=max_rows), b""
         while self._decoder.header is None:
-            piece = self._more()
+            piece = more(_PIECE)
             if not piece:
                 self._decoder.end()
             self._decoder.feed(piece[: _HEADER_BYTES - len(self._front)])
             self._front += piece
         self.header: Header = self._decoder.header
-
-    def _more(self) -> bytes:
-        piece = self._file.read(_PIECE)
-        if piece is None:
-            raise BlockingIOError("source has no bytes now")
-        return bytes(piece)
 
     def rows(self, kept: Optional[IO[bytes]] = None) -> Iterator[bytes]:
         """The rows, one after another. All that is read of the stream is written to `kept`."""
@@ -199,7 +213,7 @@ class _Stream:
             yield from self._decoder._fed(piece)
             if self._decoder._status != _MORE:
                 return
-            piece = self._more()
+            piece = self._more(_PIECE)
             if not piece:
                 yield from self._decoder._ended()
                 return

@@ -3,7 +3,7 @@ from __future__ import annotations
 
 import re
 from dataclasses import dataclass
-from typing import Iterator, Optional, Protocol
+from typing import Callable, Iterator
 
 from . import Error
 from ._rows import row_bytes
@@ -15,8 +15,8 @@ _NO_PBM, _BAD_DIGIT = 31, 38
 # What a header may have that says no more than one white space: a comment, and white space after white space.
 _SAYS_NOTHING = re.compile(rb"#[^\r\n]*[\r\n]|[ \t-\r]+")
 _OPEN_COMMENT = re.compile(rb"#[^\r\n]+\Z")
-# Bytes that are read at once, and the most of a header without those.
-_PIECE, _MOST_HEADER = 1 << 16, 1 << 16
+# Bytes that are read at once, of the header and then; and the most of a header without what says nothing.
+_FRONT, _PIECE, _MOST_HEADER = 1 << 12, 1 << 16, 1 << 16
 
 
 @dataclass(frozen=True)
@@ -51,17 +51,11 @@ def _packed(text: bytes, width: int, height: int) -> bytes:
     return b"".join(int(digits[at : at + width] + padding, 2).to_bytes(length, "big") for at in starts)
 
 
-class Readable(Protocol):
-    """What is asked of a file that is read."""
-
-    def read(self, size: int = ..., /) -> Optional[bytes]: ...
-
-
 class PageReader:
-    """Reads a PBM from a file object, row by row. It may read beyond the image."""
+    """Reads a PBM row by row, by a call that gives up to so many bytes, and none at the end. It may read beyond the image."""
 
-    def __init__(self, file: Readable) -> None:
-        self._file = file
+    def __init__(self, more: Callable[[int], bytes]) -> None:
+        self._more = more
         front = b""
         while True:
             found = _HEADER.match(front)
@@ -69,10 +63,10 @@ class PageReader:
                 break
             # All of this is of the header.
             front = _OPEN_COMMENT.sub(b"#", _SAYS_NOTHING.sub(b"\n", front))
-            more = self._more(4096)
-            if not more or len(front) > _MOST_HEADER:
+            bytes_more = more(_FRONT)
+            if not bytes_more or len(front) > _MOST_HEADER:
                 raise _no_pbm()
-            front += more
+            front += bytes_more
             if front[:2] not in (b"P", b"P1", b"P4"):
                 raise _no_pbm()
         self._is_raw = found[1] == b"4"
@@ -103,12 +97,6 @@ class PageReader:
                 held, at = held[at:] + more.translate(None, left_out), 0
             yield held[at : at + length]
             at += length
-
-    def _more(self, size: int) -> bytes:
-        data = self._file.read(size)
-        if data is None:
-            raise BlockingIOError("source has no bytes now")
-        return bytes(data)
 
 
 def _no_pbm() -> Error:
