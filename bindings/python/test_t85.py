@@ -320,7 +320,13 @@ class FromFileToFile(unittest.TestCase):
         return stream.getvalue()
 
     def decoded(self, stream, **names):
-        """The image of a stream in the same ways, and what is behind the place where a file object stands."""
+        """The image of a stream in the same ways, and its height: also where the stream would be kept in a file."""
+        found = self.decoded_once(stream, **names)
+        with mock.patch("t85._conversion._MOST_KEPT", 30):
+            self.assertEqual(self.decoded_once(stream, **names), found)
+        return found
+
+    def decoded_once(self, stream, **names):
         image = io.BytesIO()
         source = io.BytesIO(b"before" + stream)
         source.seek(6)
@@ -340,7 +346,7 @@ class FromFileToFile(unittest.TestCase):
         with self.assertRaises(t85.Error) as caught:
             call(io.BytesIO(source), target, **names)
         for place, path in ((Dribble(source), Dribble()), (self.path("from", source), name)):
-            with self.assertRaises(t85.Error) as again:
+            with mock.patch("t85._conversion._MOST_KEPT", 30), self.assertRaises(t85.Error) as again:
                 call(place, path, **names)
             self.assertEqual(again.exception.number, caught.exception.number)
         self.assertEqual([entry for entry in os.listdir(self.folder) if "broken" in entry], [])
@@ -404,6 +410,12 @@ class FromFileToFile(unittest.TestCase):
                 self.assertEqual([part.kind for part in itertools.islice(t85.parts(written), 8)], ["header", *["data entity"] * 7])
 
     def test_late_height(self):
+        # More than is kept in memory.
+        noise = random.Random(5).randbytes(1700000)
+        stream = t85.encode(noise, 8000, 1700, announced_height=1800)
+        self.assertGreater(len(stream), 3 << 19)
+        self.assertEqual(self.decoded(stream), (b"P4\n8000 1700\n" + noise, 1700))
+        self.assertEqual(self.fault(t85.decode_file, stream, max_rows=1699)[0].number, 24)
         for height, names in ((1 << 20, {}), (160, {}), (161, dict(stripe_rows=160)), (1 << 31, dict(stripe_rows=1))):
             with self.subTest(height=height, **names):
                 stream = t85.encode(ROWS, 416, 160, announced_height=height, **names)
@@ -420,9 +432,50 @@ class FromFileToFile(unittest.TestCase):
                 if len(stream) > 19:
                     self.assertEqual(error.partial.count * 52 + len(b"P4\n416 160\n"), len(written))
 
+    def test_broken_heights(self):
+        # Numbers of docs/EXAMPLES.md.
+        front = head(1, 9, 1, 0, 0x20)
+        streams = {
+            47: (front + b"\xff\x05\0\0\0\x02\xc0\xff\x02\xff\x05", 15, b"P4\n1 2\n\x80"),
+            48: (front + b"\xc0\xff\x02" * 2 + b"\xff\x05\0\0\0\x01\xff\x02", 14, b"P4\n1 9\n\x80\x80"),
+            50: (front + b"\xc0\xff\x02" * 2 + b"\xff\x05\0\0\0\0\xff\x02", 14, b"P4\n1 9\n\x80\x80"),
+        }
+        for number, (stream, fault, image) in streams.items():
+            with self.subTest(number=number):
+                error, written = self.fault(t85.decode_file, stream)
+                self.assertEqual((error.number, written), (fault, image))
+
+    def test_turned(self):
+        # Streams of turned bytes and cuts, as decode has them.
+        dice = random.Random(7)
+        late = t85.encode(ROWS, 416, 160, announced_height=200, stripe_rows=20, most_offset=127)
+        for _ in range(600):
+            stream = bytearray(dice.choice((STREAM, late)))
+            for _ in range(dice.randrange(4)):
+                stream[dice.randrange(8, len(stream))] ^= 1 << dice.randrange(8)
+            stream = bytes(stream[: dice.choice((len(stream), dice.randrange(len(stream) + 1)))])
+            names = dict(max_rows=dice.choice((None, 160, 1000)), max_bytes=1 << 16)
+            try:
+                wanted = 0, t85.decode(stream, **names)
+            except t85.Error as error:
+                wanted = error.number, error.partial
+            image = io.BytesIO()
+            try:
+                t85.decode_file(io.BytesIO(stream) if dice.random() < 0.5 else Dribble(stream, 999), image, **names)
+                found = 0, image.getvalue()
+            except t85.Error as error:
+                found = error.number, image.getvalue()
+            # An image that announces too many bytes is refused, whether its rows come or not.
+            if found[0] != 18:
+                self.assertEqual(found, wanted)
+            else:
+                self.assertEqual(found[1], b"")
+
     def test_limits(self):
         late = t85.encode(ROWS, 416, 160, announced_height=1 << 31)
         for stream in (STREAM, late):
+            self.assertEqual(self.decoded(stream, max_rows=160), (PBM, 160))
+            self.assertEqual(self.fault(t85.decode_file, stream, max_rows=159)[0].number, 24)
             self.assertEqual(self.decoded(stream, max_bytes=len(ROWS)), (PBM, 160))
             for most in (0, 1, len(ROWS) - 1):
                 error, written = self.fault(t85.decode_file, stream, max_bytes=most)

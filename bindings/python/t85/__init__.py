@@ -89,10 +89,12 @@ if TYPE_CHECKING:
 
 _SONAME = "libt85.so.1"
 _NO_ROOM = 18
+_TOO_MANY_ROWS = 24
 _ROWS_MISSING = 36
 _NO_MORE_PARTS = 52
 _HEADER_READ, _ROW, _MORE = 60, 61, 62
-_HEADER_BYTES = 20
+# The bytes of a stream's header, and the most of a PBM's.
+_HEADER_BYTES, _HEAD_BYTES = 20, 22
 _NO_LIMIT = 0xFFFFFFFF
 _FIRST_ROOM = 1 << 23
 
@@ -366,6 +368,19 @@ def _extent(stream: Buffer, fields: Header, step: int) -> _Extent:
     status = _LIBRARY.t85_info(_bytes(stream), _size(stream), byref(summary))
     height = fields.height if status else summary.image_height
     return _Extent(height, whole=not status, row=_row_bytes(fields.width), step=step)
+
+
+def _height_in_use(stream: Buffer, max_rows: int) -> int:
+    """The height of a stream's image as its PBM has it, also of a broken stream: without decoding more than that wants."""
+    fields, written = header(stream), c_size_t()
+    window, image = _window(fields.width), ctypes.create_string_buffer(_HEAD_BYTES)
+    lent = _bytes(stream), _size(stream), max_rows, window, len(window), image, len(image), byref(written)
+    status = _LIBRARY.t85_decode(*lent)
+    # What is lent goes back before it is told of a fault: else a map can't be closed.
+    del lent
+    if not written.value:
+        raise Error(status)
+    return int(image.raw[: written.value].split()[2])
 
 
 def _decoded(write: _Writer, extent: _Extent, before: int, max_bytes: Optional[int]) -> tuple[int, _Memory]:

@@ -3,19 +3,20 @@ from __future__ import annotations
 
 import contextlib
 import io
+import mmap
 import os
 import tempfile
-from typing import IO, Any, Callable, Iterator, Optional, Protocol, Union, cast
+from typing import Any, Callable, Iterator, Optional, Protocol, Union, cast
 
-from . import _MORE, _NO_LIMIT, _NO_ROOM, _ROWS_MISSING, MAX_BYTES
-from . import Buffer, Decoder, Encoder, Error, Header, Rows, _length, _Option, _word
+from . import _MORE, _NO_LIMIT, _NO_ROOM, _ROWS_MISSING, _TOO_MANY_ROWS, MAX_BYTES
+from . import Buffer, Decoder, Encoder, Error, Header, Rows, _height_in_use, _length, _Option, _word
 from ._files import writing
 from ._pbm import PageReader, head_of
 from ._rows import row_bytes
 
 _HEADER_BYTES = 20
-# Bytes of a stream that are read at once, and of an output that are written at once.
-_PIECE, _HELD = 4096, 1 << 16
+# Bytes of a stream that are read at once, and of an output that are written at once; and of a stream that is kept in memory.
+_PIECE, _HELD, _MOST_KEPT = 1 << 12, 1 << 16, 1 << 20
 
 
 class Readable(Protocol):
@@ -92,26 +93,29 @@ def decode_file(
     max_rows   an image of more rows is refused; without one, or with None, none is
     max_bytes  an image whose rows take more bytes is refused; with None none is
 
-    The rows are written as they are decoded, and before more is read: pipes will do on both sides. A PBM begins with the height. So a stream that may
-    give its height late is decoded twice, and nothing is written before its end has come; where the source can't be set
-    back to its beginning, the stream is kept in a temporary file.
+    The rows are written as they are decoded, and before more is read: pipes will do on both sides. A PBM begins with the
+    height. So a stream that may give its height late is read to its end before anything is written. It is kept meanwhile,
+    from 1 MiB on in a temporary file.
 
     Where the stream is broken an Error is raised, whose partial has the number of the rows that can be had. A file object
     has the header with the full height, then, and these rows.
     """
-    limit = None if max_bytes is None else _length("max_bytes", max_bytes)
     most = _NO_LIMIT if max_rows is None else _word("max_rows", max_rows)
+    limit = None if max_bytes is None else _length("max_bytes", max_bytes)
     with _reading(source) as file, _writing(target) as output, contextlib.ExitStack() as stack:
-        begin, stream = _place(file), _Stream(_more_of(file, output), most)
-        height, width = stream.header.height, stream.header.width
+        more = _more_of(file, output)
+        stream = _Stream(more)
+        width = stream.header.width
         if stream.header.options & _Option.VARIABLE_HEIGHT:
-            kept = None if begin is not None else stack.enter_context(tempfile.TemporaryFile())
-            height = _late_height(stream, kept, limit)
-            again = cast(IO[bytes], file if kept is None else kept)
-            again.seek(begin or 0)
-            stream = _Stream(_more_of(again, output), most)
+            data = _kept(stream.front, more, stack)
+            height = _height_in_use(data, most)
+            again: Any = data if isinstance(data, mmap.mmap) else io.BytesIO(data)
+            stream = _Stream(_more_of(again, output))
         else:
-            _refuse_large(height * row_bytes(width), limit)
+            height = stream.header.height
+            if height > most:
+                raise Error(_TOO_MANY_ROWS)
+        _refuse_large(height * row_bytes(width), limit)
         output.put(head_of(width, height))
         count = 0
         for row in stream.rows():
@@ -194,21 +198,19 @@ def _more_of(file: Readable, output: _Output) -> Callable[[int], bytes]:
 class _Stream:
     """A stream of which the header has been read, by a call that gives up to so many bytes, and none at the end."""
 
-    def __init__(self, more: Callable[[int], bytes], max_rows: int) -> None:
-        self._more, self._decoder, self._front = more, Decoder(max_rows=max_rows), b""
+    def __init__(self, more: Callable[[int], bytes]) -> None:
+        self._more, self._decoder, self.front = more, Decoder(), b""
         while self._decoder.header is None:
             piece = more(_PIECE)
             if not piece:
                 self._decoder.end()
-            self._decoder.feed(piece[: _HEADER_BYTES - len(self._front)])
-            self._front += piece
+            self._decoder.feed(piece[: _HEADER_BYTES - len(self.front)])
+            self.front += piece
         self.header: Header = self._decoder.header
 
-    def rows(self, kept: Optional[IO[bytes]] = None) -> Iterator[bytes]:
-        """The rows, one after another. All that is read of the stream is written to `kept`."""
-        piece = self._front[_HEADER_BYTES:]
-        if kept is not None:
-            kept.write(self._front)
+    def rows(self) -> Iterator[bytes]:
+        """The rows, one after another."""
+        piece = self.front[_HEADER_BYTES:]
         while True:
             yield from self._decoder._fed(piece)
             if self._decoder._status != _MORE:
@@ -217,40 +219,27 @@ class _Stream:
             if not piece:
                 yield from self._decoder._ended()
                 return
-            if kept is not None:
-                kept.write(piece)
 
     @property
     def status(self) -> int:
         """0 where all rows came, or the stream's fault."""
         return self._decoder._status
 
-    @property
-    def certain(self) -> int:
-        return self._decoder.certain
 
-    @property
-    def height(self) -> int:
-        """The height of the image; of a broken stream it is the header's."""
-        return self.header.height if self.status else self._decoder.height
-
-
-def _place(file: Readable) -> Optional[int]:
-    """Where a file object stands, if it can be set back to there."""
-    seekable = getattr(file, "seekable", None)
-    return cast(IO[bytes], file).tell() if seekable is not None and seekable() else None
-
-
-def _late_height(stream: _Stream, kept: Optional[IO[bytes]], max_bytes: Optional[int]) -> int:
-    """The height that a stream has at its end."""
-    count, row = 0, row_bytes(stream.header.width)
-    for _ in stream.rows(kept):
-        count += 1
-        # More rows may have been given than the image has.
-        if count % 1024 == 0:
-            _refuse_large(stream.certain * row, max_bytes)
-    _refuse_large((count if stream.status else stream.height) * row, max_bytes)
-    return stream.height
+def _kept(front: bytes, more: Callable[[int], bytes], stack: contextlib.ExitStack) -> Union[bytes, mmap.mmap]:
+    """All bytes of a stream; where they are many, in a temporary file."""
+    held = bytearray(front)
+    while len(held) < _MOST_KEPT:
+        piece = more(_HELD)
+        if not piece:
+            return bytes(held)
+        held += piece
+    file = stack.enter_context(tempfile.TemporaryFile())
+    while held:
+        file.write(held)
+        held[:] = more(_HELD)
+    file.flush()
+    return stack.enter_context(mmap.mmap(file.fileno(), 0, access=mmap.ACCESS_COPY))
 
 
 def _refuse_large(taken: int, max_bytes: Optional[int]) -> None:

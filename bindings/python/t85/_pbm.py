@@ -12,11 +12,11 @@ _SPACE = rb"(?:[ \t-\r]|#[^\r\n]*[\r\n])"
 _HEADER = re.compile(rb"P([14])%b+0*(\d{1,10})%b+0*(\d{1,10})%b" % (_SPACE, _SPACE, _SPACE))
 _WHITE = b" \t\n\v\f\r"
 _NO_PBM, _BAD_DIGIT = 31, 38
-# What a header may have that says no more than one white space: a comment, and white space after white space.
-_SAYS_NOTHING = re.compile(rb"#[^\r\n]*[\r\n]|[ \t-\r]+")
+# What a header may have that says no more than one white space, also with the zeros of a number behind it.
+_SAYS_NOTHING = re.compile(rb"(?:#[^\r\n]*[\r\n]|[ \t-\r])+(?:0+(?=\d))?")
 _OPEN_COMMENT = re.compile(rb"#[^\r\n]+\Z")
 # Bytes that are read at once, of the header and then; and the most of a header without what says nothing.
-_FRONT, _PIECE, _MOST_HEADER = 1 << 12, 1 << 16, 1 << 16
+_FRONT, _PIECE, _MOST_HEADER = 1 << 12, 1 << 16, 64
 
 
 @dataclass(frozen=True)
