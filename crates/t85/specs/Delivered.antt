@@ -2,6 +2,7 @@
 use Rattle.std.specs.Prelude.{ℕ, zero, suc, ◌≡◌, ◌≤◌, ◌<◌, ◌⊎◌, List, [], ◌++◌, length, take, drop, Option, Some, None, Result, Ok, Err}
 use Rattle.t85_core.specs.declared.fault.Fault.{Fault}
 use Rattle.t85_core.specs.Fault.{fault_number}
+use Rattle.t85.specs.declared.devices.Room.{Room}
 
 -- the bytes of n rows, one row after the other; each begins `stride` bytes after the one before, and the last may be cut
 abbrev pub lined : ℕ → ℕ → ℕ → List ℕ → List ℕ
@@ -60,3 +61,7 @@ lending old new written answer = record { old = old; new = new; written = writte
 -- so a call was refused
 abbrev pub RefusesLending : ℕ → Lending → Type 0
 RefusesLending status l = Refuses status l.old l.new l.written l.answer
+
+-- room that nothing was written to yet
+abbrev pub IsEmptyRoom : Room → Type 0
+IsEmptyRoom room = (room.failures ≡ 0) × (room.len ≡ 0) × (room.spilled ≡ None)

@@ -4,15 +4,14 @@ ghost use Rattle.std.specs.Prelude.{◌≡◌, ◌≢◌, ◌≤◌, ◌<◌, �
 ghost use Rattle.std.specs.Int.{div_ceil};
 ghost use Rattle.raster_core.specs.Window.{current_place, held as rows_of, width_of};
 ghost use Rattle.t85_core.specs.Jbg.{head_of, is_low};
-ghost use Rattle.raster_core.specs.Packed.{next_place};
-ghost use Rattle.t85_core.specs.Lent.{KeepsWindow, StaysWindow};
+ghost use Rattle.t85_core.specs.Lent.{KeepsWindow, StaysWindow, TurnsWindow};
 ghost use Rattle.t85_core.specs.Options.{refusal_of, settings_of};
 ghost use Rattle.t85_core.specs.RowNumbers.{row_numbers};
 ghost use Rattle.t85_core.specs.Steps.ByRow.{EndsImage, MayGoOn, TakesNextRow, view_of};
 ghost use Rattle.t85_core.specs.Steps.MostBytes.{most_row_bytes};
 ghost use Rattle.t85_core.specs.Steps.RowSteps.{IsGoing, given_row};
 ghost use Rattle.t85.specs.Decoded.{window_bytes as window_of};
-ghost use Rattle.t85.specs.Delivered.{lending};
+ghost use Rattle.t85.specs.Delivered.{IsEmptyRoom, lending};
 ghost use Rattle.t85.specs.Encoded.{settings_chosen};
 ghost use Rattle.t85.specs.Encoder.{BeginsStream, EndsStream, HasBeenEnded, PutsEnd, PutsRow, StartsStream, TakesOne, TellsLeft, TellsRoom, encoder_hold, end_refusal, head_length, image_of, numbers_of_encoder, row_refusal, settings_kept, start_call, start_refusal, without_comment};
 ghost use Rattle.t85.specs.EncoderSteps.{GoesOnFrom, HasBegun, IsIdle, IsOfNone, AwaitsCall, KeepsChoices, RefusesCall};
@@ -452,9 +451,7 @@ impl T85Encoder {
     )
         requires width { width_of window.old ≡ size.width }
         requires not_low { is_low (settings_of options.now) size.height ≡ false }
-        requires fresh { room.old.failures ≡ 0 }
-        requires empty { room.old.len ≡ 0 }
-        requires unspilled { room.old.spilled ≡ None }
+        requires room { IsEmptyRoom room.old }
         ensures begun { length (head_of (settings_of options.now) size.width size.height) ≤ length
             room.new.bytes.now → HasBegun (settings_of options.now) size self.new window.new
             (take room.new.len room.new.bytes.now) }
@@ -535,16 +532,11 @@ fn put_in(
     requires left { engine.old.rows < engine.old.size.height }
     requires ready { MayGoOn engine.old }
     requires going { IsGoing engine.old }
-    requires fresh { room.old.failures ≡ 0 }
-    requires empty { room.old.len ≡ 0 }
-    requires unspilled { room.old.spilled ≡ None }
-    ensures put { most_row_bytes engine.old ≤ length room.new.bytes.now →
-        TakesNextRow (given_row engine.old row.now) (view_of engine.old learning.old)
-        (view_of engine.new learning.new) (rows_of window.old) (rows_of window.new) (Some [])
-        (Some (take room.new.len room.new.bytes.now)) }
-    ensures ready { most_row_bytes engine.old ≤ length room.new.bytes.now → MayGoOn engine.new }
-    ensures place { most_row_bytes engine.old ≤ length room.new.bytes.now →
-        current_place window.new ≡ next_place (next_place (current_place window.old)) }
+    requires room { IsEmptyRoom room.old }
+    ensures put { most_row_bytes engine.old ≤ length room.new.bytes.now → MayGoOn engine.new ×
+        TurnsWindow window.old window.new × TakesNextRow (given_row engine.old row.now)
+        (view_of engine.old learning.old) (view_of engine.new learning.new) (rows_of window.old)
+        (rows_of window.new) (Some []) (Some (take room.new.len room.new.bytes.now)) }
     ensures window { KeepsWindow window.old window.new }
     ensures same_reference { room.new.bytes.ghost_name ≡ room.old.bytes.ghost_name }
 {
@@ -563,9 +555,7 @@ fn end_in(
     requires whole { engine.old.may_end ≡ false → engine.old.rows ≡ engine.old.size.height }
     requires ready { MayGoOn engine.old }
     requires going { IsGoing engine.old }
-    requires fresh { room.old.failures ≡ 0 }
-    requires empty { room.old.len ≡ 0 }
-    requires unspilled { room.old.spilled ≡ None }
+    requires room { IsEmptyRoom room.old }
     ensures ended { most_row_bytes engine.old ≤ length room.new.bytes.now →
         EndsImage (view_of engine.old learning.old) (rows_of window.old) (Some [])
         (Some (take room.new.len room.new.bytes.now)) }

@@ -7,7 +7,7 @@ ghost use Rattle.t85_core.specs.Jbg.{is_low};
 ghost use Rattle.t85.specs.Bound.{IsBound, bound_told, comment_length};
 ghost use Rattle.t85.specs.Decoded.{window_bytes as window_of};
 ghost use Rattle.t85.specs.Encoded.{EncodesImage, DeliversCode, asked, encoding_call, refusal_told, settings_chosen};
-ghost use Rattle.t85.specs.Delivered.{lending, lined};
+ghost use Rattle.t85.specs.Delivered.{IsEmptyRoom, lending, lined};
 
 use crate::decoding::{FULL, answer_status};
 use crate::devices::Room;
@@ -183,9 +183,7 @@ fn write_stream(
     requires window { length window.old ≡ window_of size.width }
     requires apart { div_ceil size.width 8 ≤ stride }
     requires not_low { is_low (settings_of options.now) size.height ≡ false }
-    requires fresh { room.old.failures ≡ 0 }
-    requires empty { room.old.len ≡ 0 }
-    requires unspilled { room.old.spilled ≡ None }
+    requires room { IsEmptyRoom room.old }
     ensures writes { DeliversCode (asked (settings_of options.now) size.width size.height)
         (lined size.height (div_ceil size.width 8) stride rows.now) room.new.bytes.now
         room.new.len result }

@@ -18,7 +18,7 @@ returns-clause-writes c =
     subst (λ answer. DeliversCode (asked s c.args.size.width c.args.size.height) (lined c.args.size.height (div_ceil c.args.size.width 8) c.args.stride c.args.rows.now) out.bytes.now out.len answer) (sym c.answer_status.ensures)
     (subst (λ held. DeliversCode (asked s c.args.size.width c.args.size.height) held out.bytes.now out.len (answer_status c.encode_in_memory-answer.result)) given
     (stored s c.args.size.width c.args.size.height body out.bytes.now out.len c.requires.not_low _ _ c.encode_in_memory-answer.result out.spilled room.failures out.failures
-    (emptied room.len room.bytes.now room.spilled c.requires.empty c.requires.unspilled) c.requires.fresh (sym c.is_some.ensures ∙ c.if-is_some.false) out.full out.within c.encode_in_memory-answer.ensures.outcome))
+    (emptied room.len room.bytes.now room.spilled c.requires.room.1 c.requires.room.2) c.requires.room.0 (sym c.is_some.ensures ∙ c.if-is_some.false) out.full out.within c.encode_in_memory-answer.ensures.outcome))
 
 pub returns-then-is_some-clause-writes : goal.returns-then-is_some-clause-writes
 returns-then-is_some-clause-writes c =
@@ -32,4 +32,4 @@ returns-then-is_some-clause-writes c =
     subst (λ held. DeliversCode (asked s c.args.size.width c.args.size.height) held out.bytes.now out.len 18) given
     (overfull s c.args.size.width c.args.size.height body out.bytes.now out.len c.requires.not_low c.code_denotes.ensures (are_settings c.args.options.now) c.args.size.some_width c.args.size.not_too_wide c.args.size.some_height tall
     _ _ c.encode_in_memory-answer.result out.spilled room.failures out.failures
-    (emptied room.len room.bytes.now room.spilled c.requires.empty c.requires.unspilled) (sym c.is_some.ensures ∙ c.if-is_some.true) out.spilled_last c.encode_in_memory-answer.ensures.outcome)
+    (emptied room.len room.bytes.now room.spilled c.requires.room.1 c.requires.room.2) (sym c.is_some.ensures ∙ c.if-is_some.true) out.spilled_last c.encode_in_memory-answer.ensures.outcome)

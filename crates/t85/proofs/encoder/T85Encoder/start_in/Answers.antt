@@ -14,7 +14,7 @@ returns-in-Ok-clause-begun c = λ enough.
     let size = c.args.size in
     let room = c.args.room.now in
     let out = c.start-started.new.output in
-    let empty = emptied room.len room.bytes.now room.spilled c.requires.empty c.requires.unspilled in
+    let empty = emptied room.len room.bytes.now room.spilled c.requires.room.1 c.requires.room.2 in
     let written = head_written s size.width size.height out.len (view_of c.in-Ok.engine c.start-started.new.learning) (rows_of c.start-started.new.window) out.bytes.now (take room.len room.bytes.now ++ option_to_list room.spilled) out.spilled size.some_height empty out.within out.spilled_last enough c.in-Ok.ensures.begun in
     record {
       version_is = c.keep.ensures.same.version ∙ c.choose.ensures.version;
@@ -34,5 +34,5 @@ pub returns-in-Err-clause-begun : goal.returns-in-Err-clause-begun
 returns-in-Err-clause-begun c = λ enough.
     let room = c.args.room.now in
     let out = c.start-started.new.output in
-    let empty = emptied room.len room.bytes.now room.spilled c.requires.empty c.requires.unspilled in
-    absurd (head_fails_not _ (settings_of c.args.options.now) c.args.size.width c.args.size.height out.len out.bytes.now _ out.spilled _ _ empty out.within out.spilled_last out.full enough c.requires.not_low c.requires.fresh c.in-Err.ensures.writes.counts c.in-Err.ensures.err (λ e. (c.in-Err.ensures.low (ap Err e)).0) (λ e. c.in-Err.ensures.cut (ap Err e)))
+    let empty = emptied room.len room.bytes.now room.spilled c.requires.room.1 c.requires.room.2 in
+    absurd (head_fails_not _ (settings_of c.args.options.now) c.args.size.width c.args.size.height out.len out.bytes.now _ out.spilled _ _ empty out.within out.spilled_last out.full enough c.requires.not_low c.requires.room.0 c.in-Err.ensures.writes.counts c.in-Err.ensures.err (λ e. (c.in-Err.ensures.low (ap Err e)).0) (λ e. c.in-Err.ensures.cut (ap Err e)))
