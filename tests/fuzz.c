@@ -222,7 +222,8 @@ static void by_rows(uint32_t width, uint32_t height, const t85_options *options,
     for (y = 0; y <= height; y++) {
         const uint8_t *pixels = y < height ? rows.bytes + y * row : NULL;
         told = (size_t)t85_encode_room(encoder);
-        CHECK(t85_encode_rows_left(encoder) == most - y && told > 0 && told <= 4 * width + 2 * written + 100);
+        CHECK(t85_encode_rows_left(encoder) == most - y && told > 4 * width);
+        CHECK(told <= 2 * t85_encode_bound(width, height, options, comment.len));
         if (roll(4) == 0) {
             refused(encoder, pixels, row, roll((uint32_t)told), T85_NO_ROOM);
             if (pixels)
