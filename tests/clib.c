@@ -230,10 +230,29 @@ static void goes_on(buffer whole, size_t *at, buffer room, size_t written)
     *at += written;
 }
 
+/* A window as it is after the first `count` rows, of which it needs the last two: row n, counted from 1, is at place
+   2 * n % 3, and what is above the image is white; with `reset` what is above the stripe is white, too. */
+static void make_anew(buffer window, uint32_t width, buffer rows, uint32_t count,
+                      const t85_options *options)
+{
+    size_t row = t85_row_bytes(width);
+    uint32_t first = options->reset ? count / options->stripe_rows * options->stripe_rows : 0, above;
+    memset(window.bytes, FILL, window.len);
+    for (above = 0; above < 2; above++) {
+        uint8_t *place = window.bytes + (2 * (size_t)count + above) % 3 * row;
+        memset(place, 0, row);
+        if (count >= first + above + 1) {
+            memcpy(place, rows.bytes + (count - above - 1) * row, row);
+            if (width % 8)
+                place[row - 1] &= (uint8_t)(0xff00u >> width % 8);
+        }
+    }
+}
+
 /* The same image row by row, where `most_rows` may come: in just the room that is told, by an encoder and a window that
-   are elsewhere at each call; of a tall image they stay now and then. */
+   are elsewhere at each call; of a tall image they stay now and then. Or the window is made anew for each call. */
 static void encode_rows_in(uint32_t width, uint32_t height, uint32_t most_rows, buffer rows,
-                           const t85_options *options, buffer comment, buffer whole)
+                           const t85_options *options, buffer comment, buffer whole, bool anew)
 {
     size_t row = t85_row_bytes(width), at = 0, written = 77;
     size_t front = options->has_comment ? 26 + comment.len : 20;
@@ -250,6 +269,8 @@ static void encode_rows_in(uint32_t width, uint32_t height, uint32_t most_rows, 
     for (y = 0; y <= height; y++) {
         if (y < 1000 || y % 61 == 0)
             move_on(&by);
+        if (anew)
+            make_anew(by.windows[by.turn], width, rows, y, options);
         if (t85_encode_rows_left(encoder_of(&by)) != most_rows - y ||
             !t85_encode_room(encoder_of(&by)))
             fail("t85_encode_rows_left: %u, or no room, after %u rows",
@@ -292,9 +313,11 @@ static void encode(char **words)
     wide = spread(rows, row, row + 5);
     encode_in(width, height, wide, row + 5, &options, comment, whole, whole.len);
     give_back(wide);
-    encode_rows_in(width, height, height, lent, &options, comment, whole);
+    encode_rows_in(width, height, height, lent, &options, comment, whole, false);
+    encode_rows_in(width, height, height, lent, &options, comment, whole, true);
     if (options.announces_height)
-        encode_rows_in(width, height, options.announced_height, lent, &options, comment, whole);
+        encode_rows_in(width, height, options.announced_height, lent, &options, comment, whole,
+                       false);
     give_back(lent);
     give_back(comment);
 }
