@@ -316,6 +316,8 @@ uint8_t t85_decode_start(t85_decoder *decoder, size_t size, uint32_t max_rows);
    T85_ROW: the next row begins at window[*row]. It has t85_row_bytes(width) bytes.
    T85_MORE: all bytes were taken.
    0: the image is whole: it is the first t85_decode_height rows of those that were given.
+   A new height behind the last stripe, and the empty data entity behind that, may be among the
+   bytes that were not taken: t85_stream_facts tells where a stream ends.
    1 to 15: the stream is broken, and all rows were given that the bytes before the fault determine.
    24: the header announces more than max_rows rows.
    19: the window is too short, and nothing was taken or changed.
