@@ -108,7 +108,7 @@ enum {
     T85_NO_MORE_PARTS = 52, /* all parts of the stream were told */
 
     /* A stream in pieces. The last three are no faults. */
-    T85_NOT_BEGUN = 53,     /* the decoder, or the encoder, was not begun */
+    T85_NOT_BEGUN = 53,     /* the decoder or encoder was not begun */
     T85_HEADER_READ = 60,   /* the header was read */
     T85_ROW = 61,           /* a row was decoded */
     T85_MORE = 62,          /* more bytes are wanted */

@@ -35,7 +35,7 @@ message_of status =
     else if status == 50 then codes "struct is of another version"
     else if status == 51 then codes "stride is shorter than a row"
     else if status == 52 then codes "all parts of the stream were told"
-    else if status == 53 then codes "decoder was not begun"
+    else if status == 53 then codes "struct was not begun"
     else if status == 54 then codes "no more rows are taken"
     else if status == 55 then codes "row is shorter than its width"
     else if status == 60 then codes "header was read"

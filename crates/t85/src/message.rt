@@ -52,7 +52,7 @@ fn message_of(status: u8) -> &'static [u8]
         50 => b"struct is of another version",
         51 => b"stride is shorter than a row",
         52 => b"all parts of the stream were told",
-        53 => b"decoder was not begun",
+        53 => b"struct was not begun",
         54 => b"no more rows are taken",
         55 => b"row is shorter than its width",
         60 => b"header was read",

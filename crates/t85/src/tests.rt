@@ -658,7 +658,7 @@ fn other_statuses_have_texts(rt: HostRuntime) {
     assert!(rt; says(50, b"struct is of another version"));
     assert!(rt; says(51, b"stride is shorter than a row"));
     assert!(rt; says(52, b"all parts of the stream were told"));
-    assert!(rt; says(53, b"decoder was not begun"));
+    assert!(rt; says(53, b"struct was not begun"));
     assert!(rt; says(54, b"no more rows are taken"));
     assert!(rt; says(55, b"row is shorter than its width"));
     assert!(rt; says(60, b"header was read"));
