@@ -9,6 +9,7 @@
      clib faults IMAGE.pbm                   what each call refuses
      clib rooms STREAM IMAGE.pbm INFO        as decode, with every room from 0 to the whole
      clib null STREAM                        null pointers with a length of 0
+     clib far STREAM                         lengths at their ends, as a comment and a height of 2^32 - 1
      clib pieces STREAM COUNT                COUNT streams that this one is made into by turned bytes and cuts, in pieces
                                              of any length, beside t85_decode_rows
    Each buffer that is lent ends at a page that can't be touched, and in a second round begins behind
@@ -160,7 +161,7 @@ int main(int count, char **words)
         int words;
     } parts[] = {{"encode", encode, 8}, {"decode", decode, 3},   {"rooms", rooms, 3},
                  {"cuts", cuts, 2},     {"missing", missing, 2}, {"faults", faults, 1},
-                 {"null", null, 1},     {"pieces", pieces, 2}};
+                 {"null", null, 1},     {"far", far, 1},         {"pieces", pieces, 2}};
     size_t i;
     for (i = 0; i < sizeof parts / sizeof *parts; i++)
         if (count == parts[i].words + 2 && !strcmp(words[1], parts[i].name)) {

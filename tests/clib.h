@@ -52,6 +52,7 @@ void decoder_faults(buffer rows, uint32_t width, uint32_t height);
 void null(char **words);
 
 /* clib_far.c */
+void far(char **words);
 void far_rows(buffer rows, uint32_t width, uint32_t height);
 
 #endif

@@ -202,6 +202,52 @@ static void read_null(buffer stream, size_t window_len)
     give_back(window);
 }
 
+/* A call with no bytes, by a null pointer and by another: it takes none, and answers as wanted. */
+static void takes_none(uint8_t wanted, t85_decoder *decoder, buffer window, const uint8_t *bytes)
+{
+    const uint8_t *places[] = {NULL, bytes};
+    size_t i, taken, row;
+    for (i = 0; i < 2; i++) {
+        uint8_t status;
+        taken = 77;
+        status = t85_decode_bytes(decoder, places[i], 0, window.bytes, window.len, &taken, &row);
+        if (status != wanted || taken)
+            fail("t85_decode_bytes: status %d and %zu bytes of none where %d was wanted", status,
+                 taken, wanted);
+    }
+}
+
+/* A stream byte by byte, with no bytes wherever more are wanted, and after the end. There is no window before the rows. */
+static void piece_null(buffer stream, size_t window_len)
+{
+    buffer window = {NULL, 0};
+    t85_decoder decoder;
+    size_t at = 0, taken, row;
+    uint32_t rows = 0;
+    uint8_t status = T85_MORE;
+    if (t85_decode_start(&decoder, sizeof decoder, UINT32_MAX))
+        fail("t85_decode_start");
+    while (status >= T85_HEADER_READ && at < stream.len) {
+        if (status != T85_ROW)
+            takes_none(T85_MORE, &decoder, window, stream.bytes + at);
+        status = t85_decode_bytes(&decoder, stream.bytes + at, 1, window.bytes, window.len, &taken,
+                                  &row);
+        at += taken;
+        rows += status == T85_ROW;
+        if (status == T85_HEADER_READ)
+            window = lend(window_len);
+    }
+    /* Rows that the last byte determines. */
+    while (status == T85_ROW) {
+        status = t85_decode_bytes(&decoder, NULL, 0, window.bytes, window.len, &taken, &row);
+        rows += status == T85_ROW;
+    }
+    if (status != T85_OK || at != stream.len || rows != t85_decode_height(&decoder))
+        fail("t85_decode_bytes: status %d and %u rows, with no bytes between", status, rows);
+    takes_none(T85_OK, &decoder, window, stream.bytes + at);
+    give_back(window);
+}
+
 /* Calls of the encoder with null pointers and 0, for an image of eight pixels. */
 static void write_null(void)
 {
@@ -342,6 +388,7 @@ void null(char **words)
     if (t85_header(stream.bytes, stream.len, &fields) != T85_OK)
         fail("t85_header");
     read_null(stream, t85_window_bytes(fields.width));
+    piece_null(stream, t85_window_bytes(fields.width));
     write_null();
     write_row_null();
     by_address(stream);
