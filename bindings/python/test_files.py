@@ -1,0 +1,309 @@
+"""Tests of what goes from file to file."""
+import io
+import itertools
+import os
+import random
+import subprocess
+import sys
+import tempfile
+import threading
+import unittest
+from unittest import mock
+
+import t85
+from samples import EXAMPLES, HERE, LATE, PBM, ROWS, STREAM, WORKED, head
+
+
+class Dribble(io.RawIOBase):
+    """A file that gives, or takes, a few bytes at a time, and can't be set back."""
+
+    def __init__(self, data=b"", step=7):
+        self.data, self.step, self.taken = data, step, b""
+
+    def read(self, size=-1):
+        part, self.data = self.data[: min(size, self.step)], self.data[min(size, self.step) :]
+        return part
+
+    def write(self, data):
+        self.taken += data[: self.step]
+        return len(data[: self.step])
+
+
+# Encodes or decodes standard input to standard output, and says how much memory that took beside Python and the module.
+POURED = """
+import resource, sys, t85
+
+before = resource.getrusage(resource.RUSAGE_SELF).ru_maxrss
+call = getattr(t85, sys.argv[1])
+call(sys.stdin.buffer, sys.stdout.buffer, **eval(sys.argv[2]))
+print(resource.getrusage(resource.RUSAGE_SELF).ru_maxrss - before, file=sys.stderr)
+"""
+
+
+class FromFileToFile(unittest.TestCase):
+    def setUp(self):
+        folder = tempfile.TemporaryDirectory()
+        self.addCleanup(folder.cleanup)
+        self.folder = folder.name
+
+    def path(self, name, data=None):
+        path = os.path.join(self.folder, name)
+        if data is not None:
+            with open(path, "wb") as file:
+                file.write(data)
+        return path
+
+    def encoded(self, image, **names):
+        """The stream of an image by each way that it may come and go."""
+        stream = io.BytesIO()
+        count = t85.encode_file(io.BytesIO(image), stream, **names)
+        self.assertEqual(count, len(stream.getvalue()))
+        output = Dribble()
+        self.assertEqual(t85.encode_file(Dribble(image), output, **names), count)
+        name = self.path("to")
+        self.assertEqual(t85.encode_file(self.path("from", image), name, **names), count)
+        with open(name, "rb") as file:
+            self.assertEqual([file.read(), output.taken], [stream.getvalue()] * 2)
+        return stream.getvalue()
+
+    def decoded(self, stream, **names):
+        """The image of a stream in the same ways, and its height: also where the stream would be kept in a file."""
+        found = self.decoded_once(stream, **names)
+        with mock.patch("t85._conversion._MOST_KEPT", 30):
+            self.assertEqual(self.decoded_once(stream, **names), found)
+        return found
+
+    def decoded_once(self, stream, **names):
+        image = io.BytesIO()
+        source = io.BytesIO(b"before" + stream)
+        source.seek(6)
+        height = t85.decode_file(source, image, **names)
+        output = Dribble()
+        self.assertEqual(t85.decode_file(Dribble(stream), output, **names), height)
+        name = self.path("to")
+        self.assertEqual(t85.decode_file(self.path("from", stream), name, **names), height)
+        with open(name, "rb") as file:
+            self.assertEqual([file.read(), output.taken], [image.getvalue()] * 2)
+        self.assertEqual(os.listdir(self.folder).count("to"), 1)
+        return image.getvalue(), height
+
+    def fault(self, call, source, **names):
+        """The fault of a call, and what a file object has then. A file with a name is not there."""
+        target, name = io.BytesIO(), self.path("broken")
+        with self.assertRaises(t85.Error) as caught:
+            call(io.BytesIO(source), target, **names)
+        for place, path in ((Dribble(source), Dribble()), (self.path("from", source), name)):
+            with mock.patch("t85._conversion._MOST_KEPT", 30), self.assertRaises(t85.Error) as again:
+                call(place, path, **names)
+            self.assertEqual(again.exception.number, caught.exception.number)
+        self.assertEqual([entry for entry in os.listdir(self.folder) if "broken" in entry], [])
+        return caught.exception, target.getvalue()
+
+    def test_page(self):
+        self.assertEqual(self.encoded(PBM, most_offset=127), STREAM)
+        self.assertEqual(self.decoded(STREAM), (PBM, 160))
+
+    def test_worked(self):
+        # Numbers of docs/EXAMPLES.md, and streams before others.
+        for number, (rows, width, names, stream) in WORKED.items():
+            with self.subTest(number=number):
+                image = b"P4\n%d %d\n" % (width, len(rows)) + b"".join(rows)
+                self.assertEqual(self.encoded(image, **names), stream)
+                self.assertEqual(self.decoded(stream + b"more"), (image, len(rows)))
+        for rows, names, stream in LATE:
+            image = b"P4\n1 %d\n" % len(rows) + b"".join(rows)
+            self.assertEqual(self.encoded(image, **names), stream)
+            self.assertEqual(self.decoded(stream + b"more"), (image, len(rows)))
+        # Rows beyond a late height were given before it: 5 of docs/EXAMPLES.md has one of five.
+        stream = head(1, 5, 128, 0, 0x20) + b"\xc0\xff\x02\xff\x05\0\0\0\x01\xff\x02"
+        self.assertEqual(self.decoded(stream), (b"P4\n1 1\n\x80", 1))
+
+    def test_plain(self):
+        # Numbers of docs/EXAMPLES.md, and headers of docs/PBM.md.
+        images = {
+            b"P1 1 1 1": head(1, 1, 128, 0, 0) + b"\xc0\xff\x02",
+            b"P1\n3 2\n1 1 1\n111\n": head(3, 2, 128, 0, 0) + b"\xfe\xff\x02",
+            b"P4 008 01#c\n\xff": head(8, 1, 128, 0, 0) + b"\xf0\xff\x02",
+            b"P4#" + b"a" * 9000 + b"\n 8#" + b"b" * 9000 + b"\r" + b" " * 99999 + b"1\n\xff": head(8, 1, 128, 0, 0) + b"\xf0\xff\x02",
+        }
+        for image, stream in images.items():
+            with self.subTest(image=image[:30]):
+                self.assertEqual(self.encoded(image, typical=False), stream)
+        width, noise = 1001, random.Random(4)
+        digits = "".join(noise.choice("01") for _ in range(width * 90))
+        plain = "".join(digit + noise.choice(["", "", " ", "\n", "\r\n"]) for digit in digits)
+        rows = [int(digits[at : at + width] + "0" * 7, 2).to_bytes(126, "big") for at in range(0, len(digits), width)]
+        self.assertEqual(self.encoded(b"P1 1001 90\n" + plain.encode()), t85.encode(b"".join(rows), width, 90))
+
+    def test_no_image(self):
+        for image in (b"", b"P", b"P4", b"P5 8 1 \xff", b"P4 x", b"P4\n8 1", b"P4 8 1x\xff", b"P4 8 " + b"0" * 200000):
+            with self.subTest(image=image[:9]):
+                error, written = self.fault(t85.encode_file, image)
+                self.assertEqual((error.number, written), (31, b""))
+        error, written = self.fault(t85.encode_file, b"P1\n8 2\n11111111 0 2 000000", typical=False, stripe_rows=1)
+        self.assertEqual((error.number, written), (38, head(8, 2, 1, 0, 0) + b"\xf0\xff\x02"))
+        for image, number in ((b"P4 0 1\n", 33), (b"P4 1 0\n", 33), (b"P4 1048577 1\n", 34)):
+            self.assertEqual(self.fault(t85.encode_file, image)[0].number, number)
+        with self.assertRaises(OverflowError):
+            t85.encode_file(io.BytesIO(b"P4 1 4294967296 "), io.BytesIO())
+
+    def test_missing_rows(self):
+        whole = t85.encode(ROWS, 416, 160, stripe_rows=20)
+        for names in ({}, dict(announced_height=160), dict(announced_height=200)):
+            error, written = self.fault(t85.encode_file, PBM[:-1], stripe_rows=20, **names)
+            self.assertEqual((error.number, error.partial), (36, b""))
+            if not names:
+                self.assertTrue(whole.startswith(written))
+                self.assertEqual([part.kind for part in itertools.islice(t85.parts(written), 8)], ["header", *["data entity"] * 7])
+
+    def test_late_height(self):
+        # More than is kept in memory.
+        noise = random.Random(5).randbytes(1700000)
+        stream = t85.encode(noise, 8000, 1700, announced_height=1800)
+        self.assertGreater(len(stream), 3 << 19)
+        self.assertEqual(self.decoded(stream), (b"P4\n8000 1700\n" + noise, 1700))
+        self.assertEqual(self.fault(t85.decode_file, stream, max_rows=1699)[0].number, 24)
+        for height, names in ((1 << 20, {}), (160, {}), (161, dict(stripe_rows=160)), (1 << 31, dict(stripe_rows=1))):
+            with self.subTest(height=height, **names):
+                stream = t85.encode(ROWS, 416, 160, announced_height=height, **names)
+                self.assertEqual(self.decoded(stream), (PBM, 160))
+
+    def test_broken(self):
+        late = t85.encode(ROWS, 416, 160, announced_height=200, stripe_rows=20)
+        for stream in (STREAM[:500], STREAM[:20], STREAM[:-1], late[:500], late[:20], STREAM[:400] + b"\xff\x04", STREAM[:19]):
+            with self.subTest(length=len(stream)):
+                with self.assertRaises(t85.Error) as caught:
+                    t85.decode(stream)
+                error, written = self.fault(t85.decode_file, stream)
+                self.assertEqual((error.number, written), (caught.exception.number, caught.exception.partial))
+                if len(stream) > 19:
+                    self.assertEqual(error.partial.count * 52 + len(b"P4\n416 160\n"), len(written))
+
+    def test_broken_heights(self):
+        # Numbers of docs/EXAMPLES.md.
+        front = head(1, 9, 1, 0, 0x20)
+        streams = {
+            47: (front + b"\xff\x05\0\0\0\x02\xc0\xff\x02\xff\x05", 15, b"P4\n1 2\n\x80"),
+            48: (front + b"\xc0\xff\x02" * 2 + b"\xff\x05\0\0\0\x01\xff\x02", 14, b"P4\n1 9\n\x80\x80"),
+            50: (front + b"\xc0\xff\x02" * 2 + b"\xff\x05\0\0\0\0\xff\x02", 14, b"P4\n1 9\n\x80\x80"),
+        }
+        for number, (stream, fault, image) in streams.items():
+            with self.subTest(number=number):
+                error, written = self.fault(t85.decode_file, stream)
+                self.assertEqual((error.number, written), (fault, image))
+
+    def test_turned(self):
+        # Streams of turned bytes and cuts, as decode has them.
+        dice = random.Random(7)
+        late = t85.encode(ROWS, 416, 160, announced_height=200, stripe_rows=20, most_offset=127)
+        for _ in range(600):
+            stream = bytearray(dice.choice((STREAM, late)))
+            for _ in range(dice.randrange(4)):
+                stream[dice.randrange(8, len(stream))] ^= 1 << dice.randrange(8)
+            stream = bytes(stream[: dice.choice((len(stream), dice.randrange(len(stream) + 1)))])
+            names = dict(max_rows=dice.choice((None, 160, 1000)), max_bytes=1 << 16)
+            try:
+                wanted = 0, t85.decode(stream, **names)
+            except t85.Error as error:
+                wanted = error.number, error.partial
+            image = io.BytesIO()
+            try:
+                t85.decode_file(io.BytesIO(stream) if dice.random() < 0.5 else Dribble(stream, 999), image, **names)
+                found = 0, image.getvalue()
+            except t85.Error as error:
+                found = error.number, image.getvalue()
+            # An image that announces too many bytes is refused, whether its rows come or not.
+            if found[0] != 18:
+                self.assertEqual(found, wanted)
+            else:
+                self.assertEqual(found[1], b"")
+
+    def test_limits(self):
+        late = t85.encode(ROWS, 416, 160, announced_height=1 << 31)
+        for stream in (STREAM, late):
+            self.assertEqual(self.decoded(stream, max_rows=160), (PBM, 160))
+            self.assertEqual(self.fault(t85.decode_file, stream, max_rows=159)[0].number, 24)
+            self.assertEqual(self.decoded(stream, max_bytes=len(ROWS)), (PBM, 160))
+            for most in (0, 1, len(ROWS) - 1):
+                error, written = self.fault(t85.decode_file, stream, max_bytes=most)
+                self.assertEqual((error.number, written), (18, b""))
+                self.assertIn(f"max_bytes is {most}: give a greater max_bytes", str(error))
+        error, written = self.fault(t85.decode_file, STREAM, max_rows=159)
+        self.assertEqual((error.number, written), (24, b""))
+        self.assertEqual(self.decoded(STREAM, max_rows=160, max_bytes=None), (PBM, 160))
+        with self.assertRaises(OverflowError):
+            t85.decode_file(io.BytesIO(STREAM), io.BytesIO(), max_rows=-1)
+
+    def test_names(self):
+        # A file that is there stays as it is until the other is whole; what is no regular file is written in its place.
+        name = self.path("there", b"kept")
+        with self.assertRaises(t85.Error):
+            t85.decode_file(self.path("from", STREAM[:500]), name)
+        with open(name, "rb") as file:
+            self.assertEqual(file.read(), b"kept")
+        t85.encode_file(self.path("from", PBM), self.path("from"), most_offset=127)
+        with open(self.path("from"), "rb") as file:
+            self.assertEqual(file.read(), STREAM)
+        self.assertEqual(sorted(os.listdir(self.folder)), ["from", "there"])
+        t85.decode_file(self.path("from"), os.devnull)
+        with self.assertRaises(FileNotFoundError):
+            t85.decode_file(self.path("none"), self.path("to"))
+
+    def piped(self, call, first, rest, most, **names):
+        """What comes out of a pipe, of which `most` bytes come before the rest of the source does."""
+        (from_source, to_call), (from_call, to_target) = os.pipe(), os.pipe()
+        thread = threading.Thread(target=self.closing, args=(call, from_source, to_target), kwargs=names)
+        thread.start()
+        with os.fdopen(from_call, "rb") as target, os.fdopen(to_call, "wb", buffering=0) as source:
+            source.write(first)
+            # If they do not come, the source ends.
+            timer = threading.Timer(60, source.close)
+            timer.start()
+            found = target.read(most)
+            timer.cancel()
+            source.write(rest)
+            source.close()
+            found += target.read()
+        thread.join()
+        return found
+
+    def closing(self, call, source, target, **names):
+        with os.fdopen(source, "rb") as file, os.fdopen(target, "wb", buffering=0) as output:
+            call(file, output, **names)
+
+    def test_pipes(self):
+        # What is certain goes out before more comes: of the page the first of two stripes, and its rows.
+        first = list(itertools.islice(t85.parts(STREAM), 2))[1]
+        end = first.offset + first.length
+        cut = len(PBM) - 32 * 52
+        self.assertEqual(self.piped(t85.encode_file, PBM[:cut], PBM[cut:], end, most_offset=127), STREAM)
+        self.assertEqual(self.piped(t85.decode_file, STREAM[:end], STREAM[end:], cut), PBM)
+
+    def poured(self, call, source, **names):
+        """What a process writes that has this on standard input, by a pipe, and the kilobytes that it took."""
+        environment = {**os.environ, "PYTHONPATH": HERE}
+        command = [sys.executable, "-c", POURED, call, repr(names)]
+        ran = subprocess.run(command, env=environment, input=source, capture_output=True, timeout=300)
+        self.assertEqual(ran.returncode, 0, ran.stderr)
+        return ran.stdout, int(ran.stderr)
+
+    # 54 MB of rows, by pipes, with a height in time and a late one.
+    MANY = 1 << 18
+    HEIGHTS = ({}, dict(announced_height=1 << 19))
+
+    def many_rows(self):
+        return (bytes(100) + bytes(range(116))) * self.MANY
+
+    def test_memory_to_encode(self):
+        rows = self.many_rows()
+        for names in self.HEIGHTS:
+            stream, taken = self.poured("encode_file", b"P4\n1728 %d\n" % self.MANY + rows, **names)
+            self.assertLess(taken, 4000)
+            self.assertTrue(stream == t85.encode(rows, 1728, self.MANY, **names))
+
+    def test_memory_to_decode(self):
+        rows = self.many_rows()
+        for names in self.HEIGHTS:
+            image, taken = self.poured("decode_file", t85.encode(rows, 1728, self.MANY, **names))
+            self.assertLess(taken, 4000)
+            self.assertTrue(image == b"P4\n1728 %d\n" % self.MANY + rows)
