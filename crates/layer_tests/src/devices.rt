@@ -1,4 +1,4 @@
-ghost use Rattle.std.specs.Prelude.{◌≡◌, ◌-◌};
+ghost use Rattle.std.specs.Prelude.{◌-◌};
 
 use pbm_core::trial::{Drip, Pieces};
 use pbm_core::{

@@ -1,6 +1,6 @@
 //! How often a decoder asks its source, event by event, beside a count by the definition alone.
 
-ghost use Rattle.std.specs.Prelude.{◌≡◌, ◌≤◌, ◌+◌, ◌<◌, ◌^◌};
+ghost use Rattle.std.specs.Prelude.{◌+◌, ◌<◌};
 
 use crate::rows::{Course, Given, Taken, context_by_coordinates, pixel, put, shape};
 use qm_core::{CodeBytes, Context, Decoder, Encoder, Learned, Pulled};

@@ -1,7 +1,7 @@
 //! Codes of rasters worked out by hand, and rows of every kind against a model that goes by
 //! coordinates.
 
-ghost use Rattle.std.specs.Prelude.{◌≡◌, ◌+◌, ◌<◌, ◌≤◌, ◌^◌};
+ghost use Rattle.std.specs.Prelude.{◌≡◌, ◌+◌, ◌<◌};
 
 use crate::coder::Room;
 use qm_core::{

@@ -1,6 +1,6 @@
 //! What is read and written: a named file, or a standard stream.
 
-ghost use Rattle.std.specs.Prelude.{◌≡◌, ◌≤◌, ◌↔◌, length, IfOk, IsTrue, OnErr, option_map, string_bytes, true};
+ghost use Rattle.std.specs.Prelude.{◌≡◌, ◌↔◌, IfOk, IsTrue, OnErr, option_map, string_bytes, true};
 ghost use Rattle.program_core.specs.Run.{IsRegular, names_file, reads_file, writes_file};
 
 use std::fs::{self, File, FileType};

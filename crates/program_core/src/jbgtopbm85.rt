@@ -3,7 +3,7 @@
 ghost use Rattle.std.specs.Prelude.{◌≡◌, ◌↔◌, false, true, is_some, IfErr, IfOk, IfSome, IsSome, option_map, string_bytes};
 ghost use Rattle.std.specs.Process.{exit_status};
 ghost use Rattle.t85_core.specs.Change.{input_change, output_change};
-ghost use Rattle.t85_core.specs.Failures.{FlushesOnce};
+ghost use Rattle.t85_core.specs.Failures.{FlushesOutput};
 ghost use Rattle.t85_core.specs.ToPbm.{again_change};
 ghost use Rattle.program_core.specs.Jbgtopbm85.{Does, limit_of, RunsDecoding};
 ghost use Rattle.program_core.specs.Run.{IsRegular, names_file, reads_file, writes_file};
@@ -92,10 +92,8 @@ pub fn run<R: Input, Second: Input, W: Output, M: Output>(
     messages: &mut M,
 ) -> u8
     ensures { RunsDecoding job.now (input_change R.view input.old input.new)
-        (is_some again.old) (again.new ≡ again.old)
-        (again_change Second.view again.old again.new)
-        (W.view output.old) (W.view output.new)
-        (M.view messages.old) (M.view messages.new) result }
+        (is_some again.old) (again.new ≡ again.old) (again_change Second.view again.old again.new)
+        (W.view output.old) (W.view output.new) (M.view messages.old) (M.view messages.new) result }
 {
     let outcome = work_on(alloc, job, input, again, output);
     report(NAME, outcome, messages)
@@ -109,13 +107,10 @@ fn work_on<R: Input, Second: Input, W: Output>(
     again: &mut Option<Second>,
     output: &mut W,
 ) -> Result<(), Fault>
-    ensures does { Does job.now.info (limit_of job.now)
-        (input_change R.view input.old input.new)
-        (is_some again.old) (again.new ≡ again.old)
-        (again_change Second.view again.old again.new)
+    ensures does { Does job.now.info (limit_of job.now) (input_change R.view input.old input.new)
+        (is_some again.old) (again.new ≡ again.old) (again_change Second.view again.old again.new)
         (output_change W.view output.old output.new) (W.view output.new).flushed result }
-    ensures flushes { FlushesOnce (W.view output.old).flushes (W.view output.new).flushes result }
-    ensures same_target { (W.view output.new).target ≡ (W.view output.old).target }
+    ensures flushes { FlushesOutput (W.view output.old) (W.view output.new) result }
 {
     if job.info {
         info(input, output)

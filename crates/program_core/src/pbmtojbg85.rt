@@ -72,8 +72,7 @@ pub fn run<R: Input, W: Output, M: Output>(
     messages: &mut M,
 ) -> u8
     ensures { RunsEncoding job.now (input_change R.view input.old input.new)
-        (W.view output.old) (W.view output.new)
-        (M.view messages.old) (M.view messages.new) result }
+        (W.view output.old) (W.view output.new) (M.view messages.old) (M.view messages.new) result }
 {
     let outcome = to_jbg(alloc, input, output, &job.options());
     report(NAME, outcome, messages)

@@ -21,6 +21,10 @@ StopsOnce failed d d' from to result =
     (IsTrue (has_stopped d) → IsErr result × (d' ≡ d) × (to ≡ from)) × (IsTrue (has_stopped d') ↔ IsErr result)
     × OnOk result (failed to ≡ failed from) × (has_stopped d ≡ false → OnErr result (failed to ≡ one_more (failed from)))
 
+-- A decoder that has not stopped took pixels in one step, or nothing was done.
+abbrev pub SkipsOrStays : Bool → Decoder → Decoder → Type 0
+SkipsOrStays skipped d d' = (has_stopped d' ≡ has_stopped d) × (IsTrue skipped → has_stopped d ≡ false) × (skipped ≡ false → d' ≡ d)
+
 -- the numbers of a decoder
 abbrev pub decoder_registers : Decoder → DecoderRegisters
 decoder_registers d = record { code = d.code; span = d.span; bits = d.bits; has_ended = is_ended d.heard }

@@ -1,12 +1,14 @@
 -- What an encoder stands for.
-use Rattle.std.specs.Prelude.{ℕ, ◌+◌, ◌/◌, ◌≡◌, Bool, List, ◌++◌, length, Result, Option, is_some}
+use Rattle.std.specs.Prelude.{ℕ, ◌+◌, ◌/◌, ◌≡◌, ◌↔◌, Bool, true, false, List, ◌++◌, length, Result, Err, Option, is_some, IsErr, IsTrue, OnOk, OnErr}
 use Rattle.std.specs.Option.{unwrap_or}
+use Rattle.qm_core.specs.Counts.{one_more}
 use Rattle.qm_core.specs.Place.{Place, IsPlace, State, Estimate, step}
 use Rattle.qm_core.specs.Code.{IsBytes, IsTrimmed, IsFront, IsCode, stuffed}
 use Rattle.qm_core.specs.Sink.{Writes}
 use Rattle.qm_core.specs.Machine.{run_bytes, Digits}
 use Rattle.qm_core.specs.declared.encoder.Encoder.{Encoder}
 use Rattle.qm_core.specs.declared.encoder.CoderFault.{CoderFault}
+use Rattle.qm_core.specs.declared.encoder.CoderFault.TheVariants as coder
 use Rattle.qm_core.specs.declared.registers.EncoderRegisters.{EncoderRegisters}
 
 -- how many events were put to an encoder
@@ -16,6 +18,21 @@ event_count e = e.events
 -- whether the sink of an encoder has refused a byte
 abbrev pub has_failed : Encoder → Bool
 has_failed e = e.failed
+
+-- The code of an encoder that has failed is not ended. Of one that has not, the answer is an error just where its sink fails, once.
+abbrev pub EndsOnce : {S T : Type 0} → (S → ℕ) → Encoder → S → S → Result T CoderFault → Type 0
+EndsOnce failed e from to result =
+    (IsTrue (has_failed e) → (result ≡ Err coder.Failed) × (to ≡ from)) × (has_failed e ≡ false → IsErr result → result ≡ Err coder.Write)
+    × OnOk result (failed to ≡ failed from) × (has_failed e ≡ false → OnErr result (failed to ≡ one_more (failed from)))
+
+-- An encoder that has failed does nothing. It fails just where the answer is an error, and as often its sink fails.
+abbrev pub FailsOnce : {S T : Type 0} → (S → ℕ) → Encoder → Encoder → S → S → Result T CoderFault → Type 0
+FailsOnce failed e e' from to result = EndsOnce failed e from to result × (IsTrue (has_failed e) → e' ≡ e) × (IsTrue (has_failed e') ↔ IsErr result)
+
+-- An encoder that has not failed took so many events in one step, or nothing was done.
+abbrev pub SkipsEvents : ℕ → Bool → Encoder → Encoder → Type 0
+SkipsEvents count skipped e e' =
+    (has_failed e' ≡ has_failed e) × (IsTrue (has_failed e) → skipped ≡ false) × (skipped ≡ false → e' ≡ e) × (skipped ≡ true → event_count e' ≡ event_count e + count)
 
 -- how many bytes of its code an encoder holds back at most: those that a carry may still change, and those that the bits
 -- of its low end fill

@@ -1,5 +1,5 @@
 -- What the registers, the bytes that are held back and the cells of the code stand for.
-use Rattle.std.specs.Prelude.{ℕ, ◌+◌, ◌-◌, ◌*◌, ◌^◌, ◌≡◌, List, length, Option, Some, None, [], ◌∷◌, ◌++◌, replicate, ◌/◌, ◌%◌, nat_eq, if◌then◌else◌}
+use Rattle.std.specs.Prelude.{ℕ, ◌+◌, ◌-◌, ◌*◌, ◌^◌, ◌≡◌, ◌≤◌, ◌<◌, List, length, Option, Some, None, [], ◌∷◌, ◌++◌, replicate, ◌/◌, ◌%◌, nat_eq, if◌then◌else◌}
 use Rattle.qm_core.specs.Place.{Place, Estimate}
 use Rattle.qm_core.specs.Code.{number}
 
@@ -24,6 +24,17 @@ pub record Digits (low span bits : ℕ) (p : Place) (digits : List ℕ) : Type 0
   pub size : span ≡ 128 * p.size
   pub count : 8 * length digits + bits ≡ 16 + p.doublings
   pub value : 128 * p.low ≡ number digits * 2 ^ (bits + 7) + low
+
+-- a size, times 128, that is large enough; and one that is to be doubled
+abbrev pub IsLargeEnough : ℕ → Type 0
+IsLargeEnough span = (4194304 ≤ span) × (span ≤ 8388608) × (span % 128 ≡ 0)
+
+abbrev pub IsTooSmall : ℕ → Type 0
+IsTooSmall span = (128 ≤ span) × (span < 4194304) × (span % 128 ≡ 0)
+
+-- A place is below the number that so many bits and a byte make; where no byte is held back that a carry may change, below its half.
+abbrev pub FitsIn : ℕ → ℕ → ℕ → Option ℕ → Type 0
+FitsIn low span bits held = (low + span ≤ 2 ^ (bits + 8)) × (held ≡ None → low + span ≤ 2 ^ (bits + 7))
 
 -- the digits after a byte, which may be above 255 by a carry
 pub record Appends (old new : List ℕ) (byte : ℕ) : Type 0 where

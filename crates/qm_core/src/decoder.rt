@@ -1,15 +1,15 @@
 //! The decoder.
 
-ghost use Rattle.std.specs.Prelude.{◌≡◌, ◌≢◌, ◌+◌, ◌-◌, ◌*◌, ◌%◌, ◌^◌, ◌≤◌, ◌<◌, ◌↔◌, false, not, nat_eq, nat_lt, IsTrue, IsErr, OnOk, OnErr};
+ghost use Rattle.std.specs.Prelude.{◌≡◌, ◌≢◌, ◌+◌, ◌-◌, ◌*◌, ◌%◌, ◌^◌, ◌≤◌, ◌<◌, ◌↔◌, false, not, nat_eq, nat_lt, IsTrue, OnOk, OnErr};
 ghost use Rattle.qm_core.specs.Place.{same};
-ghost use Rattle.qm_core.specs.Counts.{one_more};
 ghost use Rattle.qm_core.specs.declared.source.Heard.TheVariants.{Stopped};
+
+mod numbers;
 
 use crate::context::Context;
 use crate::entries::{entry_of, next_cell};
 use crate::learned::Learned;
 use crate::picking::pick;
-use crate::registers::DecoderRegisters;
 use crate::skipping::left_of;
 use crate::source::{CodeBytes, Heard, Pulled};
 
@@ -69,12 +69,13 @@ fn pixel_of(cell: u8, is_other: bool) -> u8
 }
 
 impl Decoder {
-    ghost use Rattle.std.specs.Prelude.{ℕ, List, [], ◌∷◌, ◌++◌, length, replicate, Some, IfSome};
+    ghost use Rattle.std.specs.Prelude.{ℕ, List, [], ◌∷◌, ◌++◌, length, replicate, Some};
     ghost use Rattle.qm_core.specs.Code.{wanted_bytes};
-    ghost use Rattle.qm_core.specs.Place.{Place, State, start, renormalised, step, after};
-    ghost use Rattle.qm_core.specs.Machine.{Registers};
+    ghost use Rattle.qm_core.specs.Place.{Place, start, renormalised, state_of, step, after};
+    ghost use Rattle.qm_core.specs.Machine.{IsTooSmall, Registers};
     ghost use Rattle.qm_core.specs.Source.{Pulls, bytes_of, heard_of, before_fault};
-    ghost use Rattle.qm_core.specs.Decoder.{has_stopped, decoder_registers, DecoderIsAt, Fills, Next};
+    ghost use Rattle.qm_core.specs.Decoder.{has_stopped, DecoderIsAt, Fills, Next, SkipsOrStays, StopsOnce};
+    ghost use Rattle.qm_core.specs.Puts.{event_of};
     ghost use Rattle.qm_core.specs.Skipping.{IsRun, CanSkip};
     ghost use Rattle.qm_core.specs.declared.source.Heard.TheVariants.{More};
     ghost use Rattle.qm_core.specs.declared.source.Pulled.{Pulled};
@@ -90,47 +91,6 @@ impl Decoder {
             bits: 0,
             heard: Heard::More,
         }
-    }
-
-    /// The decoder as numbers. Whether it has stopped is not among them.
-    pub fn registers(&self) -> DecoderRegisters
-        ensures { result ≡ decoder_registers self.now }
-    {
-        DecoderRegisters {
-            code: self.code,
-            span: self.span,
-            bits: self.bits,
-            has_ended: matches!(self.heard, Heard::Ended),
-        }
-    }
-
-    /// The decoder that has these numbers and has not stopped, if there is one.
-    pub fn from_registers(registers: DecoderRegisters) -> Option<Decoder>
-        ensures same { (d : Decoder) → has_stopped d ≡ false → registers ≡ decoder_registers d →
-            result ≡ Some d }
-        ensures is { IfSome result (λ d. (has_stopped d ≡ false)
-            × (decoder_registers d ≡ registers)) }
-    {
-        let DecoderRegisters {
-            code,
-            span,
-            bits,
-            has_ended,
-        } = registers;
-        if span < 0x40_0000 || span > 0x80_0000 || span % 128 != 0 || bits > 23 {
-            return None;
-        }
-        let unit = 1u32 << (23 - bits);
-        if code % unit != 0 || u64::from(code) + u64::from(unit) > u64::from(span) {
-            return None;
-        }
-        let heard = if has_ended { Heard::Ended } else { Heard::More };
-        Some(Decoder {
-            code,
-            span,
-            bits,
-            heard,
-        })
     }
 
     /// Goes on after `Stop`: the source is asked again for the byte that it did not give.
@@ -158,19 +118,11 @@ impl Decoder {
         source: &mut S,
     ) -> Result<bool, Stop>
         // A decoder that has stopped stays as it is, and pulls nothing.
-        ensures stopped { IsTrue (has_stopped self.old) →
-            IsErr result × (self.new ≡ self.old) × (learned.new ≡ learned.old) ×
-            (source.new ≡ source.old) }
-        ensures stops { IsTrue (has_stopped self.new) ↔ IsErr result }
-        ensures same { OnOk result (S.failed source.new ≡ S.failed source.old) }
-        ensures counted { has_stopped self.old ≡ false →
-            OnErr result (S.failed source.new ≡ one_more (S.failed source.old)) }
+        ensures stop { StopsOnce S.failed self.old self.new source.old source.new result }
         ensures unchanged { OnErr result (learned.new ≡ learned.old) }
-
         ensures next { (p : Place) (answers : List Pulled) → DecoderIsAt self.old p answers →
-            Next (Pulls S.gives S.failed) source.old source.new
-            (record { place = p; learned = learned.old }) answers cx.number self.new learned.new
-            result }
+            Next (Pulls S.gives S.failed) source.old source.new (state_of p learned.old) answers
+            cx.number self.new learned.new result }
     {
         if self.bits < 16 {
             self.fill(source)?;
@@ -183,19 +135,15 @@ impl Decoder {
     #[inline(always)]
     pub fn skip(&mut self, learned: &Learned, cx: Context, pixel: bool, count: u32) -> bool
         requires few { count ≤ 64 }
-        ensures stopped { has_stopped self.new ≡ has_stopped self.old }
-        ensures going { IsTrue result → has_stopped self.old ≡ false }
-        ensures unchanged { result ≡ false → self.new ≡ self.old }
+        ensures skips { SkipsOrStays result self.old self.new }
         ensures skipped { (p : Place) (answers : List Pulled) → DecoderIsAt self.old p answers →
-            IsTrue result →
-            IsRun (record { place = p; learned = learned.now })
-            (record { context = cx.number; pixel = pixel }) count
-            × DecoderIsAt self.new (after (record { place = p; learned = learned.now })
-            (replicate count (record { context = cx.number; pixel = pixel }))).place answers
-            × (heard_of answers ≡ More → wanted_bytes p.doublings ≤ length (bytes_of answers)) }
+            IsTrue result → IsRun (state_of p learned.now) (event_of cx pixel) count × DecoderIsAt
+            self.new (after (state_of p learned.now) (replicate count (event_of cx pixel))).place
+            answers × (heard_of answers ≡ More → wanted_bytes p.doublings ≤ length (bytes_of
+            answers)) }
         ensures exact { (p : Place) (answers : List Pulled) → DecoderIsAt self.old p answers →
-            (IsTrue result ↔ CanSkip self.old (record { place = p; learned = learned.now }) answers
-            (record { context = cx.number; pixel = pixel }) count) }
+            (IsTrue result ↔ CanSkip self.old (state_of p learned.now) answers
+            (event_of cx pixel) count) }
     {
         let is_ready = self.bits >= 16;
         if !is_ready {
@@ -217,12 +165,7 @@ impl Decoder {
     fn fill<S: CodeBytes>(&mut self, source: &mut S) -> Result<(), Stop>
         requires few { self.old.bits < 16 }
         ensures bits { OnOk result (16 ≤ self.new.bits) }
-        ensures stopped { IsTrue (has_stopped self.old) → IsErr result × (self.new ≡ self.old) ×
-            (source.new ≡ source.old) }
-        ensures stops { IsTrue (has_stopped self.new) ↔ IsErr result }
-        ensures same { OnOk result (S.failed source.new ≡ S.failed source.old) }
-        ensures counted { has_stopped self.old ≡ false →
-            OnErr result (S.failed source.new ≡ one_more (S.failed source.old)) }
+        ensures stop { StopsOnce S.failed self.old self.new source.old source.new result }
         ensures fills { (p : Place) (answers : List Pulled) → DecoderIsAt self.old p answers →
             Fills (Pulls S.gives S.failed) source.old source.new p answers self.new result }
     {
@@ -237,12 +180,7 @@ impl Decoder {
     fn pull<S: CodeBytes>(&mut self, source: &mut S) -> Result<(), Stop>
         requires few { self.old.bits < 16 }
         ensures bits { OnOk result (self.new.bits ≡ self.old.bits + 8) }
-        ensures stopped { IsTrue (has_stopped self.old) → IsErr result × (self.new ≡ self.old) ×
-            (source.new ≡ source.old) }
-        ensures stops { IsTrue (has_stopped self.new) ↔ IsErr result }
-        ensures same { OnOk result (S.failed source.new ≡ S.failed source.old) }
-        ensures counted { has_stopped self.old ≡ false →
-            OnErr result (S.failed source.new ≡ one_more (S.failed source.old)) }
+        ensures stop { StopsOnce S.failed self.old self.new source.old source.new result }
         ensures fills { (p : Place) (answers : List Pulled) → DecoderIsAt self.old p answers →
             Fills (Pulls S.gives S.failed) source.old source.new p answers self.new result }
     {
@@ -291,13 +229,10 @@ impl Decoder {
         ensures heard { self.new.heard ≡ self.old.heard }
         ensures bits { self.new.bits ≤ self.old.bits }
         ensures place { (p : Place) (b : List ℕ) → Registers self.old.code self.old.span
-            self.old.bits p b →
-            Registers self.new.code self.new.span self.new.bits
-            (step (record { place = p; learned = learned.old }) cx.number
-            (nat_eq result 1)).place b }
+            self.old.bits p b → Registers self.new.code self.new.span self.new.bits
+            (step (state_of p learned.old) cx.number (nat_eq result 1)).place b }
         ensures learned { (p : Place) → self.old.span ≡ 128 * p.size →
-            learned.new ≡ (step (record { place = p; learned = learned.old }) cx.number
-            (nat_eq result 1)).learned }
+            learned.new ≡ (step (state_of p learned.old) cx.number (nat_eq result 1)).learned }
     {
         let cell = learned.cell(cx);
         let entry = entry_of(cell);
@@ -316,9 +251,7 @@ impl Decoder {
     #[inline(always)]
     fn narrow(&mut self, code: u32, span: u32)
         requires bits { 16 ≤ self.old.bits }
-        requires large { 128 ≤ span }
-        requires small { span < 0x40_0000 }
-        requires whole { span % 128 ≡ 0 }
+        requires short { IsTooSmall span }
         requires aligned { code % 2 ^ (23 - self.old.bits) ≡ 0 }
         requires room { code + 2 ^ (23 - self.old.bits) ≤ span }
         ensures heard { self.new.heard ≡ self.old.heard }

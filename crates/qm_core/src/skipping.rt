@@ -1,7 +1,8 @@
 //! Several favoured pixels of one context at once.
 
 ghost use Rattle.std.specs.Prelude.{◌≡◌, ◌+◌, ◌*◌, ◌≤◌, ℕ, None, Some, true, false};
-ghost use Rattle.qm_core.specs.Place.{Place};
+ghost use Rattle.qm_core.specs.Place.{Place, state_of};
+ghost use Rattle.qm_core.specs.Puts.{event_of};
 ghost use Rattle.qm_core.specs.Skipping.{has_room, upper_size};
 
 use crate::context::Context;
@@ -20,11 +21,9 @@ pub(crate) fn left_of(
 ) -> Option<u32>
     requires few { count ≤ 64 }
     ensures none { (p : Place) → span ≡ 128 * p.size → result ≡ None →
-        has_room (record { place = p; learned = learned.now })
-        (record { context = cx.number; pixel = pixel }) count ≡ false }
+        has_room (state_of p learned.now) (event_of cx pixel) count ≡ false }
     ensures some { (p : Place) (left : ℕ) → span ≡ 128 * p.size → result ≡ Some left →
-        has_room (record { place = p; learned = learned.now })
-        (record { context = cx.number; pixel = pixel }) count ≡ true }
+        has_room (state_of p learned.now) (event_of cx pixel) count ≡ true }
     ensures left { (left : ℕ) → result ≡ Some left →
         span ≡ left + 128 * (count * upper_size learned.now cx.number) }
     ensures large { (left : ℕ) → result ≡ Some left → 0x40_0000 ≤ left }

@@ -1,7 +1,7 @@
 -- Rows in bytes, rows in words.
 use Rattle.std.proofs.Common.{◌≡◌, ℕ, zero, suc, ◌+◌, ◌-◌, ◌*◌, ◌/◌, ◌%◌, ◌^◌, ◌<◌, ◌≤◌, Bool, true, false, List, [], ◌∷◌, length, refl, sym, ◌∙◌, ap, arith, map, get_or, add-zero, ◌⊎◌, inl, inr, lit<}
-use Rattle.std.specs.Prelude.{bit_or, bit_and, ◌==◌, nat_lt, if◌then◌else◌}
-use Rattle.std.proofs.lemmas.Nat.{or_shifted, pow-add, div-mul-add, and_mask}
+use Rattle.std.specs.Prelude.{bit_or, ◌==◌, nat_lt, if◌then◌else◌}
+use Rattle.std.proofs.lemmas.Nat.{or_shifted, pow-add, div-mul-add}
 use Rattle.std.proofs.lemmas.Nat.Bits.{ones_shl}
 use Rattle.std.proofs.Math.Nat.{mod-eq_of_lt, mul-add-mod_self_right, pow-le-pow_right, pow-suc}
 use Rattle.std.proofs.lemmas.Bool.Decides.{nat_tests}
@@ -187,16 +187,3 @@ last_pixel q g n = mul-add-mod_self_right (word q g n) 2 (bit (q (g + n))) ∙ m
 bit_test : (b : Bool) → (bit b == 1) ≡ b
 bit_test true = refl
 bit_test false = refl
-
-pub pixel_is : (line : List Bool) (x : ℕ) → (bit_and (get_or (packed_row line) (x / 8) 0 / 2 ^ (7 - x % 8)) 1 == 1) ≡ pixel_at line x
-pixel_is line x =
-    let low : 7 - x % 8 ≤ 8 = omega arith in
-    let n : 8 - (7 - x % 8) ≡ suc (x % 8) = omega arith in
-    let at : 8 * (x / 8) + x % 8 ≡ x = omega arith in
-    ap (λ y. bit_and (y / 2 ^ (7 - x % 8)) 1 == 1) (byte_is line (x / 8))
-    ∙ ap (λ y. bit_and y 1 == 1) (upper (pixel_at line) (8 * (x / 8)) 8 (7 - x % 8) low)
-    ∙ ap (λ k. bit_and (word (pixel_at line) (8 * (x / 8)) k) 1 == 1) n
-    ∙ ap (λ y. y == 1) (and_mask (word (pixel_at line) (8 * (x / 8)) (suc (x % 8))) 1)
-    ∙ ap (λ y. y == 1) (last_pixel (pixel_at line) (8 * (x / 8)) (x % 8))
-    ∙ bit_test (pixel_at line (8 * (x / 8) + x % 8))
-    ∙ ap (pixel_at line) at

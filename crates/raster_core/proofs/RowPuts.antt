@@ -4,7 +4,7 @@ use Rattle.std.specs.Prelude.{Result, map, IsTrue, OnOk, nat_lt, ◌==◌, if◌
 use Rattle.std.proofs.lemmas.Bool.Decides.{nat_tests}
 use Rattle.std.proofs.lemmas.List.{append-nil}
 use Rattle.qm_core.specs.Place.{Place, Event, Estimate, same}
-use Rattle.qm_core.specs.Encoder.{EncoderIsAt, event_count, has_failed}
+use Rattle.qm_core.specs.Encoder.{EncoderIsAt, FailsOnce, event_count, has_failed}
 use Rattle.qm_core.specs.declared.encoder.Encoder.{Encoder}
 use Rattle.qm_core.specs.declared.encoder.CoderFault.{CoderFault}
 use Rattle.qm_core.specs.declared.encoder.CoderFault.TheVariants.{Failed}
@@ -24,6 +24,7 @@ use Rattle.raster_core.specs.declared.shape.Kept.{Kept}
 use Rattle.raster_core.specs.declared.rows.Rows.{Rows}
 use Rattle.raster_core.specs.declared.row_byte.Template.{Template}
 use Rattle.raster_core.proofs.Causal.{map_same}
+use Rattle.raster_core.proofs.Joins.{not_both}
 use Rattle.raster_core.proofs.BytePixels.{pixel_in}
 use Rattle.raster_core.proofs.EventLists.{event_is, events_first, length-events}
 use Rattle.raster_core.proofs.Packed.{IsIn, packed_in}
@@ -157,6 +158,17 @@ going_on sink events c c' some h = by (has_failed c.encoder.now) refl
     by : (b : Bool) → has_failed c.encoder.now ≡ b → has_failed c'.encoder.now ≡ false
     by true e = let k = (h.stuck e).0 ∙ some in cc
     by false e = (h.goes e).fails
+
+-- one that put something has done so, or had failed before
+pub put_or_failed : {S : Type 0} (sink : Ghosts S) (events : List Event) (c c' : Coder S) (e' : Encoder) (to : S) → e' ≡ c'.encoder.now → to ≡ c'.out.now → failed_answer events ≡ Err Failed → Puts sink events c c' (Ok tt) →
+    FailsOnce {T = Unit {0}} sink.failed c.encoder.now e' c.out.now to (Ok tt)
+put_or_failed {S} sink events c c' e' to e_is to_is some h =
+    let failed = failed_same sink events c c' (Ok tt) e' to e_is to_is some h in
+    let now : has_failed e' ≡ false = ap has_failed e_is ∙ going_on sink events c c' some h in (
+      ((λ t. let f = failed t in (f.0, f.2)), (λ _ e. absurd (let bot : ⊥ = cc in bot)), (ap sink.failed to_is ∙ h.same), (λ _. tt)),
+      (λ t. (failed t).1),
+      ((λ t. absurd (not_both (has_failed e') t now)), (λ e. absurd (let bot : ⊥ = cc in bot))),
+    )
 
 pub counts_to : {S : Type 0} (sink : Ghosts S) (mode : Mode) (template : Template) (rows : Rows) (previous flag : Bool) (c c' : Coder S) → Puts sink (coded_events mode template rows previous flag) c c' (Ok tt) →
     event_count c'.encoder.now ≤ event_count c.encoder.now + (rows.width + 1)

@@ -6,3 +6,4 @@ pub mod Uniform
 pub mod Bytes
 pub mod Rows
 pub mod Decoded
+pub mod Places

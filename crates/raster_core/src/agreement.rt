@@ -89,8 +89,7 @@ pub(crate) fn add_word(
         → word ≡ pixels_word p (place + 128) 64 → mask ≡ pixels_word m c 64
         → (lag : ℕ) → least ≤ lag → lag ≤ most
         → slice_index counts.new lag + result ≡ slice_index counts.old lag + agreed_from p p m
-        (place + 128)
-        (place + 128 - lag) c 64 }
+        (place + 128) (place + 128 - lag) c 64 }
     ensures room { (lag : ℕ) → slice_index counts.new lag + result ≤ slice_index counts.old lag +
         64 }
 {
@@ -124,8 +123,7 @@ fn add_lags(
     requires fits { end + shift ≤ from + 64 }
     requires room { (lag : ℕ) → slice_index counts.old lag + 64 < 2 ^ 64 }
     ensures counts { (p m : ℕ → Bool) (place a c : ℕ) → first ≡ pixels_word p place 64 →
-        next ≡ pixels_word p (place + 64) 64
-        → word ≡ pixels_word p a 64 → mask ≡ pixels_word m c 64
+        next ≡ pixels_word p (place + 64) 64 → word ≡ pixels_word p a 64 → mask ≡ pixels_word m c 64
         → (lag : ℕ) → from ≤ lag → lag < end
         → slice_index counts.new lag ≡ slice_index counts.old lag + agreed_from p p m a (place + 64
         + from - (shift + lag)) c 64 }
@@ -175,8 +173,7 @@ pub(crate) fn add_each(
     end: usize,
 )
     requires end { end ≤ 128 }
-    ensures counts { (lag : ℕ) → from ≤ lag → lag < end →
-        slice_index counts.new lag ≡
+    ensures counts { (lag : ℕ) → from ≤ lag → lag < end → slice_index counts.new lag ≡
         (slice_index counts.old lag + times * slice_index more.now lag) % 2 ^ 64 }
 {
     for lag in from..end {

@@ -1,86 +1,30 @@
 //! Decoding a row.
 
-ghost use Rattle.std.specs.Prelude.{◌≡◌, ◌+◌, ◌*◌, ◌<◌, ◌≤◌, ◌↔◌, ◌++◌, ℕ, length, List, IsTrue, IsErr, OnOk, OnErr, IfOk, false, true};
+ghost use Rattle.std.specs.Prelude.{◌≡◌, ◌+◌, ◌*◌, ◌<◌, ◌≤◌, ◌↔◌, ◌++◌, ℕ, length, List, IsTrue, OnOk, OnErr, false, true};
 ghost use Rattle.std.specs.Int.{div_ceil};
 ghost use Rattle.qm_core.specs.Counts.{one_more};
 ghost use Rattle.qm_core.specs.Source.{Pulls};
-ghost use Rattle.qm_core.specs.Place.{Place, State};
+ghost use Rattle.qm_core.specs.Place.{Place, State, state_of};
 ghost use Rattle.qm_core.specs.Decoder.{StopsOnce, DecoderIsAt, has_stopped};
 ghost use Rattle.qm_core.specs.declared.source.Pulled.{Pulled};
 ghost use Rattle.raster_core.specs.Lines.{Lines};
-ghost use Rattle.raster_core.specs.Window.{shape_mode, held, width_of, current_place, memory_of};
-ghost use Rattle.raster_core.specs.Packed.{Held, HasLines, SameAbove, row_placed, rows_at, rows_beside, next_place};
-ghost use Rattle.raster_core.specs.Row.{FirstDecoded, FirstStopped, RowDecoded, IsRowStart, StandsInRow, RowBegins, RowGoesOn, RowPasses, RowsSkipped, CanSkipRows};
+ghost use Rattle.raster_core.specs.Window.{held};
+ghost use Rattle.raster_core.specs.Packed.{HasLines, SameAbove, row_placed, rows_at, rows_beside, next_place};
+ghost use Rattle.raster_core.specs.Machine.Places.{DecodesCurrent, LeavesPlace, MayCodeRow, MayGoOnIn, MayGoOnRow};
+ghost use Rattle.raster_core.specs.Row.{RowDecoded, IsRowStart, StandsInRow, RowGoesOn, RowPasses, RowsSkipped, CanSkipRows};
 
+mod begin;
 mod byte;
 mod row;
 mod runs;
 
 use crate::context::flag_context;
+use crate::decode::begin::begin_row;
 use crate::decode::row::decode_pixels;
 use crate::place::RowPlace;
 use crate::shape::{Kept, Shape};
 use crate::window::Window;
 use qm_core::{CodeBytes, Decoder, Learned, Stop, laws};
-
-/// Decodes the pixel before a row: whether the row is typical.
-fn decode_flag<S: CodeBytes>(
-    shape: Shape,
-    previous: bool,
-    learned: &mut Learned,
-    decoder: &mut Decoder,
-    source: &mut S,
-) -> Result<bool, Stop>
-    requires typical { shape.typical ≡ true }
-    ensures stop { StopsOnce S.failed decoder.old decoder.new source.old source.new result }
-    ensures ok { IfOk result (λ flag. (p : Place) (answers : List Pulled) →
-        DecoderIsAt decoder.old p answers →
-        FirstDecoded (Pulls S.gives S.failed) source.old source.new (shape_mode shape) previous flag
-        p
-        learned.old answers decoder.new learned.new) }
-    ensures err { OnErr result ((p : Place) (answers : List Pulled) →
-        DecoderIsAt decoder.old p answers →
-        FirstStopped (Pulls S.gives S.failed) source.old source.new (shape_mode shape) p learned.old
-        answers decoder.new learned.new) }
-{
-    let pixel = decoder.next(learned, flag_context(shape.two_line), source)?;
-    Ok(pixel == previous)
-}
-
-/// Decodes what comes before the pixels of a row, if that is still to come, and says whether the
-/// row is typical.
-fn begin_row<S: CodeBytes>(
-    shape: Shape,
-    place: RowPlace,
-    kept: Kept,
-    learned: &mut Learned,
-    decoder: &mut Decoder,
-    source: &mut S,
-) -> Result<bool, Stop>
-    requires going { place.is_begun ≡ true → has_stopped decoder.old ≡ false }
-    ensures stopped { IsTrue (has_stopped decoder.old) → (decoder.new ≡ decoder.old) ×
-        (source.new ≡ source.old) }
-    ensures going { OnOk result (has_stopped decoder.new ≡ has_stopped decoder.old) }
-    ensures stops { IsErr result → IsTrue (has_stopped decoder.new) }
-    ensures same { OnOk result (S.failed source.new ≡ S.failed source.old) }
-    ensures counted { has_stopped decoder.old ≡ false →
-        OnErr result (S.failed source.new ≡ one_more (S.failed source.old)) }
-    ensures typical { IfOk result (λ flag. IsTrue (has_stopped decoder.old) → flag ≡ false) }
-    ensures ok { IfOk result (λ flag. (s : State) (answers : List Pulled) (lines : Lines)
-        (window : Held) → StandsInRow shape kept place s answers lines window learned.old
-        decoder.old → RowBegins (Pulls S.gives S.failed) source.old source.new shape kept place s
-        answers lines window flag learned.new decoder.new) }
-    ensures err { OnErr result ((s : State) (answers : List Pulled) (lines : Lines)
-        (window : Held) → StandsInRow shape kept place s answers lines window learned.old
-        decoder.old → IsRowStart place × FirstStopped (Pulls S.gives S.failed) source.old source.new
-        (shape_mode shape) s.place s.learned answers decoder.new learned.new) }
-{
-    if shape.typical && !place.is_begun {
-        decode_flag(shape, kept.previous_typical, learned, decoder, source)
-    } else {
-        Ok(false)
-    }
-}
 
 /// Decodes the rest of a row below two others.
 fn decode_below<S: CodeBytes>(
@@ -94,15 +38,11 @@ fn decode_below<S: CodeBytes>(
     decoder: &mut Decoder,
     source: &mut S,
 ) -> Result<(), Stop>
-    requires offset { kept.old.offset ≤ 127 }
-    requires within { place.old.done < shape.width }
-    requires going { place.old.is_begun ≡ true → has_stopped decoder.old ≡ false }
+    requires goes_on { MayGoOnIn shape kept.old place.old decoder.old }
     requires current { length current.old ≡ div_ceil shape.width 8 }
     requires above { length above.now ≡ div_ceil shape.width 8 }
     ensures stop { StopsOnce S.failed decoder.old decoder.new source.old source.new result }
-    ensures offset { OnOk result (kept.new.offset ≡ kept.old.offset) }
-    ensures kept { OnErr result (kept.new ≡ kept.old) }
-    ensures within { OnErr result (place.new.done < shape.width) }
+    ensures place { LeavesPlace shape kept.old kept.new place.new result }
     ensures row { (s : State) (answers : List Pulled) (lines : Lines) →
         StandsInRow shape kept.old place.old s answers lines (record {
           width = shape.width;
@@ -181,17 +121,13 @@ fn decode_beside<S: CodeBytes>(
     decoder: &mut Decoder,
     source: &mut S,
 ) -> Result<(), Stop>
-    requires offset { kept.old.offset ≤ 127 }
-    requires within { place.old.done < shape.width }
-    requires going { place.old.is_begun ≡ true → has_stopped decoder.old ≡ false }
+    requires goes_on { MayGoOnIn shape kept.old place.old decoder.old }
     requires head { length head.now ≡ at * div_ceil shape.width 8 }
     requires row { length row.old ≡ div_ceil shape.width 8 }
     requires tail { length head.now + length tail.now ≡ 2 * div_ceil shape.width 8 }
     requires at { at < 3 }
     ensures stop { StopsOnce S.failed decoder.old decoder.new source.old source.new result }
-    ensures offset { OnOk result (kept.new.offset ≡ kept.old.offset) }
-    ensures kept { OnErr result (kept.new ≡ kept.old) }
-    ensures within { OnErr result (place.new.done < shape.width) }
+    ensures place { LeavesPlace shape kept.old kept.new place.new result }
     ensures above { SameAbove (rows_beside at shape.width head.now row.old tail.now)
         (rows_beside at shape.width head.now row.new tail.now) }
     ensures row { (s : State) (answers : List Pulled) (lines : Lines) →
@@ -219,15 +155,11 @@ fn decode_at<S: CodeBytes>(
     decoder: &mut Decoder,
     source: &mut S,
 ) -> Result<(), Stop>
-    requires offset { kept.old.offset ≤ 127 }
-    requires within { place.old.done < shape.width }
-    requires going { place.old.is_begun ≡ true → has_stopped decoder.old ≡ false }
+    requires goes_on { MayGoOnIn shape kept.old place.old decoder.old }
     requires long { length rows.old ≡ 3 * div_ceil shape.width 8 }
     requires current { current < 3 }
     ensures stop { StopsOnce S.failed decoder.old decoder.new source.old source.new result }
-    ensures offset { OnOk result (kept.new.offset ≡ kept.old.offset) }
-    ensures kept { OnErr result (kept.new ≡ kept.old) }
-    ensures within { OnErr result (place.new.done < shape.width) }
+    ensures place { LeavesPlace shape kept.old kept.new place.new result }
     ensures above { SameAbove (rows_at current shape.width rows.old)
         (rows_at current shape.width rows.new) }
     ensures row { (s : State) (answers : List Pulled) (lines : Lines) →
@@ -257,20 +189,14 @@ pub fn decode_row<S: CodeBytes>(
     decoder: &mut Decoder,
     source: &mut S,
 ) -> Result<(), Stop>
-    requires offset { kept.old.offset ≤ 127 }
-    requires width { width_of window.old ≡ shape.width }
-    requires some { 1 ≤ shape.width }
+    requires row { MayCodeRow shape kept.old window.old }
     ensures stop { StopsOnce S.failed decoder.old decoder.new source.old source.new result }
     ensures offset { OnOk result (kept.new.offset ≡ kept.old.offset) }
-    ensures above { SameAbove (held window.old) (held window.new) }
-    ensures same_place { current_place window.new ≡ current_place window.old }
-    ensures same_memory { memory_of window.new ≡ memory_of window.old }
-
+    ensures window { DecodesCurrent window.old window.new }
     ensures row { (p : Place) (answers : List Pulled) (lines : Lines) →
         DecoderIsAt decoder.old p answers → HasLines (held window.old) lines →
         RowDecoded (Pulls S.gives S.failed) source.old source.new shape kept.old kept.new
-        (record { place = p; learned = learned.old }) answers lines (held window.new) learned.new
-        decoder.new result }
+        (state_of p learned.old) answers lines (held window.new) learned.new decoder.new result }
 {
     let mut place = RowPlace::start();
     decode_at(
@@ -298,11 +224,10 @@ pub fn skip_rows(
     requires few { count ≤ 64 }
     ensures unchanged { result ≡ false → decoder.new ≡ decoder.old }
     ensures skipped { (p : Place) (answers : List Pulled) → DecoderIsAt decoder.old p answers →
-        IsTrue result → RowsSkipped shape kept (record { place = p; learned = learned.now })
-        answers count decoder.new }
+        IsTrue result → RowsSkipped shape kept (state_of p learned.now) answers count decoder.new }
     ensures exact { (p : Place) (answers : List Pulled) → DecoderIsAt decoder.old p answers →
         (IsTrue result ↔ CanSkipRows shape kept decoder.old
-        (record { place = p; learned = learned.now }) answers count) }
+        (state_of p learned.now) answers count) }
 {
     if !shape.typical {
         return false;
@@ -327,18 +252,13 @@ pub fn go_on_row<S: CodeBytes>(
     decoder: &mut Decoder,
     source: &mut S,
 ) -> Result<(), Stop>
-    requires offset { kept.old.offset ≤ 127 }
-    requires width { width_of window.old ≡ shape.width }
-    requires within { place.old.done < shape.width }
-    requires going { has_stopped decoder.old ≡ false }
+    requires row { MayGoOnRow shape kept.old place.old window.old decoder.old }
     ensures going { has_stopped decoder.new ≡ false }
     ensures same { OnOk result (S.failed source.new ≡ S.failed source.old) }
     ensures counted { OnErr result (S.failed source.new ≡ one_more (S.failed source.old)) }
     ensures offset { kept.new.offset ≡ kept.old.offset }
     ensures kept { OnErr result (kept.new ≡ kept.old) }
-    ensures above { SameAbove (held window.old) (held window.new) }
-    ensures same_place { current_place window.new ≡ current_place window.old }
-    ensures same_memory { memory_of window.new ≡ memory_of window.old }
+    ensures window { DecodesCurrent window.old window.new }
     ensures within { place.new.done < shape.width }
     ensures start { OnOk result (IsRowStart place.new) }
     ensures row { (s : State) (answers : List Pulled) (lines : Lines) →

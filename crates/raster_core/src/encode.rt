@@ -1,14 +1,14 @@
 //! Encoding a row.
 
-ghost use Rattle.std.specs.Prelude.{◌≡◌, ℕ, ◌+◌, ◌≤◌, ◌↔◌, List, IsTrue, IsErr, OnOk, OnErr, Err, false};
-ghost use Rattle.qm_core.specs.Encoder.{EncoderIsAt, event_count, has_failed};
-ghost use Rattle.qm_core.specs.Counts.{one_more};
-ghost use Rattle.qm_core.specs.Place.{Place};
+ghost use Rattle.std.specs.Prelude.{◌≡◌, ℕ, ◌+◌, ◌≤◌, List, IsTrue, OnOk, false};
+ghost use Rattle.qm_core.specs.Encoder.{EncoderIsAt, FailsOnce, event_count, has_failed};
+ghost use Rattle.qm_core.specs.Place.{Place, state_of};
+ghost use Rattle.raster_core.specs.Machine.Places.{MayCodeRow};
 ghost use Rattle.raster_core.specs.Lines.{Lines, may_be_typical};
 ghost use Rattle.raster_core.specs.Packed.{HasLines};
 ghost use Rattle.qm_core.specs.Puts.{HasRoom, Puts};
 ghost use Rattle.raster_core.specs.Row.{RowEncoded};
-ghost use Rattle.raster_core.specs.Window.{shape_mode, held, width_of};
+ghost use Rattle.raster_core.specs.Window.{shape_mode, held};
 ghost use Rattle.raster_core.specs.Machine.Rows.{coded_events, flag_events, held_in};
 
 mod byte;
@@ -83,25 +83,16 @@ pub fn encode_row<W: CodeSink>(
     encoder: &mut Encoder,
     out: &mut W,
 ) -> Result<(), CoderFault>
-    requires offset { kept.old.offset ≤ 127 }
-    requires width { width_of window.now ≡ shape.width }
-    requires some { 1 ≤ shape.width }
+    requires row { MayCodeRow shape kept.old window.now }
     requires events { event_count encoder.old + shape.width + 1 ≤ MAX_EVENTS }
-    ensures failed { IsTrue (has_failed encoder.old) → (result ≡ Err CoderFault.Failed) ×
-        (encoder.new ≡ encoder.old) × (out.new ≡ out.old) }
-    ensures fails { IsTrue (has_failed encoder.new) ↔ IsErr result }
-    ensures fault { has_failed encoder.old ≡ false → IsErr result → result ≡ Err CoderFault.Write }
+    ensures fails { FailsOnce W.failed encoder.old encoder.new out.old out.new result }
     ensures events { OnOk result (event_count encoder.new ≤ event_count encoder.old + shape.width +
         1) }
-    ensures same { OnOk result (W.failed out.new ≡ W.failed out.old) }
-    ensures counted { has_failed encoder.old ≡ false →
-        OnErr result (W.failed out.new ≡ one_more (W.failed out.old)) }
     ensures offset { OnOk result (kept.new.offset ≡ kept.old.offset) }
-
     ensures row { (p : Place) (pushed : List ℕ) (lines : Lines) → has_failed encoder.old ≡ false →
         EncoderIsAt encoder.old p pushed → HasLines (held window.now) lines →
         RowEncoded W.took W.refused out.old out.new shape kept.old kept.new
-        (record { place = p; learned = learned.old }) pushed lines encoder.new learned.new result }
+        (state_of p learned.old) pushed lines encoder.new learned.new result }
 {
     let rows = window.rows();
     let flag = is_typical(shape, rows);

@@ -1,6 +1,6 @@
 //! Rows of pixels in words of 64, the first pixel highest.
 
-ghost use Rattle.std.specs.Prelude.{ℕ, ◌+◌, ◌-◌, ◌*◌, ◌^◌, ◌≡◌, ◌≤◌, ◌<◌, Bool, List, length, nat_lt};
+ghost use Rattle.std.specs.Prelude.{ℕ, ◌+◌, ◌-◌, ◌*◌, ◌^◌, ◌≡◌, ◌≤◌, ◌<◌, Bool, List};
 ghost use Rattle.raster_core.specs.Packed.{packed_row};
 ghost use Rattle.raster_core.specs.Machine.Words.{word, led, is_within, agreed_from};
 
@@ -60,8 +60,7 @@ pub(crate) fn joined(first: u64, second: u64, shift: u32) -> u64
 #[inline(always)]
 pub(crate) fn agreed_word(mask: u64, one: u64, other: u64) -> u64
     ensures agreed { (p q m : ℕ → Bool) (a b c : ℕ) → one ≡ word p a 64 → other ≡ word q b 64 →
-        mask ≡ word m c 64
-        → result ≡ agreed_from p q m a b c 64 }
+        mask ≡ word m c 64 → result ≡ agreed_from p q m a b c 64 }
     ensures small { result ≤ 64 }
 {
     u64::from((mask & !(one ^ other)).count_ones())

@@ -1,5 +1,5 @@
 -- An encoder that a C caller holds.
-use Rattle.std.proofs.Common.{◌≡◌, ◌≢◌, ◌≤◌, ◌<◌, ◌+◌, ◌-◌, ◌*◌, ◌/◌, ◌%◌, ◌⊎◌, inl, inr, ℕ, zero, suc, ◌==◌, Bool, true, false, not, ◌||◌, nat_lt, nat_le, List, [], ◌∷◌, ◌++◌, length, take, Option, None, Some, Result, Ok, Err, refl, sym, ap, subst, ◌∙◌, arith, append-nil, length-append, length-take, take_all, true≢false}
+use Rattle.std.proofs.Common.{◌≡◌, ◌≢◌, ◌≤◌, ◌<◌, ◌+◌, ◌-◌, ◌*◌, ◌%◌, ◌⊎◌, inl, inr, ℕ, zero, suc, ◌==◌, Bool, true, false, not, ◌||◌, nat_lt, nat_le, List, [], ◌∷◌, ◌++◌, length, take, Option, None, Some, Result, Ok, Err, refl, sym, ap, subst, ◌∙◌, arith, append-nil, length-append, length-take, take_all, true≢false}
 use Rattle.std.specs.Prelude.{IfErr, IfSome, IsSomeAnd, MatchOption, OnOk, is_some, is_ok, option_map, option_to_list, replicate, unwrap_or, if◌then◌else◌}
 use Rattle.std.specs.Int.{div_ceil}
 use Rattle.std.specs.List.{AllByRecursion}
@@ -36,7 +36,7 @@ use Rattle.t85_core.specs.declared.fault.Fault.TheVariants.{AnnouncedLow, Commen
 use Rattle.t85.specs.Decoded.{window_bytes}
 use Rattle.t85.specs.Delivered.{lending}
 use Rattle.t85.specs.Encoded.{or_else, settings_chosen, status_if}
-use Rattle.t85.specs.Encoder.{BeginsStream, EndsStream, HasBeenEnded, HasCome, Image, IsNotBegun, PutsEnd, PutsRow, StartCall, StartsStream, TakesOne, TellsLeft, TellsRoom, encoder_hold, end_refusal, image_of, numbers_of_encoder, room_told, row_refusal, settings_kept, start_refusal, without_comment}
+use Rattle.t85.specs.Encoder.{BeginsStream, EndsStream, HasBeenEnded, HasCome, Image, IsNotBegun, PutsEnd, PutsRow, StartCall, StartsStream, TakesOne, TellsLeft, TellsRoom, encoder_hold, end_refusal, image_of, numbers_of_encoder, row_refusal, settings_kept, start_refusal, without_comment}
 use Rattle.t85.specs.EncoderSteps.{GoesOnFrom, HasBegun, IsIdle, IsOfNone, AwaitsCall, RefusesCall}
 use Rattle.t85.specs.Laws.{SentIsFront}
 use Rattle.t85.specs.declared.encoder.T85Encoder.{T85Encoder}
@@ -144,18 +144,6 @@ idle_refuses d refusal status i = record {
   not_begun = i.not_begun;
 }
 
--- one that takes rows refuses a call
-pub ready_refuses : (d : T85Encoder) (e : RowEncoder) (refusal : Option ℕ) (status : ℕ) → AwaitsCall d e → status ≢ 0 → refusal ≡ Some status → RefusesCall d refusal status
-ready_refuses d e refusal status r some is = record {
-  some = some;
-  first = λ window image rows sent k. is;
-  ended = λ h. absurd (let next = h.next_is in let was = r.next_is in omega (arith, next, was));
-  not_begun = λ h. absurd (begun h);
-} where
-  begun : IsNotBegun d → ⊥
-  begun (inl other) = other r.version_is
-  begun (inr other) = other.0 r.next_is
-
 -- ---- how many rows may come, and how many bytes are written at most
 
 pub left_told : (d : T85Encoder) (left : ℕ) → left ≡ d.height - d.rows → TellsLeft d left
@@ -175,12 +163,6 @@ run_length zeros (Some byte) ones =
     let b = length-replicate {A = ℕ} zeros 0 in
     let c = length-replicate {A = ℕ} ones 255 in
     omega (arith, a, b, c)
-
--- the numbers of an encoder say it
-pub room_is : (d : T85Encoder) (e : RowEncoder) → GoesOnFrom d e → most_row_bytes e ≡ room_told d
-room_is d e g =
-    let told : RowNumbers → ℕ → ℕ = λ n w. 2 * ((n.encoder.zeros + ((if n.encoder.has_held then 1 else 0) + n.encoder.ones)) + (n.encoder.bits + 7) / 8) + 4 * (w + 1) + 10 in
-    ap (λ t. 2 * (t + (e.encoder.bits + 7) / 8) + 4 * (e.size.width + 1) + 10) (run_length e.encoder.tail.zeros e.encoder.tail.held e.encoder.tail.ones) ∙ ap (λ n. told n e.size.width) g.numbers_are ∙ ap (told (numbers_of_encoder d)) g.width_is
 
 -- ---- a room that is not filled
 

@@ -1,15 +1,12 @@
 //! A decoder that a C caller holds, and hands a stream in pieces.
 
-ghost use Rattle.std.specs.Prelude.{◌≡◌, ◌≤◌, ◌<◌, ◌*◌, ◌⊎◌, List, ℕ, length, [], false, true};
-ghost use Rattle.std.specs.Int.{div_ceil};
-ghost use Rattle.t85_core.specs.Header.{HeaderOf};
+ghost use Rattle.std.specs.Prelude.{◌≡◌, ◌<◌, ◌*◌, ◌⊎◌, List, ℕ, length, [], false, true};
 ghost use Rattle.t85_core.specs.Lent.{decoder_over};
-ghost use Rattle.t85_core.specs.Options.{fields_of};
 ghost use Rattle.t85_core.specs.Feeds.{IsFeed, held_bytes};
 ghost use Rattle.t85_core.specs.Pieces.{call_of as piece_call};
 ghost use Rattle.raster_core.specs.Window.{memory_of, width_of};
 ghost use Rattle.t85.specs.Decoded.{window_bytes as window_of};
-ghost use Rattle.t85.specs.Decoder.{Answers, BeginsDecoder, HasEnded, HasRead, InHeader, InRows, IsAnswered, IsDecoderBegun, TellsCertain, bytes_call, height_of_decoder, bytes_held_by, hold_of, numbers_of_decoder, status_told};
+ghost use Rattle.t85.specs.Decoder.{Answers, BeginsDecoder, HasEnded, HasRead, InRows, IsAnswered, IsDecoderBegun, TellsCertain, bytes_call, height_of_decoder, bytes_held_by, hold_of, numbers_of_decoder, status_told};
 ghost use Rattle.t85.specs.DecoderSteps.{IsAwaited, IsFilled, IsJudged, IsOfEngine, IsToldOf, KeepsRest, MayEnterRows, MayTakeRows};
 
 use crate::opened::read_header;

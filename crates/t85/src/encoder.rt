@@ -1,14 +1,14 @@
 //! An encoder that a C caller holds, and hands the rows of an image one by one.
 
-ghost use Rattle.std.specs.Prelude.{◌≡◌, ◌≢◌, ◌≤◌, ◌<◌, ◌⊎◌, List, ℕ, length, take, false, true, Some, None, [], MatchOption, MatchResult, IfOk};
+ghost use Rattle.std.specs.Prelude.{◌≡◌, ◌≢◌, ◌≤◌, ◌<◌, ◌⊎◌, length, take, false, true, Some, None, [], MatchOption, MatchResult, IfOk};
 ghost use Rattle.std.specs.Int.{div_ceil};
-ghost use Rattle.raster_core.specs.Window.{current_place, held as rows_of, width_of};
+ghost use Rattle.raster_core.specs.Window.{held as rows_of, width_of};
 ghost use Rattle.t85_core.specs.Jbg.{head_of, is_low};
 ghost use Rattle.t85_core.specs.Lent.{KeepsWindow, StaysWindow, TurnsWindow};
 ghost use Rattle.t85_core.specs.Options.{refusal_of, settings_of};
-ghost use Rattle.t85_core.specs.RowNumbers.{row_numbers};
 ghost use Rattle.t85_core.specs.Steps.ByRow.{EndsImage, MayGoOn, TakesNextRow, view_of};
 ghost use Rattle.t85_core.specs.Steps.MostBytes.{most_row_bytes};
+ghost use Rattle.t85_core.specs.Steps.RowCalls.{MayEnd, MayTakeRow};
 ghost use Rattle.t85_core.specs.Steps.RowSteps.{IsGoing, given_row};
 ghost use Rattle.t85.specs.Decoded.{window_bytes as window_of};
 ghost use Rattle.t85.specs.Delivered.{IsEmptyRoom, lending};
@@ -316,8 +316,7 @@ impl T85Encoder {
 
     /// What was chosen for the stream, but for its comment, if it is accepted.
     fn options(&self) -> Result<Options<'static>, Fault>
-        ensures judged { MatchResult result
-            (λ o. settings_of o ≡ settings_kept self.now)
+        ensures judged { MatchResult result (λ o. settings_of o ≡ settings_kept self.now)
             (λ fault. refusal_of self.now.options self.now.stripe_rows self.now.most_offset None
             ≡ Some fault) }
     {
@@ -501,8 +500,7 @@ impl T85Encoder {
     fn end(&mut self, mut engine: RowEncoder, memory: &mut [u8], stream: &mut [u8]) -> usize
         requires long { length memory.old ≡ window_of self.old.width }
         requires ready { AwaitsCall self.old engine }
-        requires some { 0 < engine.rows }
-        requires whole { engine.may_end ≡ false → engine.rows ≡ engine.size.height }
+        requires may_end { MayEnd engine }
         requires room { most_row_bytes engine ≤ length stream.old }
         ensures ends { EndsStream (encoder_hold self.old memory.old) (take result stream.new) }
         ensures ended { HasBeenEnded self.new }
@@ -529,8 +527,7 @@ fn put_in(
 )
     requires width { width_of window.old ≡ engine.old.size.width }
     requires whole { length row.now ≡ div_ceil engine.old.size.width 8 }
-    requires left { engine.old.rows < engine.old.size.height }
-    requires ready { MayGoOn engine.old }
+    requires ready { MayTakeRow engine.old }
     requires going { IsGoing engine.old }
     requires room { IsEmptyRoom room.old }
     ensures put { most_row_bytes engine.old ≤ length room.new.bytes.now → MayGoOn engine.new ×
@@ -551,9 +548,7 @@ fn end_in(
     room: &mut Room<'_>,
 )
     requires width { width_of window.old ≡ engine.old.size.width }
-    requires some { 0 < engine.old.rows }
-    requires whole { engine.old.may_end ≡ false → engine.old.rows ≡ engine.old.size.height }
-    requires ready { MayGoOn engine.old }
+    requires ready { MayEnd engine.old × MayGoOn engine.old }
     requires going { IsGoing engine.old }
     requires room { IsEmptyRoom room.old }
     ensures ended { most_row_bytes engine.old ≤ length room.new.bytes.now →

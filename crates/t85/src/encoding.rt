@@ -1,6 +1,6 @@
 //! Encoding into lent memory.
 
-ghost use Rattle.std.specs.Prelude.{◌≡◌, ◌≤◌, ◌<◌, ◌^◌, None, Some, length, false, MatchResult, IfOk};
+ghost use Rattle.std.specs.Prelude.{◌≡◌, ◌≤◌, ◌<◌, None, Some, length, false, MatchResult, IfOk};
 ghost use Rattle.std.specs.Int.{div_ceil};
 ghost use Rattle.t85_core.specs.Options.{settings_of};
 ghost use Rattle.t85_core.specs.Jbg.{is_low};
@@ -162,8 +162,7 @@ fn fill_stream(
     requires apart { div_ceil size.width 8 ≤ stride }
     requires not_low { is_low (settings_of options.now) size.height ≡ false }
     ensures { DeliversCode (asked (settings_of options.now) size.width size.height)
-        (lined size.height (div_ceil size.width 8) stride rows.now) stream.new written.new
-        result }
+        (lined size.height (div_ceil size.width 8) stride rows.now) stream.new written.new result }
 {
     let mut room = Room::new(stream);
     let status = write_stream(size, rows, stride, options, window, &mut room);

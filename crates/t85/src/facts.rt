@@ -2,7 +2,6 @@
 
 ghost use Rattle.std.specs.Prelude.{IfErr, IfOk};
 ghost use Rattle.t85_core.specs.Height.{StreamFault};
-ghost use Rattle.t85_core.specs.Info.{HasNumbers, numbers_in};
 ghost use Rattle.t85_core.specs.Parts.{Passed, EndsAt};
 ghost use Rattle.t85.specs.Facts.{FactsTold, HasFacts};
 

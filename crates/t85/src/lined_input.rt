@@ -44,8 +44,7 @@ impl<'a> LinedInput<'a> {
     fn step(&mut self)
         requires { self.old.current.now ≡ [] }
         ensures same { self.new.current.now ++ lined self.new.rows self.new.row self.new.stride
-            self.new.rest.now ≡ lined self.old.rows self.old.row self.old.stride
-            self.old.rest.now }
+            self.new.rest.now ≡ lined self.old.rows self.old.row self.old.stride self.old.rest.now }
         ensures end { self.new.current.now ≡ [] → lined self.new.rows self.new.row self.new.stride
             self.new.rest.now ≡ [] }
         ensures left { self.new.left ≡ self.old.left }

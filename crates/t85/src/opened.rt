@@ -1,6 +1,6 @@
 //! A stream whose header was read and whose height is known.
 
-ghost use Rattle.std.specs.Prelude.{◌≡◌, ◌≤◌, drop, Some, OnOk, IfOk, IfErr};
+ghost use Rattle.std.specs.Prelude.{◌≡◌, ◌≤◌, drop, Some, IfOk, IfErr};
 ghost use Rattle.t85_core.specs.Options.{fields_of};
 ghost use Rattle.t85_core.specs.Header.{HeaderOf, header_fault};
 ghost use Rattle.t85_core.specs.Height.{IsHeight};

@@ -1,8 +1,6 @@
 //! What a stream is made of, part by part, for a C caller.
 
-ghost use Rattle.std.specs.Prelude.{◌≡◌, ◌≤◌, IfErr, IfOk, true};
-ghost use Rattle.t85_core.specs.Height.{StreamFault};
-ghost use Rattle.t85_core.specs.Parts.{Passed, EndsAt};
+ghost use Rattle.std.specs.Prelude.{◌≡◌};
 ghost use Rattle.t85.specs.Parts.{PartTold, IsTold, kind_number, walk_in};
 
 use t85_core::{Fault, Found, PartKind, PartWalk};

@@ -1,6 +1,6 @@
 //! What a stream says of itself, for a C caller.
 
-ghost use Rattle.std.specs.Prelude.{Some, IfOk, IfErr};
+ghost use Rattle.std.specs.Prelude.{IfOk, IfErr};
 ghost use Rattle.t85_core.specs.Height.{StreamFault};
 ghost use Rattle.t85_core.specs.Info.{HasNumbers, numbers_in};
 ghost use Rattle.t85.specs.Summary.{InfoTold};

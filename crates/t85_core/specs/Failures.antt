@@ -45,6 +45,10 @@ pub record OnlyWrites {T : Type 0} (old new : OutputView) (result : Result T Fau
   pub no_flush : new.flushes ≡ old.flushes
   pub same_target : new.target ≡ old.target
 
+-- nothing was flushed, and the memory that was lent is the same
+abbrev pub SameOutput : OutputView → OutputView → Type 0
+SameOutput old new = (new.flushes ≡ old.flushes) × (new.target ≡ old.target)
+
 -- what is said where rows of the image are missing
 abbrev pub IfMissing : Result (Unit {0}) Fault → (PbmFault → Type 0) → Type 0
 IfMissing answer Q = (fault : PbmFault) → IsErrOf answer (Pbm fault) → Q fault
@@ -55,6 +59,10 @@ pub record FlushesOnce (old new : ℕ) (answer : Result (Unit {0}) Fault) : Type
   pub once : OnOk answer (new ≡ one_more old)
   pub once_at_most : OnErr answer ((new ≡ old) ⊎ (new ≡ one_more old))
   pub not_after_a_fault : IfErr answer (λ f. f ≢ Write → new ≡ old)
+
+-- and the memory that was lent is the same
+abbrev pub FlushesOutput : OutputView → OutputView → Result (Unit {0}) Fault → Type 0
+FlushesOutput old new answer = FlushesOnce old.flushes new.flushes answer × (new.target ≡ old.target)
 
 -- the fault that is reported of what came: a failed read counts as the end of the input
 abbrev pub counted_as : Fault → Fault → Fault

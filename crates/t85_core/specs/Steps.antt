@@ -24,5 +24,6 @@ pub mod ByRow
 pub mod RowLaws
 pub mod MostBytes
 pub mod RowSteps
+pub mod RowCalls
 pub mod EncodeRows
 pub mod EncodeStripes

@@ -1,11 +1,11 @@
 //! Whole files: the image of a stream, and the stream of an image.
 
-ghost use Rattle.std.specs.Prelude.{◌≡◌, ◌≤◌, is_some, true, if◌then◌else◌};
+ghost use Rattle.std.specs.Prelude.{◌≡◌, is_some, true, if◌then◌else◌};
 ghost use Rattle.t85_core.specs.Steps.HeightWalk.{MayBeHeight};
 ghost use Rattle.t85_core.specs.Change.{input_change, output_change};
 ghost use Rattle.t85_core.specs.Options.{fields_of, settings_of};
 ghost use Rattle.t85_core.specs.Header.{is_variable};
-ghost use Rattle.t85_core.specs.Failures.{FlushesOnce};
+ghost use Rattle.t85_core.specs.Failures.{FlushesOutput};
 ghost use Rattle.t85_core.specs.ToPbm.{ToPbmAt, ToPbmBehind, ToPbm, again_change, is_same_header};
 ghost use Rattle.t85_core.specs.ToJbg.{ToJbg, ToJbgAhead};
 ghost use Rattle.pbm_core.specs.Device.{SameInput};
@@ -39,8 +39,7 @@ pub fn to_pbm<R: Input, Second: Input, W: Output>(
     ensures outcome { ToPbm max_rows (input_change R.view first.old first.new) (is_some again.old)
         (again.new ≡ again.old) (again_change Second.view again.old again.new) (output_change W.view
         output.old output.new) (W.view output.new).flushed result }
-    ensures flushes { FlushesOnce (W.view output.old).flushes (W.view output.new).flushes result }
-    ensures same_target { (W.view output.new).target ≡ (W.view output.old).target }
+    ensures flushes { FlushesOutput (W.view output.old) (W.view output.new) result }
 {
     // What the proof cites of the coder.
     coder_laws();
@@ -67,8 +66,7 @@ fn convert_again<R: Input, Second: Input, W: Output>(
     ensures outcome { ToPbmBehind (fields_of header.now) max_rows (input_change R.view first.old
         first.new) (again.new ≡ again.old) (input_change Second.view again.old again.new)
         (output_change W.view output.old output.new) (W.view output.new).flushed result }
-    ensures flushes { FlushesOnce (W.view output.old).flushes (W.view output.new).flushes result }
-    ensures same_target { (W.view output.new).target ≡ (W.view output.old).target }
+    ensures flushes { FlushesOutput (W.view output.old) (W.view output.new) result }
 {
     let height = find_height(header, first)?;
     match Header::read(again) {
@@ -108,8 +106,7 @@ fn convert<R: Input, W: Output>(
     requires height { MayBeHeight header.now.yd height }
     ensures outcome { ToPbmAt (fields_of header.now) height max_rows (input_change R.view input.old
         input.new) (output_change W.view output.old output.new) (W.view output.new).flushed result }
-    ensures flushes { FlushesOnce (W.view output.old).flushes (W.view output.new).flushes result }
-    ensures same_target { (W.view output.new).target ≡ (W.view output.old).target }
+    ensures flushes { FlushesOutput (W.view output.old) (W.view output.new) result }
 {
     if height > max_rows {
         return Err(Fault::TooManyRows);
@@ -137,8 +134,7 @@ pub fn to_jbg<R: Input, W: Output>(
 ) -> Result<(), Fault>
     ensures outcome { ToJbgAhead (settings_of options.now) (input_change R.view input.old input.new)
         (output_change W.view output.old output.new) (W.view output.new).flushed result }
-    ensures flushes { FlushesOnce (W.view output.old).flushes (W.view output.new).flushes result }
-    ensures same_target { (W.view output.new).target ≡ (W.view output.old).target }
+    ensures flushes { FlushesOutput (W.view output.old) (W.view output.new) result }
 {
     let mut source = Buffered::new(input);
     to_jbg_from(alloc, &mut source, output, options)
@@ -154,8 +150,7 @@ fn to_jbg_from<R: Input, W: Output>(
     ensures outcome { ToJbg (settings_of options.now) (input_change R.view input.old input.new)
         (output_change W.view output.old output.new) (W.view output.new).flushed result }
     ensures same_input { SameInput (R.view input.old) (R.view input.new) }
-    ensures flushes { FlushesOnce (W.view output.old).flushes (W.view output.new).flushes result }
-    ensures same_target { (W.view output.new).target ≡ (W.view output.old).target }
+    ensures flushes { FlushesOutput (W.view output.old) (W.view output.new) result }
 {
     // What the proof cites of headers.
     headers();

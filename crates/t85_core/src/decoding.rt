@@ -1,18 +1,18 @@
 //! Decoding an image.
 
-ghost use Rattle.std.specs.Prelude.{◌≡◌, ◌≢◌, ◌≤◌, ◌<◌, [], Bool, true, Ok, Err, OnOk, IfErr, IsErrOf};
+ghost use Rattle.std.specs.Prelude.{◌≡◌, ◌≢◌, ◌≤◌, ◌<◌, [], true, Ok, Err, OnOk, IfErr, IsErrOf};
 ghost use Rattle.raster_core.specs.Window.{held, width_of};
 ghost use Rattle.t85_core.specs.Steps.HeightWalk.{MayBeHeight};
 ghost use Rattle.t85_core.specs.Options.{fields_of};
 ghost use Rattle.t85_core.specs.Change.{input_change, output_change};
 ghost use Rattle.t85_core.specs.Decode.{Decode};
-ghost use Rattle.t85_core.specs.Lent.{walk_over};
-ghost use Rattle.t85_core.specs.Steps.Buffers.{known_length, ReadsOn, WritesOn};
-ghost use Rattle.t85_core.specs.Steps.Views.{text_taken, writer_of};
+ghost use Rattle.t85_core.specs.Lent.{walk_over as over};
+ghost use Rattle.t85_core.specs.Steps.Buffers.{ReadsOn, WritesOn};
+ghost use Rattle.t85_core.specs.Steps.Views.{text_taken, WritesBehind};
 ghost use Rattle.t85_core.specs.Steps.DecodeStripes.{ImageRead, ImageCut, ImageUnwritten};
 ghost use Rattle.t85_core.specs.Steps.Pieces.{WalkStands};
 ghost use Rattle.t85_core.specs.Steps.Reading.{HeldTurn, ReadTurn, RowsTurn, SameSource, still_left};
-ghost use Rattle.t85_core.specs.Failures.{CountsBoth, CountsWrite};
+ghost use Rattle.t85_core.specs.Failures.{CountsBoth, SameOutput};
 ghost use Rattle.t85_core.specs.declared.fault.Fault.{Fault};
 ghost use Rattle.t85_core.specs.declared.fault.Fault.TheVariants.{Read, Truncated, Write};
 ghost use Rattle.t85_core.specs.declared.pieces.walk.Stage.TheVariants as stage;
@@ -45,8 +45,7 @@ pub fn decode<R: Input, W: Output>(
     requires height { MayBeHeight header.now.yd height }
     ensures outcome { Decode (fields_of header.now) height (input_change R.view input.old input.new)
         (output_change W.view output.old output.new) result }
-    ensures no_flush { (W.view output.new).flushes ≡ (W.view output.old).flushes }
-    ensures same_target { (W.view output.new).target ≡ (W.view output.old).target }
+    ensures same_output { SameOutput (W.view output.old) (W.view output.new) }
 {
     decode_by::<R, W, READ_AHEAD, IMAGE_HELD>(header, height, window, input, output)
 }
@@ -68,8 +67,7 @@ pub fn decode_in_memory<R: Input, W: Output>(
     requires height { MayBeHeight header.now.yd height }
     ensures outcome { Decode (fields_of header.now) height (input_change R.view input.old input.new)
         (output_change W.view output.old output.new) result }
-    ensures no_flush { (W.view output.new).flushes ≡ (W.view output.old).flushes }
-    ensures same_target { (W.view output.new).target ≡ (W.view output.old).target }
+    ensures same_output { SameOutput (W.view output.old) (W.view output.new) }
 {
     decode_by::<R, W, MEMORY_AHEAD, MEMORY_HELD>(header, height, window, input, output)
 }
@@ -90,8 +88,7 @@ fn decode_by<R: Input, W: Output, const AHEAD: usize, const HELD: usize>(
     requires height { MayBeHeight header.now.yd height }
     ensures outcome { Decode (fields_of header.now) height (input_change R.view input.old input.new)
         (output_change W.view output.old output.new) result }
-    ensures no_flush { (W.view output.new).flushes ≡ (W.view output.old).flushes }
-    ensures same_target { (W.view output.new).target ≡ (W.view output.old).target }
+    ensures same_output { SameOutput (W.view output.old) (W.view output.new) }
 {
     // What the proof cites of the coder.
     coder_laws();
@@ -129,7 +126,7 @@ fn decode_buffered<S: HeldSource, W: Output, const HELD: usize>(
     buffer: &mut OutputBuffer<'_, W, HELD>,
 ) -> Result<(), Fault>
     requires stands { WalkStands (fields_of header.now) height
-        (walk_over walk.old window.old learned.old) [] [] }
+        (over walk.old window.old learned.old) [] [] }
     requires height { MayBeHeight header.now.yd height }
     ensures ok { OnOk result (ImageRead (fields_of header.now) height (S.view stream.old).known
         (S.view stream.new).known (text_taken buffer.old) (W.view buffer.new.output.now).contents) }
@@ -138,14 +135,10 @@ fn decode_buffered<S: HeldSource, W: Output, const HELD: usize>(
         (W.view buffer.new.output.now).contents f) }
     ensures begun { ImageUnwritten (fields_of header.now) height (S.view stream.old).known
         (S.view stream.new).known (text_taken buffer.old) (text_taken buffer.new) }
-    ensures grows { known_length (W.view buffer.old.output.now).contents ≤ known_length
-        (W.view buffer.new.output.now).contents }
     ensures drained { IsErrOf result Read → (S.view stream.new).known ≡ (S.view stream.new).beyond }
     ensures reads { CountsBoth (S.view stream.old).failures (S.view stream.new).failures result }
-    ensures writes { CountsWrite (W.view buffer.old.output.now).failures
-        (W.view buffer.new.output.now).failures result }
+    ensures writes { WritesBehind buffer.old buffer.new result }
     ensures same_source { (S.view stream.new).source ≡ (S.view stream.old).source }
-    ensures same_writer { writer_of buffer.new ≡ writer_of buffer.old }
 {
     // What the proof cites of the coder.
     coder_laws();
@@ -172,7 +165,7 @@ fn decode_image<S: HeldSource, P: ByteTarget>(
     target: &mut P,
 ) -> Result<(), Fault>
     requires stands { WalkStands (fields_of header.now) height
-        (walk_over walk.old window.old learned.old) [] [] }
+        (over walk.old window.old learned.old) [] [] }
     requires height { MayBeHeight header.now.yd height }
     ensures ok { OnOk result (ImageRead (fields_of header.now) height (S.view stream.old).known
         (S.view stream.new).known (P.view target.old).text (P.view target.new).text) }
@@ -210,9 +203,8 @@ fn next_rows<S: HeldSource>(
     stream: &mut S,
 ) -> Result<u32, Fault>
     requires height { MayBeHeight header.now.yd height }
-    ensures turn { RowsTurn (fields_of header.now) height (walk_over walk.old window.old
-        learned.old) (walk_over walk.new window.new learned.new) (S.view stream.old) (S.view
-        stream.new) result }
+    ensures turn { RowsTurn (fields_of header.now) height (over walk.old window.old learned.old)
+        (over walk.new window.new learned.new) (S.view stream.old) (S.view stream.new) result }
 {
     let count = walk.repeat_rows(header, height, window, learned);
     if count > 0 {
@@ -232,9 +224,8 @@ fn next_row<S: HeldSource>(
     stream: &mut S,
 ) -> Result<bool, Fault>
     requires height { MayBeHeight header.now.yd height }
-    ensures turn { ReadTurn (fields_of header.now) height (walk_over walk.old window.old
-        learned.old) (walk_over walk.new window.new learned.new) (S.view stream.old) (S.view
-        stream.new) result }
+    ensures turn { ReadTurn (fields_of header.now) height (over walk.old window.old learned.old)
+        (over walk.new window.new learned.new) (S.view stream.old) (S.view stream.new) result }
     ensures code { result ≡ Ok true → walk.new.stage ≡ stage.Code }
 {
     'turns: loop {
@@ -258,8 +249,8 @@ fn turn_held<S: HeldSource>(
     stream: &mut S,
 ) -> Result<bool, Fault>
     requires height { MayBeHeight header.now.yd height }
-    ensures turn { HeldTurn (fields_of header.now) height (walk_over walk.old window.old
-        learned.old) (walk_over walk.new window.new learned.new) (S.view stream.old).known (S.view
+    ensures turn { HeldTurn (fields_of header.now) height (over walk.old window.old
+        learned.old) (over walk.new window.new learned.new) (S.view stream.old).known (S.view
         stream.new).known (S.bytes stream.new) result }
     ensures still { still_left (S.view stream.new) (S.bytes stream.new) ≡
         still_left (S.view stream.old) (S.bytes stream.old) }

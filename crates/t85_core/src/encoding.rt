@@ -10,9 +10,9 @@ ghost use Rattle.t85_core.specs.Steps.EncodeRows.{EndsInRow, RowTaken};
 ghost use Rattle.t85_core.specs.Steps.EncodeStripes.{ImageRefused, ImageFront, ImageCoded, JbgShort};
 ghost use Rattle.t85_core.specs.Jbg.{jbg, is_low};
 ghost use Rattle.t85_core.specs.Options.{settings_of};
-ghost use Rattle.t85_core.specs.Steps.Buffers.{known_length, WritesOn};
-ghost use Rattle.t85_core.specs.Steps.Views.{text_taken, writer_of};
-ghost use Rattle.t85_core.specs.Failures.{CountsBoth, CountsRead, CountsWrite, IfMissing};
+ghost use Rattle.t85_core.specs.Steps.Buffers.{WritesOn};
+ghost use Rattle.t85_core.specs.Steps.Views.{text_taken, WritesBehind};
+ghost use Rattle.t85_core.specs.Failures.{CountsBoth, CountsRead, IfMissing, SameOutput};
 ghost use Rattle.t85_core.specs.declared.fault.Fault.TheVariants.{Write, Pbm};
 
 mod by_row;
@@ -49,8 +49,7 @@ pub fn encode<R: Input, W: Output>(
     ensures outcome { Encode (settings_of options.now) form size.width size.height (input_change
         R.view input.old input.new) (output_change W.view output.old output.new) result }
     ensures same_input { SameInput (R.view input.old) (R.view input.new) }
-    ensures no_flush { (W.view output.new).flushes ≡ (W.view output.old).flushes }
-    ensures same_target { (W.view output.new).target ≡ (W.view output.old).target }
+    ensures same_output { SameOutput (W.view output.old) (W.view output.new) }
 {
     encode_by::<R, W, IMAGE_HELD>(size, form, options, window, input, output)
 }
@@ -68,8 +67,7 @@ pub fn encode_in_memory<R: Input, W: Output>(
     ensures outcome { Encode (settings_of options.now) form size.width size.height (input_change
         R.view input.old input.new) (output_change W.view output.old output.new) result }
     ensures same_input { SameInput (R.view input.old) (R.view input.new) }
-    ensures no_flush { (W.view output.new).flushes ≡ (W.view output.old).flushes }
-    ensures same_target { (W.view output.new).target ≡ (W.view output.old).target }
+    ensures same_output { SameOutput (W.view output.old) (W.view output.new) }
 {
     encode_by::<R, W, ROW_HELD>(size, form, options, window, input, output)
 }
@@ -89,8 +87,7 @@ fn encode_by<R: Input, W: Output, const HELD: usize>(
     ensures outcome { Encode (settings_of options.now) form size.width size.height (input_change
         R.view input.old input.new) (output_change W.view output.old output.new) result }
     ensures same_input { SameInput (R.view input.old) (R.view input.new) }
-    ensures no_flush { (W.view output.new).flushes ≡ (W.view output.old).flushes }
-    ensures same_target { (W.view output.new).target ≡ (W.view output.old).target }
+    ensures same_output { SameOutput (W.view output.old) (W.view output.new) }
 {
     // What the proof cites.
     code_denotes();
@@ -121,14 +118,10 @@ fn encode_buffered<R: Input, W: Output, const HELD: usize>(
     ensures begun { ImageFront form size.width size.height (jbg (settings_of options.now))
         (R.view source.old).remaining (R.view source.new).remaining (text_taken buffer.old)
         (text_taken buffer.new) }
-    ensures grows { known_length (W.view buffer.old.output.now).contents ≤ known_length
-        (W.view buffer.new.output.now).contents }
     ensures among { IfErr result IsEncodeFault }
     ensures reads { CountsBoth (R.view source.old).failures (R.view source.new).failures result }
     ensures same_input { SameInput (R.view source.old) (R.view source.new) }
-    ensures writes { CountsWrite (W.view buffer.old.output.now).failures
-        (W.view buffer.new.output.now).failures result }
-    ensures same_writer { writer_of buffer.new ≡ writer_of buffer.old }
+    ensures writes { WritesBehind buffer.old buffer.new result }
 {
     match encode_image(size, form, options, window, source, buffer) {
         Ok(()) => buffer.write_held(),

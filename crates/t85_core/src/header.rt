@@ -35,7 +35,7 @@ pub struct Header {
 
 impl Header {
     ghost use Rattle.std.specs.Prelude.{ℕ, List, ◌^◌, length, Ok, Err, IfOk, IfErr, MatchResult, OnOk, None, Some};
-    ghost use Rattle.std.specs.Io.KnownBytes.{Consumes, IsAtEnd};
+    ghost use Rattle.std.specs.Io.KnownBytes.{Consumes};
     ghost use Rattle.t85_core.specs.Failures.{counted_as};
     ghost use Rattle.t85_core.specs.Header.{HeaderOf, header_fault, header_bytes};
     ghost use Rattle.t85_core.specs.Options.{fields_of};

@@ -1,6 +1,6 @@
 //! A reader's bytes, read ahead into a fixed array and handed out one at a time.
 
-ghost use Rattle.std.specs.Prelude.{◌≡◌, ◌≢◌, ◌≤◌, ◌<◌, ◌+◌, ◌-◌, ◌^◌, ◌∷◌, ◌++◌, [], ℕ, List, None, length, slice_index, take, IfSome, IfOk, IfErr, MatchResult};
+ghost use Rattle.std.specs.Prelude.{◌≡◌, ◌≤◌, ◌<◌, ◌+◌, ◌-◌, ◌^◌, ◌++◌, ℕ, List, None, length, slice_index, take, IfOk, IfErr, MatchResult};
 ghost use Rattle.std.specs.Io.KnownBytes.{Consumes, IsAtEnd, Keeps, prepend_known};
 ghost use Rattle.pbm_core.specs.Device.{Counts};
 ghost use Rattle.t85_core.specs.Steps.Reading.{KeepsLast, Refills};

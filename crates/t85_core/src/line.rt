@@ -5,7 +5,7 @@ ghost use Rattle.std.specs.Fmt.{decimal};
 ghost use Rattle.std.specs.Io.KnownBytes.{Appends};
 ghost use Rattle.t85_core.specs.declared.fault.Fault.TheVariants.{Write};
 ghost use Rattle.pbm_core.specs.Device.{AppendsBeginning};
-ghost use Rattle.t85_core.specs.Failures.{CountsWrite, FlushesOnce};
+ghost use Rattle.t85_core.specs.Failures.{CountsWrite, FlushesOutput};
 ghost use Rattle.t85_core.specs.Info.{line_text};
 
 use crate::fault::Fault;
@@ -72,9 +72,7 @@ impl Line {
         ensures cut { IfErr result (λ _. AppendsBeginning (W.view output.old).contents
             (W.view output.new).contents self.now) }
         ensures flushed { OnOk result ((W.view output.new).flushed ≡ true) }
-        ensures flushes { FlushesOnce (W.view output.old).flushes (W.view output.new).flushes
-            result }
-        ensures same_target { (W.view output.new).target ≡ (W.view output.old).target }
+        ensures flushes { FlushesOutput (W.view output.old) (W.view output.new) result }
         ensures counts { CountsWrite (W.view output.old).failures (W.view output.new).failures
             result }
     {

@@ -5,7 +5,7 @@ ghost use Rattle.std.specs.Io.KnownBytes.{Appends, Keeps, append_known};
 ghost use Rattle.pbm_core.specs.Device.{Counts};
 ghost use Rattle.t85_core.specs.declared.fault.Fault.TheVariants.{Write};
 ghost use Rattle.t85_core.specs.Steps.Buffers.{TargetView, PutsBytes, Pushes, HandsOn, held_of, known_length};
-ghost use Rattle.t85_core.specs.Failures.{CountsWrite};
+ghost use Rattle.t85_core.specs.Failures.{SameOutput};
 
 use crate::fault::Fault;
 use pbm_core::{DeviceFailed, Output, WriteFault, write_bytes};
@@ -66,18 +66,14 @@ impl<'a, W: Output, const SIZE: usize> OutputBuffer<'a, W, SIZE> {
 }
 
 impl<W: Output, const SIZE: usize> OutputBuffer<'_, W, SIZE> {
-    ghost use Rattle.t85_core.specs.Steps.Views.{text_taken, writer_of};
+    ghost use Rattle.t85_core.specs.Steps.Views.{text_taken, WritesBehind};
 
     /// Writes what is held.
     pub fn write_held(&mut self) -> Result<(), Fault>
         ensures text { Keeps (text_taken self.old) (text_taken self.new) }
         ensures empty { OnOk result ((self.new.at ≡ 0) × (self.new.end ≡ 0)) }
-        ensures grows { known_length (W.view self.old.output.now).contents ≤ known_length
-            (W.view self.new.output.now).contents }
         ensures err { IfErr result (λ f. f ≡ Write) }
-        ensures counts { CountsWrite (W.view self.old.output.now).failures
-            (W.view self.new.output.now).failures result }
-        ensures same_writer { writer_of self.new ≡ writer_of self.old }
+        ensures writes { WritesBehind self.old self.new result }
     {
         match write_part(self.output, &self.bytes, self.at, self.end) {
             Ok(()) => {
@@ -106,8 +102,7 @@ fn write_part<W: Output>(output: &mut W, bytes: &[u8], at: usize, end: usize) ->
     ensures bound { IfErr result (λ place. place ≤ end) }
     ensures grows { known_length (W.view output.old).contents ≤ known_length (W.view
         output.new).contents }
-    ensures no_flush { (W.view output.new).flushes ≡ (W.view output.old).flushes }
-    ensures same_target { (W.view output.new).target ≡ (W.view output.old).target }
+    ensures same_output { SameOutput (W.view output.old) (W.view output.new) }
     ensures counts { Counts (W.view output.old).failures (W.view output.new).failures result }
 {
     let mut place = at;

@@ -8,12 +8,15 @@ ghost use Rattle.t85_core.specs.Options.{fields_of};
 ghost use Rattle.t85_core.specs.Steps.Buffers.{ReadsOn};
 ghost use Rattle.t85_core.specs.Failures.{Ends};
 ghost use Rattle.t85_core.specs.Refusal.{move_fault, comment_fault};
-ghost use Rattle.t85_core.specs.Grammar.{NewLength, is_valid_length, IsLegal};
-ghost use Rattle.t85_core.specs.Steps.Segments.{spot_at, code_bytes, IsByteOrMarker, LengthFault, PieceFault, Passes, PassesSegments, SegmentsFault, PassesCode, RestFault, CodeFault};
+ghost use Rattle.t85_core.specs.Grammar.{NewLength};
+ghost use Rattle.t85_core.specs.Steps.Segments.{code_bytes, IsByteOrMarker, PieceFault, Passes, PassesSegments, SegmentsFault, PassesCode, RestFault, CodeFault};
+
+mod length;
 
 use crate::fault::Fault;
 use crate::header::Header;
 use crate::input_buffer::{ByteSource, ESCAPE};
+use crate::segments::length::read_length;
 use byteorder::{BigEndian, ByteOrder};
 
 /// Where a stripe begins, or what is next in it: the height in use, how many data entities came before it, and whether
@@ -235,39 +238,6 @@ pub fn next_piece<S: ByteSource>(
         }
         _ => Err(Fault::BadEscape),
     }
-}
-
-/// Reads what follows the two bytes of a NEWLEN, and judges it: it is valid at this place, and no other came before.
-fn read_length<S: ByteSource>(header: &Header, place: Place, stream: &mut S) -> Result<u32, Fault>
-    ensures ok { IfOk result (λ height. (place.given ≡ false) ×
-        (is_valid_length (fields_of header.now) place.entities height ≡ true)
-        × IsLegal (fields_of header.now) (NewLength height) ×
-        Consumes (S.view stream.old).known (S.view stream.new).known (big_bytes 4 height)) }
-    ensures err { IfErr result (Ends Truncated (S.view stream.old).known (S.view stream.new).known
-        (LengthFault (fields_of header.now) place)) }
-    ensures reads { ReadsOn (S.view stream.old) (S.view stream.new) result }
-    ensures no_more { (S.view stream.new).left ≤ (S.view stream.old).left }
-{
-    if !header.is_variable() {
-        return Err(Fault::LengthRefused);
-    }
-    if place.given {
-        return Err(Fault::SecondLength);
-    }
-    let height = number(stream)?;
-    if !is_valid(header, place.entities, height) {
-        return Err(Fault::LengthRefused);
-    }
-    Ok(height)
-}
-
-/// Whether a height may be given after `entities` data entities.
-fn is_valid(header: &Header, entities: u32, height: u32) -> bool
-    ensures { result ≡ is_valid_length (fields_of header.now) entities height }
-{
-    1 <= height
-        && height <= header.yd
-        && u64::from(entities.saturating_sub(1)) * u64::from(header.l0) < u64::from(height)
 }
 
 /// Reads what follows the two bytes of an ATMOVE, and judges it.

@@ -1,10 +1,9 @@
 //! What both directions carry from row to row and from stripe to stripe.
 
-ghost use Rattle.std.specs.Prelude.{◌≡◌, ◌<◌, ◌-◌, if◌then◌else◌};
-ghost use Rattle.qm_core.specs.Place.{fresh};
-ghost use Rattle.raster_core.specs.Window.{held, memory_of, width_of};
+ghost use Rattle.std.specs.Prelude.{◌≡◌, ◌<◌, if◌then◌else◌};
+ghost use Rattle.raster_core.specs.Window.{width_of};
 ghost use Rattle.t85_core.specs.Steps.State.{RowStart, first_row_start, next_stripe_start};
-ghost use Rattle.t85_core.specs.Lent.{carried_by};
+ghost use Rattle.t85_core.specs.Lent.{KeepsWindow, carried_by};
 ghost use Rattle.t85_core.specs.Steps.DecodeRows.{IsCarried, IsFirst};
 
 use qm_core::Learned;
@@ -21,9 +20,8 @@ pub fn next_stripe(reset: bool, window: &mut Window<'_>, kept: &mut Kept, learne
     ensures next { (last : RowStart) → IsCarried last (carried_by window.old kept.old learned.old) →
         IsCarried (first_row_start (next_stripe_start (width_of window.old) reset last)) (carried_by
         window.new kept.new learned.new) }
-    ensures width { width_of window.new ≡ width_of window.old }
+    ensures window { KeepsWindow window.old window.new }
     ensures offset { kept.new.offset ≡ if reset then 0 else kept.old.offset }
-    ensures same_memory { memory_of window.new ≡ memory_of window.old }
 {
     if reset {
         restart(window, kept, learned);
@@ -33,9 +31,8 @@ pub fn next_stripe(reset: bool, window: &mut Window<'_>, kept: &mut Kept, learne
 /// Goes to the top of an image. The window is made white, and the contexts forget.
 pub fn restart(window: &mut Window<'_>, kept: &mut Kept, learned: &mut Learned)
     ensures first { IsFirst (carried_by window.new kept.new learned.new) }
-    ensures width { width_of window.new ≡ width_of window.old }
+    ensures window { KeepsWindow window.old window.new }
     ensures offset { kept.new.offset ≡ 0 }
-    ensures same_memory { memory_of window.new ≡ memory_of window.old }
 {
     window.clear();
     *kept = START;

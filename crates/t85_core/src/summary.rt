@@ -8,7 +8,7 @@ ghost use Rattle.t85_core.specs.Options.{fields_of};
 ghost use Rattle.t85_core.specs.Info.{Info, IsWalkFault, Summarize, line_text, numbers_in};
 ghost use Rattle.t85_core.specs.Steps.HeightWalk.{FindsGiven, BodyNumbers, BodyRefused, BodyUnfinished};
 ghost use Rattle.t85_core.specs.Steps.Buffers.{ReadsOn};
-ghost use Rattle.t85_core.specs.Failures.{FlushesOnce};
+ghost use Rattle.t85_core.specs.Failures.{FlushesOutput};
 
 use crate::fault::Fault;
 use crate::header::Header;
@@ -53,8 +53,7 @@ pub fn summarize<R: Input>(input: &mut R) -> Result<Summary, Fault>
 pub fn info<R: Input, W: Output>(input: &mut R, output: &mut W) -> Result<(), Fault>
     ensures outcome { Info (input_change R.view input.old input.new)
         (output_change W.view output.old output.new) (W.view output.new).flushed result }
-    ensures flushes { FlushesOnce (W.view output.old).flushes (W.view output.new).flushes result }
-    ensures same_target { (W.view output.new).target ≡ (W.view output.old).target }
+    ensures flushes { FlushesOutput (W.view output.old) (W.view output.new) result }
 {
     let found = summarize(input)?;
     line_of(&found).put(output)

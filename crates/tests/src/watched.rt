@@ -1,6 +1,6 @@
 //! A slow input sees each finished stripe go out: an input that looks at what the output has taken.
 
-ghost use Rattle.std.specs.Prelude.{◌≡◌, ◌<◌, ◌-◌, ◌^◌, [], length, None};
+ghost use Rattle.std.specs.Prelude.{◌<◌, ◌-◌, [], length, None};
 
 use crate::trial::Bytes::Image;
 use crate::trial::{Bytes, Program};

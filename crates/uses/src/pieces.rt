@@ -53,8 +53,7 @@ pub fn rows_of_two(
     limit: usize,
     rows: &mut Vec<u8>,
 ) -> Result<Outcome, AllocError>
-    ensures read { IfOk result (λ answer. TextRead
-        (decoder_over decoder.old window.old learned.old)
+    ensures read { IfOk result (λ answer. TextRead (decoder_over decoder.old window.old learned.old)
         (decoder_over decoder.new window.new learned.new)
         (first.now ++ second.now) limit answer rows.old.items rows.new.items) }
     ensures short { OnErr result (SomeRead (decoder_over decoder.old window.old learned.old)

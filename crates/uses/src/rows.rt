@@ -12,7 +12,7 @@ ghost use Rattle.t85_core.specs.Jbg.{jbg, is_low};
 ghost use Rattle.t85_core.specs.Failures.{OnlyWrites, writes_after};
 ghost use Rattle.t85_core.specs.Options.{settings_of};
 ghost use Rattle.t85_core.specs.RowNumbers.{row_numbers};
-ghost use Rattle.t85_core.specs.Steps.ByRow.{plan_of, view_of, IsPlan, MayGoOn, TakesNextRow, EndsImage, CutsImage};
+ghost use Rattle.t85_core.specs.Steps.ByRow.{view_of, MayGoOn, TakesNextRow, EndsImage, CutsImage};
 ghost use Rattle.t85_core.specs.Steps.RowSteps.{IsGoing};
 ghost use Rattle.uses.specs.Rows.{MayTake};
 ghost use Rattle.t85_core.specs.declared.encoding.by_row.RowEncoder.{RowEncoder};

@@ -1,22 +1,18 @@
 //! Decoding the pixels of a byte.
 
-ghost use Rattle.std.specs.Prelude.{◌≡◌, ◌+◌, ◌-◌, ◌*◌, ◌%◌, ◌^◌, ◌<◌, ◌≤◌, ◌↔◌, List, IsTrue, IsErr, OnOk, OnErr, IfOk, IfErr, false, true, nat_eq};
-ghost use Rattle.qm_core.specs.Counts.{one_more};
+ghost use Rattle.std.specs.Prelude.{◌≡◌, ◌+◌, ◌-◌, ◌*◌, ◌%◌, ◌<◌, IfOk, IfErr, false};
 ghost use Rattle.qm_core.specs.Source.{Pulls};
-ghost use Rattle.qm_core.specs.Place.{Place};
-ghost use Rattle.qm_core.specs.Skipping.{CanSkip};
-ghost use Rattle.qm_core.specs.Decoder.{StopsOnce, DecoderIsAt, has_stopped};
-ghost use Rattle.qm_core.specs.declared.source.Pulled.{Pulled};
-ghost use Rattle.raster_core.specs.Machine.Decoded.{Along, StopsAlong, AlongMore, StopsMore, SkipsAlong};
+ghost use Rattle.qm_core.specs.Decoder.{StopsOnce};
+ghost use Rattle.raster_core.specs.Machine.Decoded.{Along, StopsAlong, AlongMore, StopsMore};
 ghost use Rattle.raster_core.specs.Window.{shape_mode};
-ghost use Rattle.raster_core.specs.Machine.Registers.{AreFew, IsTemplate, bit, is_moved};
-ghost use Rattle.raster_core.specs.Machine.Uniform.{uniform_event, AreAllOf};
+ghost use Rattle.raster_core.specs.Machine.Registers.{AreFew, IsTemplate};
 
 use crate::context::{context_of, past_and};
+use crate::decode::runs::skip_byte;
 use crate::lanes::{first_around, has_lanes, last_around};
 use crate::place::Pause;
 use crate::shape::Shape;
-use crate::uniform::{is_run, past_eight, uniform_context};
+use crate::uniform::past_eight;
 use qm_core::{CodeBytes, Context, Decoder, Learned, Stop};
 
 /// Decodes n pixels of a byte. The registers `second_bytes` and `above_bytes` have the byte before,
@@ -210,43 +206,6 @@ fn decode_plain<S: CodeBytes, const TWO_LINE: bool, const MOVED: bool>(
             decoder,
             source,
         )
-    }
-}
-
-/// Decodes a byte in one step, if it is `byte`, all that its contexts read is of its colour, and no
-/// byte of the code is wanted. Else it does nothing.
-#[inline(always)]
-fn skip_byte<const MOVED: bool>(
-    shape: Shape,
-    offset: u8,
-    second_bytes: u32,
-    above_bytes: u32,
-    byte: u8,
-    before: u128,
-    n: u32,
-    learned: &Learned,
-    decoder: &mut Decoder,
-) -> bool
-    requires offset { offset ≤ 127 }
-    requires moved { MOVED ≡ is_moved offset }
-    ensures stopped { has_stopped decoder.new ≡ has_stopped decoder.old }
-    ensures going { result ≡ true → has_stopped decoder.old ≡ false }
-    ensures unchanged { result ≡ false → decoder.new ≡ decoder.old }
-    ensures eight { result ≡ true → n ≡ 8 }
-    ensures skipped { result ≡ true → SkipsAlong (shape_mode shape) offset second_bytes above_bytes
-        byte before decoder.old learned.now decoder.new }
-    ensures taken { (p : Place) (answers : List Pulled) → DecoderIsAt decoder.old p answers →
-        n ≡ 8 →
-        byte ≡ bit (nat_eq byte 255) * 255 →
-        AreAllOf second_bytes above_bytes before offset (nat_eq byte 255) →
-        CanSkip decoder.old (record { place = p; learned = learned.now }) answers
-        (uniform_event (nat_eq byte 255)) 8 → result ≡ true }
-{
-    let colour = byte == 255;
-    if is_run::<MOVED>(offset, second_bytes, above_bytes, byte, before, n) {
-        decoder.skip(learned, uniform_context(colour), colour, 8)
-    } else {
-        false
     }
 }
 

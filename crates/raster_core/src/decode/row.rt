@@ -1,13 +1,12 @@
 //! Decoding the pixels of a plain row.
 
-ghost use Rattle.std.specs.Prelude.{◌≡◌, ◌+◌, ◌-◌, ◌*◌, ◌%◌, ◌<◌, ◌≤◌, ◌↔◌, length, IsTrue, IsErr, OnOk, OnErr, IfOk, IfErr, false};
-ghost use Rattle.std.specs.Int.{div_ceil};
-ghost use Rattle.qm_core.specs.Counts.{one_more};
+ghost use Rattle.std.specs.Prelude.{◌≡◌, ◌+◌, ◌-◌, ◌*◌, ◌%◌, ◌<◌, ◌≤◌, OnOk, IfOk, IfErr};
 ghost use Rattle.qm_core.specs.Source.{Pulls};
-ghost use Rattle.qm_core.specs.Decoder.{StopsOnce, has_stopped};
+ghost use Rattle.qm_core.specs.Decoder.{StopsOnce};
+ghost use Rattle.raster_core.specs.Machine.Places.{IsPartOf};
 ghost use Rattle.raster_core.specs.Machine.Decoded.{ByteEnds, RowAlong, RowStops};
 ghost use Rattle.raster_core.specs.Window.{shape_mode};
-ghost use Rattle.raster_core.specs.Machine.Registers.{IsTemplate, is_moved};
+ghost use Rattle.raster_core.specs.Machine.Registers.{IsTemplate};
 
 use crate::bytes::byte_at;
 use crate::context::by_template;
@@ -31,9 +30,8 @@ fn end_byte<S: CodeBytes, const TWO_LINE: bool, const MOVED: bool>(
     source: &mut S,
 ) -> Result<RowPlace, RowPlace>
     requires template { IsTemplate TWO_LINE MOVED shape offset }
-    requires part { 1 ≤ place.done % 8 }
-    requires within { place.done < shape.width }
-    requires long { length current.old ≡ div_ceil shape.width 8 }
+    requires begun { 1 ≤ place.done % 8 }
+    requires part { IsPartOf shape place current.old }
     ensures stop { StopsOnce S.failed decoder.old decoder.new source.old source.new result }
     ensures whole { IfOk result (λ to. to.done < shape.width → to.done % 8 ≡ 0) }
     ensures within { IfOk result (λ to. to.done ≤ shape.width) }
@@ -83,8 +81,7 @@ fn decode_bytes<S: CodeBytes, const TWO_LINE: bool, const MOVED: bool>(
 ) -> Result<(), RowPlace>
     requires template { IsTemplate TWO_LINE MOVED shape offset }
     requires whole { place.done % 8 ≡ 0 }
-    requires within { place.done < shape.width }
-    requires long { length current.old ≡ div_ceil shape.width 8 }
+    requires part { IsPartOf shape place current.old }
     ensures stop { StopsOnce S.failed decoder.old decoder.new source.old source.new result }
     ensures inside { IfErr result (λ at. at.done < shape.width) }
     ensures ok { OnOk result (RowAlong (Pulls S.gives S.failed) source.old source.new
@@ -174,8 +171,7 @@ fn decode_rest<S: CodeBytes, const TWO_LINE: bool, const MOVED: bool>(
     source: &mut S,
 ) -> Result<(), RowPlace>
     requires template { IsTemplate TWO_LINE MOVED shape offset }
-    requires within { place.done < shape.width }
-    requires long { length current.old ≡ div_ceil shape.width 8 }
+    requires part { IsPartOf shape place current.old }
     ensures stop { StopsOnce S.failed decoder.old decoder.new source.old source.new result }
     ensures inside { IfErr result (λ at. at.done < shape.width) }
     ensures ok { OnOk result (RowAlong (Pulls S.gives S.failed) source.old source.new
@@ -215,8 +211,7 @@ pub(crate) fn decode_pixels<S: CodeBytes>(
     source: &mut S,
 ) -> Result<(), RowPlace>
     requires offset { offset ≤ 127 }
-    requires within { place.done < shape.width }
-    requires long { length current.old ≡ div_ceil shape.width 8 }
+    requires part { IsPartOf shape place current.old }
     ensures stop { StopsOnce S.failed decoder.old decoder.new source.old source.new result }
     ensures inside { IfErr result (λ at. at.done < shape.width) }
     ensures ok { OnOk result (RowAlong (Pulls S.gives S.failed) source.old source.new

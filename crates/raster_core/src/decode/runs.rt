@@ -1,17 +1,54 @@
 //! Decoding bytes of one colour, many in one step.
 
-ghost use Rattle.std.specs.Prelude.{◌≡◌, ℕ, ◌+◌, ◌-◌, ◌*◌, ◌^◌, ◌<◌, ◌≤◌, length, List, slice_index, false, true};
+ghost use Rattle.std.specs.Prelude.{◌≡◌, ℕ, ◌+◌, ◌-◌, ◌*◌, ◌^◌, ◌<◌, ◌≤◌, length, List, slice_index, false, true, nat_eq};
 ghost use Rattle.std.specs.Int.{div_ceil};
-ghost use Rattle.qm_core.specs.Place.{Place};
+ghost use Rattle.qm_core.specs.Place.{Place, state_of};
 ghost use Rattle.qm_core.specs.Skipping.{CanSkip};
-ghost use Rattle.qm_core.specs.Decoder.{DecoderIsAt, has_stopped};
+ghost use Rattle.qm_core.specs.Decoder.{DecoderIsAt, SkipsOrStays};
 ghost use Rattle.qm_core.specs.declared.source.Pulled.{Pulled};
-ghost use Rattle.raster_core.specs.Machine.Decoded.{SkipsFilledAlong};
+ghost use Rattle.raster_core.specs.Machine.Places.{SkipsSoMany};
+ghost use Rattle.raster_core.specs.Machine.Decoded.{SkipsFilledAlong, SkipsAlong};
 ghost use Rattle.raster_core.specs.Machine.Registers.{bit, is_moved, past_bits};
-ghost use Rattle.raster_core.specs.Machine.Uniform.{uniform_event, colour_of, filled, AreFilled};
+ghost use Rattle.raster_core.specs.Machine.Uniform.{uniform_event, colour_of, filled, AreFilled, AreAllOf};
+ghost use Rattle.raster_core.specs.Window.{shape_mode};
 
-use crate::uniform::{is_all_above, is_filled, paint, uniform_context};
+use crate::shape::Shape;
+use crate::uniform::{is_all_above, is_filled, is_run, paint, uniform_context};
 use qm_core::{Decoder, Learned};
+
+/// Decodes a byte in one step, if it is `byte`, all that its contexts read is of its colour, and no
+/// byte of the code is wanted. Else it does nothing.
+#[inline(always)]
+pub(super) fn skip_byte<const MOVED: bool>(
+    shape: Shape,
+    offset: u8,
+    second_bytes: u32,
+    above_bytes: u32,
+    byte: u8,
+    before: u128,
+    n: u32,
+    learned: &Learned,
+    decoder: &mut Decoder,
+) -> bool
+    requires offset { offset ≤ 127 }
+    requires moved { MOVED ≡ is_moved offset }
+    ensures skips { SkipsOrStays result decoder.old decoder.new }
+    ensures eight { result ≡ true → n ≡ 8 }
+    ensures skipped { result ≡ true → SkipsAlong (shape_mode shape) offset second_bytes above_bytes
+        byte before decoder.old learned.now decoder.new }
+    ensures taken { (p : Place) (answers : List Pulled) → DecoderIsAt decoder.old p answers →
+        n ≡ 8 → byte ≡ bit (nat_eq byte 255) * 255 →
+        AreAllOf second_bytes above_bytes before offset (nat_eq byte 255) →
+        CanSkip decoder.old (state_of p learned.now) answers
+        (uniform_event (nat_eq byte 255)) 8 → result ≡ true }
+{
+    let colour = byte == 255;
+    if is_run::<MOVED>(offset, second_bytes, above_bytes, byte, before, n) {
+        decoder.skip(learned, uniform_context(colour), colour, 8)
+    } else {
+        false
+    }
+}
 
 /// Decodes eight bytes in one step, where they are of a colour and below bytes of it, and no byte of
 /// the code is wanted. Else it does nothing. What comes before them has to be of the colour.
@@ -26,16 +63,14 @@ fn skip_word(
     decoder: &mut Decoder,
 ) -> bool
     requires place { i < 2 ^ 32 }
-    ensures stopped { has_stopped decoder.new ≡ has_stopped decoder.old }
-    ensures going { result ≡ true → has_stopped decoder.old ≡ false }
-    ensures unchanged { result ≡ false → decoder.new ≡ decoder.old }
+    ensures skips { SkipsOrStays result decoder.old decoder.new }
     ensures inside { result ≡ true → 64 < left }
     ensures skipped { result ≡ true → SkipsFilledAlong colour above.now second.now i 8
         decoder.old learned.now decoder.new }
     ensures taken { (p : Place) (answers : List Pulled) → DecoderIsAt decoder.old p answers →
         64 < left → i + 9 ≤ length above.now → i + 9 ≤ length second.now →
         AreFilled colour above.now (i + 1) 8 → AreFilled colour second.now (i + 1) 8 →
-        CanSkip decoder.old (record { place = p; learned = learned.now }) answers
+        CanSkip decoder.old (state_of p learned.now) answers
         (uniform_event colour) 64 → result ≡ true }
 {
     if is_all_above(colour, above, second, i, left) {
@@ -58,9 +93,7 @@ fn skip_words(
 ) -> u32
     requires some { 1 ≤ left }
     requires place { 8 * i + left < 2 ^ 32 }
-    ensures stopped { has_stopped decoder.new ≡ has_stopped decoder.old }
-    ensures going { 1 ≤ result → has_stopped decoder.old ≡ false }
-    ensures unchanged { result ≡ 0 → decoder.new ≡ decoder.old }
+    ensures skips { SkipsSoMany result decoder.old decoder.new }
     ensures inside { 64 * result < left }
     ensures skipped { SkipsFilledAlong colour above.now second.now i (8 * result) decoder.old
         learned.now decoder.new }
@@ -93,9 +126,7 @@ pub(crate) fn skip_filled<const MOVED: bool>(
     requires some { 1 ≤ left }
     requires place { 8 * i + left < 2 ^ 32 }
     requires long { length current.old ≡ div_ceil (8 * i + left) 8 }
-    ensures stopped { has_stopped decoder.new ≡ has_stopped decoder.old }
-    ensures going { 1 ≤ result → has_stopped decoder.old ≡ false }
-    ensures unchanged { result ≡ 0 → decoder.new ≡ decoder.old }
+    ensures skips { SkipsSoMany result decoder.old decoder.new }
     ensures inside { 64 * result < left }
     ensures second { 1 ≤ result → second_bytes ≡ filled (colour_of above_bytes) 24 }
     ensures above { 1 ≤ result → above_bytes ≡ filled (colour_of above_bytes) 24 }

@@ -34,9 +34,6 @@ sends_longer o b xs ys q = record { front = q.front; rest = q.rest ++ ys; text_i
 pub sends_all : (o : Origin) (b : Option (List ℕ)) (xs : List ℕ) → Sends o b xs → SendsBeginning o b xs
 sends_all o b xs p = record { front = xs; rest = []; text_is = sym (append-nil xs); sends = p }
 
-pub sends_beginning_kept : (o : Origin) (b c : Option (List ℕ)) (xs : List ℕ) → SendsBeginning o b xs → Keeps b c → SendsBeginning o c xs
-sends_beginning_kept o b c xs q k = record { front = q.front; rest = q.rest; text_is = q.text_is; sends = Sends-keeps o b c q.front q.sends k }
-
 -- no byte is lost
 pub sends_grows : (o : Origin) (b : Option (List ℕ)) (xs : List ℕ) → Sends o b xs → known_length o.text ≤ known_length b
 sends_grows o b xs p = grows_with o.text b p.more p.appended
@@ -63,9 +60,6 @@ sent_here a b xs p = record { more = xs; appended = p; all = refl }
 
 pub here_sent : (a b : Option (List ℕ)) (xs : List ℕ) → Sends (here a) b xs → Appends a b xs
 here_sent a b xs p = subst (Appends a b) (sym p.all) p.appended
-
-pub beginning_here : (a b : Option (List ℕ)) (xs : List ℕ) → SendsBeginning (here a) b xs → AppendsBeginning a b xs
-beginning_here a b xs p = record { front = p.front; rest = p.rest; text_is = p.text_is; appends = here_sent a b p.front p.sends }
 
 -- nothing more than what went elsewhere
 pub sent_behind : (xs : List ℕ) (a : Option (List ℕ)) → Appends a a [] → Sends (behind xs a) a xs

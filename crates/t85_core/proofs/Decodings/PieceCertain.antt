@@ -29,7 +29,6 @@ use Rattle.t85_core.specs.Steps.PieceCode.{CodeText}
 use Rattle.t85_core.specs.Steps.Pieces.{HeadStands, WalkStands, IsInCode, HasMarker, CodeStands, InRowStands}
 use Rattle.t85_core.specs.Steps.PieceStands.{DecoderStands, HeightKnown, CodeWalks, WalkWaits, IsAtMarker, entities_behind, is_last, place_behind, last_behind}
 use Rattle.t85_core.specs.Steps.Behind.{BehindStands}
-use Rattle.t85_core.specs.Steps.PieceSteps.{SomeStand, HeightComes}
 use Rattle.t85_core.proofs.Bytes.Lengths.{lengths_append, gives_none, valid_in_use}
 use Rattle.t85_core.proofs.Bytes.Lists.{All-append, flat_map_push}
 use Rattle.t85_core.proofs.Bytes.Stuffing.{stuffed_append}
@@ -398,20 +397,3 @@ module _ (d : PieceView) (text out : List ℕ) (s : DecoderStands d text out) wh
         let left = left_is late in
         let small = (own_height d.header).accepted.height_to in
         omega (arith, to, left, small, is)
-
--- a height that comes is not below the rows of the stripes behind
-pub left_before : (d : PieceView) (n : ℕ) (p rest : List ℕ) → d.is_open ≡ true → d.waits ≡ true → SomeStand d → HeightComes (fields_of d.header) d.walk n p rest → d.header.yd - n ≤ d.walk.left
-left_before d n p rest late waits some comes = by w.at where
-  w : WalkWaits (fields_of d.header) d.walk d.behind some.0 some.1
-  w = waits_of d some.0 some.1 late waits some.2
-
-  by : IsAtMarker d.walk → d.header.yd - n ≤ d.walk.left
-  by (inl k) =
-      let times : d.walk.entities * d.header.l0 ≡ 0 * d.header.l0 = ap (λ (m : ℕ). m * d.header.l0) k.2 in
-      let none : 0 * d.header.l0 ≡ 0 = omega arith in
-      let left = w.walk.left_is in
-      omega (arith, times, none, left)
-  by (inr k) =
-      let over : d.walk.entities * d.header.l0 < n = after_more (fields_of d.header) n d.walk.entities _ comes.valid (let next = in_code_entities d.walk.stage d.walk.entities k.0 in omega (arith, next)) in
-      let left = w.walk.left_is in
-      omega (arith, over, left)

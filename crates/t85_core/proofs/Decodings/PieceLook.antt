@@ -256,10 +256,6 @@ height_over d e n p rest late waits some head comes beyond = by w.at where
       let more = beyond k.0 in
       omega (arith, times, one, left, more, comes.legal.2)
 
-pub left_over : (d e : PieceView) (n : ℕ) (p rest : List ℕ) → d.is_open ≡ true → d.waits ≡ true → SomeStand d → HeadEntered d e → HeightComes (fields_of d.header) d.walk n p rest → e.walk.entities * d.header.l0 < n → d.header.yd - n ≤ e.walk.left
-left_over d e n p rest late waits some head comes over =
-    let left = (head.stands some.0 some.1 (waits_of d some.0 some.1 late waits some.2)).left_is in omega (arith, left, over, comes.legal.2)
-
 pub raised_on : (d e d' : PieceView) (n : ℕ) (p rest : List ℕ) → d.is_open ≡ true → d.waits ≡ true → HeadEntered d e → d.behind.comment ≡ None → HeightComes (fields_of d.header) d.walk n p rest → e.walk.entities * d.header.l0 < n →
     d'.header ≡ e.header → d'.height ≡ n → d'.is_open ≡ false → d'.walk ≡ record e.walk { left = e.walk.left - (d.header.yd - n); given = true } → DecoderOn d d' p rest []
 raised_on d e d' n p rest late waits head between comes over header height closed walk text out s = (
@@ -306,9 +302,6 @@ raised_on d e d' n p rest late waits head between comes over header height close
     stands = put_stage (fields_of d.header) n (record e.walk { left = e.walk.left - (d.header.yd - n); given = true }) (text ++ segment_bytes (NewLength n)) out stage.Head is_head (head_raised in_head n variable valid d.header.some_rows comes.legal over);
   }
 
-pub height_some : (n : ℕ) (p rest : List ℕ) → p ≡ segment_bytes (NewLength n) ++ rest → length rest < length p
-height_some n p rest e = let l : length p ≡ length (segment_bytes (NewLength n) ++ rest) = ap length e in omega (arith, l)
-
 -- ---- what came behind the marker
 
 pub passed_on : (d d1 : PieceView) (b : Behind) (p p1 : List ℕ) → d.is_open ≡ true → d.waits ≡ true → d1.header ≡ d.header → d1.height ≡ d.height → d1.is_open ≡ d.is_open → d1.waits ≡ d.waits → d1.walk ≡ d.walk → d1.behind ≡ b →
@@ -335,6 +328,3 @@ passed_on d d1 b p p1 late waits header height is_open same_waits walk behind on
 
 pub own_first : (d : PieceView) → d.is_open ≡ true → SomeStand d → d.height ≡ d.header.yd
 own_first d late some = some.2.height.first late
-
-pub own_whole : (d d' : PieceView) (p : List ℕ) (is_all : Bool) → d.header.yd ≡ d'.header.yd → EndsWhole is_all d p d.header.yd → EndsWhole is_all d p d'.header.yd
-own_whole d d' p is_all same k = subst (EndsWhole is_all d p) same k

@@ -1,5 +1,5 @@
 -- How many bytes the steps of a row encoder append at most.
-use Rattle.std.proofs.Common.{◌≡◌, ◌≤◌, ◌+◌, ◌*◌, ℕ, Bool, List, [], ◌++◌, length, sym, ap, ◌∙◌, subst, arith, length-append, Option, Result, Ok, Err}
+use Rattle.std.proofs.Common.{◌≡◌, ◌≤◌, ◌+◌, ◌*◌, ℕ, Bool, List, [], ◌++◌, length, sym, ap, ◌∙◌, arith, length-append, Option, Result, Ok, Err}
 use Rattle.std.specs.Prelude.{nat_lt, if◌then◌else◌, true, false, OnOk, OnErr}
 use Rattle.std.specs.Io.KnownBytes.{Appends, Keeps, append_known}
 use Rattle.std.proofs.lemmas.List.{length-map}
@@ -29,9 +29,6 @@ use Rattle.t85_core.proofs.Theorems.StreamLength.{many, row_short}
 
 pub none_appended : (most : ℕ) (old : Option (List ℕ)) → AppendsAtMost most old old
 none_appended most old = record { bytes = []; appended = appends_none old; few = omega arith }
-
-pub same_appended : (most : ℕ) (old new : Option (List ℕ)) → new ≡ old → AppendsAtMost most old new
-same_appended most old new same = subst (λ z. AppendsAtMost most old z) (sym same) (none_appended most old)
 
 pub beginning_few : (most : ℕ) (old new : Option (List ℕ)) (text : List ℕ) → length text ≤ most → AppendsBeginning old new text → AppendsAtMost most old new
 beginning_few most old new text few begins =

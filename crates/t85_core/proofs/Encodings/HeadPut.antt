@@ -1,9 +1,11 @@
 -- A stream with its head, from its stripes.
 use Rattle.std.proofs.Common.{◌≡◌, ℕ, Bool, List, [], ◌++◌, arith, map, Option, None, Some, option_to_list, sym, ap, ◌∙◌, subst, append_assoc, append-nil}
-use Rattle.std.specs.Prelude.{flat_map}
+use Rattle.std.specs.Prelude.{flat_map, Result}
 use Rattle.std.specs.Io.KnownBytes.{Appends}
 use Rattle.pbm_core.specs.declared.form.Form.{Form}
 use Rattle.raster_core.specs.Raster.{Raster, height}
+use Rattle.t85_core.specs.declared.fault.Fault.{Fault}
+use Rattle.t85_core.specs.Failures.{CountsWrite}
 use Rattle.t85_core.specs.Encode.{BeginsWith}
 use Rattle.t85_core.specs.Steps.EncodeStripes.{ImageRefused}
 use Rattle.pbm_core.specs.Device.{AppendsBeginning}
@@ -12,6 +14,10 @@ use Rattle.t85_core.specs.Header.{header_bytes}
 use Rattle.t85_core.specs.Jbg.{Settings, header_of, head_of, stripes_of, jbg, ending}
 use Rattle.t85_core.proofs.Encodings.RowsJoined.{reads_none}
 use Rattle.t85_core.proofs.Bytes.Streams.{Appends-more, beginning_longer, beginning_after}
+
+-- no write failed before
+pub counts_on : {T : Type 0} (old mid new : ℕ) (r : Result T Fault) → mid ≡ old → CountsWrite mid new r → CountsWrite old new r
+counts_on old mid new r same counts = subst (λ n. CountsWrite n new r) same counts
 
 abbrev comment_of : Option (List ℕ) → List ℕ
 comment_of comment = flat_map segment_bytes (map Comment (option_to_list comment))

@@ -517,8 +517,5 @@ tail_none w stream never = ([], drop w.offset stream, refl, refl, by w.at_height
   by true = inr (refl, never)
   by false = refl
 
-pub tail_quiet : (w : PartWalk) (stream : List ℕ) → w.at_height ≡ false → TailIs w stream 0
-tail_quiet w stream quiet = ([], drop w.offset stream, refl, refl, subst (λ t. IsTail t [] (drop w.offset stream)) (sym quiet) refl)
-
 pub tail_marker : (w : PartWalk) (stream : List ℕ) (reset : Bool) (rest : List ℕ) → w.at_height ≡ true → drop w.offset stream ≡ marker_bytes reset ++ rest → TailIs w stream 2
 tail_marker w stream reset rest at there = (marker_bytes reset, rest, there, refl, subst (λ t. IsTail t (marker_bytes reset) rest) (sym at) (inl (reset, refl)))

@@ -7,9 +7,10 @@ use Rattle.t85_core.specs.declared.pieces.Outcome.{Outcome}
 use Rattle.t85_core.specs.declared.pieces.PieceDecoder.{PieceDecoder}
 use Rattle.t85_core.specs.declared.pieces.Outcome.TheVariants as outcome
 use Rattle.t85_core.specs.Options.{fields_of}
-use Rattle.t85_core.specs.Steps.PieceStands.{DecoderStands, WalkWaits, place_behind}
+use Rattle.t85_core.specs.Steps.PieceStands.{DecoderStands, WalkWaits, last_behind, place_behind}
 use Rattle.t85_core.specs.declared.pieces.walk.Stage.{Stage}
 use Rattle.t85_core.specs.declared.pieces.walk.Stage.TheVariants as stage
+use Rattle.t85_core.specs.declared.segments.Place.{Place}
 use Rattle.t85_core.specs.Header.{Fields}
 use Rattle.t85_core.specs.Grammar.{NewLength, segment_bytes, is_valid_length, IsLegal}
 use Rattle.t85_core.specs.Height.{IsHeight}
@@ -22,6 +23,10 @@ use Rattle.t85_core.specs.Pieces.{HandsOut, HoldsImage, MayFollow, row_held, row
 -- a decoder with late heights that looks for one
 abbrev pub LooksForHeight : PieceDecoder → Type 0
 LooksForHeight d = (d.is_open ≡ true) × (d.waits ≡ true)
+
+-- one that does not look for it yet
+abbrev pub DecodesCode : PieceDecoder → Type 0
+DecodesCode d = (d.is_open ≡ true) × (d.waits ≡ false)
 
 -- it stands somewhere
 abbrev pub SomeStand : PieceView → Type 0
@@ -129,6 +134,18 @@ LookIsOver is_all d piece =
     (back rest : List ℕ) → BehindStands (fields_of d.header) (place_behind (fields_of d.header) d.walk.stage d.walk.entities) true d.behind back → MayFollow is_all rest →
     LookEnds (fields_of d.header) (place_behind (fields_of d.header) d.walk.stage d.walk.entities).entities ((back ++ piece) ++ rest)
 
+-- whether the last stripe is over there that the header's height makes
+abbrev pub is_last_of : PieceDecoder → Bool
+is_last_of d = last_behind (fields_of d.header) d.walk.stage d.walk.left
+
+-- where what comes behind stands
+abbrev pub place_after : PieceDecoder → Place
+place_after d = place_behind (fields_of d.header) d.walk.stage d.walk.entities
+
 -- how many steps may be left: each takes bytes, or is the one that begins to wait
 abbrev pub steps_left : Bool → List ℕ → ℕ
 steps_left waits piece = 2 * length piece + (if waits then 0 else 1)
+
+-- where another step is to be taken, there are fewer of them
+abbrev pub Lowers : PieceDecoder → PieceDecoder → List ℕ → List ℕ → Option Outcome → Type 0
+Lowers d d' piece piece' answer = answer ≡ None → steps_left d'.waits piece' < steps_left d.waits piece

@@ -172,9 +172,16 @@ pub record KeepsPlace (w w' : WalkView) : Type 0 where
 abbrev pub IsInCode : Stage → Type 0
 IsInCode s = (s ≡ stage.Code) ⊎ (s ≡ stage.Row)
 
+-- another row of the stripe is to come; or all of them came
+abbrev pub WantsRow : ℕ → Walk → Type 0
+WantsRow l0 w = (w.stage ≡ stage.Code) × (w.row < min w.left l0)
+
+abbrev pub HasAllRows : ℕ → Walk → Type 0
+HasAllRows l0 w = (w.stage ≡ stage.Code) × (min w.left l0 ≤ w.row)
+
 -- a row has begun, or is still to come
 abbrev pub RowIsLeft : ℕ → Walk → Type 0
-RowIsLeft l0 w = (w.stage ≡ stage.Row) ⊎ ((w.stage ≡ stage.Code) × (w.row < min w.left l0))
+RowIsLeft l0 w = (w.stage ≡ stage.Row) ⊎ WantsRow l0 w
 
 -- A stripe ended: so many were decoded, and handed out.
 abbrev pub StripesOn : Fields → ℕ → WalkView → WalkView → List ℕ → List ℕ → Type 0

@@ -1,10 +1,12 @@
 -- What contracts see of the structs that hold a device.
-use Rattle.std.specs.Prelude.{ℕ, List, [], Option, Some}
+use Rattle.std.specs.Prelude.{ℕ, List, [], Option, Some, Result, ◌≡◌, ◌≤◌}
 use Rattle.std.specs.Io.KnownBytes.{append_known}
 use Rattle.pbm_core.specs.declared.device.Output as device
 use Rattle.t85_core.specs.declared.pieces.piece.PieceCode.{PieceCode}
 use Rattle.t85_core.specs.declared.encoding.sink.EntitySink.{EntitySink}
 use Rattle.t85_core.specs.declared.output_buffer.OutputBuffer.{OutputBuffer}
+use Rattle.t85_core.specs.declared.fault.Fault.{Fault}
+use Rattle.t85_core.specs.Failures.{CountsWrite}
 use Rattle.t85_core.specs.Steps.Buffers.{Writer, SinkView, TargetView, held_of, known_length}
 use Rattle.t85_core.specs.Steps.Entity.{EntityView, entity_known}
 
@@ -37,6 +39,11 @@ text_taken {W} {N} {G} b = append_known (G.view b.output.now).contents (held_of 
 -- and its writer
 abbrev pub writer_of : {W : Type 0} {N : ℕ} {G : device.Ghosts W} → OutputBuffer W N G → Writer
 writer_of {W} {N} {G} b = record { reference = b.output.ghost_name; target = (G.view b.output.now).target; flushes = (G.view b.output.now).flushes }
+
+-- What a call leaves of the writer behind a buffer: it is the same, has taken no less, and has counted a failed write.
+abbrev pub WritesBehind : {T : Type 0} {W : Type 0} {N : ℕ} {G : device.Ghosts W} → OutputBuffer W N G → OutputBuffer W N G → Result T Fault → Type 0
+WritesBehind {T} {W} {N} {G} b b' result =
+    CountsWrite (G.view b.output.now).failures (G.view b'.output.now).failures result × (known_length (G.view b.output.now).contents ≤ known_length (G.view b'.output.now).contents) × (writer_of b' ≡ writer_of b)
 
 -- what a buffer is as a target
 abbrev pub target_view : {W : Type 0} {N : ℕ} {G : device.Ghosts W} → OutputBuffer W N G → TargetView

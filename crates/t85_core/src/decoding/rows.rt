@@ -1,7 +1,7 @@
 //! The rows of a stripe beside their code.
 
-ghost use Rattle.std.specs.Prelude.{◌≡◌, ◌≤◌, ◌<◌, ℕ, List, IsTrue, OnOk, IfSome, option_map};
-ghost use Rattle.qm_core.specs.Place.{Place};
+ghost use Rattle.std.specs.Prelude.{◌≡◌, ◌≤◌, ◌<◌, ℕ, List, IsTrue, IfSome, option_map};
+ghost use Rattle.qm_core.specs.Place.{Place, state_of};
 ghost use Rattle.qm_core.specs.Decoder.{DecoderIsAt};
 ghost use Rattle.qm_core.specs.declared.source.Pulled.{Pulled};
 ghost use Rattle.raster_core.specs.Row.{RowsSkipped, CanSkipRows};
@@ -32,14 +32,13 @@ pub fn skip_many(
     ensures none { result ≡ 0 → decoder.new ≡ decoder.old }
     ensures within { result ≤ left }
     ensures skipped { (p : Place) (answers : List Pulled) → DecoderIsAt decoder.old p answers →
-        0 < result → RowsSkipped shape kept (record { place = p; learned = learned.now })
-        answers result decoder.new }
+        0 < result → RowsSkipped shape kept (state_of p learned.now) answers result decoder.new }
     ensures many { (p : Place) (answers : List Pulled) → DecoderIsAt decoder.old p answers →
         16 ≤ left → CanSkipRows shape kept decoder.old
-        (record { place = p; learned = learned.now }) answers 16 → result ≡ 16 }
+        (state_of p learned.now) answers 16 → result ≡ 16 }
     ensures some { (p : Place) (answers : List Pulled) → DecoderIsAt decoder.old p answers →
         2 ≤ left → CanSkipRows shape kept decoder.old
-        (record { place = p; learned = learned.now }) answers 2 → 0 < result }
+        (state_of p learned.now) answers 2 → 0 < result }
 {
     if left < MANY {
         return skip_few(shape, kept, learned, decoder, left);
@@ -57,11 +56,10 @@ fn skip_few(shape: Shape, kept: Kept, learned: &Learned, decoder: &mut Decoder, 
     ensures none { result ≡ 0 → decoder.new ≡ decoder.old }
     ensures within { result ≤ left }
     ensures skipped { (p : Place) (answers : List Pulled) → DecoderIsAt decoder.old p answers →
-        0 < result → RowsSkipped shape kept (record { place = p; learned = learned.now })
-        answers result decoder.new }
+        0 < result → RowsSkipped shape kept (state_of p learned.now) answers result decoder.new }
     ensures some { (p : Place) (answers : List Pulled) → DecoderIsAt decoder.old p answers →
         2 ≤ left → CanSkipRows shape kept decoder.old
-        (record { place = p; learned = learned.now }) answers 2 → 0 < result }
+        (state_of p learned.now) answers 2 → 0 < result }
 {
     if left < FEW {
         return 0;

@@ -1,6 +1,6 @@
 //! Rows that are given, and the beginning of a stream.
 
-ghost use Rattle.std.specs.Prelude.{◌≡◌, ◌≤◌, ◌<◌, ◌-◌, [], ℕ, length, slice_index, OnErr, IfOk, IfErr, false};
+ghost use Rattle.std.specs.Prelude.{◌≡◌, ◌<◌, ◌-◌, [], ℕ, length, slice_index, OnErr, IfOk, IfErr, false};
 ghost use Rattle.pbm_core.specs.Device.{AppendsBeginning};
 ghost use Rattle.pbm_core.specs.Pbm.{bytes_of_row, masked_row};
 ghost use Rattle.pbm_core.specs.Image.{pixels_of};
@@ -9,12 +9,10 @@ ghost use Rattle.raster_core.specs.Window.{held, turned, width_of};
 ghost use Rattle.t85_core.specs.Lent.{StaysWindow, TurnsWindow};
 ghost use Rattle.t85_core.specs.Jbg.{head_of, is_low};
 ghost use Rattle.t85_core.specs.Options.{settings_of};
-ghost use Rattle.t85_core.specs.Failures.{CountsWrite};
-ghost use Rattle.t85_core.specs.Steps.Buffers.{known_length};
-ghost use Rattle.t85_core.specs.Steps.Views.{text_taken, writer_of};
+ghost use Rattle.t85_core.specs.Steps.Views.{text_taken, WritesBehind};
 ghost use Rattle.t85_core.specs.Steps.Sent.{here};
-ghost use Rattle.t85_core.specs.Steps.ByRow.{view_of, MayGoOn, IsLined, IsBelow, Stands};
-ghost use Rattle.t85_core.specs.Steps.RowSteps.{IsGoing};
+ghost use Rattle.t85_core.specs.Steps.ByRow.{view_of, IsLined, IsBelow, Stands};
+ghost use Rattle.t85_core.specs.Steps.RowCalls.{HasNoRows};
 ghost use Rattle.t85_core.specs.declared.fault.Fault.TheVariants.{Write};
 
 use crate::encoding::by_row::RowEncoder;
@@ -104,19 +102,12 @@ pub fn start_held<W: Output>(
     ensures begun { IfOk result (λ e. Stands (settings_of options.now) size.width size.height []
         (view_of e learning.new) (held window.new) (here (text_taken buffer.old))
         (W.view buffer.new.output.now).contents) }
-    ensures ready { IfOk result MayGoOn }
-    ensures going { IfOk result IsGoing }
-    ensures none { IfOk result (λ e. e.rows ≡ 0) }
-    ensures size { IfOk result (λ e. e.size ≡ size) }
+    ensures begins { IfOk result (HasNoRows size) }
     ensures window { StaysWindow window.old window.new }
     ensures cut { OnErr result (AppendsBeginning (text_taken buffer.old) (text_taken buffer.new)
         (head_of (settings_of options.now) size.width size.height)) }
     ensures err { IfErr result (λ f. f ≡ Write) }
-    ensures writes { CountsWrite (W.view buffer.old.output.now).failures
-        (W.view buffer.new.output.now).failures result }
-    ensures grows { known_length (W.view buffer.old.output.now).contents ≤ known_length
-        (W.view buffer.new.output.now).contents }
-    ensures same_writer { writer_of buffer.new ≡ writer_of buffer.old }
+    ensures writes { WritesBehind buffer.old buffer.new result }
 {
     window.clear();
     write_head(size, options, buffer)?;

@@ -1,12 +1,9 @@
 //! Writing segments and end markers.
 
-ghost use Rattle.std.specs.Prelude.{◌≡◌, ◌<◌, ◌+◌, ◌^◌, length, OnOk, OnErr, IfErr, if◌then◌else◌, ◌++◌};
-ghost use Rattle.std.specs.Io.KnownBytes.{Appends};
-ghost use Rattle.pbm_core.specs.Device.{AppendsBeginning};
+ghost use Rattle.std.specs.Prelude.{◌<◌, ◌+◌, ◌^◌, length, ◌++◌};
 ghost use Rattle.t85_core.specs.Grammar.{Move, Comment, segment_bytes, marker_bytes, NewLength};
-ghost use Rattle.t85_core.specs.Steps.Buffers.{WritesOrFails, WritesOn};
+ghost use Rattle.t85_core.specs.Steps.Buffers.{PutsBytes};
 ghost use Rattle.t85_core.specs.Steps.Written.{ending_of};
-ghost use Rattle.t85_core.specs.declared.fault.Fault.TheVariants.{Write};
 
 use crate::fault::Fault;
 use crate::input_buffer::ESCAPE;
@@ -17,11 +14,8 @@ use byteorder::{BigEndian, ByteOrder};
 /// Writes a comment.
 pub fn write_comment<P: ByteTarget>(text: &[u8], target: &mut P) -> Result<(), Fault>
     requires fits { length text.now < 2 ^ 32 }
-    ensures ok { OnOk result (Appends (P.view target.old).text (P.view target.new).text
-        (segment_bytes (Comment text.now))) }
-    ensures cut { OnErr result (AppendsBeginning (P.view target.old).text (P.view target.new).text
-        (segment_bytes (Comment text.now))) }
-    ensures fails { WritesOrFails (P.view target.old) (P.view target.new) result }
+    ensures { PutsBytes (segment_bytes (Comment text.now)) (P.view target.old) (P.view target.new)
+        result }
 {
     let mut head = [ESCAPE, COMMENT, 0, 0, 0, 0];
     BigEndian::write_u32(&mut head[2..], text.len() as u32);
@@ -31,22 +25,15 @@ pub fn write_comment<P: ByteTarget>(text: &[u8], target: &mut P) -> Result<(), F
 
 /// Writes a move, at the first row of a stripe.
 pub fn write_move<P: ByteTarget>(offset: u8, target: &mut P) -> Result<(), Fault>
-    ensures ok { OnOk result (Appends (P.view target.old).text (P.view target.new).text
-        (segment_bytes (Move 0 offset))) }
-    ensures cut { OnErr result (AppendsBeginning (P.view target.old).text (P.view target.new).text
-        (segment_bytes (Move 0 offset))) }
-    ensures fails { WritesOrFails (P.view target.old) (P.view target.new) result }
+    ensures { PutsBytes (segment_bytes (Move 0 offset)) (P.view target.old) (P.view target.new)
+        result }
 {
     target.put(&[ESCAPE, ATMOVE, 0, 0, 0, 0, offset, 0])
 }
 
 /// Writes the end marker of a stripe.
 pub fn write_marker<P: ByteTarget>(reset: bool, target: &mut P) -> Result<(), Fault>
-    ensures ok { OnOk result (Appends (P.view target.old).text (P.view target.new).text
-        (marker_bytes reset)) }
-    ensures cut { OnErr result (AppendsBeginning (P.view target.old).text (P.view target.new).text
-        (marker_bytes reset)) }
-    ensures fails { WritesOrFails (P.view target.old) (P.view target.new) result }
+    ensures { PutsBytes (marker_bytes reset) (P.view target.old) (P.view target.new) result }
 {
     target.push(ESCAPE)?;
     target.push(if reset { SDRST } else { SDNORM })
@@ -59,11 +46,8 @@ pub fn write_ending<P: ByteTarget>(
     reset: bool,
     target: &mut P,
 ) -> Result<(), Fault>
-    ensures ok { OnOk result (Appends (P.view target.old).text (P.view target.new).text
-        (ending_of announced reset height)) }
-    ensures cut { OnErr result (AppendsBeginning (P.view target.old).text (P.view target.new).text
-        (ending_of announced reset height)) }
-    ensures fails { WritesOrFails (P.view target.old) (P.view target.new) result }
+    ensures { PutsBytes (ending_of announced reset height) (P.view target.old) (P.view target.new)
+        result }
 {
     if height < announced {
         write_new_height(height, reset, target)
@@ -74,11 +58,8 @@ pub fn write_ending<P: ByteTarget>(
 
 /// Writes a height and an empty data entity.
 fn write_new_height<P: ByteTarget>(height: u32, reset: bool, target: &mut P) -> Result<(), Fault>
-    ensures ok { OnOk result (Appends (P.view target.old).text (P.view target.new).text
-        (segment_bytes (NewLength height) ++ marker_bytes reset)) }
-    ensures cut { OnErr result (AppendsBeginning (P.view target.old).text (P.view target.new).text
-        (segment_bytes (NewLength height) ++ marker_bytes reset)) }
-    ensures fails { WritesOrFails (P.view target.old) (P.view target.new) result }
+    ensures { PutsBytes (segment_bytes (NewLength height) ++ marker_bytes reset) (P.view target.old)
+        (P.view target.new) result }
 {
     let mut bytes = [
         ESCAPE,

@@ -1,12 +1,10 @@
 //! The steps of an encoder: the head, the move of a stripe, a row, and the end of a code.
 
 ghost use Rattle.std.specs.Prelude.{[], ◌∷◌, ◌++◌, nat_lt, length, None, IfSome, ◌≡◌, ◌≤◌, ◌<◌, ◌+◌, ◌-◌, ◌^◌, List, ℕ, OnOk, OnErr, IfErr, false};
-ghost use Rattle.std.specs.Io.KnownBytes.{Appends};
-ghost use Rattle.pbm_core.specs.Device.{AppendsBeginning};
-ghost use Rattle.qm_core.specs.Place.{Place};
+ghost use Rattle.qm_core.specs.Place.{Place, state_of};
 ghost use Rattle.raster_core.specs.Tally.{is_two_line, most_of};
 ghost use Rattle.raster_core.specs.Offset.{candidates};
-ghost use Rattle.qm_core.specs.Encoder.{EncoderIsAt, event_count, has_failed};
+ghost use Rattle.qm_core.specs.Encoder.{EncoderIsAt, has_failed};
 ghost use Rattle.raster_core.specs.Lines.{Lines};
 ghost use Rattle.raster_core.specs.Packed.{HasLines};
 ghost use Rattle.raster_core.specs.Window.{held, width_of};
@@ -18,8 +16,9 @@ ghost use Rattle.t85_core.specs.Steps.Written.{EncoderStart};
 ghost use Rattle.t85_core.specs.Steps.EncodeRows.{IsCountedTo};
 ghost use Rattle.t85_core.specs.Steps.EncodeStripes.{IsTallied};
 ghost use Rattle.t85_core.specs.Steps.ByRow.{IsSomewhere, IsLined, IsHeldBy};
-ghost use Rattle.t85_core.specs.Steps.Buffers.{WritesOrFails, WritesOn};
+ghost use Rattle.t85_core.specs.Steps.Buffers.{PutsBytes, WritesOrFails};
 ghost use Rattle.t85_core.specs.Steps.MostBytes.{AppendsAtMost};
+ghost use Rattle.t85_core.specs.Steps.RowCalls.{HasCoded, MayCode};
 ghost use Rattle.t85_core.specs.Steps.RowSteps.{MoveMade, MoveCut, RowOutcome, RowSent, EndSent, CodeFinished, CodeEnded};
 ghost use Rattle.t85_core.specs.Failures.{CountsWrite};
 ghost use Rattle.t85_core.specs.declared.fault.Fault.TheVariants.{Write};
@@ -40,11 +39,8 @@ pub fn write_head<P: ByteTarget>(
     target: &mut P,
 ) -> Result<(), Fault>
     requires low { is_low (settings_of options.now) size.height ≡ false }
-    ensures ok { OnOk result (Appends (P.view target.old).text (P.view target.new).text
-        (head_of (settings_of options.now) size.width size.height)) }
-    ensures cut { OnErr result (AppendsBeginning (P.view target.old).text (P.view target.new).text
-        (head_of (settings_of options.now) size.width size.height)) }
-    ensures fails { WritesOrFails (P.view target.old) (P.view target.new) result }
+    ensures { PutsBytes (head_of (settings_of options.now) size.width size.height) (P.view
+        target.old) (P.view target.new) result }
 {
     let header = options.header(size);
     target.put(&header.bytes())?;
@@ -90,23 +86,15 @@ pub fn code_row<P: ByteTarget>(
     encoder: &mut Encoder,
     target: &mut P,
 ) -> Result<(), Fault>
-    requires offset { kept.old.offset ≤ 127 }
-    requires width { width_of window.now ≡ shape.width }
-    requires some { 1 ≤ shape.width }
-    requires events { event_count encoder.old + shape.width + 1 ≤ 2 ^ 56 }
-    requires going { has_failed encoder.old ≡ false }
+    requires able { MayCode shape kept.old window.now encoder.old }
     requires somewhere { IsSomewhere encoder.old }
     requires lined { IsLined (held window.now) }
     ensures row { (p : Place) (pushed : List ℕ) (lines : Lines) → EncoderIsAt encoder.old p pushed →
         HasLines (held window.now) lines →
-        RowOutcome shape kept.old kept.new (record { place = p; learned = learned.old }) pushed
+        RowOutcome shape kept.old kept.new (state_of p learned.old) pushed
         lines encoder.new learned.new (P.view target.old).text (P.view target.new).text result }
-    ensures going { OnOk result (has_failed encoder.new ≡ false) }
-    ensures events { OnOk result (event_count encoder.new ≤ event_count encoder.old + shape.width +
-        1) }
-    ensures offset { OnOk result (kept.new.offset ≡ kept.old.offset) }
-    ensures err { IfErr result (λ f. f ≡ Write) }
-    ensures writes { WritesOn (P.view target.old) (P.view target.new) result }
+    ensures able { OnOk result (HasCoded shape kept.old kept.new encoder.old encoder.new) }
+    ensures fails { WritesOrFails (P.view target.old) (P.view target.new) result }
 {
     let mut ink = EntitySink::new(target);
     send_row(shape, window, kept, learned, encoder, &mut ink)
@@ -121,19 +109,12 @@ fn send_row<C: CodeSink>(
     encoder: &mut Encoder,
     sink: &mut C,
 ) -> Result<(), Fault>
-    requires offset { kept.old.offset ≤ 127 }
-    requires width { width_of window.now ≡ shape.width }
-    requires some { 1 ≤ shape.width }
-    requires events { event_count encoder.old + shape.width + 1 ≤ 2 ^ 56 }
-    requires going { has_failed encoder.old ≡ false }
+    requires able { MayCode shape kept.old window.now encoder.old }
     ensures row { (p : Place) (pushed : List ℕ) (lines : Lines) → EncoderIsAt encoder.old p pushed →
         HasLines (held window.now) lines →
         RowSent C.took C.refused sink.old sink.new shape kept.old kept.new
-        (record { place = p; learned = learned.old }) pushed lines encoder.new learned.new result }
-    ensures going { OnOk result (has_failed encoder.new ≡ false) }
-    ensures events { OnOk result (event_count encoder.new ≤ event_count encoder.old + shape.width +
-        1) }
-    ensures offset { OnOk result (kept.new.offset ≡ kept.old.offset) }
+        (state_of p learned.old) pushed lines encoder.new learned.new result }
+    ensures able { OnOk result (HasCoded shape kept.old kept.new encoder.old encoder.new) }
     ensures err { IfErr result (λ f. f ≡ Write) }
     ensures writes { CountsWrite (C.failed sink.old) (C.failed sink.new) result }
 {
@@ -149,8 +130,7 @@ fn end_code<P: ByteTarget>(encoder: Encoder, target: &mut P) -> Result<(), Fault
     requires somewhere { IsSomewhere encoder }
     ensures ended { (p : Place) (pushed : List ℕ) → EncoderIsAt encoder p pushed →
         CodeFinished p pushed (P.view target.old).text (P.view target.new).text result }
-    ensures err { IfErr result (λ f. f ≡ Write) }
-    ensures writes { WritesOn (P.view target.old) (P.view target.new) result }
+    ensures fails { WritesOrFails (P.view target.old) (P.view target.new) result }
 {
     let mut ink = EntitySink::new(target);
     send_end(encoder, &mut ink)

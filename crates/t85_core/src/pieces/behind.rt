@@ -1,6 +1,6 @@
 //! What stands behind an end marker, while a height may still come.
 
-ghost use Rattle.std.specs.Prelude.{◌≡◌, ◌≤◌, ◌<◌, ◌∷◌, [], ℕ, List, None, false, true, length, IfErr, IfOk, OnOk};
+ghost use Rattle.std.specs.Prelude.{◌≡◌, ◌≤◌, ◌<◌, ◌∷◌, ℕ, List, None, false, length, IfErr, IfOk, OnOk};
 ghost use Rattle.t85_core.specs.Options.{fields_of};
 ghost use Rattle.t85_core.specs.Steps.Behind.{BehindOn, ComesBehind, StopsBehind, move_came};
 

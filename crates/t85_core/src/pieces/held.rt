@@ -1,7 +1,6 @@
 //! A decoder in pieces that takes all that comes, and holds what it can't decode yet.
 
-ghost use Rattle.std.specs.Prelude.{◌≡◌, ◌≢◌, ◌≤◌, ◌+◌, ◌++◌, [], length, take, true, false};
-ghost use Rattle.raster_core.specs.Window.{memory_of, width_of};
+ghost use Rattle.std.specs.Prelude.{◌≡◌, ◌≤◌, ◌+◌, ◌++◌, [], length, take, true, false};
 ghost use Rattle.t85_core.specs.declared.pieces.Outcome.TheVariants as outcome;
 
 use crate::pieces::{Outcome, PieceDecoder, Progress};

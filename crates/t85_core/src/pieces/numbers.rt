@@ -1,6 +1,6 @@
 //! A decoder in pieces, as plain numbers.
 
-ghost use Rattle.std.specs.Prelude.{◌≡◌, ◌≤◌, Bool, List, Option, ℕ, IfSome};
+ghost use Rattle.std.specs.Prelude.{◌≡◌, Bool, List, Option, ℕ, IfSome};
 ghost use Rattle.qm_core.specs.Place.{Estimate};
 ghost use Rattle.raster_core.specs.Packed.{Held};
 ghost use Rattle.t85_core.specs.Options.{fields_of};

@@ -1,9 +1,8 @@
 //! Decoding a row of which not all bytes may have come.
 
-ghost use Rattle.std.specs.Prelude.{◌≡◌, ◌≤◌, ◌<◌, ◌∷◌, ◌++◌, [], ℕ, List, None, Some, false, length, OnOk, IfErr, IfSome, IsErrOf};
-ghost use Rattle.qm_core.specs.Decoder.{has_stopped};
-ghost use Rattle.raster_core.specs.Window.{memory_of, width_of};
-ghost use Rattle.t85_core.specs.Lent.{carried_by};
+ghost use Rattle.std.specs.Prelude.{◌≡◌, ◌≤◌, ◌<◌, ◌∷◌, ◌++◌, [], ℕ, List, None, length, OnOk, IfErr, IfSome, IsErrOf};
+ghost use Rattle.raster_core.specs.Machine.Places.{MayGoOnRow};
+ghost use Rattle.t85_core.specs.Lent.{KeepsWindow, carried_by};
 ghost use Rattle.raster_core.specs.Row.{IsRowStart};
 ghost use Rattle.t85_core.specs.declared.fault.Fault.TheVariants.{Truncated};
 ghost use Rattle.t85_core.specs.Steps.Segments.{IsByteOrMarker};
@@ -31,10 +30,7 @@ pub fn go_on_in_row<const PART: usize>(
     marker: &mut Option<bool>,
     piece: &mut Piece<'_>,
 ) -> Result<(), Fault>
-    requires width { width_of window.old ≡ shape.width }
-    requires within { place.old.done < shape.width }
-    requires going { has_stopped decoder.old ≡ false }
-    requires offset { kept.old.offset ≤ 127 }
+    requires row { MayGoOnRow shape kept.old place.old window.old decoder.old }
     requires code { IfSome first.old IsByteOrMarker }
     requires behind { IfSome marker.old (λ _. first.old ≡ None) }
     ensures ok { OnOk result (EndsRow shape (row_state (carried_by window.old kept.old learned.old)
@@ -46,14 +42,12 @@ pub fn go_on_in_row<const PART: usize>(
         kept.old learned.old) decoder.old place.old first.old marker.old piece.old) (row_state
         (carried_by window.new kept.new learned.new) decoder.new place.new first.new marker.new
         piece.new) }
-    ensures width { width_of window.new ≡ width_of window.old }
+    ensures window { KeepsWindow window.old window.new }
     ensures offset { kept.new.offset ≤ 127 }
     ensures within { place.new.done < shape.width }
     ensures start { OnOk result (IsRowStart place.new) }
-    ensures ahead { IfErr result (λ _. first.new ≡ None) }
-    ensures marker { IfErr result (λ _. marker.new ≡ marker.old) }
-    ensures drained { IfErr result (λ _. LeavesEscape piece.old.rest.now piece.new.rest.now) }
-    ensures same_memory { memory_of window.new ≡ memory_of window.old }
+    ensures drained { IfErr result (λ _. LeavesEscape piece.old.rest.now piece.new.rest.now ×
+        (first.new ≡ None) × (marker.new ≡ marker.old)) }
 {
     // What the proof cites of the coder.
     coder_laws();

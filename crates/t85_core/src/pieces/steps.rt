@@ -6,10 +6,9 @@ ghost use Rattle.t85_core.specs.Grammar.{marker_bytes};
 ghost use Rattle.t85_core.specs.declared.pieces.Outcome.TheVariants as outcome;
 ghost use Rattle.t85_core.specs.declared.fault.Fault.{Fault};
 ghost use Rattle.t85_core.specs.declared.fault.Fault.TheVariants.{Truncated};
-ghost use Rattle.raster_core.specs.Window.{memory_of, width_of};
 ghost use Rattle.qm_core.specs.Place.{Estimate};
 ghost use Rattle.raster_core.specs.Packed.{Held};
-ghost use Rattle.t85_core.specs.Lent.{KeepsWindow, decoder_over, decoder_view};
+ghost use Rattle.t85_core.specs.Lent.{KeepsWindow, decoder_over as over, decoder_view};
 
 use crate::fault::Fault;
 use crate::input_buffer::ESCAPE;
@@ -26,7 +25,7 @@ const AHEAD: usize = 256;
 impl PieceDecoder {
     ghost use Rattle.t85_core.specs.declared.pieces.walk.Stage.TheVariants as stage;
     ghost use Rattle.t85_core.specs.Steps.Pieces.{MarkerRead, IsInCode, RowIsLeft};
-    ghost use Rattle.t85_core.specs.Steps.PieceSteps.{DecoderOn, StepLeaves, steps_left};
+    ghost use Rattle.t85_core.specs.Steps.PieceSteps.{DecodesCode, DecoderOn, Lowers, StepLeaves};
 
     /// Goes on up to the next row, to an end, or as far as the bytes go.
     pub(super) fn go_on(
@@ -36,9 +35,8 @@ impl PieceDecoder {
         piece: &mut Piece<'_>,
         is_all: bool,
     ) -> Outcome
-        ensures leaves { StepLeaves is_all (decoder_over self.old window.old learned.old)
-            (decoder_over self.new window.new learned.new) piece.old.rest.now piece.new.rest.now
-            (Some result) }
+        ensures leaves { StepLeaves is_all (over self.old window.old learned.old) (over self.new
+            window.new learned.new) piece.old.rest.now piece.new.rest.now (Some result) }
         ensures window { KeepsWindow window.old window.new }
     {
         'steps: loop {
@@ -56,11 +54,9 @@ impl PieceDecoder {
         piece: &mut Piece<'_>,
         is_all: bool,
     ) -> Option<Outcome>
-        ensures leaves { StepLeaves is_all (decoder_over self.old window.old learned.old)
-            (decoder_over self.new window.new learned.new) piece.old.rest.now piece.new.rest.now
-            result }
-        ensures lowers { result ≡ None → steps_left self.new.waits piece.new.rest.now < steps_left
-            self.old.waits piece.old.rest.now }
+        ensures leaves { StepLeaves is_all (over self.old window.old learned.old) (over self.new
+            window.new learned.new) piece.old.rest.now piece.new.rest.now result }
+        ensures lowers { Lowers self.old self.new piece.old.rest.now piece.new.rest.now result }
         ensures window { KeepsWindow window.old window.new }
     {
         if !self.is_open {
@@ -82,9 +78,8 @@ impl PieceDecoder {
         is_all: bool,
     ) -> Outcome
         requires known { self.old.is_open ≡ false }
-        ensures leaves { StepLeaves is_all (decoder_over self.old window.old learned.old)
-            (decoder_over self.new window.new learned.new) piece.old.rest.now piece.new.rest.now
-            (Some result) }
+        ensures leaves { StepLeaves is_all (over self.old window.old learned.old) (over self.new
+            window.new learned.new) piece.old.rest.now piece.new.rest.now (Some result) }
         ensures window { KeepsWindow window.old window.new }
     {
         match self
@@ -105,13 +100,10 @@ impl PieceDecoder {
         piece: &mut Piece<'_>,
         is_all: bool,
     ) -> Option<Outcome>
-        requires late { self.old.is_open ≡ true }
-        requires going { self.old.waits ≡ false }
-        ensures leaves { StepLeaves is_all (decoder_over self.old window.old learned.old)
-            (decoder_over self.new window.new learned.new) piece.old.rest.now piece.new.rest.now
-            result }
-        ensures lowers { result ≡ None → steps_left self.new.waits piece.new.rest.now < steps_left
-            self.old.waits piece.old.rest.now }
+        requires in_code { DecodesCode self.old }
+        ensures leaves { StepLeaves is_all (over self.old window.old learned.old) (over self.new
+            window.new learned.new) piece.old.rest.now piece.new.rest.now result }
+        ensures lowers { Lowers self.old self.new piece.old.rest.now piece.new.rest.now result }
         ensures window { KeepsWindow window.old window.new }
     {
         if !self.is_in_code() {
@@ -131,16 +123,14 @@ impl PieceDecoder {
 
     /// Goes on after the last row of a stripe, to the end marker.
     fn step_to_marker(&mut self, piece: &mut Piece<'_>, is_all: bool) -> Option<Outcome>
-        requires late { self.old.is_open ≡ true }
-        requires going { self.old.waits ≡ false }
+        requires in_code { DecodesCode self.old }
         requires unmarked { self.old.walk.marker ≡ None }
         requires stage { self.old.walk.stage ≡ stage.Code }
         requires all { min self.old.walk.left self.old.header.l0 ≤ self.old.walk.row }
         ensures leaves { (rows : Held) (learned : List Estimate) → StepLeaves is_all (decoder_view
             self.old rows learned) (decoder_view self.new rows learned) piece.old.rest.now
             piece.new.rest.now result }
-        ensures lowers { result ≡ None → steps_left self.new.waits piece.new.rest.now < steps_left
-            self.old.waits piece.old.rest.now }
+        ensures lowers { Lowers self.old self.new piece.old.rest.now piece.new.rest.now result }
     {
         let header = self.header;
         match self.walk.find_end(&header, header.yd, piece) {
@@ -161,16 +151,13 @@ impl PieceDecoder {
         piece: &mut Piece<'_>,
         is_all: bool,
     ) -> Option<Outcome>
-        requires late { self.old.is_open ≡ true }
-        requires going { self.old.waits ≡ false }
+        requires in_code { DecodesCode self.old }
         requires unmarked { self.old.walk.marker ≡ None }
         requires ahead { MarkerRead self.old.walk.marker self.old.walk.first → ⊥ }
         requires wants { RowIsLeft self.old.header.l0 self.old.walk }
-        ensures leaves { StepLeaves is_all (decoder_over self.old window.old learned.old)
-            (decoder_over self.new window.new learned.new) piece.old.rest.now piece.new.rest.now
-            result }
-        ensures lowers { result ≡ None → steps_left self.new.waits piece.new.rest.now < steps_left
-            self.old.waits piece.old.rest.now }
+        ensures leaves { StepLeaves is_all (over self.old window.old learned.old) (over self.new
+            window.new learned.new) piece.old.rest.now piece.new.rest.now result }
+        ensures lowers { Lowers self.old self.new piece.old.rest.now piece.new.rest.now result }
         ensures window { KeepsWindow window.old window.new }
     {
         let bytes = piece.rest;
@@ -205,8 +192,7 @@ impl PieceDecoder {
 
     /// Takes the end marker that comes next, if one does, and waits there.
     fn wait_at_marker(&mut self, piece: &mut Piece<'_>)
-        requires late { self.old.is_open ≡ true }
-        requires going { self.old.waits ≡ false }
+        requires in_code { DecodesCode self.old }
         ensures header { self.new.header ≡ self.old.header }
         ensures end { self.new.end ≡ self.old.end }
         ensures on { self.old.walk.first ≡ None → self.old.walk.marker ≡ None → IsInCode

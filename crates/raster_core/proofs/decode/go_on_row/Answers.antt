@@ -4,13 +4,13 @@ use Rattle.raster_core.specs.Packed.{SameAbove, rows_at}
 use Rattle.raster_core.proofs.RowsDone.{same_goes, passes}
 use Rattle.raster_core.proofs.decode.go_on_row.Goals as goal
 
-pub returns-else-is_ok-clause-above : goal.returns-else-is_ok-clause-above
-returns-else-is_ok-clause-above g c = subst (λ n. SameAbove (rows_at c.args.window.now.place n c.args.window.now.rows.now) (rows_at c.args.window.now.place n c.decode_at-outcome.new.rows)) (sym c.requires.width) c.decode_at-outcome.ensures.above
+pub returns-else-is_ok-clause-window : goal.returns-else-is_ok-clause-window
+returns-else-is_ok-clause-window g c = ((subst (λ n. SameAbove (rows_at c.args.window.now.place n c.args.window.now.rows.now) (rows_at c.args.window.now.place n c.decode_at-outcome.new.rows)) (sym c.requires.row.1) c.decode_at-outcome.ensures.above), refl, refl)
 
 pub returns-else-is_ok-clause-row : goal.returns-else-is_ok-clause-row
 returns-else-is_ok-clause-row g c = λ s answers lines h.
     passes (Pulls g.S.CodeBytes.gives g.S.CodeBytes.failed) c.args.source.now c.decode_at-outcome.new.source c.args.shape c.args.kept.now c.decode_at-outcome.new.kept s answers lines _ c.decode_at-outcome.new.place _ c.decode_at-outcome.new.learned c.decode_at-outcome.new.decoder c.resume.new.self c.decode_at-outcome.result
     (λ _. refl) c.resume.ensures.unchanged c.decode_at-outcome.ensures.stop.1 c.resume.ensures.stands
     (same_goes (rows_at c.args.window.now.place c.args.shape.width c.args.window.now.rows.now) (rows_at c.args.window.now.place c.args.shape.width c.decode_at-outcome.new.rows)
-    (ap (λ n. rows_at c.args.window.now.place n c.args.window.now.rows.now) c.requires.width) (ap (λ n. rows_at c.args.window.now.place n c.decode_at-outcome.new.rows) c.requires.width)
+    (ap (λ n. rows_at c.args.window.now.place n c.args.window.now.rows.now) c.requires.row.1) (ap (λ n. rows_at c.args.window.now.place n c.decode_at-outcome.new.rows) c.requires.row.1)
     (c.decode_at-outcome.ensures.row s answers lines) h)

@@ -1,10 +1,10 @@
-use Rattle.std.proofs.Common.{◌≡◌, ◌≤◌, ◌+◌, false, rules, refl, sym, ◌∙◌, ap, subst, arith}
+use Rattle.std.proofs.Common.{◌≡◌, ◌≤◌, ◌+◌, rules, refl, sym, ◌∙◌, ap, subst, arith}
 use Rattle.std.proofs.lemmas.Grind.{common_steps}
-use Rattle.qm_core.specs.Encoder.{event_count, has_failed}
+use Rattle.qm_core.specs.Encoder.{event_count}
 use Rattle.raster_core.specs.Packed.{HasLines, Held}
 use Rattle.raster_core.specs.Window.{shape_mode}
 use Rattle.raster_core.proofs.Putting.{puts_handed}
-use Rattle.raster_core.proofs.RowPuts.{coded_some, failed_same, going_on, counts_to, row_coded}
+use Rattle.raster_core.proofs.RowPuts.{coded_some, counts_to, put_or_failed, row_coded}
 use Rattle.raster_core.proofs.encode.encode_row.Goals as goal
 
 pub returns-in_err-encode_as-clause-row : goal.returns-in_err-encode_as-clause-row
@@ -13,22 +13,15 @@ returns-in_err-encode_as-clause-row g c = λ p pushed lines going at w.
     row_coded g.W.CodeSink c.args.shape c.args.kept.now _ _ c.rows-rows.result lines c.is_typical-flag.result _ _ _ p pushed _ _ _ (search rules) (search rules) (search rules)
     refl refl held (c.is_typical-flag.ensures.lines lines held) (search rules) (puts_handed g.W.CodeSink _ _ _ _ _ c.from_residual.ensures c.in_err-encode_as.ensures) going at
 
-pub returns-clause-failed : goal.returns-clause-failed
-returns-clause-failed g c =
-    let width : c.rows-rows.result.width ≡ c.args.shape.width = ap (λ (h : Held). h.width) c.rows-rows.ensures ∙ c.requires.width in
-    failed_same g.W.CodeSink _ _ _ _ _ _ (search rules) (search rules)
-    (coded_some (shape_mode c.args.shape) _ c.rows-rows.result c.args.kept.now.previous_typical c.is_typical-flag.result c.is_typical-flag.ensures.typical (omega arith)) c.in_ok-encode_as.ensures
-
 pub returns-clause-fails : goal.returns-clause-fails
 returns-clause-fails g c =
-    let width : c.rows-rows.result.width ≡ c.args.shape.width = ap (λ (h : Held). h.width) c.rows-rows.ensures ∙ c.requires.width in
-    let now : has_failed c.encode_as.new.coder.encoder.now ≡ false = going_on g.W.CodeSink _ _ _
-    (coded_some (shape_mode c.args.shape) _ c.rows-rows.result c.args.kept.now.previous_typical c.is_typical-flag.result c.is_typical-flag.ensures.typical (omega arith)) c.in_ok-encode_as.ensures in
-    grind (arith, common_steps)
+    let width : c.rows-rows.result.width ≡ c.args.shape.width = ap (λ (h : Held). h.width) c.rows-rows.ensures ∙ c.requires.row.1 in
+    let some = coded_some (shape_mode c.args.shape) _ c.rows-rows.result c.args.kept.now.previous_typical c.is_typical-flag.result c.is_typical-flag.ensures.typical (omega arith) in
+    put_or_failed g.W.CodeSink _ _ _ _ _ (search rules) (search rules) some c.in_ok-encode_as.ensures
 
 pub returns-clause-events : goal.returns-clause-events
 returns-clause-events g c =
-    let width : c.rows-rows.result.width ≡ c.args.shape.width = ap (λ (h : Held). h.width) c.rows-rows.ensures ∙ c.requires.width in
+    let width : c.rows-rows.result.width ≡ c.args.shape.width = ap (λ (h : Held). h.width) c.rows-rows.ensures ∙ c.requires.row.1 in
     let most = counts_to g.W.CodeSink _ _ _ _ _ _ _ c.in_ok-encode_as.ensures in
     let few : event_count c.encode_as.new.coder.encoder.now ≤ event_count c.args.encoder.now + (c.rows-rows.result.width + 1) = most in
     grind (arith, common_steps)

@@ -25,12 +25,10 @@ returns-in-Ok-write_held g c =
       ok = tt;
       err = λ n. cut_handed _ _ _ _ _ _ _ _ (c.in-Err.ensures.err n) (all_handed _ _ _ _ _ empty.0 empty.1 c.write_held-in_default.ensures.text);
       begun = begun_handed _ _ _ _ _ _ _ c.in-Err.ensures.unwritten c.write_held-in_default.ensures.text;
-      grows = (let more = c.write_held-in_default.ensures.grows in let before = c.in-Err.ensures.writes.grows in omega (arith, more, before));
       drained = λ is. c.in-Err.ensures.reads.drained is;
       reads = counts_any _ _ _ c.in-Err.ensures.reads.counts;
-      writes = c.in-Ok-write_held.ensures.counts ∙ c.in-Err.ensures.writes.counts;
+      writes = (c.in-Ok-write_held.ensures.writes.0 ∙ c.in-Err.ensures.writes.counts, (let more = c.write_held-in_default.ensures.writes.1 in let before = c.in-Err.ensures.writes.grows in omega (arith, more, before)), c.write_held-in_default.ensures.writes.2 ∙ c.in-Err.ensures.writes.same_writer);
       same_source = c.in-Err.ensures.reads.same_source;
-      same_writer = c.write_held-in_default.ensures.same_writer ∙ c.in-Err.ensures.writes.same_writer;
     }
 
 pub returns-in-Err-write_held : goal.returns-in-Err-write_held
@@ -41,12 +39,10 @@ returns-in-Err-write_held g c =
       ok = tt;
       err = λ n. absurd (n last);
       begun = begun_handed _ _ _ _ _ _ _ c.in-Err.ensures.unwritten c.write_held-in_default.ensures.text;
-      grows = (let more = c.write_held-in_default.ensures.grows in let before = c.in-Err.ensures.writes.grows in omega (arith, more, before));
       drained = λ is. absurd (let both : Write ≡ Read = sym last ∙ (cc) in let bot : ⊥ = cc in bot);
       reads = counts_written _ _ c.in-Err.fault _ c.in-Err.ensures.reads.counts last;
-      writes = c.in-Err-write_held.ensures.counts ∙ ap (writes_after _) (c.in-Err.ensures.writes.counts ∙ none _);
+      writes = (c.in-Err-write_held.ensures.writes.0 ∙ ap (writes_after _) (c.in-Err.ensures.writes.counts ∙ none _), (let more = c.write_held-in_default.ensures.writes.1 in let before = c.in-Err.ensures.writes.grows in omega (arith, more, before)), c.write_held-in_default.ensures.writes.2 ∙ c.in-Err.ensures.writes.same_writer);
       same_source = c.in-Err.ensures.reads.same_source;
-      same_writer = c.write_held-in_default.ensures.same_writer ∙ c.in-Err.ensures.writes.same_writer;
     }
 
 pub returns-in-Write-clause-err : goal.returns-in-Write-clause-err

@@ -24,12 +24,10 @@ returns-in-Ok-write_held g c =
       ok = tt;
       short = λ fault is. short_handed _ _ _ _ _ _ _ _ _ _ fault (c.in-Err.ensures.short fault is) (all_handed _ _ _ _ _ empty.0 empty.1 c.write_held-in_default.ensures.text);
       begun = front_handed _ _ _ _ _ _ _ _ (told_front _ _ _ _ _ _ _ _ _ c.in-Err.fault c.in-Err.ensures.among c.in_default.not-Write c.in-Err.ensures.short) c.write_held-in_default.ensures.text;
-      grows = (let more = c.write_held-in_default.ensures.grows in let before = c.in-Err.ensures.writes.grows in omega (arith, more, before));
       among = c.in-Err.ensures.among;
       reads = counts_any _ _ _ c.in-Err.ensures.reads;
       same_input = c.in-Err.ensures.same_input;
-      writes = c.in-Ok-write_held.ensures.counts ∙ c.in-Err.ensures.writes.counts;
-      same_writer = c.write_held-in_default.ensures.same_writer ∙ c.in-Err.ensures.writes.same_writer;
+      writes = (c.in-Ok-write_held.ensures.writes.0 ∙ c.in-Err.ensures.writes.counts, (let more = c.write_held-in_default.ensures.writes.1 in let before = c.in-Err.ensures.writes.grows in omega (arith, more, before)), c.write_held-in_default.ensures.writes.2 ∙ c.in-Err.ensures.writes.same_writer);
     }
 
 pub returns-in-Err-write_held : goal.returns-in-Err-write_held
@@ -40,10 +38,8 @@ returns-in-Err-write_held g c =
       ok = tt;
       short = λ fault is. absurd (let both : Write ≡ Pbm fault = sym last ∙ (cc) in let bot : ⊥ = cc in bot);
       begun = front_handed _ _ _ _ _ _ _ _ (told_front _ _ _ _ _ _ _ _ _ c.in-Err.fault c.in-Err.ensures.among c.in_default.not-Write c.in-Err.ensures.short) c.write_held-in_default.ensures.text;
-      grows = (let more = c.write_held-in_default.ensures.grows in let before = c.in-Err.ensures.writes.grows in omega (arith, more, before));
       among = subst IsEncodeFault (sym last) tt;
       reads = counts_written _ _ c.in-Err.fault _ c.in-Err.ensures.reads last;
       same_input = c.in-Err.ensures.same_input;
-      writes = c.in-Err-write_held.ensures.counts ∙ ap (writes_after _) (c.in-Err.ensures.writes.counts ∙ none _);
-      same_writer = c.write_held-in_default.ensures.same_writer ∙ c.in-Err.ensures.writes.same_writer;
+      writes = (c.in-Err-write_held.ensures.writes.0 ∙ ap (writes_after _) (c.in-Err.ensures.writes.counts ∙ none _), (let more = c.write_held-in_default.ensures.writes.1 in let before = c.in-Err.ensures.writes.grows in omega (arith, more, before)), c.write_held-in_default.ensures.writes.2 ∙ c.in-Err.ensures.writes.same_writer);
     }

@@ -23,17 +23,17 @@ rows-init g c =
     let put = c.in_ok-write_head.ensures in
     record {
       come = ([], refl, reads_none c.args.form c.args.size.width _, c.new-encoder.ensures.first _ c.first-learning.ensures (held c.clear.new.self) _ _ white put.ok);
-      going = c.new-encoder.ensures.going;
-      ready = c.new-encoder.ensures.ready;
-      many = c.new-encoder.ensures.none;
-      size_is = c.new-encoder.ensures.size;
+      going = c.new-encoder.ensures.begins.1;
+      ready = c.new-encoder.ensures.begins.0;
+      many = c.new-encoder.ensures.begins.2;
+      size_is = c.new-encoder.ensures.begins.3;
       width = c.clear.ensures.width ∙ c.requires.width;
       lined = (white_lines c.args.size.width, white);
       reads = refl;
       same_source = refl;
-      writes = put.fails.1.counts;
-      grows = put.fails.1.grows;
-      same_writer = put.fails.1.same_writer;
+      writes = put.counts;
+      grows = put.grows;
+      same_writer = put.same_writer;
     }
 
 same_fault : (a b : PbmFault) (e : Fault) → e ≡ Pbm a → e ≡ Pbm b → a ≡ b
@@ -73,10 +73,10 @@ rows-preserved g c =
         reads_join c.args.form c.args.size.width _ _ _ so.0 (taken.row ∷ []) so.2 taken.read,
         c.in_ok-put_taken.ensures.ok taken.row (held c.rows.window) taken.below s c.args.size.width c.args.size.height so.0 _ so.3,
       );
-      going = c.in_ok-put_taken.ensures.closes;
-      ready = c.in_ok-put_taken.ensures.ready;
-      many = (let more = c.in_ok-put_taken.ensures.rows in omega (arith, more, c.rows.invariant.many));
-      size_is = c.in_ok-put_taken.ensures.size ∙ c.rows.invariant.size_is;
+      going = c.in_ok-put_taken.ensures.goes_on.0;
+      ready = c.in_ok-put_taken.ensures.goes_on.1;
+      many = (let more = c.in_ok-put_taken.ensures.goes_on.2 in omega (arith, more, c.rows.invariant.many));
+      size_is = c.in_ok-put_taken.ensures.goes_on.3 ∙ c.rows.invariant.size_is;
       width = c.in_ok-put_taken.ensures.window.0.0 ∙ c.in_ok-read_next_row.ensures.width ∙ c.rows.invariant.width;
       lined = c.in_ok-put_taken.ensures.lined;
       reads = c.in_ok-read_next_row.ensures.reads ∙ c.rows.invariant.reads;

@@ -45,7 +45,7 @@ impl RowNumbers {
 }
 
 impl RowEncoder {
-    ghost use Rattle.std.specs.Prelude.{◌≤◌, ◌<◌};
+    ghost use Rattle.std.specs.Prelude.{◌<◌};
     ghost use Rattle.t85_core.specs.Steps.ByRow.{plan_of, view_of, IsPlan, MayGoOn};
     ghost use Rattle.t85_core.specs.Steps.RowSteps.{IsGoing};
     ghost use Rattle.t85_core.specs.declared.encoding.by_row.RowEncoder.{RowEncoder};

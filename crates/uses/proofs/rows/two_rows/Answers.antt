@@ -20,8 +20,8 @@ pub returns-clause-whole : goal.returns-clause-whole
 returns-clause-whole g c =
     map_ok c.finish.result (λ all.
     let s = settings_of c.args.options.now in
-    let first_wide = ap (λ z. z.width) c.in_ok-encoder.ensures.size in
-    let second_wide = ap (λ z. z.width) (c.in_ok-put_row.ensures.size ∙ c.in_ok-encoder.ensures.size) in
+    let first_wide = ap (λ z. z.width) c.in_ok-encoder.ensures.begins.3 in
+    let second_wide = ap (λ z. z.width) (c.in_ok-put_row.ensures.goes_on.3 ∙ c.in_ok-encoder.ensures.begins.3) in
     let one = c.in_ok-put_row.ensures.ok s c.args.size.width c.args.size.height [] (here (g.W.Output.view c.args.output.now).contents) c.in_ok-encoder.ensures.begun in
     let two = c.in_ok-put_row-2.ensures.ok s c.args.size.width c.args.size.height (pixels_of c.in_ok-encoder.encoder.size.width c.args.first.now ∷ []) (here (g.W.Output.view c.args.output.now).contents) one in
     subst (λ w. Appends (g.W.Output.view c.args.output.now).contents (g.W.Output.view c.finish.new.output).contents (jbg s (raster_of c.args.size.width (pixels_of w c.args.first.now ∷ pixels_of c.args.size.width c.args.second.now ∷ [])))) first_wide

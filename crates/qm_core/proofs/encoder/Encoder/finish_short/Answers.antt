@@ -8,13 +8,13 @@ use Rattle.qm_core.proofs.encoder.Encoder.finish_short.Goals as goal
 
 pub byte_out-first-requires-clause-room : goal.byte_out-first-requires-clause-room
 byte_out-first-requires-clause-room g c =
-    let r = value_room c.args.self.low c.args.self.span c.chosen.result c.args.self.bits 8 c.requires.short c.chosen.ensures.below c.args.self.room (omega arith) (whole_128 c.args.self.low c.args.self.span c.chosen.result c.args.self.large c.chosen.ensures.most_even) in
-    rw (value_whole c.chosen.result c.args.self.bits 8 (omega arith) r) r
-
-pub byte_out-first-requires-clause-fixed : goal.byte_out-first-requires-clause-fixed
-byte_out-first-requires-clause-fixed g c = λ none.
-    let r = value_room c.args.self.low c.args.self.span c.chosen.result c.args.self.bits 7 c.requires.short c.chosen.ensures.below (c.args.self.fixed none) (omega arith) (whole_128 c.args.self.low c.args.self.span c.chosen.result c.args.self.large c.chosen.ensures.most_even) in
-    rw (value_whole c.chosen.result c.args.self.bits 7 (omega arith) r) r
+    let even = whole_128 c.args.self.low c.args.self.span c.chosen.result c.args.self.large c.chosen.ensures.most_even in
+    let r = value_room c.args.self.low c.args.self.span c.chosen.result c.args.self.bits 8 c.requires.short c.chosen.ensures.below c.args.self.room (omega arith) even in (
+      rw (value_whole c.chosen.result c.args.self.bits 8 (omega arith) r) r,
+      λ none.
+          let half = value_room c.args.self.low c.args.self.span c.chosen.result c.args.self.bits 7 c.requires.short c.chosen.ensures.below (c.args.self.fixed none) (omega arith) even in
+          rw (value_whole c.chosen.result c.args.self.bits 7 (omega arith) half) half,
+    )
 
 pub returns-in_err-write_both-clause-code : goal.returns-in_err-write_both-clause-code
 returns-in_err-write_both-clause-code g c = λ p pushed s.

@@ -17,5 +17,5 @@ returns-in-Some-clause-skipped c p pushed s _ =
 pub returns-in-Some-clause-exact : goal.returns-in-Some-clause-exact
 returns-in-Some-clause-exact c p pushed _ s = sym (c.in-Some.ensures.some p _ s.digits.size refl)
 
-pub returns-in-Some-clause-events : goal.returns-in-Some-clause-events
-returns-in-Some-clause-events c _ = refl
+pub returns-in-Some-clause-skips : goal.returns-in-Some-clause-skips
+returns-in-Some-clause-skips c = (refl, (λ t. let going = c.if-self.false in absurd (let bot : ⊥ = cc in bot)), (λ e. absurd (let bot : ⊥ = cc in bot)), (λ _. refl))

@@ -30,11 +30,11 @@ returns-in-Err-clause-err g c =
 
 pub loop-j-preserved : goal.loop-j-preserved
 loop-j-preserved g c =
-    let going : has_stopped c.loop-j.decoder ≡ false = had_not_stopped {E = Stop} (has_stopped c.loop-j.decoder) (Ok c.in-Ok.pixel) c.in-Ok.pixel (λ t. (c.in-Ok.ensures.stopped t).0) (refl) in
+    let going : has_stopped c.loop-j.decoder ≡ false = had_not_stopped {E = Stop} (has_stopped c.loop-j.decoder) (Ok c.in-Ok.pixel) c.in-Ok.pixel (λ t. (c.in-Ok.ensures.stop.0 t).0) (refl) in
     let was : has_stopped c.args.decoder.now ≡ false = sym c.loop-j.invariant.going ∙ going in
     record {
-      same = c.in-Ok.ensures.same ∙ c.loop-j.invariant.same;
-      going = has_not_failed {E = Stop} (has_stopped c.next.new.self) (Ok c.in-Ok.pixel) c.in-Ok.pixel c.in-Ok.ensures.stops refl ∙ sym was;
+      same = c.in-Ok.ensures.stop.2 ∙ c.loop-j.invariant.same;
+      going = has_not_failed {E = Stop} (has_stopped c.next.new.self) (Ok c.in-Ok.pixel) c.in-Ok.pixel c.in-Ok.ensures.stop.1 refl ∙ sym was;
       stuck = λ t. absurd (not_both (has_stopped c.args.decoder.now) t was);
       second = goes_on _ _ _ c.loop-j.invariant.second;
       above = goes_on _ _ _ c.loop-j.invariant.above;

@@ -15,4 +15,4 @@ returns-then-skip_byte-clause-ok g c =
 pub returns-else-skip_byte-clause-ok : goal.returns-else-skip_byte-clause-ok
 returns-else-skip_byte-clause-ok g c =
     subst (λ d. IfOk c.decode_plain.result (λ past. Along (Pulls g.S.CodeBytes.gives g.S.CodeBytes.failed) c.args.source.now c.decode_plain.new.source (shape_mode c.args.shape) c.args.offset c.args.second_bytes c.args.above_bytes c.args.before d c.args.learned.now c.args.n past c.decode_plain.new.decoder c.decode_plain.new.learned))
-    (c.skip_byte.ensures.unchanged c.if-skip_byte.false) c.decode_plain.ensures.ok
+    (c.skip_byte.ensures.skips.2 c.if-skip_byte.false) c.decode_plain.ensures.ok

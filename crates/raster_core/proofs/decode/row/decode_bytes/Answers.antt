@@ -17,15 +17,15 @@ bytes-init g c = record {
   same = refl;
   going = refl;
   stuck = λ _. (omega (arith, c.requires.whole), refl, refl);
-  left = omega (arith, c.requires.whole, c.requires.within);
+  left = omega (arith, c.requires.whole, c.requires.part.0);
   along = bytes_none (Pulls g.S.CodeBytes.gives g.S.CodeBytes.failed) c.args.source.now (shape_mode c.args.shape) c.args.offset c.args.above.now c.args.second.now c.args.place c.args.decoder.now c.args.learned.now
-      c.args.shape.width _ _ _ _ c.args.current.now (omega (arith, c.requires.whole)) (omega (arith, c.requires.within)) c.register_at-second_bytes.ensures.is c.register_at-above_bytes.ensures.is;
+      c.args.shape.width _ _ _ _ c.args.current.now (omega (arith, c.requires.whole)) (omega (arith, c.requires.part.0)) c.register_at-second_bytes.ensures.is c.register_at-above_bytes.ensures.is;
 }
 
 pub returns-in-Err-clause-err : goal.returns-in-Err-clause-err
 returns-in-Err-clause-err g c =
     let inside : 8 * c.bytes.i < c.args.shape.width = omega arith in
-    let same : c.skip_filled-words.new.decoder ≡ c.bytes.decoder = c.skip_filled-words.ensures.unchanged (omega (arith, c.if-words-gt0.false)) in
+    let same : c.skip_filled-words.new.decoder ≡ c.bytes.decoder = c.skip_filled-words.ensures.skips.2 (omega (arith, c.if-words-gt0.false)) in
     let along = kept_along (Pulls g.S.CodeBytes.gives g.S.CodeBytes.failed) c.args.source.now c.bytes.source (shape_mode c.args.shape) c.args.offset c.args.above.now c.args.second.now c.args.place c.args.current.now c.args.decoder.now c.args.learned.now
     c.args.shape.width c.bytes.left c.bytes.i c.bytes.second_bytes c.bytes.above_bytes c.bytes.past c.bytes.current c.skip_filled-words.new.current c.bytes.decoder c.skip_filled-words.new.decoder c.bytes.learned
     same c.skip_filled-words.ensures.kept c.bytes.invariant.along in
@@ -43,12 +43,12 @@ bytes-preserved-then-words-gt0 g c =
     let along = bytes_skipped (Pulls g.S.CodeBytes.gives g.S.CodeBytes.failed) c.args.source.now c.bytes.source (shape_mode c.args.shape) c.args.offset c.args.above.now c.args.second.now c.args.place c.args.current.now c.args.decoder.now c.args.learned.now
     c.args.shape.width c.bytes.left (c.bytes.left - 64 * c.skip_filled-words.result) c.bytes.i (8 * c.skip_filled-words.result) c.bytes.second_bytes c.bytes.above_bytes c.bytes.past c.bytes.current c.skip_filled-words.new.current c.bytes.decoder c.skip_filled-words.new.decoder c.bytes.learned (colour_of c.bytes.above_bytes)
     c.requires.template.0 c.bytes.invariant.left (omega (arith, inside)) (omega (arith, c.skip_filled-words.ensures.inside)) (omega arith) (omega (arith, c.if-words-gt0.true))
-    (c.skip_filled-words.ensures.second c.if-words-gt0.true) (c.skip_filled-words.ensures.above c.if-words-gt0.true) (c.skip_filled-words.ensures.before c.if-words-gt0.true c.args.offset c.requires.template.2) (c.skip_filled-words.ensures.going c.if-words-gt0.true)
+    (c.skip_filled-words.ensures.second c.if-words-gt0.true) (c.skip_filled-words.ensures.above c.if-words-gt0.true) (c.skip_filled-words.ensures.before c.if-words-gt0.true c.args.offset c.requires.template.2) (c.skip_filled-words.ensures.skips.1 c.if-words-gt0.true)
     c.skip_filled-words.ensures.filled c.skip_filled-words.ensures.kept c.skip_filled-words.ensures.skipped c.bytes.invariant.along in
     record {
       same = c.bytes.invariant.same;
-      going = c.skip_filled-words.ensures.stopped ∙ c.bytes.invariant.going;
-      stuck = λ t. absurd (not_both (has_stopped c.args.decoder.now) t (sym c.bytes.invariant.going ∙ c.skip_filled-words.ensures.going (omega (arith, c.if-words-gt0.true))));
+      going = c.skip_filled-words.ensures.skips.0 ∙ c.bytes.invariant.going;
+      stuck = λ t. absurd (not_both (has_stopped c.args.decoder.now) t (sym c.bytes.invariant.going ∙ c.skip_filled-words.ensures.skips.1 (omega (arith, c.if-words-gt0.true))));
       left = left;
       along = along;
     }
@@ -56,12 +56,12 @@ bytes-preserved-then-words-gt0 g c =
 pub bytes-preserved : goal.bytes-preserved
 bytes-preserved g c =
     let inside : 8 * c.bytes.i < c.args.shape.width = omega arith in
-    let same : c.skip_filled-words.new.decoder ≡ c.bytes.decoder = c.skip_filled-words.ensures.unchanged (omega (arith, c.if-words-gt0.false)) in
+    let same : c.skip_filled-words.new.decoder ≡ c.bytes.decoder = c.skip_filled-words.ensures.skips.2 (omega (arith, c.if-words-gt0.false)) in
     let along = kept_along (Pulls g.S.CodeBytes.gives g.S.CodeBytes.failed) c.args.source.now c.bytes.source (shape_mode c.args.shape) c.args.offset c.args.above.now c.args.second.now c.args.place c.args.current.now c.args.decoder.now c.args.learned.now
     c.args.shape.width c.bytes.left c.bytes.i c.bytes.second_bytes c.bytes.above_bytes c.bytes.past c.bytes.current c.skip_filled-words.new.current c.bytes.decoder c.skip_filled-words.new.decoder c.bytes.learned
     same c.skip_filled-words.ensures.kept c.bytes.invariant.along in
     let going : has_stopped c.skip_filled-words.new.decoder ≡ false = had_not_stopped {E = Pause} (has_stopped c.skip_filled-words.new.decoder) (Ok c.in-Ok.past) c.in-Ok.past (λ t. (c.in-Ok.ensures.stop.0 t).0) (refl) in
-    let was : has_stopped c.args.decoder.now ≡ false = sym c.bytes.invariant.going ∙ (sym c.skip_filled-words.ensures.stopped ∙ going) in
+    let was : has_stopped c.args.decoder.now ≡ false = sym c.bytes.invariant.going ∙ (sym c.skip_filled-words.ensures.skips.0 ∙ going) in
     record {
       same = c.in-Ok.ensures.stop.2 ∙ c.bytes.invariant.same;
       going = has_not_failed {E = Pause} (has_stopped c.decode_step.new.decoder) (Ok c.in-Ok.past) c.in-Ok.past c.in-Ok.ensures.stop.1 (refl) ∙ sym was;
@@ -78,7 +78,7 @@ bytes-preserved g c =
 
 pub returns-then-left-eq0-clause-ok : goal.returns-then-left-eq0-clause-ok
 returns-then-left-eq0-clause-ok g c =
-    let long : length c.bytes.current ≡ div_ceil c.args.shape.width 8 = c.bytes.auto.current ∙ c.requires.long in
+    let long : length c.bytes.current ≡ div_ceil c.args.shape.width 8 = c.bytes.auto.current ∙ c.requires.part.1 in
     bytes_all (Pulls g.S.CodeBytes.gives g.S.CodeBytes.failed) c.args.source.now c.bytes.source (shape_mode c.args.shape) c.args.offset c.args.above.now c.args.second.now c.args.place c.args.current.now c.args.decoder.now c.args.learned.now
     c.args.shape.width c.bytes.left c.bytes.i c.bytes.second_bytes c.bytes.above_bytes c.bytes.past c.bytes.current c.bytes.decoder c.bytes.learned
     c.bytes.invariant.left long (omega (arith, long, c.bytes.invariant.left, c.if-left-eq0.true)) c.bytes.invariant.along
@@ -96,7 +96,7 @@ returns-in-Err-decode_byte-clause-err g c =
 pub returns-clause-ok : goal.returns-clause-ok
 returns-clause-ok g c =
     let inside : 8 * c.bytes.i < c.args.shape.width = omega (arith, c.bytes.invariant.left, c.if-left-eq0.false) in
-    let wide : length c.bytes.current ≡ div_ceil c.args.shape.width 8 = c.bytes.auto.current ∙ c.requires.long in
+    let wide : length c.bytes.current ≡ div_ceil c.args.shape.width 8 = c.bytes.auto.current ∙ c.requires.part.1 in
     let byte = c.in-Ok-decode_byte.last % 256 * 2 ^ (8 - c.bytes.left) % 4294967296 % 256 in
     let long : length (slice_set c.bytes.current c.bytes.i byte) ≡ div_ceil c.args.shape.width 8 = length-set c.bytes.current c.bytes.i byte ∙ wide in
     bytes_all (Pulls g.S.CodeBytes.gives g.S.CodeBytes.failed) c.args.source.now c.decode_byte.new.source (shape_mode c.args.shape) c.args.offset c.args.above.now c.args.second.now c.args.place c.args.current.now c.args.decoder.now c.args.learned.now

@@ -8,7 +8,7 @@ use Rattle.raster_core.proofs.decode.row.decode_rest.Goals as goal
 pub returns-then-from-shape-clause-ok : goal.returns-then-from-shape-clause-ok
 returns-then-from-shape-clause-ok g c =
     ended_row (Pulls g.S.CodeBytes.gives g.S.CodeBytes.failed) c.args.source.now c.end_byte.new.source (shape_mode c.args.shape) c.args.offset c.args.above.now c.args.second.now c.args.place c.args.current.now c.args.decoder.now c.args.learned.now c.args.shape.width
-    c.in_ok-from.from c.end_byte.new.current c.end_byte.new.decoder c.end_byte.new.learned c.if-from-shape.true (c.end_byte.auto.current ∙ c.requires.long) c.in_ok-from.ensures.ok
+    c.in_ok-from.from c.end_byte.new.current c.end_byte.new.decoder c.end_byte.new.learned c.if-from-shape.true (c.end_byte.auto.current ∙ c.requires.part.1) c.in_ok-from.ensures.ok
 
 pub returns-clause-ok : goal.returns-clause-ok
 returns-clause-ok g c =

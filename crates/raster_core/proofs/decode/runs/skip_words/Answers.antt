@@ -8,8 +8,8 @@ words-preserved c =
       at = omega (arith, c.words.invariant.at);
       rest = omega (arith, c.words.invariant.rest, c.skip_word.ensures.inside c.words-test.true);
       some = omega (arith, c.skip_word.ensures.inside c.words-test.true);
-      stopped = c.skip_word.ensures.stopped ∙ c.words.invariant.stopped;
-      going = λ _. sym c.words.invariant.stopped ∙ c.skip_word.ensures.going c.words-test.true;
+      stopped = c.skip_word.ensures.skips.0 ∙ c.words.invariant.stopped;
+      going = λ _. sym c.words.invariant.stopped ∙ c.skip_word.ensures.skips.1 c.words-test.true;
       skipped = along_join c.args.colour c.args.above.now c.args.second.now c.args.i (8 * c.words.words) c.words.at (8 * (c.words.words + 1)) c.args.decoder.now c.words.decoder c.skip_word.new.decoder c.args.learned.now
           c.words.invariant.at (omega arith) c.words.invariant.skipped (c.skip_word.ensures.skipped c.words-test.true);
     }

@@ -1,9 +1,27 @@
-use Rattle.t85_core.proofs.Bytes.Ends.{on_err, always_err}
-use Rattle.t85_core.proofs.Bytes.Streams.{beginning_after, beginning_longer}
+use Rattle.std.proofs.Common.{◌∙◌, le_trans}
+use Rattle.t85_core.specs.Steps.Buffers.{PutsBytes}
+use Rattle.t85_core.proofs.Bytes.Ends.{map_ok, on_err}
+use Rattle.t85_core.proofs.Bytes.Streams.{Appends-more, beginning_after, beginning_longer}
+use Rattle.t85_core.proofs.Encodings.HeadPut.{counts_on}
+use Rattle.t85_core.proofs.Walks.InfoEnds.{exit_all}
 use Rattle.t85_core.proofs.encoding.segments.write_comment.Goals as goal
 
-pub returns-in_err-put-clause-cut : goal.returns-in_err-put-clause-cut
-returns-in_err-put-clause-cut g c = always_err c.from_residual.result (beginning_longer _ _ _ c.args.text.now (rw c.write_u32.ensures at c.in_err-put.ensures.cut))
+pub returns-in_err-put : goal.returns-in_err-put
+returns-in_err-put g c = exit_all (PutsBytes _ _ _) c.from_residual.result c.from_residual.ensures.1 (record {
+  ok = tt;
+  err = c.in_err-put.ensures.err;
+  cut = beginning_longer _ _ _ c.args.text.now (rw c.write_u32.ensures at c.in_err-put.ensures.cut);
+  grows = c.put.ensures.grows;
+  counts = c.in_err-put.ensures.counts;
+  same_writer = c.put.ensures.same_writer;
+})
 
-pub returns-clause-cut : goal.returns-clause-cut
-returns-clause-cut g c = on_err c.put-2.result (λ more. beginning_after _ _ _ _ c.args.text.now (rw c.write_u32.ensures at c.in_ok-put.ensures.ok) more) c.put-2.ensures.cut
+pub returns : goal.returns
+returns g c = record {
+  ok = map_ok c.put-2.result (λ more. Appends-more _ _ _ _ _ (rw c.write_u32.ensures at c.in_ok-put.ensures.ok) more) c.put-2.ensures.ok;
+  err = c.put-2.ensures.err;
+  cut = on_err c.put-2.result (λ more. beginning_after _ _ _ _ c.args.text.now (rw c.write_u32.ensures at c.in_ok-put.ensures.ok) more) c.put-2.ensures.cut;
+  grows = le_trans c.put.ensures.grows c.put-2.ensures.grows;
+  counts = counts_on _ _ _ c.put-2.result c.in_ok-put.ensures.counts c.put-2.ensures.counts;
+  same_writer = c.put-2.ensures.same_writer ∙ c.put.ensures.same_writer;
+}

@@ -18,13 +18,15 @@ returns-clause-row g c p pushed lines codes has =
     row_inked (sink_view g.P.ByteTarget.view) c.new-ink.result c.send_row.new.sink _ _ (ap (λ m. (g.P.ByteTarget.view m.now).text) c.new-ink.ensures.lent) (ap (λ t. (g.P.ByteTarget.view t).text) (search (rules, same))) _ _ _ _ _ _ _ _ c.send_row.result
     (c.send_row.ensures.row p pushed lines codes has)
 
-pub returns-clause-writes : goal.returns-clause-writes
-returns-clause-writes g c =
+pub returns-clause-fails : goal.returns-clause-fails
+returns-clause-fails g c =
     let same = (stays g c).same_buffer in
-    let last = ap (λ t. (g.P.ByteTarget.view t).failures) (search (rules, same)) in
-    record {
-      counts = subst (λ n. CountsWrite (g.P.ByteTarget.view c.args.target.now).failures n c.send_row.result) last (subst (λ n. CountsWrite n (g.P.ByteTarget.view c.send_row.new.sink.target.now).failures c.send_row.result) (ap (λ m. (g.P.ByteTarget.view m.now).failures) c.new-ink.ensures.lent) c.send_row.ensures.writes);
-      grows = subst (λ n. (g.P.ByteTarget.view c.args.target.now).written ≤ n) (ap (λ t. (g.P.ByteTarget.view t).written) (search (rules, same)))
-          (subst (λ n. n ≤ (g.P.ByteTarget.view c.send_row.new.sink.target.now).written) (ap (λ m. (g.P.ByteTarget.view m.now).written) c.new-ink.ensures.lent) (stays g c).grows);
-      same_writer = sym (ap (λ t. (g.P.ByteTarget.view t).writer) (search (rules, same))) ∙ (stays g c).same_writer ∙ ap (λ m. (g.P.ByteTarget.view m.now).writer) c.new-ink.ensures.lent;
-    }
+    let last = ap (λ t. (g.P.ByteTarget.view t).failures) (search (rules, same)) in (
+      c.send_row.ensures.err,
+      record {
+        counts = subst (λ n. CountsWrite (g.P.ByteTarget.view c.args.target.now).failures n c.send_row.result) last (subst (λ n. CountsWrite n (g.P.ByteTarget.view c.send_row.new.sink.target.now).failures c.send_row.result) (ap (λ m. (g.P.ByteTarget.view m.now).failures) c.new-ink.ensures.lent) c.send_row.ensures.writes);
+        grows = subst (λ n. (g.P.ByteTarget.view c.args.target.now).written ≤ n) (ap (λ t. (g.P.ByteTarget.view t).written) (search (rules, same)))
+            (subst (λ n. n ≤ (g.P.ByteTarget.view c.send_row.new.sink.target.now).written) (ap (λ m. (g.P.ByteTarget.view m.now).written) c.new-ink.ensures.lent) (stays g c).grows);
+        same_writer = sym (ap (λ t. (g.P.ByteTarget.view t).writer) (search (rules, same))) ∙ (stays g c).same_writer ∙ ap (λ m. (g.P.ByteTarget.view m.now).writer) c.new-ink.ensures.lent;
+      },
+    )

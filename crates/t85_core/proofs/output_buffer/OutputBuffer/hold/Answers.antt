@@ -23,9 +23,9 @@ returns-in_err-write_held g c =
         text_is = sym (take-append-drop c.loop-taken.taken c.args.bytes.now);
         appends = Appends-keeps _ _ _ _ v.text c.in_err-write_held.ensures.text;
       };
-      grows = le_trans v.grows c.in_err-write_held.ensures.grows;
-      counts = c.in_err-write_held.ensures.counts ∙ ap (writes_after _) v.unfailed;
-      same_writer = c.in_err-write_held.ensures.same_writer ∙ v.same_writer;
+      grows = le_trans v.grows c.in_err-write_held.ensures.writes.1;
+      counts = c.in_err-write_held.ensures.writes.0 ∙ ap (writes_after _) v.unfailed;
+      same_writer = c.in_err-write_held.ensures.writes.2 ∙ v.same_writer;
     })
 
 pub loop-taken-preserved : goal.loop-taken-preserved
@@ -39,17 +39,17 @@ loop-taken-preserved g c =
     ] in
     let grows : known_length (g.W.Output.view old.output.now).contents ≤ known_length (g.W.Output.view new.output.now).contents =
     elim c.if-self.branch [
-      | then-self+in_ok-write_held w ↦ rw w.self-is w.write_held.ensures.grows
+      | then-self+in_ok-write_held w ↦ rw w.self-is w.write_held.ensures.writes.1
       | else-self w ↦ rw w.self-is (omega arith)
     ] in
     let unfailed : (g.W.Output.view new.output.now).failures ≡ (g.W.Output.view old.output.now).failures =
     elim c.if-self.branch [
-      | then-self+in_ok-write_held w ↦ rw w.self-is w.in_ok-write_held.ensures.counts
+      | then-self+in_ok-write_held w ↦ rw w.self-is w.in_ok-write_held.ensures.writes.0
       | else-self w ↦ rw w.self-is refl
     ] in
     let same_writer : writer_of new ≡ writer_of old =
     elim c.if-self.branch [
-      | then-self+in_ok-write_held w ↦ rw w.self-is w.write_held.ensures.same_writer
+      | then-self+in_ok-write_held w ↦ rw w.self-is w.write_held.ensures.writes.2
       | else-self w ↦ rw w.self-is refl
     ] in
     let more = rw take_rest at c.fill-taken.ensures.text in

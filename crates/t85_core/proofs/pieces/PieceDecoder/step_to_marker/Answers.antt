@@ -6,29 +6,29 @@ use Rattle.t85_core.proofs.pieces.PieceDecoder.step_to_marker.Goals as goal
 
 pub returns-in-Ok-clause-leaves : goal.returns-in-Ok-clause-leaves
 returns-in-Ok-clause-leaves c = λ rows learned. leaves_on c.args.is_all (decoder_view c.args.self.now rows learned) _ c.args.piece.now.rest.now c.find_end.new.piece.rest.now refl refl (λ text out s.
-    let w = code_of (decoder_view c.args.self.now rows learned) text out c.requires.late c.requires.going s in
+    let w = code_of (decoder_view c.args.self.now rows learned) text out c.requires.in_code.0 c.requires.in_code.1 s in
     let k = (c.in-Ok.ensures.step rows learned).ok text out w.walk in (
       k.0,
       k.1,
-      put_waits _ _ _ c.requires.late refl (known_more (fields_of c.args.self.now.header) c.args.self.now.height c.args.self.now.is_open text k.0 s.height)
+      put_waits _ _ _ c.requires.in_code.0 refl (known_more (fields_of c.args.self.now.header) c.args.self.now.height c.args.self.now.is_open text k.0 s.height)
           (waits_first (fields_of c.args.self.now.header) (walk_view c.find_end.new.self rows learned) c.start-self.result _ _ k.2 (inr (inl c.in-Ok.ensures.stage, c.in-Ok.ensures.marked)) ((c.in-Ok.ensures.place rows rows learned learned).given ∙ w.ungiven) c.start-self.ensures.at c.start-self.ensures.comment),
     ))
 
 pub returns-in-Ok-clause-lowers : goal.returns-in-Ok-clause-lowers
-returns-in-Ok-clause-lowers c = λ _. begins_to_wait c.args.self.now.waits true c.args.piece.now.rest.now c.find_end.new.piece.rest.now c.requires.going refl c.in-Ok.ensures.no_more
+returns-in-Ok-clause-lowers c = λ _. begins_to_wait c.args.self.now.waits true c.args.piece.now.rest.now c.find_end.new.piece.rest.now c.requires.in_code.1 refl c.in-Ok.ensures.no_more
 
 pub returns-in-Err-clause-leaves : goal.returns-in-Err-clause-leaves
 returns-in-Err-clause-leaves c = λ rows learned. leaves_stop c.args.is_all (decoder_view c.args.self.now rows learned) _ c.args.piece.now.rest.now c.find_end.new.piece.rest.now c.in-Err.fault c.outcome_of.result
     (record { more = c.outcome_of.ensures.more; broken = c.outcome_of.ensures.broken; row = c.outcome_of.ensures.row; done = c.outcome_of.ensures.done }) refl refl
     (λ e. (
       (λ text out s.
-          let w = code_of (decoder_view c.args.self.now rows learned) text out c.requires.late c.requires.going s in
+          let w = code_of (decoder_view c.args.self.now rows learned) text out c.requires.in_code.0 c.requires.in_code.1 s in
           let k = ((c.in-Err.ensures.step rows learned).more (ap Err e)).0 text out w.walk in (
             k.0,
             k.1,
-            put_code _ _ _ c.requires.late c.requires.going (known_more (fields_of c.args.self.now.header) c.args.self.now.height c.args.self.now.is_open text k.0 s.height)
+            put_code _ _ _ c.requires.in_code.0 c.requires.in_code.1 (known_more (fields_of c.args.self.now.header) c.args.self.now.height c.args.self.now.is_open text k.0 s.height)
                 (record { walk = k.2; in_code = inl c.in-Err.ensures.stage; ungiven = (c.in-Err.ensures.place rows rows learned learned).given ∙ w.ungiven }),
           )),
       ((c.in-Err.ensures.step rows learned).more (ap Err e)).1,
     ))
-    (code_broken (decoder_view c.args.self.now rows learned) c.args.piece.now.rest.now c.in-Err.fault c.requires.late c.requires.going (c.in-Err.ensures.step rows learned).err (λ some. c.in-Err.ensures.other rows learned (some_code (decoder_view c.args.self.now rows learned) c.requires.late c.requires.going some)))
+    (code_broken (decoder_view c.args.self.now rows learned) c.args.piece.now.rest.now c.in-Err.fault c.requires.in_code.0 c.requires.in_code.1 (c.in-Err.ensures.step rows learned).err (λ some. c.in-Err.ensures.other rows learned (some_code (decoder_view c.args.self.now rows learned) c.requires.in_code.0 c.requires.in_code.1 some)))

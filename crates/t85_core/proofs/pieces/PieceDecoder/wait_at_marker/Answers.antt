@@ -9,10 +9,10 @@ use Rattle.t85_core.proofs.pieces.PieceDecoder.wait_at_marker.Goals as goal
 
 pub returns-in-Some-clause-on : goal.returns-in-Some-clause-on
 returns-in-Some-clause-on c = λ ahead unmarked stage rows learned text out s.
-    let w = code_of (decoder_view c.args.self.now rows learned) text out c.requires.late c.requires.going s in (
+    let w = code_of (decoder_view c.args.self.now rows learned) text out c.requires.in_code.0 c.requires.in_code.1 s in (
       marker_bytes c.in-Some.reset,
       marker_split c.in-Some.reset c.args.piece.now.rest.now c.in-Some.ensures.some.0 c.split_at.result.1.now c.in-Some.ensures.some.1 c.split_at.ensures.back,
-      put_waits _ _ _ c.requires.late refl (known_more (fields_of c.args.self.now.header) c.args.self.now.height c.args.self.now.is_open text (marker_bytes c.in-Some.reset) s.height)
+      put_waits _ _ _ c.requires.in_code.0 refl (known_more (fields_of c.args.self.now.header) c.args.self.now.height c.args.self.now.is_open text (marker_bytes c.in-Some.reset) s.height)
           (waits_first (fields_of c.args.self.now.header) _ c.start-self.result _ _
           (subst (WalkStands (fields_of c.args.self.now.header) c.args.self.now.header.yd _ (text ++ marker_bytes c.in-Some.reset)) (sym (append-nil out)) (walk_ahead (fields_of c.args.self.now.header) c.args.self.now.header.yd (walk_view c.args.self.now.walk rows learned) text out c.in-Some.reset stage ahead unmarked w.walk))
           (inr (stage, (c.in-Some.reset, inr refl))) w.ungiven c.start-self.ensures.at c.start-self.ensures.comment),

@@ -19,26 +19,26 @@ pub returns-in_err-code_row-clause-cut : goal.returns-in_err-code_row-clause-cut
 returns-in_err-code_row-clause-cut g c =
     exit_all (λ r. OnErr r ((s : Settings) (width limit : ℕ) (rows : List (List Bool)) (row : List Bool) (before : Held) (origin : Origin) → IsBelow row before (held c.args.window.now) →
     Runs s width limit rows (view_of c.args.self.now c.args.learning.now) before origin (g.P.ByteTarget.view c.args.target.now).text → StreamCut s width limit (rows ++ row ∷ []) origin (g.P.ByteTarget.view c.code_row.new.target).text)) c.from_residual.result c.from_residual.ensures.1
-    (λ s width limit rows row before origin below r. row_cut s width limit rows row (view_of c.args.self.now c.args.learning.now) before (held c.args.window.now) origin _ _ below c.requires.width r c.writing_laws.ensures c.requires.fewer
+    (λ s width limit rows row before origin below r. row_cut s width limit rows row (view_of c.args.self.now c.args.learning.now) before (held c.args.window.now) origin _ _ below c.requires.lined.1 r c.writing_laws.ensures c.requires.fewer
     (c.in_err-code_row.ensures.row (row_start_in s width r.at r.part).state.place r.pushed (lines_with (row_start_in s width r.at r.part) row) r.running.codes
-    (lines_are s width limit rows row (view_of c.args.self.now c.args.learning.now) before (held c.args.window.now) origin (g.P.ByteTarget.view c.args.target.now).text (g.P.ByteTarget.view c.args.target.now).text below c.requires.width r)).cut)
+    (lines_are s width limit rows row (view_of c.args.self.now c.args.learning.now) before (held c.args.window.now) origin (g.P.ByteTarget.view c.args.target.now).text (g.P.ByteTarget.view c.args.target.now).text below c.requires.lined.1 r)).cut)
 
 pub returns-clause-ok : goal.returns-clause-ok
 returns-clause-ok g c s width limit rows row before origin below r =
     let is = c.counted-counted.ensures.is c.args.learning.now in
-    row_coded s width limit rows row (view_of c.args.self.now c.args.learning.now) before (held c.args.window.now) origin _ _ below c.requires.width r c.requires.left c.requires.fewer c.requires.able.few_rows c.code_row.new.kept c.code_row.new.learned c.count_row.new.tally c.code_row.new.encoder _ _ refl refl
+    row_coded s width limit rows row (view_of c.args.self.now c.args.learning.now) before (held c.args.window.now) origin _ _ below c.requires.lined.1 r c.requires.left c.requires.fewer c.requires.able.few_rows c.code_row.new.kept c.code_row.new.learned c.count_row.new.tally c.code_row.new.encoder _ _ refl refl
     (c.in_ok-code_row.ensures.row (row_start_in s width r.at r.part).state.place r.pushed (lines_with (row_start_in s width r.at r.part) row) r.running.codes
-    (lines_are s width limit rows row (view_of c.args.self.now c.args.learning.now) before (held c.args.window.now) origin (g.P.ByteTarget.view c.args.target.now).text (g.P.ByteTarget.view c.args.target.now).text below c.requires.width r)).ok
+    (lines_are s width limit rows row (view_of c.args.self.now c.args.learning.now) before (held c.args.window.now) origin (g.P.ByteTarget.view c.args.target.now).text (g.P.ByteTarget.view c.args.target.now).text below c.requires.lined.1 r)).ok
     (λ lines l few has counted. subst (λ o. IsCountedTo c.args.self.now.size.width o c.count_row.new.tally (lines ++ l ∷ [])) is (c.count_row.ensures.counts lines l few has (subst (λ o. IsCountedTo c.args.self.now.size.width o c.args.learning.now.tally lines) (sym is) counted)))
     c.count_row.ensures.two_line c.count_row.ensures.most
 
 pub returns-clause-able : goal.returns-clause-able
 returns-clause-able g c =
     let able = c.requires.able in
-    let offset = c.in_ok-code_row.ensures.offset in
-    let more = c.in_ok-code_row.ensures.events in
+    let offset = c.in_ok-code_row.ensures.able.2 in
+    let more = c.in_ok-code_row.ensures.able.1 in
     let somewhere = able.somewhere in
-    let put = (c.in_ok-code_row.ensures.row somewhere.0 somewhere.1 c.requires.lined.0 somewhere.2 c.requires.lined.1).ok in
+    let put = (c.in_ok-code_row.ensures.row somewhere.0 somewhere.1 c.requires.lined.0.0 somewhere.2 c.requires.lined.0.1).ok in
     record {
       wide = able.wide;
       offset = omega (arith, offset, able.offset);
@@ -47,7 +47,7 @@ returns-clause-able g c =
       rows_to = omega (arith, c.requires.left);
       inside = omega (arith, able.inside);
       events = events_more c.args.self.now.in_stripe c.args.self.now.size.width _ _ able.events (omega (arith, more, able.wide));
-      going = c.in_ok-code_row.ensures.going;
+      going = c.in_ok-code_row.ensures.able.0;
       somewhere = (_, somewhere.1 ++ put.more, put.codes);
     }
 
@@ -57,15 +57,15 @@ returns-in_err-code_row-clause-few g c =
     exit_all (CodesFew c.args.self.now _ (g.P.ByteTarget.view c.args.target.now).text (g.P.ByteTarget.view c.code_row.new.target).text) c.from_residual.result c.from_residual.ensures.1
     (record {
       ok = tt;
-      err = row_cut_few c.writing_laws.ensures c.args.self.now.encoder somewhere.0 c.args.learning.now.learned somewhere.1 somewhere.2 _ _ c.args.self.now.shape c.args.self.now.kept c.requires.lined.0 c.args.self.now.size.width (c.requires.lined.1.row_wide ∙ c.requires.width)
-          (c.in_err-code_row.ensures.row somewhere.0 somewhere.1 c.requires.lined.0 somewhere.2 c.requires.lined.1).cut;
+      err = row_cut_few c.writing_laws.ensures c.args.self.now.encoder somewhere.0 c.args.learning.now.learned somewhere.1 somewhere.2 _ _ c.args.self.now.shape c.args.self.now.kept c.requires.lined.0.0 c.args.self.now.size.width (c.requires.lined.0.1.row_wide ∙ c.requires.lined.1)
+          (c.in_err-code_row.ensures.row somewhere.0 somewhere.1 c.requires.lined.0.0 somewhere.2 c.requires.lined.0.1).cut;
     })
 
 pub returns-clause-few : goal.returns-clause-few
 returns-clause-few g c =
     let somewhere = c.requires.able.somewhere in
     record {
-      ok = row_put_few c.writing_laws.ensures c.args.self.now.encoder somewhere.0 c.args.learning.now.learned somewhere.1 somewhere.2 _ _ c.args.self.now.shape c.args.self.now.kept c.code_row.new.kept c.requires.lined.0 c.code_row.new.encoder c.code_row.new.learned c.args.self.now.size.width (c.requires.lined.1.row_wide ∙ c.requires.width)
-          (c.in_ok-code_row.ensures.row somewhere.0 somewhere.1 c.requires.lined.0 somewhere.2 c.requires.lined.1).ok;
+      ok = row_put_few c.writing_laws.ensures c.args.self.now.encoder somewhere.0 c.args.learning.now.learned somewhere.1 somewhere.2 _ _ c.args.self.now.shape c.args.self.now.kept c.code_row.new.kept c.requires.lined.0.0 c.code_row.new.encoder c.code_row.new.learned c.args.self.now.size.width (c.requires.lined.0.1.row_wide ∙ c.requires.lined.1)
+          (c.in_ok-code_row.ensures.row somewhere.0 somewhere.1 c.requires.lined.0.0 somewhere.2 c.requires.lined.0.1).ok;
       err = tt;
     }

@@ -31,7 +31,7 @@ returns-clause-ok g c = always c.write_held.result (λ s width limit rows origin
     let e = c.in_ok-end_entity.ensures.ended (row_start_in s width r.at r.part).state.place r.pushed (subst (λ e. EncoderIsAt e (row_start_in s width r.at r.part).state.place r.pushed) (sym c.replace-encoder.ensures.value) r.running.codes) in
     stripe_ended s width limit rows (view_of c.args.self.now c.args.learning.now) (held c.args.window.now) origin _ _ c.requires.some r c.writing_laws.ensures c.replace-encoder.new.dest c.go_on.new.kept c.go_on.new.learned _ _ _ refl
     (subst (λ e. EncoderIsAt e start []) (sym c.replace-encoder.ensures.after) c.start.ensures.codes)
-    (λ last is. subst (λ w. IsHeldBy None 0 (first_row_start (next_stripe_start w c.args.self.now.reset last)) c.go_on.new.kept c.go_on.new.learned (held c.go_on.new.window)) c.requires.width (c.go_on.ensures.next last is))
+    (λ last is. subst (λ w. IsHeldBy None 0 (first_row_start (next_stripe_start w c.args.self.now.reset last)) c.go_on.new.kept c.go_on.new.learned (held c.go_on.new.window)) c.requires.lined.1 (c.go_on.ensures.next last is))
     e.code e.more e.is e.all e.ok c.write_held.ensures.text)
 
 pub returns-clause-cut : goal.returns-clause-cut

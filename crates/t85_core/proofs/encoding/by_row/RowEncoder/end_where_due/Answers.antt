@@ -7,7 +7,7 @@ use Rattle.t85_core.proofs.encoding.by_row.RowEncoder.end_where_due.Goals as goa
 
 pub returns-then-self-clause-ok : goal.returns-then-self-clause-ok
 returns-then-self-clause-ok g c =
-    map_ok c.end_stripe.result (λ ended s width limit rows origin r. inl (ended_waits s width limit _ rows _ _ origin _ (c.if-self.true ∙ sym c.end_stripe.ensures.stripe_rows) (ended s width limit rows origin r))) c.end_stripe.ensures.ok
+    map_ok c.end_stripe.result (λ ended s width limit rows origin r. inl (ended_waits s width limit _ rows _ _ origin _ (c.if-self.true ∙ sym c.end_stripe.ensures.keeps.0.1) (ended s width limit rows origin r))) c.end_stripe.ensures.ok
 
 pub returns-then-self-clause-cut : goal.returns-then-self-clause-cut
 returns-then-self-clause-cut g c =

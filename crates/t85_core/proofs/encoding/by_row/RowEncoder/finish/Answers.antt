@@ -32,7 +32,7 @@ returns-clause-cut g c _ =
     let lent : (g.W.Output.view buffer.output.now).contents ≡ (g.W.Output.view c.args.output.now).contents = ap (λ m. (g.W.Output.view m.now).contents) c.new-buffer.ensures.lent in
     on_err c.end_held.result (λ cut s width limit rows origin so.
     let grown = stands_grown s width limit rows (view_of c.args.self.now c.args.learning.now) (held c.args.window.now) origin (g.W.Output.view c.args.output.now).contents so in
-    let more : known_length (g.W.Output.view c.args.output.now).contents ≤ known_length (g.W.Output.view after.output.now).contents = subst (λ z. known_length z ≤ known_length (g.W.Output.view after.output.now).contents) lent c.end_held.ensures.grows in
+    let more : known_length (g.W.Output.view c.args.output.now).contents ≤ known_length (g.W.Output.view after.output.now).contents = subst (λ z. known_length z ≤ known_length (g.W.Output.view after.output.now).contents) lent c.end_held.ensures.writes.1 in
     moved (λ w. (g.W.Output.view w).contents) (λ z. SendsBeginning origin z (jbg s (raster_of width rows))) after.output.now _ (search rules)
     (beginning_sent origin (g.W.Output.view after.output.now).contents (held_of after.bytes after.at after.end) (jbg s (raster_of width rows)) (omega (arith, grown, more))
     (cut s width limit rows origin (stands_cleared s width limit rows (view_of c.args.self.now c.args.learning.now) (held c.args.window.now) (held c.clear_padding.new.window) origin _ c.clear_padding.ensures.stays (subst (λ z. Stands s width limit rows (view_of c.args.self.now c.args.learning.now) (held c.args.window.now) origin z) (sym text_is) so))))) c.end_held.ensures.cut
@@ -43,7 +43,7 @@ returns-clause-few g c =
     let after = c.end_held.new.buffer in
     let text_is : text_taken buffer ≡ (g.W.Output.view c.args.output.now).contents = text_unheld buffer.bytes buffer.at buffer.end (g.W.Output.view buffer.output.now).contents c.new-buffer.ensures.empty ∙ ap (λ m. (g.W.Output.view m.now).contents) c.new-buffer.ensures.lent in
     let lent : (g.W.Output.view buffer.output.now).contents ≡ (g.W.Output.view c.args.output.now).contents = ap (λ m. (g.W.Output.view m.now).contents) c.new-buffer.ensures.lent in
-    let more : known_length (g.W.Output.view c.args.output.now).contents ≤ known_length (g.W.Output.view after.output.now).contents = subst (λ z. known_length z ≤ known_length (g.W.Output.view after.output.now).contents) lent c.end_held.ensures.grows in
+    let more : known_length (g.W.Output.view c.args.output.now).contents ≤ known_length (g.W.Output.view after.output.now).contents = subst (λ z. known_length z ≤ known_length (g.W.Output.view after.output.now).contents) lent c.end_held.ensures.writes.1 in
     moved (λ w. (g.W.Output.view w).contents) (AppendsAtMost (2 * waiting_bytes c.args.self.now.encoder + 10) (g.W.Output.view c.args.output.now).contents) after.output.now _ (search rules)
     (handed_few (2 * waiting_bytes c.args.self.now.encoder + 10) (g.W.Output.view c.args.output.now).contents (g.W.Output.view after.output.now).contents (held_of after.bytes after.at after.end) more
     (subst (λ z. AppendsAtMost (2 * waiting_bytes c.args.self.now.encoder + 10) z (text_taken after)) text_is c.end_held.ensures.few))

@@ -30,7 +30,7 @@ returns-clause-cut g c _ =
     let lent : (g.W.Output.view buffer.output.now).contents ≡ (g.W.Output.view c.args.output.now).contents = ap (λ m. (g.W.Output.view m.now).contents) c.new-buffer.ensures.lent in
     on_err c.put_held.result (λ cut s width limit rows origin so.
     let grown = stands_grown s width limit rows (view_of c.args.self.now c.args.learning.now) (held c.args.window.now) origin (g.W.Output.view c.args.output.now).contents so in
-    let more : known_length (g.W.Output.view c.args.output.now).contents ≤ known_length (g.W.Output.view after.output.now).contents = subst (λ z. known_length z ≤ known_length (g.W.Output.view after.output.now).contents) lent c.put_held.ensures.grows in
+    let more : known_length (g.W.Output.view c.args.output.now).contents ≤ known_length (g.W.Output.view after.output.now).contents = subst (λ z. known_length z ≤ known_length (g.W.Output.view after.output.now).contents) lent c.put_held.ensures.writes.1 in
     moved (λ w. (g.W.Output.view w).contents) (StreamCut s width limit (rows ++ pixels_of c.args.self.now.size.width c.args.row.now ∷ []) origin) after.output.now _ (search rules)
     (cut_written s width limit (rows ++ pixels_of c.args.self.now.size.width c.args.row.now ∷ []) origin (g.W.Output.view after.output.now).contents (held_of after.bytes after.at after.end) (omega (arith, grown, more))
     (cut (pixels_of c.args.self.now.size.width c.args.row.now) (held c.clear_padding.new.window) c.take_row.ensures.below s width limit rows origin
@@ -42,7 +42,7 @@ returns-clause-few g c =
     let after = c.put_held.new.buffer in
     let text_is : text_taken buffer ≡ (g.W.Output.view c.args.output.now).contents = text_unheld buffer.bytes buffer.at buffer.end (g.W.Output.view buffer.output.now).contents c.new-buffer.ensures.empty ∙ ap (λ m. (g.W.Output.view m.now).contents) c.new-buffer.ensures.lent in
     let lent : (g.W.Output.view buffer.output.now).contents ≡ (g.W.Output.view c.args.output.now).contents = ap (λ m. (g.W.Output.view m.now).contents) c.new-buffer.ensures.lent in
-    let more : known_length (g.W.Output.view c.args.output.now).contents ≤ known_length (g.W.Output.view after.output.now).contents = subst (λ z. known_length z ≤ known_length (g.W.Output.view after.output.now).contents) lent c.put_held.ensures.grows in
+    let more : known_length (g.W.Output.view c.args.output.now).contents ≤ known_length (g.W.Output.view after.output.now).contents = subst (λ z. known_length z ≤ known_length (g.W.Output.view after.output.now).contents) lent c.put_held.ensures.writes.1 in
     moved (λ w. (g.W.Output.view w).contents) (AppendsAtMost (2 * waiting_bytes c.args.self.now.encoder + 4 * (c.args.self.now.size.width + 1) + 10) (g.W.Output.view c.args.output.now).contents) after.output.now _ (search rules)
     (handed_few (2 * waiting_bytes c.args.self.now.encoder + 4 * (c.args.self.now.size.width + 1) + 10) (g.W.Output.view c.args.output.now).contents (g.W.Output.view after.output.now).contents (held_of after.bytes after.at after.end) more
     (subst (λ z. AppendsAtMost (2 * waiting_bytes c.args.self.now.encoder + 4 * (c.args.self.now.size.width + 1) + 10) z (text_taken after)) text_is c.put_held.ensures.few))

@@ -6,7 +6,7 @@ use Rattle.t85_core.proofs.pieces.walk.Walk.enter_row.Goals as goal
 
 pub returns-clause-enters : goal.returns-clause-enters
 returns-clause-enters c = λ learned text out s.
-    let k = at_stage c.requires.stage s in
+    let k = at_stage c.requires.rows.0 s in
     record {
       left_is = s.left_is;
       width_is = ap (λ w. w.width) c.turn.ensures.turned ∙ s.width_is;
@@ -15,7 +15,7 @@ returns-clause-enters c = λ learned text out s.
       code_is = s.code_is;
       behind = s.behind;
       within = omega (arith, c.start-self.ensures.done, c.args.header.now.some_width);
-      stands = row_entered k (row_in_stripe s c.requires.row) _ _ (record { is_begun = c.start-self.ensures.none; done = c.start-self.ensures.done; past = c.start-self.ensures.past }) refl c.turn.ensures.turned c.offset_in-self.ensures.is refl;
+      stands = row_entered k (row_in_stripe s c.requires.rows.1) _ _ (record { is_begun = c.start-self.ensures.none; done = c.start-self.ensures.done; past = c.start-self.ensures.past }) refl c.turn.ensures.turned c.offset_in-self.ensures.is refl;
     }
 
 pub returns-clause-place : goal.returns-clause-place

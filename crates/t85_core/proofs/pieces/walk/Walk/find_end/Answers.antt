@@ -15,11 +15,11 @@ pub returns-in_err-reset-clause-step : goal.returns-in_err-reset-clause-step
 returns-in_err-reset-clause-step c =
     λ rows learned. step_exit (fields_of c.args.header.now) c.args.height (walk_view c.args.self.now rows learned) (walk_view (record c.args.self.now { first = c.find_marker.new.first }) rows learned) c.args.piece.now.rest.now c.find_marker.new.piece.rest.now c.from_residual.result c.in_err-reset.field-0.0 c.from_residual.ensures.1
     (λ text out s.
-    let k = at_stage c.requires.stage s in
-    marker_off k c.coder_laws.ensures (in_use c.args.header.now c.args.height c.requires.height.0 c.requires.height.1) (rows_all c.requires.stage s c.requires.row) c.args.piece.now.rest.now c.in_err-reset.field-0.0 (c.in_err-reset.ensures.err k.read.answers k.extra k.code k.code_is))
+    let k = at_stage c.requires.rows.0 s in
+    marker_off k c.coder_laws.ensures (in_use c.args.header.now c.args.height c.requires.height.0 c.requires.height.1) (rows_all c.requires.rows.0 s c.requires.rows.1) c.args.piece.now.rest.now c.in_err-reset.field-0.0 (c.in_err-reset.ensures.err k.read.answers k.extra k.code k.code_is))
     (λ e. (
       (λ text out s.
-          let k = at_stage c.requires.stage s in
+          let k = at_stage c.requires.rows.0 s in
           let m = c.in_err-reset.ensures.more (ap Err e) k.read.answers k.extra k.code k.code_is in
           on_same (fields_of c.args.header.now) c.args.height _ text out c.args.piece.now.rest.now c.find_marker.new.piece.rest.now m.given m.taken (record {
             left_is = s.left_is;
@@ -29,7 +29,7 @@ returns-in_err-reset-clause-step c =
             code_is = ahead_is c.find_marker.new.first c.args.self.now.marker k.read.answers m.extra _ m.code_is;
             behind = behind_is c.find_marker.new.first c.args.self.now.marker k.read.answers m.extra _ m.code_is;
             within = s.within;
-            stands = put_stage (fields_of c.args.header.now) c.args.height (walk_view (record c.args.self.now { first = c.find_marker.new.first }) rows learned) (text ++ m.given) out _ c.requires.stage (code_kept k (rows_all c.requires.stage s c.requires.row) c.args.piece.now.rest.now c.find_marker.new.piece.rest.now m);
+            stands = put_stage (fields_of c.args.header.now) c.args.height (walk_view (record c.args.self.now { first = c.find_marker.new.first }) rows learned) (text ++ m.given) out _ c.requires.rows.0 (code_kept k (rows_all c.requires.rows.0 s c.requires.rows.1) c.args.piece.now.rest.now c.find_marker.new.piece.rest.now m);
           })),
       (let few = c.in_err-reset.ensures.few (ap Err e) in omega (arith, few)),
     ))
@@ -37,14 +37,14 @@ returns-in_err-reset-clause-step c =
 pub returns-in_err-reset-clause-other : goal.returns-in_err-reset-clause-other
 returns-in_err-reset-clause-other c = λ rows learned some. other_exit c.from_residual.result c.in_err-reset.field-0.0 c.from_residual.ensures.1
     (λ e.
-    let k = at_stage c.requires.stage some.2 in
+    let k = at_stage c.requires.rows.0 some.2 in
     let m = c.in_err-reset.ensures.err k.read.answers k.extra k.code k.code_is in
     never_changed (fields_of c.args.header.now) before_all m.breaks.rest (subst (RestFault m.breaks.rest) e m.breaks.broken))
 
 pub returns-clause-step : goal.returns-clause-step
 returns-clause-step c = λ rows learned. record {
   ok = λ text out s.
-      let k = at_stage c.requires.stage s in
+      let k = at_stage c.requires.rows.0 s in
       let m = c.in_ok-reset.ensures.ok k.read.answers k.extra k.code k.code_is in
       on_same (fields_of c.args.header.now) c.args.height _ text out c.args.piece.now.rest.now c.find_marker.new.piece.rest.now m.given m.taken (record {
         left_is = s.left_is;
@@ -54,7 +54,7 @@ returns-clause-step c = λ rows learned. record {
         code_is = tt;
         behind = subst (λ z. IfSome z (λ _. Some (code.Marker c.in_ok-reset.reset) ≡ None)) (sym c.requires.unmarked) tt;
         within = s.within;
-        stands = put_stage (fields_of c.args.header.now) c.args.height (walk_view (record c.args.self.now { first = Some (code.Marker c.in_ok-reset.reset) }) rows learned) (text ++ m.given) out _ c.requires.stage (code_marked k (rows_all c.requires.stage s c.requires.row) c.requires.unmarked c.args.piece.now.rest.now c.find_marker.new.piece.rest.now c.in_ok-reset.reset m);
+        stands = put_stage (fields_of c.args.header.now) c.args.height (walk_view (record c.args.self.now { first = Some (code.Marker c.in_ok-reset.reset) }) rows learned) (text ++ m.given) out _ c.requires.rows.0 (code_marked k (rows_all c.requires.rows.0 s c.requires.rows.1) c.requires.unmarked c.args.piece.now.rest.now c.find_marker.new.piece.rest.now c.in_ok-reset.reset m);
       });
   err = tt;
   more = λ e. absurd (let bot : ⊥ = cc in bot);

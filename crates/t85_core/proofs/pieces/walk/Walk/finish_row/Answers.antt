@@ -29,7 +29,7 @@ returns-in_err-went-clause-step g c =
           let m = subst (λ z. WaitsInRow z (row_state (carried_by c.args.window.now c.args.self.now.kept c.args.learned.now) c.resume.new.self c.args.self.now.place c.args.self.now.first c.args.self.now.marker c.args.piece.now) (row_state (carried_by c.go_on_in_row-went.new.window c.go_on_in_row-went.new.kept c.go_on_in_row-went.new.learned) c.go_on_in_row-went.new.decoder c.go_on_in_row-went.new.place c.go_on_in_row-went.new.first c.go_on_in_row-went.new.marker c.go_on_in_row-went.new.piece)) (in_row_shape k c.shape.result shape) (c.in_err-went.ensures.more (ap Err e)) (fields_of c.args.header.now) k.head.stripes.next k.head.passed.segments c.args.self.now.row k.began out k.code k.begun k.code_is in
           on_same (fields_of c.args.header.now) c.args.height _ text out c.args.piece.now.rest.now c.go_on_in_row-went.new.piece.rest.now m.given m.taken (record {
             left_is = s.left_is;
-            width_is = c.go_on_in_row-went.ensures.width ∙ s.width_is;
+            width_is = c.go_on_in_row-went.ensures.window.0 ∙ s.width_is;
             offset_is = c.go_on_in_row-went.ensures.offset;
             at_is = s.at_is;
             code_is = ahead_is c.go_on_in_row-went.new.first c.go_on_in_row-went.new.marker _ [] _ m.code_is;
@@ -37,7 +37,7 @@ returns-in_err-went-clause-step g c =
             within = (let within = c.go_on_in_row-went.ensures.within in let width = c.shape.ensures.width in omega arith);
             stands = put_stage (fields_of c.args.header.now) c.args.height (walk_over (record c.args.self.now { kept = c.go_on_in_row-went.new.kept; decoder = c.go_on_in_row-went.new.decoder; place = c.go_on_in_row-went.new.place; first = c.go_on_in_row-went.new.first; marker = c.go_on_in_row-went.new.marker }) c.go_on_in_row-went.new.window c.go_on_in_row-went.new.learned) (text ++ m.given) out _ c.requires.stage (row_kept k m);
           })),
-      (let few = c.in_err-went.ensures.drained.0 in omega (arith, few)),
+      (let few = c.in_err-went.ensures.drained.0.0 in omega (arith, few)),
     ))
 
 pub returns-in_err-went-clause-leaves : goal.returns-in_err-went-clause-leaves
@@ -49,9 +49,9 @@ returns-in_err-went-clause-leaves g c =
     subst (λ z. BreaksRow z (row_state (carried_by c.args.window.now c.args.self.now.kept c.args.learned.now) c.resume.new.self c.args.self.now.place c.args.self.now.first c.args.self.now.marker c.args.piece.now) c.in_err-went.field-0.0) (in_row_shape k c.shape.result shape) c.in_err-went.ensures.err
     (fields_of c.args.header.now) k.head.stripes.next k.head.passed.segments c.args.self.now.row k.began some.1 k.code k.begun k.code_is (rows_in (fields_of c.args.header.now) c.args.height c.args.self.now.entities) (let few = k.few in omega arith) in
     leaves_exit (walk_over c.args.self.now c.args.window.now c.args.learned.now) (walk_over (record c.args.self.now { kept = c.go_on_in_row-went.new.kept; decoder = c.go_on_in_row-went.new.decoder; place = c.go_on_in_row-went.new.place; first = c.go_on_in_row-went.new.first; marker = c.go_on_in_row-went.new.marker }) c.go_on_in_row-went.new.window c.go_on_in_row-went.new.learned) c.args.piece.now.rest.now c.go_on_in_row-went.new.piece.rest.now c.from_residual.result c.in_err-went.field-0.0 c.from_residual.ensures.1
-    (record { entities = refl; left = refl; given = refl; at = refl }) (refl, c.requires.stage, c.in_err-went.ensures.ahead, c.in_err-went.ensures.marker)
+    (record { entities = refl; left = refl; given = refl; at = refl }) (refl, c.requires.stage, c.in_err-went.ensures.drained.1, c.in_err-went.ensures.drained.2)
     (λ marked. never_breaks (fields_of c.args.header.now) before_all k.code c.args.piece.now.rest.now m.bytes c.in_err-went.field-0.0 (whole_text c.args.self.now.first c.args.self.now.marker _ [] _ k.code_is marked) m.breaks)
-    c.in_err-went.ensures.drained.1
+    c.in_err-went.ensures.drained.0.1
     (λ e. never_changed (fields_of c.args.header.now) before_all m.breaks.rest (subst (RestFault m.breaks.rest) e m.breaks.broken))
 
 pub returns-clause-step : goal.returns-clause-step
@@ -64,7 +64,7 @@ returns-clause-step g c = record {
         m.taken,
         record {
           left_is = s.left_is;
-          width_is = c.go_on_in_row-went.ensures.width ∙ s.width_is;
+          width_is = c.go_on_in_row-went.ensures.window.0 ∙ s.width_is;
           offset_is = c.go_on_in_row-went.ensures.offset;
           at_is = s.at_is;
           code_is = ahead_is c.go_on_in_row-went.new.first c.go_on_in_row-went.new.marker m.read.answers [] _ m.code_is;

@@ -15,11 +15,11 @@ pub returns-in_err-reset-clause-step : goal.returns-in_err-reset-clause-step
 returns-in_err-reset-clause-step c =
     step_exit (fields_of c.args.header.now) c.args.height (walk_over c.args.self.now c.args.window.now c.args.learned.now) (walk_over (record c.args.self.now { first = c.find_marker.new.first }) c.args.window.now c.args.learned.now) c.args.piece.now.rest.now c.find_marker.new.piece.rest.now c.from_residual.result c.in_err-reset.field-0.0 c.from_residual.ensures.1
     (λ text out s.
-    let k = at_stage c.requires.stage s in
-    marker_off k c.coder_laws.ensures (in_use c.args.header.now c.args.height c.requires.height.0 c.requires.height.1) (rows_all c.requires.stage s c.requires.row) c.args.piece.now.rest.now c.in_err-reset.field-0.0 (c.in_err-reset.ensures.err k.read.answers k.extra k.code k.code_is))
+    let k = at_stage c.requires.rows.0 s in
+    marker_off k c.coder_laws.ensures (in_use c.args.header.now c.args.height c.requires.height.0 c.requires.height.1) (rows_all c.requires.rows.0 s c.requires.rows.1) c.args.piece.now.rest.now c.in_err-reset.field-0.0 (c.in_err-reset.ensures.err k.read.answers k.extra k.code k.code_is))
     (λ e. (
       (λ text out s.
-          let k = at_stage c.requires.stage s in
+          let k = at_stage c.requires.rows.0 s in
           let m = c.in_err-reset.ensures.more (ap Err e) k.read.answers k.extra k.code k.code_is in
           on_same (fields_of c.args.header.now) c.args.height _ text out c.args.piece.now.rest.now c.find_marker.new.piece.rest.now m.given m.taken (record {
             left_is = s.left_is;
@@ -29,7 +29,7 @@ returns-in_err-reset-clause-step c =
             code_is = ahead_is c.find_marker.new.first c.args.self.now.marker k.read.answers m.extra _ m.code_is;
             behind = behind_is c.find_marker.new.first c.args.self.now.marker k.read.answers m.extra _ m.code_is;
             within = s.within;
-            stands = put_stage (fields_of c.args.header.now) c.args.height (walk_over (record c.args.self.now { first = c.find_marker.new.first }) c.args.window.now c.args.learned.now) (text ++ m.given) out _ c.requires.stage (code_kept k (rows_all c.requires.stage s c.requires.row) c.args.piece.now.rest.now c.find_marker.new.piece.rest.now m);
+            stands = put_stage (fields_of c.args.header.now) c.args.height (walk_over (record c.args.self.now { first = c.find_marker.new.first }) c.args.window.now c.args.learned.now) (text ++ m.given) out _ c.requires.rows.0 (code_kept k (rows_all c.requires.rows.0 s c.requires.rows.1) c.args.piece.now.rest.now c.find_marker.new.piece.rest.now m);
           })),
       (let few = c.in_err-reset.ensures.few (ap Err e) in omega (arith, few)),
     ))
@@ -37,7 +37,7 @@ returns-in_err-reset-clause-step c =
 pub returns-then-self-eq0-clause-step : goal.returns-then-self-eq0-clause-step
 returns-then-self-eq0-clause-step c = record {
   ok = λ text out s.
-      let k = at_stage c.requires.stage s in
+      let k = at_stage c.requires.rows.0 s in
       let m = c.in_ok-reset.ensures.ok k.read.answers k.extra k.code k.code_is in
       let next = kept_wide (held c.args.window.now).width (fields_of c.args.header.now).xd c.in_ok-reset.reset (carried_by c.args.window.now c.args.self.now.kept c.args.learned.now) (carried_by c.next_stripe.new.window c.next_stripe.new.kept c.next_stripe.new.learned) s.width_is c.next_stripe.ensures.next k.read.last k.read.is_carried in
       let left : c.args.self.now.left ≡ c.args.height - c.args.self.now.entities * c.args.header.now.l0 = s.left_is in
@@ -45,17 +45,17 @@ returns-then-self-eq0-clause-step c = record {
       let none : c.args.self.now.left - c.min.result ≡ 0 = c.if-self-eq0.true in
       let min_is = c.min.ensures in
       let last = last_stripe c.args.height c.args.header.now.l0 c.args.self.now.entities c.args.header.now.some_rows k.head.fewer (omega (arith, left, times, none, min_is)) in
-      let few = walk_few (fields_of c.args.header.now) c.args.height (walk_over c.args.self.now c.args.window.now c.args.learned.now) text out c.args.header.now.some_rows (inl c.requires.stage) s in
+      let few = walk_few (fields_of c.args.header.now) c.args.height (walk_over c.args.self.now c.args.window.now c.args.learned.now) text out c.args.header.now.some_rows (inl c.requires.rows.0) s in
       let one : c.saturating_add-self.result ≡ c.args.self.now.entities + 1 = (let most = c.ranges.height.fits in let sum = c.saturating_add-self.ensures in omega (arith, few, most, sum)) in
       on_same (fields_of c.args.header.now) c.args.height _ text out c.args.piece.now.rest.now c.find_marker.new.piece.rest.now m.given m.taken (subst (λ z. WalkStands (fields_of c.args.header.now) c.args.height (walk_over (record c.args.self.now { kept = c.next_stripe.new.kept; entities = z; left = c.args.self.now.left - c.min.result; at = None; first = None; marker = None; stage = stage.Done }) c.next_stripe.new.window c.next_stripe.new.learned) (text ++ m.given) out) (sym one) (record {
         left_is = omega (arith, left, times, min_is);
-        width_is = c.next_stripe.ensures.width ∙ s.width_is;
+        width_is = c.next_stripe.ensures.window.0 ∙ s.width_is;
         offset_is = offset_low c.in_ok-reset.reset _ _ s.offset_is c.next_stripe.ensures.offset;
         at_is = tt;
         code_is = tt;
         behind = tt;
         within = s.within;
-        stands = stripe_last k c.coder_laws.ensures (in_use c.args.header.now c.args.height c.requires.height.0 c.requires.height.1) (rows_all c.requires.stage s c.requires.row) c.args.piece.now.rest.now c.find_marker.new.piece.rest.now c.in_ok-reset.reset m (carried_by c.next_stripe.new.window c.next_stripe.new.kept c.next_stripe.new.learned) next last;
+        stands = stripe_last k c.coder_laws.ensures (in_use c.args.header.now c.args.height c.requires.height.0 c.requires.height.1) (rows_all c.requires.rows.0 s c.requires.rows.1) c.args.piece.now.rest.now c.find_marker.new.piece.rest.now c.in_ok-reset.reset m (carried_by c.next_stripe.new.window c.next_stripe.new.kept c.next_stripe.new.learned) next last;
       }));
   err = tt;
   more = λ e. absurd (let bot : ⊥ = cc in bot);
@@ -64,7 +64,7 @@ returns-then-self-eq0-clause-step c = record {
 pub returns-clause-step : goal.returns-clause-step
 returns-clause-step c = record {
   ok = λ text out s.
-      let k = at_stage c.requires.stage s in
+      let k = at_stage c.requires.rows.0 s in
       let m = c.in_ok-reset.ensures.ok k.read.answers k.extra k.code k.code_is in
       let next = kept_wide (held c.args.window.now).width (fields_of c.args.header.now).xd c.in_ok-reset.reset (carried_by c.args.window.now c.args.self.now.kept c.args.learned.now) (carried_by c.next_stripe.new.window c.next_stripe.new.kept c.next_stripe.new.learned) s.width_is c.next_stripe.ensures.next k.read.last k.read.is_carried in
       let left : c.args.self.now.left ≡ c.args.height - c.args.self.now.entities * c.args.header.now.l0 = s.left_is in
@@ -72,17 +72,17 @@ returns-clause-step c = record {
       let min_is = c.min.ensures in
       let some = c.if-self-eq0.false in
       let on = next_stripe c.args.height c.args.header.now.l0 c.args.self.now.entities c.args.header.now.some_rows (omega (arith, left, times, some, min_is)) in
-      let few = walk_few (fields_of c.args.header.now) c.args.height (walk_over c.args.self.now c.args.window.now c.args.learned.now) text out c.args.header.now.some_rows (inl c.requires.stage) s in
+      let few = walk_few (fields_of c.args.header.now) c.args.height (walk_over c.args.self.now c.args.window.now c.args.learned.now) text out c.args.header.now.some_rows (inl c.requires.rows.0) s in
       let one : c.saturating_add-self.result ≡ c.args.self.now.entities + 1 = (let most = c.ranges.height.fits in let sum = c.saturating_add-self.ensures in omega (arith, few, most, sum)) in
       on_same (fields_of c.args.header.now) c.args.height _ text out c.args.piece.now.rest.now c.find_marker.new.piece.rest.now m.given m.taken (subst (λ z. WalkStands (fields_of c.args.header.now) c.args.height (walk_over (record c.args.self.now { kept = c.next_stripe.new.kept; entities = z; left = c.args.self.now.left - c.min.result; at = None; first = None; marker = None; stage = stage.Head }) c.next_stripe.new.window c.next_stripe.new.learned) (text ++ m.given) out) (sym one) (record {
         left_is = omega (arith, left, times, min_is);
-        width_is = c.next_stripe.ensures.width ∙ s.width_is;
+        width_is = c.next_stripe.ensures.window.0 ∙ s.width_is;
         offset_is = offset_low c.in_ok-reset.reset _ _ s.offset_is c.next_stripe.ensures.offset;
         at_is = tt;
         code_is = tt;
         behind = tt;
         within = s.within;
-        stands = stripe_on k c.coder_laws.ensures (in_use c.args.header.now c.args.height c.requires.height.0 c.requires.height.1) (rows_all c.requires.stage s c.requires.row) c.args.piece.now.rest.now c.find_marker.new.piece.rest.now c.in_ok-reset.reset m (carried_by c.next_stripe.new.window c.next_stripe.new.kept c.next_stripe.new.learned) next on;
+        stands = stripe_on k c.coder_laws.ensures (in_use c.args.header.now c.args.height c.requires.height.0 c.requires.height.1) (rows_all c.requires.rows.0 s c.requires.rows.1) c.args.piece.now.rest.now c.find_marker.new.piece.rest.now c.in_ok-reset.reset m (carried_by c.next_stripe.new.window c.next_stripe.new.kept c.next_stripe.new.learned) next on;
       }));
   err = tt;
   more = λ e. absurd (let bot : ⊥ = cc in bot);
@@ -93,28 +93,28 @@ returns-in_err-reset-clause-marked c = λ m. absurd (let bad = c.in_err-reset.en
 
 pub returns-then-self-eq0-clause-read : goal.returns-then-self-eq0-clause-read
 returns-then-self-eq0-clause-read c = λ text out s.
-    let k = at_stage c.requires.stage s in
+    let k = at_stage c.requires.rows.0 s in
     let m = c.in_ok-reset.ensures.ok k.read.answers k.extra k.code k.code_is in
     let next = kept_wide (held c.args.window.now).width (fields_of c.args.header.now).xd c.in_ok-reset.reset (carried_by c.args.window.now c.args.self.now.kept c.args.learned.now) (carried_by c.next_stripe.new.window c.next_stripe.new.kept c.next_stripe.new.learned) s.width_is c.next_stripe.ensures.next k.read.last k.read.is_carried in
-    (m.given, m.taken, whole k c.coder_laws.ensures (in_use c.args.header.now c.args.height c.requires.height.0 c.requires.height.1) (rows_all c.requires.stage s c.requires.row) c.args.piece.now.rest.now c.find_marker.new.piece.rest.now c.in_ok-reset.reset m (carried_by c.next_stripe.new.window c.next_stripe.new.kept c.next_stripe.new.learned) next)
+    (m.given, m.taken, whole k c.coder_laws.ensures (in_use c.args.header.now c.args.height c.requires.height.0 c.requires.height.1) (rows_all c.requires.rows.0 s c.requires.rows.1) c.args.piece.now.rest.now c.find_marker.new.piece.rest.now c.in_ok-reset.reset m (carried_by c.next_stripe.new.window c.next_stripe.new.kept c.next_stripe.new.learned) next)
 
 pub returns-clause-read : goal.returns-clause-read
 returns-clause-read c = λ text out s.
-    let k = at_stage c.requires.stage s in
+    let k = at_stage c.requires.rows.0 s in
     let m = c.in_ok-reset.ensures.ok k.read.answers k.extra k.code k.code_is in
     let next = kept_wide (held c.args.window.now).width (fields_of c.args.header.now).xd c.in_ok-reset.reset (carried_by c.args.window.now c.args.self.now.kept c.args.learned.now) (carried_by c.next_stripe.new.window c.next_stripe.new.kept c.next_stripe.new.learned) s.width_is c.next_stripe.ensures.next k.read.last k.read.is_carried in
-    (m.given, m.taken, whole k c.coder_laws.ensures (in_use c.args.header.now c.args.height c.requires.height.0 c.requires.height.1) (rows_all c.requires.stage s c.requires.row) c.args.piece.now.rest.now c.find_marker.new.piece.rest.now c.in_ok-reset.reset m (carried_by c.next_stripe.new.window c.next_stripe.new.kept c.next_stripe.new.learned) next)
+    (m.given, m.taken, whole k c.coder_laws.ensures (in_use c.args.header.now c.args.height c.requires.height.0 c.requires.height.1) (rows_all c.requires.rows.0 s c.requires.rows.1) c.args.piece.now.rest.now c.find_marker.new.piece.rest.now c.in_ok-reset.reset m (carried_by c.next_stripe.new.window c.next_stripe.new.kept c.next_stripe.new.learned) next)
 
 pub returns-then-self-eq0-clause-entities : goal.returns-then-self-eq0-clause-entities
 returns-then-self-eq0-clause-entities c = λ some.
-    let few = walk_few (fields_of c.args.header.now) c.args.height (walk_over c.args.self.now c.args.window.now c.args.learned.now) some.0 some.1 c.args.header.now.some_rows (inl c.requires.stage) some.2 in
+    let few = walk_few (fields_of c.args.header.now) c.args.height (walk_over c.args.self.now c.args.window.now c.args.learned.now) some.0 some.1 c.args.header.now.some_rows (inl c.requires.rows.0) some.2 in
     let most = c.ranges.height.fits in
     let sum = c.saturating_add-self.ensures in
     omega (arith, few, most, sum)
 
 pub returns-clause-entities : goal.returns-clause-entities
 returns-clause-entities c = λ some.
-    let few = walk_few (fields_of c.args.header.now) c.args.height (walk_over c.args.self.now c.args.window.now c.args.learned.now) some.0 some.1 c.args.header.now.some_rows (inl c.requires.stage) some.2 in
+    let few = walk_few (fields_of c.args.header.now) c.args.height (walk_over c.args.self.now c.args.window.now c.args.learned.now) some.0 some.1 c.args.header.now.some_rows (inl c.requires.rows.0) some.2 in
     let most = c.ranges.height.fits in
     let sum = c.saturating_add-self.ensures in
     omega (arith, few, most, sum)

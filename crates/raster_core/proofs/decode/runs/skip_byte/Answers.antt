@@ -7,13 +7,13 @@ use Rattle.qm_core.specs.Skipping.{IsRun}
 use Rattle.qm_core.specs.Decoder.{DecoderIsAt}
 use Rattle.qm_core.specs.declared.source.Heard.TheVariants.{More}
 use Rattle.raster_core.specs.Window.{shape_mode}
-use Rattle.raster_core.proofs.decode.byte.skip_byte.Goals as goal
+use Rattle.raster_core.proofs.decode.runs.skip_byte.Goals as goal
 
 pub returns-then-is_run-clause-skipped : goal.returns-then-is_run-clause-skipped
 returns-then-is_run-clause-skipped g c = λ is. record {
   colour = nat_eq c.args.byte 255;
   byte_is = c.is_run.ensures.byte c.if-is_run.true;
-  going = c.skip.ensures.going is;
+  going = c.skip.ensures.skips.1 is;
   uniform = c.is_run.ensures.uniform c.if-is_run.true (shape_mode c.args.shape);
   decoded = λ p answers h. subst (λ k. IsRun (record { place = p; learned = c.args.learned.now }) (record { context = k; pixel = nat_eq c.args.byte 255 }) 8
       × DecoderIsAt c.skip.new.self (after (record { place = p; learned = c.args.learned.now }) (replicate 8 (record { context = k; pixel = nat_eq c.args.byte 255 }))).place answers

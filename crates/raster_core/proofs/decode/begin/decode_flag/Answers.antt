@@ -2,7 +2,7 @@ use Rattle.qm_core.specs.Source.{Pulls}
 use Rattle.raster_core.specs.Window.{shape_mode}
 use Rattle.raster_core.proofs.Alongs.{exit_err}
 use Rattle.raster_core.proofs.Firsts.{same_of, first_next, first_stop}
-use Rattle.raster_core.proofs.decode.decode_flag.Goals as goal
+use Rattle.raster_core.proofs.decode.begin.decode_flag.Goals as goal
 
 pub returns-in_err-pixel-clause-err : goal.returns-in_err-pixel-clause-err
 returns-in_err-pixel-clause-err g c =

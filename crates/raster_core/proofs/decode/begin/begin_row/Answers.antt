@@ -5,8 +5,8 @@ use Rattle.raster_core.specs.Row.{FirstDecoded, FirstStopped}
 use Rattle.raster_core.proofs.Firsts.{first_none}
 use Rattle.raster_core.proofs.LaneTables.{if_ok, on_err}
 use Rattle.raster_core.proofs.RowsDone.{begin_pixels, begun_pixels, by_begun, not_true, not_false}
-use Rattle.raster_core.proofs.decode.begin_row.Goals as goal
-use Rattle.raster_core.proofs.decode.begin_row.Goals.{else-shape-via-then-shape+else-not-place, else-shape-via-else-shape}
+use Rattle.raster_core.proofs.decode.begin.begin_row.Goals as goal
+use Rattle.raster_core.proofs.decode.begin.begin_row.Goals.{else-shape-via-then-shape+else-not-place, else-shape-via-else-shape}
 
 pub returns-then-not-place-clause-ok : goal.returns-then-not-place-clause-ok
 returns-then-not-place-clause-ok g c =

@@ -1,0 +1,84 @@
+//! The end of a code.
+
+ghost use Rattle.std.specs.Prelude.{◌≡◌, ◌+◌, ◌-◌, ◌*◌, ◌^◌, ◌≤◌, ◌<◌, List, ℕ, false, Err, Ok, IsErr, OnOk, OnErr, not};
+ghost use Rattle.qm_core.specs.Counts.{one_more};
+ghost use Rattle.qm_core.specs.Place.{Place, same};
+
+use crate::encoder::{CoderFault, Encoder, byte_out, write_both};
+use crate::sink::CodeSink;
+
+impl Encoder {
+    ghost use Rattle.qm_core.specs.Counts.{one_more};
+    ghost use Rattle.qm_core.specs.Encoder.{has_failed, EncoderIsAt, EndsOnce, FailsOnce, Goes, Finish};
+
+    /// Pushes what is fixed, until fewer than 24 bits are left.
+    fn shorten<W: CodeSink>(&mut self, out: &mut W) -> Result<(), CoderFault>
+        requires failed { self.old.failed ≡ false }
+        ensures short { self.new.bits ≤ 23 }
+        ensures fails { FailsOnce W.failed self.old self.new out.old out.new result }
+        ensures goes { (p : Place) (pushed : List ℕ) → EncoderIsAt self.old p pushed →
+            Goes W.took W.refused W.failed out.old out.new p pushed self.new result }
+    {
+        if self.bits < 24 {
+            return Ok(());
+        }
+        self.shift_out(self.low, self.span, self.bits, out)
+    }
+
+    /// Ends the code with the chosen number of the place, without an end marker.
+    pub fn finish<W: CodeSink>(mut self, out: &mut W) -> Result<(), CoderFault>
+        ensures fails { EndsOnce W.failed self out.old out.new result }
+        ensures code { (p : Place) (pushed : List ℕ) → has_failed self ≡ false → EncoderIsAt self p
+            pushed → Finish W.took W.refused W.failed out.old out.new p pushed result }
+    {
+        if self.failed {
+            return Err(CoderFault::Failed);
+        }
+        self.shorten(out)?;
+        self.finish_short(out)
+    }
+
+    /// Ends the code where fewer than 24 bits are left.
+    fn finish_short<W: CodeSink>(self, out: &mut W) -> Result<(), CoderFault>
+        requires short { self.bits ≤ 23 }
+        ensures fault { IsErr result → result ≡ Err CoderFault.Write }
+        ensures same { OnOk result (W.failed out.new ≡ W.failed out.old) }
+        ensures counted { OnErr result (W.failed out.new ≡ one_more (W.failed out.old)) }
+        ensures code { (p : Place) (pushed : List ℕ) → EncoderIsAt self p pushed →
+            Finish W.took W.refused W.failed out.old out.new p pushed result }
+    {
+        let Encoder {
+            low,
+            span,
+            bits,
+            mut tail,
+            ..
+        } = self;
+        let value = chosen(low, span) << (24 - bits);
+        let first = byte_out(&mut tail, value, 128, 24);
+        let second = byte_out(&mut tail, first.low << 8, 128, 24);
+        let third = byte_out(&mut tail, second.low << 8, 128, 24);
+        let rest = tail.settle();
+        write_both(first.batch, second.batch, out)?;
+        write_both(third.batch, rest, out)
+    }
+}
+
+/// The number from `low` up to, not including, `low + span` that the greatest power of two divides.
+fn chosen(low: u64, span: u32) -> u64
+    requires some { 1 ≤ span }
+    requires room { low + span ≤ 2 ^ 40 }
+    ensures from { low ≤ result }
+    ensures below { result < low + span }
+    ensures most_even { (t w : ℕ) → low ≤ w * 2 ^ t → w * 2 ^ t < low + span → (u : ℕ) ×
+        (result ≡ u * 2 ^ t) }
+{
+    let top = low + (span as u64 - 1);
+    for cleared in (0..41u32).rev() {
+        let value = (top >> cleared) << cleared;
+        if value >= low {
+            return value;
+        }
+    }
+    top
+}

@@ -1,0 +1,39 @@
+-- What the steps of decoding a row ask for, and what they leave of its place and of the decoder.
+use Rattle.std.specs.Prelude.{ℕ, ◌≡◌, ◌≤◌, ◌<◌, true, false, List, length, Result, OnOk, OnErr}
+use Rattle.std.specs.Int.{div_ceil}
+use Rattle.qm_core.specs.Decoder.{has_stopped}
+use Rattle.qm_core.specs.declared.decoder.Decoder.{Decoder}
+use Rattle.raster_core.specs.Packed.{SameAbove}
+use Rattle.raster_core.specs.Window.{current_place, held, memory_of, width_of}
+use Rattle.raster_core.specs.declared.place.RowPlace.{RowPlace}
+use Rattle.raster_core.specs.declared.shape.Kept.{Kept}
+use Rattle.raster_core.specs.declared.shape.Shape.{Shape}
+use Rattle.raster_core.specs.declared.window.Window.{Window}
+
+-- a row of a window may be coded or decoded in this shape
+abbrev pub MayCodeRow : Shape → Kept → Window → Type 0
+MayCodeRow shape kept window = (kept.offset ≤ 127) × (width_of window ≡ shape.width) × (1 ≤ shape.width)
+
+-- it may be decoded from its place on
+abbrev pub MayGoOnRow : Shape → Kept → RowPlace → Window → Decoder → Type 0
+MayGoOnRow shape kept place window d = (kept.offset ≤ 127) × (width_of window ≡ shape.width) × (place.done < shape.width) × (has_stopped d ≡ false)
+
+-- A row may be decoded from its place on: in one that has begun the decoder has not stopped.
+abbrev pub MayGoOnIn : Shape → Kept → RowPlace → Decoder → Type 0
+MayGoOnIn shape kept place d = (kept.offset ≤ 127) × (place.done < shape.width) × (place.is_begun ≡ true → has_stopped d ≡ false)
+
+-- it was, or has come to a place further on
+abbrev pub LeavesPlace : {T E : Type 0} → Shape → Kept → Kept → RowPlace → Result T E → Type 0
+LeavesPlace shape kept kept' place' result = OnOk result (kept'.offset ≡ kept.offset) × OnErr result (kept' ≡ kept) × OnErr result (place'.done < shape.width)
+
+-- pixels are left of a row that these bytes have room for
+abbrev pub IsPartOf : Shape → RowPlace → List ℕ → Type 0
+IsPartOf shape place current = (place.done < shape.width) × (length current ≡ div_ceil shape.width 8)
+
+-- but for its current row a window is as before
+abbrev pub DecodesCurrent : Window → Window → Type 0
+DecodesCurrent old new = SameAbove (held old) (held new) × (current_place new ≡ current_place old) × (memory_of new ≡ memory_of old)
+
+-- A decoder that has not stopped took so many runs of pixels in one step, or nothing was done.
+abbrev pub SkipsSoMany : ℕ → Decoder → Decoder → Type 0
+SkipsSoMany count d d' = (has_stopped d' ≡ has_stopped d) × (1 ≤ count → has_stopped d ≡ false) × (count ≡ 0 → d' ≡ d)

@@ -1,0 +1,62 @@
+-- What the calls of a row encoder ask for, and what they leave of its numbers.
+use Rattle.std.specs.Prelude.{ℕ, ◌+◌, ◌^◌, ◌≡◌, ◌≤◌, ◌<◌, Result, OnOk, IfErr, is_err, true, false}
+use Rattle.pbm_core.specs.declared.size.Size.{Size}
+use Rattle.qm_core.specs.Encoder.{event_count, has_failed}
+use Rattle.qm_core.specs.declared.encoder.Encoder.{Encoder}
+use Rattle.raster_core.specs.declared.shape.Shape.{Shape}
+use Rattle.raster_core.specs.declared.shape.Kept.{Kept}
+use Rattle.raster_core.specs.Machine.Places.{MayCodeRow}
+use Rattle.raster_core.specs.Window.{held, width_of}
+use Rattle.raster_core.specs.declared.window.Window.{Window}
+use Rattle.t85_core.specs.declared.fault.Fault.{Fault}
+use Rattle.t85_core.specs.declared.fault.Fault.TheVariants.{Write}
+use Rattle.t85_core.specs.declared.encoding.by_row.RowEncoder.{RowEncoder}
+use Rattle.t85_core.specs.Steps.ByRow.{IsLined, MayGoOn}
+
+-- a window has rows of this width
+abbrev pub HasRows : ℕ → Window → Type 0
+HasRows width window = IsLined (held window) × (width_of window ≡ width)
+
+-- another row may come
+abbrev pub MayTakeRow : RowEncoder → Type 0
+MayTakeRow e = (e.rows < e.size.height) × MayGoOn e
+
+-- the image may end here
+abbrev pub MayEnd : RowEncoder → Type 0
+MayEnd e = (0 < e.rows) × (e.may_end ≡ false → e.rows ≡ e.size.height)
+
+-- The row that a window has may be coded in this shape.
+abbrev pub MayCode : Shape → Kept → Window → Encoder → Type 0
+MayCode shape kept window e = MayCodeRow shape kept window × (event_count e + shape.width + 1 ≤ 2 ^ 56) × (has_failed e ≡ false)
+
+-- It was: the encoder may go on, and no more events came than the row has.
+abbrev pub HasCoded : Shape → Kept → Kept → Encoder → Encoder → Type 0
+HasCoded shape kept kept' e e' = (has_failed e' ≡ false) × (event_count e' ≤ event_count e + shape.width + 1) × (kept'.offset ≡ kept.offset)
+
+-- no row came of an image of this size
+abbrev pub HasNoRows : Size → RowEncoder → Type 0
+HasNoRows size e = MayGoOn e × (e.is_closed ≡ false) × (e.rows ≡ 0) × (e.size ≡ size)
+
+-- what was chosen of the image stays, and whether the encoder is closed
+abbrev pub KeepsPlan : RowEncoder → RowEncoder → Type 0
+KeepsPlan e e' = (e'.size ≡ e.size) × (e'.stripe_rows ≡ e.stripe_rows) × (e'.is_closed ≡ e.is_closed)
+
+-- and no row was taken
+abbrev pub KeepsRows : RowEncoder → RowEncoder → Type 0
+KeepsRows e e' = KeepsPlan e e' × (e'.rows ≡ e.rows)
+
+-- nor was anything coded
+abbrev pub KeepsAll : RowEncoder → RowEncoder → Type 0
+KeepsAll e e' = KeepsRows e e' × (e'.in_stripe ≡ e.in_stripe) × (e'.encoder ≡ e.encoder)
+
+-- a row was taken
+abbrev pub AddsRow : RowEncoder → RowEncoder → Type 0
+AddsRow e e' = KeepsPlan e e' × (e'.rows ≡ e.rows + 1) × (e'.in_stripe ≡ e.in_stripe + 1)
+
+-- An encoder has taken a row and may go on; or a write failed, and it is closed.
+abbrev pub LeavesOpen : {T : Type 0} → RowEncoder → RowEncoder → Result T Fault → Type 0
+LeavesOpen e e' result = (e'.is_closed ≡ is_err result) × OnOk result (MayGoOn e') × OnOk result (e'.rows ≡ e.rows + 1) × (e'.size ≡ e.size) × IfErr result (λ f. f ≡ Write)
+
+-- It has ended its stream, or a write failed.
+abbrev pub LeavesClosed : {T : Type 0} → RowEncoder → RowEncoder → Result T Fault → Type 0
+LeavesClosed e e' result = (e'.is_closed ≡ true) × (e'.size ≡ e.size) × IfErr result (λ f. f ≡ Write)

@@ -1,0 +1,244 @@
+//! Going from part to part of a stream.
+
+ghost use Rattle.std.specs.Prelude.{◌≡◌, ◌≤◌, ◌<◌, ◌+◌, ◌-◌, ◌^◌, Some, None, length, true};
+ghost use Rattle.t85_core.specs.Options.{fields_of};
+ghost use Rattle.t85_core.specs.Header.{is_variable};
+ghost use Rattle.t85_core.specs.Parts.{Passed, start_walk, IsBehind, TellsNext, TellsOfAny};
+ghost use Rattle.t85_core.specs.declared.parts.Found.TheVariants as found;
+ghost use Rattle.t85_core.specs.Steps.PartSteps.{CanPass, kind_of, part_told, walk_behind, header_part, header_walk, height_told, is_given, TellsThere, TellsInStripe, TellsBehind, TellsBefore, SeesHeight, TailIs};
+
+use crate::header::Header;
+use crate::height::look;
+use crate::parts::{
+    Found, HEADER_LEN, Part, PartKind, PartWalk, Taken, kind_of, read_before_height, read_header,
+    read_part, rest_of,
+};
+use crate::pieces::piece::Piece;
+use crate::pieces::steps::marker_at;
+use crate::segments::Place;
+
+impl PartWalk {
+    /// A walk before the first byte of a stream.
+    pub fn start() -> PartWalk
+        ensures { result ≡ start_walk }
+    {
+        PartWalk {
+            offset: 0,
+            entities: 0,
+            late_height: 0,
+            moved: false,
+            at_height: false,
+        }
+    }
+
+    /// Tells the next part of a stream that is all there, from its first header byte on, and goes behind it. Where there is
+    /// none, because all were told or the next one breaks, the walk stays where it is.
+    ///
+    /// The faults are those of `summarize`, but for a failed read. A height behind the last data entity and the comments
+    /// before it are parts; nothing else is that stands there. Any numbers are safe; what is told is true of a walk that
+    /// began at `start` and went on in the same stream.
+    pub fn next(&mut self, stream: &[u8]) -> Found
+        ensures told { (from : Passed) → IsBehind stream.now self.old from →
+            TellsNext stream.now self.old self.new from result }
+        ensures any { TellsOfAny stream.now self.old self.new result }
+    {
+        let header = match read_header(stream) {
+            Ok(header) => header,
+            Err(fault) => {
+                return Found::Broken {
+                    fault,
+                    offset: 0,
+                    stripe: 0,
+                };
+            }
+        };
+        if self.offset == 0 {
+            return self.pass_header();
+        }
+        self.next_in_body(&header, stream)
+    }
+
+    /// Tells the next part behind the header.
+    fn next_in_body(&mut self, header: &Header, stream: &[u8]) -> Found
+        ensures told { TellsThere (fields_of header.now) stream.now self.old self.new result }
+        ensures any { TellsOfAny stream.now self.old self.new result }
+    {
+        let count = self.height_in_use(header).div_ceil(header.l0);
+        if self.entities < count {
+            self.next_in_stripe(header, stream)
+        } else {
+            self.next_behind(header, stream)
+        }
+    }
+
+    /// The height that a segment gave, or else the header's.
+    fn height_in_use(&self, header: &Header) -> u32
+        ensures { result ≡ height_told (fields_of header.now) self.now }
+    {
+        if self.late_height == 0 {
+            header.yd
+        } else {
+            self.late_height
+        }
+    }
+
+    /// Whether a segment gave a height.
+    fn is_given(&self) -> bool
+        ensures { result ≡ is_given self.now }
+    {
+        self.late_height != 0
+    }
+
+    /// Tells the next part of a stripe.
+    fn next_in_stripe(&mut self, header: &Header, stream: &[u8]) -> Found
+        requires few { self.old.entities < 2 ^ 32 - 1 }
+        ensures told { TellsInStripe (fields_of header.now) stream.now self.old self.new result }
+        ensures any { TellsOfAny stream.now self.old self.new result }
+    {
+        let rest = rest_of(stream, self.offset);
+        let place = Place {
+            height: 0,
+            entities: self.entities,
+            given: self.is_given(),
+        };
+        let mut source = Piece { rest };
+        match read_part(header, place, self.moved, &mut source) {
+            Ok(taken) => self.take(taken, rest.len() - source.rest.len()),
+            Err(fault) => Found::Broken {
+                fault,
+                offset: self.offset,
+                stripe: self.entities,
+            },
+        }
+    }
+
+    /// Tells what comes behind the last stripe.
+    fn next_behind(&mut self, header: &Header, stream: &[u8]) -> Found
+        ensures told { TellsBehind (fields_of header.now) stream.now self.old self.new result }
+        ensures any { TellsOfAny stream.now self.old self.new result }
+    {
+        if self.sees_height(header, stream) {
+            self.next_before_height(header, stream)
+        } else {
+            Found::End {
+                len: self.offset + self.tail_len(stream),
+            }
+        }
+    }
+
+    /// How many bytes an empty data entity has that stands where a height has come last.
+    fn tail_len(&self, stream: &[u8]) -> usize
+        ensures is { TailIs self.now stream.now result }
+        ensures fits { (0 < result → self.now.offset ≤ length stream.now) × (result ≤ 2) }
+    {
+        if !self.at_height {
+            return 0;
+        }
+        match marker_at(rest_of(stream, self.offset)) {
+            Some(_) => 2,
+            None => 0,
+        }
+    }
+
+    /// Whether a height comes behind the last stripe, after comments or none.
+    fn sees_height(&self, header: &Header, stream: &[u8]) -> bool
+        ensures { SeesHeight (fields_of header.now) stream.now self.now result }
+    {
+        if self.is_given() {
+            return false;
+        }
+        if !header.is_variable() {
+            return false;
+        }
+        if self.at_height {
+            return true;
+        }
+        let mut source = Piece {
+            rest: rest_of(stream, self.offset),
+        };
+        match look(header, self.entities, &mut source) {
+            Ok(height) => height.is_some(),
+            Err(_) => false,
+        }
+    }
+
+    /// Tells a comment behind the last stripe, or the height there, where it is known that one comes.
+    fn next_before_height(&mut self, header: &Header, stream: &[u8]) -> Found
+        ensures told { TellsBefore (fields_of header.now) stream.now self.old self.new result }
+        ensures any { TellsOfAny stream.now self.old self.new result }
+    {
+        let rest = rest_of(stream, self.offset);
+        let mut source = Piece { rest };
+        match read_before_height(header, self.entities, &mut source) {
+            Some(taken) => {
+                self.at_height = true;
+                self.take(taken, rest.len() - source.rest.len())
+            }
+            None => Found::End { len: self.offset },
+        }
+    }
+
+    /// Goes behind a part that was read, of so many bytes, and tells it.
+    fn take(&mut self, taken: Taken, len: usize) -> Found
+        requires fits { self.old.offset + len < 2 ^ 64 }
+        requires few { CanPass taken self.old }
+        ensures told { result ≡ found.Part (part_told taken self.old len) }
+        ensures behind { self.new ≡ walk_behind taken self.old len }
+    {
+        let (offset, stripe) = (self.offset, self.entities);
+        *self = self.behind(taken, len);
+        Found::Part(Part {
+            kind: kind_of(taken),
+            offset,
+            len,
+            stripe,
+        })
+    }
+
+    /// The walk behind such a part.
+    fn behind(&self, taken: Taken, len: usize) -> PartWalk
+        requires fits { self.now.offset + len < 2 ^ 64 }
+        requires few { CanPass taken self.now }
+        ensures { result ≡ walk_behind taken self.now len }
+    {
+        let offset = self.offset + len;
+        match taken {
+            Taken::Comment => PartWalk { offset, ..*self },
+            Taken::Move => PartWalk {
+                offset,
+                moved: true,
+                ..*self
+            },
+            Taken::NewHeight(height) => PartWalk {
+                offset,
+                late_height: height,
+                at_height: true,
+                ..*self
+            },
+            Taken::DataEntity => PartWalk {
+                offset,
+                entities: self.entities + 1,
+                moved: false,
+                at_height: false,
+                ..*self
+            },
+        }
+    }
+
+    /// Goes behind the header, and tells it.
+    fn pass_header(&mut self) -> Found
+        ensures told { result ≡ found.Part header_part }
+        ensures behind { self.new ≡ header_walk }
+    {
+        *self = PartWalk {
+            offset: HEADER_LEN,
+            ..PartWalk::start()
+        };
+        Found::Part(Part {
+            kind: PartKind::Header,
+            offset: 0,
+            len: HEADER_LEN,
+            stripe: 0,
+        })
+    }
+}

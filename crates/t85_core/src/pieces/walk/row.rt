@@ -1,0 +1,202 @@
+//! Decoding a row of a stripe.
+
+ghost use Rattle.std.specs.Prelude.{◌≡◌, ◌≢◌, false, ◌≤◌, ◌<◌, ◌-◌, [], ℕ, List, None, Ok, true, IfSome, OnOk};
+ghost use Rattle.qm_core.specs.Place.{Estimate};
+ghost use Rattle.raster_core.specs.Packed.{Held};
+ghost use Rattle.raster_core.specs.Window.{held};
+ghost use Rattle.t85_core.specs.Steps.HeightWalk.{MayBeHeight};
+ghost use Rattle.t85_core.specs.declared.fault.Fault.TheVariants.{Truncated};
+ghost use Rattle.t85_core.specs.declared.pieces.walk.Stage.TheVariants as stage;
+ghost use Rattle.t85_core.specs.Options.{fields_of};
+ghost use Rattle.t85_core.specs.Steps.Segments.{IsByteOrMarker};
+ghost use Rattle.t85_core.specs.Lent.{KeepsWindow, walk_view, walk_over as over};
+ghost use Rattle.t85_core.specs.Steps.Pieces.{WalkStands, SomeStands, RowFits, RowStep, RowLeaves, KeepsPlace, RowIsLeft, WantsRow};
+
+use crate::decoding::rows::offset_in;
+use crate::fault::Fault;
+use crate::header::Header;
+use crate::laws::coder_laws;
+use crate::pieces::piece::Piece;
+use crate::pieces::rows::go_on_in_row;
+use crate::pieces::walk::{Stage, Walk};
+use crate::segments::Code;
+use qm_core::{Decoder, Learned};
+use raster_core::{RowPlace, Window};
+use std::mem::replace;
+
+/// The greatest offset of the adaptive template pixel that T.85 has.
+const MOST_OFFSET: u8 = 127;
+
+/// A row from its first pixel on, and the rest of one: each is compiled apart.
+const WHOLE_ROW: usize = 0;
+
+const REST_OF_ROW: usize = 1;
+
+impl Walk {
+    /// Goes on to the end of the next row, where one is wanted. Numbers that no decoder leaves are answered by the end of
+    /// the piece.
+    pub fn give_row(
+        &mut self,
+        header: &Header,
+        height: u32,
+        window: &mut Window<'_>,
+        learned: &mut Learned,
+        piece: &mut Piece<'_>,
+    ) -> Result<(), Fault>
+        requires height { MayBeHeight header.now.yd height }
+        requires wants { RowIsLeft header.now.l0 self.old }
+        ensures step { RowStep (fields_of header.now) height (over self.old window.old learned.old)
+            (over self.new window.new learned.new) piece.old.rest.now piece.new.rest.now result }
+        ensures leaves { SomeStands (fields_of header.now) height (over self.old window.old
+            learned.old) → RowLeaves (over self.old window.old learned.old) (over self.new
+            window.new learned.new) piece.old.rest.now piece.new.rest.now result }
+        ensures code { OnOk result (self.new.stage ≡ stage.Code) }
+        ensures window { KeepsWindow window.old window.new }
+    {
+        if !self.has_row_that_fits(header, window) {
+            piece.rest = &[];
+            return Err(Fault::Truncated);
+        }
+        match self.stage {
+            Stage::Row => self.finish_row::<REST_OF_ROW>(header, height, window, learned, piece),
+            _ => self.read_row(header, height, window, learned, piece),
+        }
+    }
+
+    /// Decodes the next row of a stripe.
+    fn read_row(
+        &mut self,
+        header: &Header,
+        height: u32,
+        window: &mut Window<'_>,
+        learned: &mut Learned,
+        piece: &mut Piece<'_>,
+    ) -> Result<(), Fault>
+        requires height { MayBeHeight header.now.yd height }
+        requires rows { WantsRow header.now.l0 self.old }
+        requires fits { RowFits header.now.xd self.old (held window.old) }
+        ensures step { RowStep (fields_of header.now) height (over self.old window.old learned.old)
+            (over self.new window.new learned.new) piece.old.rest.now piece.new.rest.now result }
+        ensures leaves { SomeStands (fields_of header.now) height (over self.old window.old
+            learned.old) → RowLeaves (over self.old window.old learned.old) (over self.new
+            window.new learned.new) piece.old.rest.now piece.new.rest.now result }
+        ensures code { OnOk result (self.new.stage ≡ stage.Code) }
+        ensures window { KeepsWindow window.old window.new }
+    {
+        self.enter_row(header, height, window);
+        self.finish_row::<WHOLE_ROW>(header, height, window, learned, piece)
+    }
+
+    /// Goes down to the next row of a stripe, and makes its move.
+    fn enter_row(&mut self, header: &Header, height: u32, window: &mut Window<'_>)
+        requires rows { WantsRow header.now.l0 self.old }
+        requires fits { RowFits header.now.xd self.old (held window.old) }
+        ensures enters { (learned : List Estimate) (text out : List ℕ) → WalkStands (fields_of
+            header.now) height (over self.old window.old learned) text out → WalkStands
+            (fields_of header.now) height (over self.new window.new learned) text out }
+        ensures fits { RowFits header.now.xd self.new (held window.new) }
+        ensures stage { self.new.stage ≡ stage.Row }
+        ensures place { (rows rows' : Held) (learned learned' : List Estimate) →
+            KeepsPlace (walk_view self.old rows learned) (walk_view self.new rows' learned') }
+        ensures window { KeepsWindow window.old window.new }
+        ensures same { (self.new.row ≡ self.old.row) × (self.new.first ≡ self.old.first) ×
+            (self.new.marker ≡ self.old.marker) }
+    {
+        // The proof reads from this value that a row has pixels.
+        let _width = header.xd;
+        self.kept.offset = offset_in(self.at, self.row, self.kept.offset);
+        window.turn();
+        self.stage = Stage::Row;
+        self.place = RowPlace::start();
+    }
+
+    /// Goes on with a row of a stripe that has begun. `PART` says whether it has just begun.
+    #[inline(always)]
+    fn finish_row<const PART: usize>(
+        &mut self,
+        header: &Header,
+        height: u32,
+        window: &mut Window<'_>,
+        learned: &mut Learned,
+        piece: &mut Piece<'_>,
+    ) -> Result<(), Fault>
+        requires height { MayBeHeight header.now.yd height }
+        requires stage { self.old.stage ≡ stage.Row }
+        requires fits { RowFits header.now.xd self.old (held window.old) }
+        ensures step { RowStep (fields_of header.now) height (over self.old window.old learned.old)
+            (over self.new window.new learned.new) piece.old.rest.now piece.new.rest.now result }
+        ensures leaves { SomeStands (fields_of header.now) height (over self.old window.old
+            learned.old) → RowLeaves (over self.old window.old learned.old) (over self.new
+            window.new learned.new) piece.old.rest.now piece.new.rest.now result }
+        ensures code { OnOk result (self.new.stage ≡ stage.Code) }
+        ensures window { KeepsWindow window.old window.new }
+    {
+        // What the proof cites of the coder.
+        coder_laws();
+        // Both are the row's own until it ends or waits: so the compiler keeps them in registers.
+        let mut place = self.place;
+        let mut decoder = replace(&mut self.decoder, Decoder::start());
+        decoder.resume();
+        let went = go_on_in_row::<PART>(
+            header.shape(),
+            window,
+            &mut self.kept,
+            learned,
+            &mut decoder,
+            &mut place,
+            &mut self.first,
+            &mut self.marker,
+            piece,
+        );
+        self.place = place;
+        self.decoder = decoder;
+        went?;
+        self.row = self.row.saturating_add(1);
+        self.stage = Stage::Code;
+        Ok(())
+    }
+
+    /// Whether the numbers of the walk are such that a row of this image can be decoded.
+    fn has_row_that_fits(&self, header: &Header, window: &Window<'_>) -> bool
+        ensures yes { result ≡ true → RowFits header.now.xd self.now (held window.now) }
+        ensures no { result ≡ false → RowFits header.now.xd self.now (held window.now) → ⊥ }
+    {
+        if window.width() != header.xd {
+            return false;
+        }
+        if self.place.done() >= header.xd || self.kept.offset > MOST_OFFSET {
+            return false;
+        }
+        if !self.has_low_move() {
+            return false;
+        }
+        if self.is_ahead() {
+            return self.marker.is_none();
+        }
+        true
+    }
+
+    /// Whether the move of the stripe, if there is one, is one to an offset that can be.
+    fn has_low_move(&self) -> bool
+        ensures yes { result ≡ true → IfSome self.now.at (λ to. to.offset ≤ 127) }
+        ensures no { result ≡ false → IfSome self.now.at (λ to. to.offset ≤ 127) → ⊥ }
+    {
+        match self.at {
+            Some(to) => to.offset <= MOST_OFFSET,
+            None => true,
+        }
+    }
+
+    /// Whether a byte of the code, or its end marker, was read ahead.
+    fn is_ahead(&self) -> bool
+        ensures code { IfSome self.now.first IsByteOrMarker }
+        ensures yes { result ≡ true → self.now.first ≢ None }
+        ensures no { result ≡ false → self.now.first ≡ None }
+    {
+        match self.first {
+            Some(Code::Byte(_byte)) => true,
+            Some(Code::Marker(_reset)) => true,
+            None => false,
+        }
+    }
+}

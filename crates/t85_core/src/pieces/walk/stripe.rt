@@ -1,0 +1,158 @@
+//! The rows of a stripe that are still to come, and its end.
+
+ghost use Rattle.std.specs.Prelude.{◌≡◌, ◌≢◌, false, ◌≤◌, ◌<◌, ◌+◌, ◌-◌, ◌⊎◌, ◌++◌, ℕ, List, None, Ok, true, length, min, IsOk, IfErr, OnOk};
+ghost use Rattle.qm_core.specs.Place.{Estimate};
+ghost use Rattle.raster_core.specs.Packed.{Held};
+ghost use Rattle.raster_core.specs.Window.{held};
+ghost use Rattle.t85_core.specs.Steps.HeightWalk.{MayBeHeight};
+ghost use Rattle.t85_core.specs.declared.fault.Fault.TheVariants.{Changed};
+ghost use Rattle.t85_core.specs.declared.pieces.walk.Stage.TheVariants as stage;
+ghost use Rattle.t85_core.specs.Options.{fields_of};
+ghost use Rattle.t85_core.specs.Steps.Buffers.{copies};
+ghost use Rattle.t85_core.specs.Lent.{KeepsWindow, walk_view, walk_over as over};
+ghost use Rattle.t85_core.specs.Steps.Pieces.{WalkStands, SomeStands, Alone, Step, HasAllRows, KeepsPlace, MarkerRead, RowIsLeft, StripesOn};
+
+use crate::decoding::rows::{is_settled, skip_many};
+use crate::fault::Fault;
+use crate::header::Header;
+use crate::laws::coder_laws;
+use crate::pieces::code::find_marker;
+use crate::pieces::piece::Piece;
+use crate::pieces::walk::{Stage, Walk};
+use crate::segments::Code;
+use crate::state::next_stripe;
+use qm_core::Learned;
+use raster_core::Window;
+
+impl Walk {
+    /// Whether a row of a stripe whose code has begun is still to come, or to be finished.
+    pub fn wants_row(&self, header: &Header) -> bool
+        ensures wants { result ≡ true → (self.now.stage ≡ stage.Code) ⊎ (self.now.stage ≡ stage.Row)
+            → RowIsLeft header.now.l0 self.now }
+        ensures all { result ≡ false → (self.now.stage ≡ stage.Code) ⊎ (self.now.stage ≡ stage.Row)
+            → HasAllRows header.now.l0 self.now }
+    {
+        match self.stage {
+            Stage::Row => true,
+            _ => self.row < self.left.min(header.l0),
+        }
+    }
+
+    /// How many rows of a stripe whose code has begun are still to come; none in the middle of one.
+    fn rows_left(&self, header: &Header) -> u32
+        ensures { 0 < result → (self.now.stage ≡ stage.Code) ×
+            (self.now.row + result ≤ min self.now.left header.now.l0) }
+    {
+        match self.stage {
+            Stage::Code => self.left.min(header.l0).saturating_sub(self.row),
+            _ => 0,
+        }
+    }
+
+    /// Takes rows that equal the one before, where the bits that are there decide them, and answers how many. The window
+    /// has the last of them.
+    #[inline(always)]
+    pub fn repeat_rows(
+        &mut self,
+        header: &Header,
+        height: u32,
+        window: &mut Window<'_>,
+        learned: &Learned,
+    ) -> u32
+        ensures on { (text out : List ℕ) → WalkStands (fields_of header.now) height (over self.old
+            window.old learned.now) text out → WalkStands (fields_of header.now) height (over
+            self.new window.new learned.now) text (out ++ copies result (held window.new).current) }
+        ensures code { 0 < result → self.new.stage ≡ stage.Code }
+    {
+        let left = self.rows_left(header);
+        if !is_settled(self.at, self.row) {
+            return 0;
+        }
+        let count = skip_many(header.shape(), self.kept, learned, &mut self.decoder, left);
+        if count == 0 {
+            return 0;
+        }
+        window.repeat();
+        self.row = self.row.saturating_add(count);
+        count
+    }
+
+    /// Whether the end marker of the code was read.
+    pub fn has_marker(&self) -> bool
+        ensures yes { result ≡ true → MarkerRead self.now.marker self.now.first }
+        ensures no { result ≡ false → self.now.marker ≡ None }
+        ensures unmarked { result ≡ false → MarkerRead self.now.marker self.now.first → ⊥ }
+    {
+        self.marker.is_some() || matches!(self.first, Some(Code::Marker(_)))
+    }
+
+    /// Skips what is left of the code of a stripe, after its last row, up to its end marker. That is read ahead.
+    pub fn find_end(
+        &mut self,
+        header: &Header,
+        height: u32,
+        piece: &mut Piece<'_>,
+    ) -> Result<(), Fault>
+        requires height { MayBeHeight header.now.yd height }
+        requires rows { HasAllRows header.now.l0 self.old }
+        requires unmarked { self.old.marker ≡ None }
+        ensures step { Alone (λ w w'. Step (fields_of header.now) height w w'
+            piece.old.rest.now piece.new.rest.now result) self.old self.new }
+        ensures place { (rows rows' : Held) (learned learned' : List Estimate) →
+            KeepsPlace (walk_view self.old rows learned) (walk_view self.new rows' learned') }
+        ensures stage { self.new.stage ≡ stage.Code }
+        ensures marked { OnOk result (MarkerRead self.new.marker self.new.first) }
+        ensures no_more { length piece.new.rest.now ≤ length piece.old.rest.now }
+        ensures other { (rows : Held) (learned : List Estimate) → SomeStands (fields_of header.now)
+            height (walk_view self.old rows learned) → IfErr result (λ f. f ≢ Changed) }
+    {
+        // What the proof cites of the coder.
+        coder_laws();
+        let reset = find_marker(&mut self.first, self.marker, piece)?;
+        self.first = Some(Code::Marker(reset));
+        Ok(())
+    }
+
+    /// Skips what is left of the code of a stripe, after its last row.
+    pub fn finish_stripe(
+        &mut self,
+        header: &Header,
+        height: u32,
+        window: &mut Window<'_>,
+        learned: &mut Learned,
+        piece: &mut Piece<'_>,
+    ) -> Result<(), Fault>
+        requires height { MayBeHeight header.now.yd height }
+        requires rows { HasAllRows header.now.l0 self.old }
+        ensures step { Step (fields_of header.now) height (over self.old window.old learned.old)
+            (over self.new window.new learned.new) piece.old.rest.now piece.new.rest.now result }
+        ensures stage { OnOk result ((self.new.stage ≡ stage.Done)
+            ⊎ (self.new.stage ≡ stage.Head)) }
+        ensures marked { MarkerRead self.old.marker self.old.first → IsOk result }
+        ensures read { OnOk result (StripesOn (fields_of header.now) height
+            (over self.old window.old learned.old) (over self.new window.new learned.new)
+            piece.old.rest.now piece.new.rest.now) }
+        ensures left { OnOk result (header.now.l0 < self.old.left → self.new.stage ≡ stage.Head) }
+        ensures next { OnOk result ((self.new.left ≡ self.old.left - header.now.l0)
+            × (self.new.given ≡ self.old.given) × (self.new.at ≡ None)) }
+        ensures entities { SomeStands (fields_of header.now) height (over self.old window.old
+            learned.old) → OnOk result (self.new.entities ≡ self.old.entities + 1) }
+        ensures window { KeepsWindow window.old window.new }
+    {
+        // What the proof cites of the coder.
+        coder_laws();
+        let reset = find_marker(&mut self.first, self.marker, piece)?;
+        next_stripe(reset, window, &mut self.kept, learned);
+        self.entities = self.entities.saturating_add(1);
+        self.left -= self.left.min(header.l0);
+        self.at = None;
+        self.first = None;
+        self.marker = None;
+        if self.left == 0 {
+            self.stage = Stage::Done;
+            return Ok(());
+        }
+        self.stage = Stage::Head;
+        Ok(())
+    }
+}
