@@ -1,16 +1,15 @@
 -- The command of `jbgtopbm85`, as clap's contracts see one, what the arguments say by it, and what `run` does for a job.
 use Rattle.std.specs.Prelude.{◌≡◌, ◌-◌, ◌^◌, ℕ, Bool, true, false, List, Result, Some, codes, option_map, string_bytes, unwrap_or}
-use Rattle.pbm_core.specs.Device.{OutputView}
-use Rattle.t85_core.specs.Change.{Change, between}
+use Rattle.t85_core.specs.Change.{Change}
 use Rattle.t85_core.specs.Failures.{FlushesOnce}
 use Rattle.clap.specs.Words.{App, Kinds, Row, fault_of, Rule, Text, first_of, matches_of, new_app, new_rule, with_rule}
 use Rattle.clap.specs.declared.builder.ArgAction.TheVariants.{SetTrue}
 use Rattle.t85_core.specs.declared.fault.Fault.{Fault}
 use Rattle.t85_core.specs.Info.{Info}
-use Rattle.t85_core.specs.ToPbm.{ToPbm}
+use Rattle.t85_core.specs.ToPbm.{Delivery, SecondReading, ToPbm}
 use Rattle.program_core.specs.Line.{flag_in}
 use Rattle.program_core.specs.Message.{Reports}
-use Rattle.program_core.specs.Run.{exit_status}
+use Rattle.program_core.specs.Run.{Written, delivered, exit_status}
 use Rattle.program_core.specs.Options.{with_version, long_number_rule, number_in}
 use Rattle.program_core.specs.declared.jbgtopbm85.work.Job.{Job}
 
@@ -45,20 +44,17 @@ decode_refusals words = fault_of decode_command words
 abbrev pub limit_of : Job → ℕ
 limit_of job = unwrap_or job.max_rows (2 ^ 32 - 1)
 
--- What a job asks of the engine, with or without `--info`, under this limit of the rows. Of the second reading are given
--- whether there is one, what it means that it is untouched, its known bytes and its count of failures.
-abbrev pub Does : Bool → ℕ → Change → Bool → Type 0 → Change → Change → Bool → Result (Unit {0}) Fault → Type 0
-Does true limit input twice untouched again output flushed outcome =
-    Info input output flushed outcome × untouched
-Does false limit input twice untouched again output flushed outcome =
-    ToPbm limit input twice untouched again output flushed outcome
+-- What a job asks of the engine, with or without `--info`, under this limit of the rows.
+abbrev pub Does : Bool → ℕ → Change → SecondReading → Delivery → Result (Unit {0}) Fault → Type 0
+Does true limit input again out outcome = Info input out.change out.flushed outcome × again.untouched
+Does false limit input again out outcome = ToPbm limit input again out outcome
 
 -- What a run leaves for a job, with this exit status: what the engine leaves with some outcome, of the output besides, and a
--- report of that outcome. The second reading is given as to `Does`.
-pub record RunsDecoding (job : Job) (input : Change) (twice : Bool) (untouched : Type 0) (again : Change) (old new : OutputView) (messages_old messages_new : OutputView) (status : ℕ) : Type 0 where
+-- report of that outcome.
+pub record RunsDecoding (job : Job) (input : Change) (again : SecondReading) (output messages : Written) (status : ℕ) : Type 0 where
   pub outcome : Result (Unit {0}) Fault
   pub status_is : status ≡ exit_status outcome
-  pub does : Does job.info (limit_of job) input twice untouched again (between old.contents new.contents old.failures new.failures) new.flushed outcome
-  pub flushes : FlushesOnce old.flushes new.flushes outcome
-  pub same_target : new.target ≡ old.target
-  pub reports : Reports (codes "jbgtopbm85") outcome messages_old messages_new
+  pub does : Does job.info (limit_of job) input again (delivered output) outcome
+  pub flushes : FlushesOnce output.old.flushes output.new.flushes outcome
+  pub same_target : output.new.target ≡ output.old.target
+  pub reports : Reports (codes "jbgtopbm85") outcome messages.old messages.new

@@ -1,8 +1,7 @@
 -- The command of `pbmtojbg85`, which job the arguments ask for, and what the job asks of the engine.
 use Rattle.std.specs.Prelude.{◌≡◌, ◌⊎◌, ℕ, List, [], ◌∷◌, Some, Result, is_some, true, codes, option_map, string_bytes}
 use Rattle.clap.specs.Words.{App, Kinds, Row, fault_of, Text, first_of, matches_of, new_app, new_rule, with_rule}
-use Rattle.pbm_core.specs.Device.{OutputView}
-use Rattle.t85_core.specs.Change.{Change, between}
+use Rattle.t85_core.specs.Change.{Change}
 use Rattle.t85_core.specs.Failures.{FlushesOnce}
 use Rattle.t85_core.specs.Jbg.{Settings}
 use Rattle.t85_core.specs.Options.{refusal_of}
@@ -11,7 +10,7 @@ use Rattle.t85_core.specs.declared.fault.Fault.{Fault}
 use Rattle.t85_core.specs.declared.fault.Fault.TheVariants as fault
 use Rattle.program_core.specs.Line.{flag_in, IsRefusal}
 use Rattle.program_core.specs.Message.{Reports}
-use Rattle.program_core.specs.Run.{exit_status}
+use Rattle.program_core.specs.Run.{Written, delivered, exit_status}
 use Rattle.program_core.specs.declared.line_fault.LineFault.{LineFault}
 use Rattle.program_core.specs.declared.line_fault.LineFault.TheVariants as line_fault
 use Rattle.program_core.specs.Options.{with_version, number_rule, text_rule, flag_rule, number_in}
@@ -92,10 +91,10 @@ settings_asked job = record {
 
 -- What a run leaves for a job, with this exit status: what the engine leaves with some outcome, of the output besides, and a
 -- report of that outcome.
-pub record RunsEncoding (job : Job) (input : Change) (old new : OutputView) (messages_old messages_new : OutputView) (status : ℕ) : Type 0 where
+pub record RunsEncoding (job : Job) (input : Change) (output messages : Written) (status : ℕ) : Type 0 where
   pub outcome : Result (Unit {0}) Fault
   pub status_is : status ≡ exit_status outcome
-  pub writes : ToJbgAhead (settings_asked job) input (between old.contents new.contents old.failures new.failures) new.flushed outcome
-  pub flushes : FlushesOnce old.flushes new.flushes outcome
-  pub same_target : new.target ≡ old.target
-  pub reports : Reports (codes "pbmtojbg85") outcome messages_old messages_new
+  pub writes : ToJbgAhead (settings_asked job) input (delivered output).change (delivered output).flushed outcome
+  pub flushes : FlushesOnce output.old.flushes output.new.flushes outcome
+  pub same_target : output.new.target ≡ output.old.target
+  pub reports : Reports (codes "pbmtojbg85") outcome messages.old messages.new

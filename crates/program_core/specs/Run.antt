@@ -7,6 +7,9 @@ use Rattle.program_core.specs.declared.files.Readable.TheVariants as readable
 use Rattle.program_core.specs.declared.files.Writable.{Writable}
 use Rattle.program_core.specs.declared.files.Writable.TheVariants as writable
 use Rattle.t85_core.specs.declared.fault.Fault.{Fault}
+use Rattle.pbm_core.specs.Device.{OutputView}
+use Rattle.t85_core.specs.Change.{between}
+use Rattle.t85_core.specs.ToPbm.{Delivery, delivery}
 
 -- whether there is a name, and it isn't `-`
 abbrev pub names_file : Option (List ℕ) → Bool
@@ -31,3 +34,15 @@ writes_file (writable.File file) = true
 abbrev pub exit_status : Result (Unit {0}) Fault → ℕ
 exit_status (Ok u) = 0
 exit_status (Err f) = 1
+
+-- An output before a run and after it.
+pub record Written : Type 0 where
+  pub old : OutputView
+  pub new : OutputView
+
+abbrev pub written : {W : Type 0} → (W → OutputView) → W → W → Written
+written view old new = record { old = view old; new = view new }
+
+-- what the engine says of it
+abbrev pub delivered : Written → Delivery
+delivered w = delivery (between w.old.contents w.new.contents w.old.failures w.new.failures) w.new.flushed

@@ -1,12 +1,12 @@
 //! The work of `jbgtopbm85`: its command line, and its run over lent devices.
 
-ghost use Rattle.std.specs.Prelude.{◌≡◌, ◌↔◌, false, true, is_some, IfErr, IfOk, IfSome, IsSome, option_map, string_bytes};
+ghost use Rattle.std.specs.Prelude.{◌≡◌, ◌↔◌, false, true, IfErr, IfOk, IfSome, IsSome, option_map, string_bytes};
 ghost use Rattle.std.specs.Process.{exit_status};
-ghost use Rattle.t85_core.specs.Change.{input_change, output_change};
+ghost use Rattle.t85_core.specs.Change.{input_change};
 ghost use Rattle.t85_core.specs.Failures.{FlushesOutput};
-ghost use Rattle.t85_core.specs.ToPbm.{again_change};
+ghost use Rattle.t85_core.specs.ToPbm.{delivery_of, second_reading_of};
 ghost use Rattle.program_core.specs.Jbgtopbm85.{Does, limit_of, RunsDecoding};
-ghost use Rattle.program_core.specs.Run.{IsRegular, names_file, reads_file, writes_file};
+ghost use Rattle.program_core.specs.Run.{IsRegular, names_file, reads_file, writes_file, written};
 
 mod words;
 mod work;
@@ -71,10 +71,9 @@ pub fn run_on<R: Input, Second: Input, W: Output, M: Output>(
     messages: &mut M,
 ) -> u8
     ensures { RunsDecoding job.now (input_change R.view files.old.input files.new.input)
-        (is_some files.old.again) (files.new.again ≡ files.old.again)
-        (again_change Second.view files.old.again files.new.again)
-        (W.view files.old.output) (W.view files.new.output)
-        (M.view messages.old) (M.view messages.new) result }
+        (second_reading_of Second.view files.old.again files.new.again)
+        (written W.view files.old.output files.new.output)
+        (written M.view messages.old messages.new) result }
 {
     let input = &mut files.input;
     let output = &mut files.output;
@@ -92,8 +91,8 @@ pub fn run<R: Input, Second: Input, W: Output, M: Output>(
     messages: &mut M,
 ) -> u8
     ensures { RunsDecoding job.now (input_change R.view input.old input.new)
-        (is_some again.old) (again.new ≡ again.old) (again_change Second.view again.old again.new)
-        (W.view output.old) (W.view output.new) (M.view messages.old) (M.view messages.new) result }
+        (second_reading_of Second.view again.old again.new) (written W.view output.old output.new)
+        (written M.view messages.old messages.new) result }
 {
     let outcome = work_on(alloc, job, input, again, output);
     report(NAME, outcome, messages)
@@ -108,8 +107,8 @@ fn work_on<R: Input, Second: Input, W: Output>(
     output: &mut W,
 ) -> Result<(), Fault>
     ensures does { Does job.now.info (limit_of job.now) (input_change R.view input.old input.new)
-        (is_some again.old) (again.new ≡ again.old) (again_change Second.view again.old again.new)
-        (output_change W.view output.old output.new) (W.view output.new).flushed result }
+        (second_reading_of Second.view again.old again.new)
+        (delivery_of W.view output.old output.new) result }
     ensures flushes { FlushesOutput (W.view output.old) (W.view output.new) result }
 {
     if job.info {

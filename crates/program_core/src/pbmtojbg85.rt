@@ -4,7 +4,7 @@ ghost use Rattle.std.specs.Prelude.{◌≡◌, IfErr, IfOk, option_map, string_b
 ghost use Rattle.std.specs.Process.{exit_status};
 ghost use Rattle.t85_core.specs.Change.{input_change};
 ghost use Rattle.program_core.specs.Pbmtojbg85.{RunsEncoding};
-ghost use Rattle.program_core.specs.Run.{names_file, reads_file, writes_file};
+ghost use Rattle.program_core.specs.Run.{names_file, reads_file, writes_file, written};
 
 mod words;
 mod work;
@@ -57,8 +57,8 @@ pub fn run_on<R: Input, W: Output, M: Output>(
     messages: &mut M,
 ) -> u8
     ensures { RunsEncoding job.now (input_change R.view files.old.input files.new.input)
-        (W.view files.old.output) (W.view files.new.output)
-        (M.view messages.old) (M.view messages.new) result }
+        (written W.view files.old.output files.new.output)
+        (written M.view messages.old messages.new) result }
 {
     run(alloc, job, &mut files.input, &mut files.output, messages)
 }
@@ -72,7 +72,7 @@ pub fn run<R: Input, W: Output, M: Output>(
     messages: &mut M,
 ) -> u8
     ensures { RunsEncoding job.now (input_change R.view input.old input.new)
-        (W.view output.old) (W.view output.new) (M.view messages.old) (M.view messages.new) result }
+        (written W.view output.old output.new) (written M.view messages.old messages.new) result }
 {
     let outcome = to_jbg(alloc, input, output, &job.options());
     report(NAME, outcome, messages)

@@ -4,13 +4,14 @@ use Rattle.std.specs.Prelude.{◌↔◌, Result, IsTrue, IsErr, OnOk, OnErr, is_
 use Rattle.std.proofs.lemmas.List.{append-nil, length-replicate}
 use Rattle.qm_core.specs.Counts.{one_more}
 use Rattle.qm_core.specs.Place.{Place, Event, after}
-use Rattle.qm_core.specs.Encoder.{EncoderIsAt, Put, event_count, has_failed}
+use Rattle.qm_core.specs.Encoder.{EncoderIsAt, Put, event_count, has_failed, encoder_state}
 use Rattle.qm_core.specs.Skipping.{IsRun, has_room}
 use Rattle.qm_core.specs.Puts.{IsSameLoan, state_at, Puts, Skips}
 use Rattle.qm_core.specs.declared.coder.Coder.{Coder}
 use Rattle.qm_core.specs.declared.encoder.CoderFault.{CoderFault}
 use Rattle.qm_core.specs.declared.encoder.CoderFault.TheVariants.{Failed, Write}
 use Rattle.qm_core.specs.declared.sink.CodeSink.{Ghosts}
+use Rattle.qm_core.specs.Sink.{sink_at}
 
 had_not_failed : {T : Type 0} (b : Bool) (result : Result T CoderFault) (x : T) → (IsTrue b → result ≡ Err Failed) → result ≡ Ok x → b ≡ false
 had_not_failed false result x h is = refl
@@ -37,7 +38,7 @@ pub puts_one : {S : Type 0} (sink : Ghosts S) (c c' : Coder S) (cx : ℕ) (pixel
     OnOk result (sink.failed c'.out.now ≡ sink.failed c.out.now) →
     (has_failed c.encoder.now ≡ false → OnErr result (sink.failed c'.out.now ≡ one_more (sink.failed c.out.now))) →
     ((p : Place) (pushed : List ℕ) → has_failed c.encoder.now ≡ false → EncoderIsAt c.encoder.now p pushed →
-    Put sink.took sink.refused sink.failed c.out.now c'.out.now (state_at c p) pushed cx pixel c'.encoder.now c'.learned.now result) →
+    Put (sink_at sink c.out.now pushed) (state_at c p) cx pixel (encoder_state c'.out.now c'.encoder.now c'.learned.now) result) →
     Puts sink (record { context = cx; pixel = pixel } ∷ []) c c' result
 puts_one sink c c' cx pixel (Ok x) lends failed fails fault events same counted put =
     let going : has_failed c.encoder.now ≡ false = had_not_failed (has_failed c.encoder.now) (Ok x) x (λ t. (failed t).0) refl in

@@ -8,11 +8,13 @@ use Rattle.qm_core.specs.Code.{number, IsFront, stuffed, code_of}
 use Rattle.qm_core.specs.Encoder.{Goes, Finish}
 use Rattle.qm_core.specs.declared.encoder.Encoder.{Encoder}
 use Rattle.qm_core.specs.declared.encoder.CoderFault.{CoderFault}
+use Rattle.qm_core.specs.Sink.{sink_at}
 use Rattle.qm_core.proofs.Written.{stuffed-append, writes_more, writes_err}
 use Rattle.qm_core.proofs.Fronts.{Codes-front}
 use Rattle.qm_core.proofs.CodeOf.{code_of-IsCode}
 use Rattle.qm_core.proofs.Shortest.{code-Lies}
 use Rattle.qm_core.proofs.Inverse.{front_begins}
+use Rattle.qm_core.specs.declared.sink.CodeSink.{Ghosts}
 
 -- what has a front is no larger than all numbers
 pub front_place : (c : List ℕ) (p : Place) → IsFront c p → 0x8000 ≤ p.size → p.size ≤ 0x10000 → IsPlace p
@@ -22,19 +24,19 @@ front_place c p f large small =
     let e : (p.low + p.size) * 256 ^ length c ≤ 2 ^ (16 + p.doublings) * 256 ^ length c = omega (arith, f.up_to, m) in
     record { large = large; small = small; within = le_of_mul-le-mul_right e (one-le-pow (length c) 256 (omega arith)) }
 
-module _ {S : Type 0} (took : S → ℕ → S → Type 0) (refused : S → S → Type 0) (failed : S → ℕ) (p : Place) (pushed : List ℕ) (e : Encoder) where
-  pub finish_after : (a b c : S) (u : Unit {0}) (q : Result (Unit {0}) CoderFault) (f : Goes took refused failed a b p pushed e (Ok u)) → Finish took refused failed b c p (pushed ++ f.more) q → Finish took refused failed a c p pushed q
+module _ {S : Type 0} (sink : Ghosts S) (p : Place) (pushed : List ℕ) (e : Encoder) where
+  pub finish_after : (a b c : S) (u : Unit {0}) (q : Result (Unit {0}) CoderFault) (f : Goes (sink_at sink a pushed) p b e (Ok u)) → Finish (sink_at sink b (pushed ++ f.more)) p c q → Finish (sink_at sink a pushed) p c q
   finish_after a b c u q f g =
       record {
         code = g.code;
         is = g.is;
         more = f.more ++ g.more;
         all = sym (append_assoc pushed f.more g.more) ∙ g.all;
-        writes = writes_more took refused failed a b c f.more g.more q f.writes.ok f.writes.same g.writes;
+        writes = writes_more sink a b c f.more g.more q f.writes.ok f.writes.same g.writes;
       }
 
   -- where the first step fails, the code is still that of the place
-  pub finish_failed : (a b : S) (x : CoderFault) (q : Result (Unit {0}) CoderFault) → Goes took refused failed a b p pushed e (Err x) → IsErr q → Finish took refused failed a b p pushed q
+  pub finish_failed : (a b : S) (x : CoderFault) (q : Result (Unit {0}) CoderFault) → Goes (sink_at sink a pushed) p b e (Err x) → IsErr q → Finish (sink_at sink a pushed) p b q
   finish_failed a b x q f is-err =
       let d = f.codes.digits.size in
       let large : 0x40_0000 ≤ e.span = e.large in
@@ -47,5 +49,5 @@ module _ {S : Type 0} (took : S → ℕ → S → Type 0) (refused : S → S →
         is = is;
         more = f.more ++ stuffed r.0;
         all = sym (append_assoc pushed f.more (stuffed r.0)) ∙ (ap (λ l. l ++ stuffed r.0) front.is ∙ (sym (stuffed-append front.front r.0) ∙ sym (ap stuffed r.1)));
-        writes = writes_err took refused failed a b f.more (stuffed r.0) x q f.writes is-err;
+        writes = writes_err sink a b f.more (stuffed r.0) x q f.writes is-err;
       }

@@ -3,8 +3,9 @@ use Rattle.std.specs.Prelude.{ℕ, ◌≡◌, ◌≢◌, ◌≤◌, ◌↔◌, B
 use Rattle.qm_core.specs.Counts.{one_more}
 use Rattle.qm_core.specs.Place.{Place, State, Estimate, step}
 use Rattle.qm_core.specs.Code.{IsBytes, Lies, wanted_bytes}
-use Rattle.qm_core.specs.Source.{bytes_of, heard_of, is_stopped, is_ended, IsClosed, Agrees, HasAsked, Gives}
+use Rattle.qm_core.specs.Source.{bytes_of, heard_of, is_stopped, is_ended, IsClosed, Agrees, HasAsked, Gives, Pulls, SourceAt, source_at}
 use Rattle.qm_core.specs.Machine.{Registers}
+use Rattle.qm_core.specs.declared.source.CodeBytes.{Ghosts}
 use Rattle.qm_core.specs.declared.source.Pulled.{Pulled}
 use Rattle.qm_core.specs.declared.source.Heard.TheVariants.{Ended, Stopped}
 use Rattle.qm_core.specs.declared.decoder.Decoder.{Decoder}
@@ -40,23 +41,35 @@ pub record DecoderIsAt (d : Decoder) (p : Place) (answers : List Pulled) : Type 
   pub no_zeros : heard_of answers ≢ Ended → zeros ≡ 0
   pub registers : Registers d.code d.span d.bits p (bytes_of answers ++ replicate zeros 0)
 
+-- a source that answers as its type says, with its count of failures
+abbrev pub source_of : {S : Type 0} → Ghosts S → S → List Pulled → SourceAt S
+source_of source from answers = source_at (Pulls source.gives source.failed) from answers
+
+-- A decoder at work: what its source is, its registers, and what its contexts have learned.
+pub record DecoderState (S : Type 0) : Type 0 where
+  pub source : S
+  pub decoder : Decoder
+  pub learned : List Estimate
+
+abbrev pub decoder_state : {S : Type 0} → S → Decoder → List Estimate → DecoderState S
+decoder_state source decoder learned = record { source = source; decoder = decoder; learned = learned }
+
 -- what a wish for 16 bits leaves
-pub record Fills {S : Type 0} (pull : S → Pulled → S → Type 0) (from to : S) (p : Place) (answers : List Pulled) (d : Decoder) (result : Result (Unit {0}) Stop) : Type 0 where
+pub record Fills {S : Type 0} (old : SourceAt S) (p : Place) (to : S) (d : Decoder) (result : Result (Unit {0}) Stop) : Type 0 where
   pub more : List Pulled
-  pub gives : Gives pull from more to
-  pub stands : DecoderIsAt d p (answers ++ more)
-  pub stop : IsErr result ↔ (heard_of (answers ++ more) ≡ Stopped)
+  pub gives : Gives old.pull old.from more to
+  pub stands : DecoderIsAt d p (old.answers ++ more)
+  pub stop : IsErr result ↔ (heard_of (old.answers ++ more) ≡ Stopped)
 
 -- what a call of `next` leaves, for a decoder at a state whose source has answered so
-pub record Next {S : Type 0} (pull : S → Pulled → S → Type 0) (from to : S) (s : State) (answers : List Pulled) (cx : ℕ)
-    (d : Decoder) (learned : List Estimate) (result : Result Bool Stop) : Type 0 where
+pub record Next {S : Type 0} (old : SourceAt S) (s : State) (cx : ℕ) (new : DecoderState S) (result : Result Bool Stop) : Type 0 where
   -- what the source answered in this call
   pub more : List Pulled
-  pub gives : Gives pull from more to
-  pub asked : HasAsked (answers ++ more) s.place.doublings
+  pub gives : Gives old.pull old.from more new.source
+  pub asked : HasAsked (old.answers ++ more) s.place.doublings
   -- the pixel is the one that keeps the code inside, however it goes on
-  pub inside : IfOk result (λ pixel. (c : List ℕ) → Agrees (answers ++ more) c → Lies c s.place × Lies c (step s cx pixel).place)
-  pub stands : IfOk result (λ pixel. DecoderIsAt d (step s cx pixel).place (answers ++ more))
-  pub taught : IfOk result (λ pixel. learned ≡ (step s cx pixel).learned)
-  pub stop : IsErr result ↔ (heard_of (answers ++ more) ≡ Stopped)
-  pub unchanged : OnErr result ((learned ≡ s.learned) × DecoderIsAt d s.place (answers ++ more))
+  pub inside : IfOk result (λ pixel. (c : List ℕ) → Agrees (old.answers ++ more) c → Lies c s.place × Lies c (step s cx pixel).place)
+  pub stands : IfOk result (λ pixel. DecoderIsAt new.decoder (step s cx pixel).place (old.answers ++ more))
+  pub taught : IfOk result (λ pixel. new.learned ≡ (step s cx pixel).learned)
+  pub stop : IsErr result ↔ (heard_of (old.answers ++ more) ≡ Stopped)
+  pub unchanged : OnErr result ((new.learned ≡ s.learned) × DecoderIsAt new.decoder s.place (old.answers ++ more))

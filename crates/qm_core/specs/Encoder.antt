@@ -4,7 +4,7 @@ use Rattle.std.specs.Option.{unwrap_or}
 use Rattle.qm_core.specs.Counts.{one_more}
 use Rattle.qm_core.specs.Place.{Place, IsPlace, State, Estimate, step}
 use Rattle.qm_core.specs.Code.{IsBytes, IsTrimmed, IsFront, IsCode, stuffed}
-use Rattle.qm_core.specs.Sink.{Writes}
+use Rattle.qm_core.specs.Sink.{SinkAt, Writes}
 use Rattle.qm_core.specs.Machine.{run_bytes, Digits}
 use Rattle.qm_core.specs.declared.encoder.Encoder.{Encoder}
 use Rattle.qm_core.specs.declared.encoder.CoderFault.{CoderFault}
@@ -53,17 +53,29 @@ encoder_registers e = record {
   has_failed = e.failed;
 }
 
--- the registers and the tail are those of the place, and these bytes were handed to the sink
-pub record RegistersAreAt (low span bits zeros : ℕ) (held : Option ℕ) (ones : ℕ) (p : Place) (pushed : List ℕ) : Type 0 where
+-- What an encoder holds back: zero bytes, a byte that a carry may still raise, and bytes 255.
+pub record HeldBack : Type 0 where
+  pub zeros : ℕ
+  pub held : Option ℕ
+  pub ones : ℕ
+
+abbrev pub held_back : ℕ → Option ℕ → ℕ → HeldBack
+held_back zeros held ones = record { zeros = zeros; held = held; ones = ones }
+
+abbrev pub held_by : Encoder → HeldBack
+held_by e = held_back e.tail.zeros e.tail.held e.tail.ones
+
+-- the registers and what is held back are those of the place, and these bytes were handed to the sink
+pub record RegistersAreAt (low span bits : ℕ) (tail : HeldBack) (p : Place) (pushed : List ℕ) : Type 0 where
   pub front : List ℕ
   pub is : pushed ≡ stuffed front
   pub bytes : IsBytes front
   pub trimmed : IsTrimmed front
-  pub digits : Digits low span bits p (front ++ run_bytes zeros held ones)
+  pub digits : Digits low span bits p (front ++ run_bytes tail.zeros tail.held tail.ones)
 
 -- the encoder is at the place, and these bytes were handed to the sink
 abbrev pub EncoderIsAt : Encoder → Place → List ℕ → Type 0
-EncoderIsAt e p pushed = RegistersAreAt e.low e.span e.bits e.tail.zeros e.tail.held e.tail.ones p pushed
+EncoderIsAt e p pushed = RegistersAreAt e.low e.span e.bits (held_by e) p pushed
 
 -- the encoder is at some place, whatever was handed to the sink
 pub record EncoderStands (e : Encoder) : Type 0 where
@@ -78,27 +90,35 @@ pub record IsStuffedFront (bytes : List ℕ) (p : Place) : Type 0 where
   pub is : bytes ≡ stuffed front
   pub begins : IsFront front p
 
+-- An encoder at work: what its sink is, its registers, and what its contexts have learned.
+pub record EncoderState (S : Type 0) : Type 0 where
+  pub out : S
+  pub encoder : Encoder
+  pub learned : List Estimate
+
+abbrev pub encoder_state : {S : Type 0} → S → Encoder → List Estimate → EncoderState S
+encoder_state out encoder learned = record { out = out; encoder = encoder; learned = learned }
+
 -- what a call of `put` leaves, for an encoder that has not failed, at a state with these bytes pushed.
 -- After a refusal the sink has taken a beginning of `more`.
-pub record Put {S : Type 0} (took : S → ℕ → S → Type 0) (refused : S → S → Type 0) (failed : S → ℕ) (from to : S) (s : State) (pushed : List ℕ)
-    (cx : ℕ) (pixel : Bool) (e : Encoder) (learned : List Estimate) (result : Result (Unit {0}) CoderFault) : Type 0 where
+pub record Put {S : Type 0} (old : SinkAt S) (s : State) (cx : ℕ) (pixel : Bool) (new : EncoderState S) (result : Result (Unit {0}) CoderFault) : Type 0 where
   -- what this pixel adds to the bytes pushed, where the sink takes it
   pub more : List ℕ
-  pub writes : Writes took refused failed from more to result
-  pub codes : EncoderIsAt e (step s cx pixel).place (pushed ++ more)
-  pub begins : IsStuffedFront (pushed ++ more) (step s cx pixel).place
-  pub taught : learned ≡ (step s cx pixel).learned
+  pub writes : Writes old.sink old.from more new.out result
+  pub codes : EncoderIsAt new.encoder (step s cx pixel).place (old.pushed ++ more)
+  pub begins : IsStuffedFront (old.pushed ++ more) (step s cx pixel).place
+  pub taught : new.learned ≡ (step s cx pixel).learned
 
 -- what going to a part leaves
-pub record Goes {S : Type 0} (took : S → ℕ → S → Type 0) (refused : S → S → Type 0) (failed : S → ℕ) (from to : S) (p : Place) (pushed : List ℕ) (e : Encoder) (result : Result (Unit {0}) CoderFault) : Type 0 where
+pub record Goes {S : Type 0} (old : SinkAt S) (p : Place) (to : S) (e : Encoder) (result : Result (Unit {0}) CoderFault) : Type 0 where
   pub more : List ℕ
-  pub writes : Writes took refused failed from more to result
-  pub codes : EncoderIsAt e p (pushed ++ more)
+  pub writes : Writes old.sink old.from more to result
+  pub codes : EncoderIsAt e p (old.pushed ++ more)
 
 -- what `finish` leaves
-pub record Finish {S : Type 0} (took : S → ℕ → S → Type 0) (refused : S → S → Type 0) (failed : S → ℕ) (from to : S) (p : Place) (pushed : List ℕ) (result : Result (Unit {0}) CoderFault) : Type 0 where
+pub record Finish {S : Type 0} (old : SinkAt S) (p : Place) (to : S) (result : Result (Unit {0}) CoderFault) : Type 0 where
   pub code : List ℕ
   pub is : IsCode p code
   pub more : List ℕ
-  pub all : pushed ++ more ≡ stuffed code
-  pub writes : Writes took refused failed from more to result
+  pub all : old.pushed ++ more ≡ stuffed code
+  pub writes : Writes old.sink old.from more to result

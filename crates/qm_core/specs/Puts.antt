@@ -1,13 +1,12 @@
 -- What putting events in turn leaves of an encoder.
 use Rattle.std.specs.Prelude.{ℕ, ◌+◌, ◌≡◌, ◌≤◌, ◌^◌, ◌++◌, Bool, false, IsTrue, IsErr, List, [], ◌∷◌, length, replicate, Result, Ok, Err, OnOk, OnErr, is_err}
 use Rattle.qm_core.specs.Counts.{one_more}
-use Rattle.qm_core.specs.Place.{Place, State, Event, Estimate, after}
-use Rattle.qm_core.specs.Encoder.{EncoderIsAt, IsStuffedFront, event_count, has_failed}
-use Rattle.qm_core.specs.Sink.{Took, Refused}
+use Rattle.qm_core.specs.Place.{Place, State, Event, after}
+use Rattle.qm_core.specs.Encoder.{EncoderIsAt, EncoderState, IsStuffedFront, encoder_state, event_count, has_failed}
+use Rattle.qm_core.specs.Sink.{SinkAt, Took, Refused, sink_at}
 use Rattle.qm_core.specs.Skipping.{has_room}
 use Rattle.qm_core.specs.declared.coder.Coder.{Coder}
 use Rattle.qm_core.specs.declared.context.Context.{Context}
-use Rattle.qm_core.specs.declared.encoder.Encoder.{Encoder}
 use Rattle.qm_core.specs.declared.encoder.CoderFault.{CoderFault}
 use Rattle.qm_core.specs.declared.encoder.CoderFault.TheVariants.{Failed, Write}
 use Rattle.qm_core.specs.declared.sink.CodeSink.{Ghosts}
@@ -17,25 +16,24 @@ abbrev pub event_of : Context → Bool → Event
 event_of cx pixel = record { context = cx.number; pixel = pixel }
 
 -- From a state at which these bytes were pushed, an encoder has put these events, and the sink took what it pushed.
-pub record Encodes {S : Type 0} (took : S → ℕ → S → Type 0) (from to : S) (s : State) (pushed : List ℕ) (events : List Event)
-    (e : Encoder) (learned : List Estimate) : Type 0 where
+pub record Encodes {S : Type 0} (old : SinkAt S) (s : State) (events : List Event) (new : EncoderState S) : Type 0 where
   pub more : List ℕ
-  pub taken : Took took from more to
-  pub codes : EncoderIsAt e (after s events).place (pushed ++ more)
-  pub taught : learned ≡ (after s events).learned
+  pub taken : Took old.sink.took old.from more new.out
+  pub codes : EncoderIsAt new.encoder (after s events).place (old.pushed ++ more)
+  pub taught : new.learned ≡ (after s events).learned
 
 -- At the last of these events the sink refused a byte: what it has is a beginning of a stuffed front of their place.
-pub record Fails {S : Type 0} (took : S → ℕ → S → Type 0) (refused : S → S → Type 0) (from to : S) (s : State) (pushed : List ℕ) (events : List Event) : Type 0 where
+pub record Fails {S : Type 0} (old : SinkAt S) (s : State) (events : List Event) (to : S) : Type 0 where
   pub more : List ℕ
-  pub cut : Refused took refused from more to
-  pub begins : IsStuffedFront (pushed ++ more) (after s events).place
+  pub cut : Refused old.sink.took old.sink.refused old.from more to
+  pub begins : IsStuffedFront (old.pushed ++ more) (after s events).place
 
 -- The sink refused a byte at the last of the first events of these.
-pub record FailsIn {S : Type 0} (took : S → ℕ → S → Type 0) (refused : S → S → Type 0) (from to : S) (s : State) (pushed : List ℕ) (all : List Event) : Type 0 where
+pub record FailsIn {S : Type 0} (old : SinkAt S) (s : State) (all : List Event) (to : S) : Type 0 where
   pub events : List Event
   pub rest : List Event
   pub all_are : all ≡ events ++ rest
-  pub fails : Fails took refused from to s pushed events
+  pub fails : Fails old s events to
 
 -- it may take so many events more
 pub record HasRoom {S : Type 0} (count : ℕ) (c : Coder S) : Type 0 where
@@ -68,9 +66,9 @@ pub record GoesOn {S : Type 0} (sink : Ghosts S) (events : List Event) (c c' : C
   pub fault : IsErr result → result ≡ Err Write
   pub counted : OnErr result (sink.failed c'.out.now ≡ one_more (sink.failed c.out.now))
   pub ok : OnOk result ((p : Place) (pushed : List ℕ) → EncoderIsAt c.encoder.now p pushed →
-      Encodes sink.took c.out.now c'.out.now (state_at c p) pushed events c'.encoder.now c'.learned.now)
+      Encodes (sink_at sink c.out.now pushed) (state_at c p) events (encoder_state c'.out.now c'.encoder.now c'.learned.now))
   pub err : OnErr result ((p : Place) (pushed : List ℕ) → EncoderIsAt c.encoder.now p pushed →
-      FailsIn sink.took sink.refused c.out.now c'.out.now (state_at c p) pushed events)
+      FailsIn (sink_at sink c.out.now pushed) (state_at c p) events c'.out.now)
 
 -- These events were put in turn, up to a failure.
 pub record Puts {S : Type 0} (sink : Ghosts S) (events : List Event) (c c' : Coder S) (result : Result (Unit {0}) CoderFault) : Type 0 where

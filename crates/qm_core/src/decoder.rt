@@ -74,7 +74,7 @@ impl Decoder {
     ghost use Rattle.qm_core.specs.Place.{Place, start, renormalised, state_of, step, after};
     ghost use Rattle.qm_core.specs.Machine.{IsTooSmall, Registers};
     ghost use Rattle.qm_core.specs.Source.{Pulls, bytes_of, heard_of, before_fault};
-    ghost use Rattle.qm_core.specs.Decoder.{has_stopped, DecoderIsAt, Fills, Next, SkipsOrStays, StopsOnce};
+    ghost use Rattle.qm_core.specs.Decoder.{has_stopped, DecoderIsAt, Fills, Next, SkipsOrStays, StopsOnce, decoder_state, source_of};
     ghost use Rattle.qm_core.specs.Puts.{event_of};
     ghost use Rattle.qm_core.specs.Skipping.{IsRun, CanSkip};
     ghost use Rattle.qm_core.specs.declared.source.Heard.TheVariants.{More};
@@ -121,8 +121,8 @@ impl Decoder {
         ensures stop { StopsOnce S.failed self.old self.new source.old source.new result }
         ensures unchanged { OnErr result (learned.new ≡ learned.old) }
         ensures next { (p : Place) (answers : List Pulled) → DecoderIsAt self.old p answers →
-            Next (Pulls S.gives S.failed) source.old source.new (state_of p learned.old) answers
-            cx.number self.new learned.new result }
+            Next (source_of S.CodeBytes source.old answers) (state_of p learned.old) cx.number
+            (decoder_state source.new self.new learned.new) result }
     {
         if self.bits < 16 {
             self.fill(source)?;
@@ -167,7 +167,7 @@ impl Decoder {
         ensures bits { OnOk result (16 ≤ self.new.bits) }
         ensures stop { StopsOnce S.failed self.old self.new source.old source.new result }
         ensures fills { (p : Place) (answers : List Pulled) → DecoderIsAt self.old p answers →
-            Fills (Pulls S.gives S.failed) source.old source.new p answers self.new result }
+            Fills (source_of S.CodeBytes source.old answers) p source.new self.new result }
     {
         self.pull(source)?;
         if self.bits < 16 {
@@ -182,7 +182,7 @@ impl Decoder {
         ensures bits { OnOk result (self.new.bits ≡ self.old.bits + 8) }
         ensures stop { StopsOnce S.failed self.old self.new source.old source.new result }
         ensures fills { (p : Place) (answers : List Pulled) → DecoderIsAt self.old p answers →
-            Fills (Pulls S.gives S.failed) source.old source.new p answers self.new result }
+            Fills (source_of S.CodeBytes source.old answers) p source.new self.new result }
     {
         match self.heard {
             Heard::More => match source.pull() {

@@ -4,7 +4,7 @@ ghost use Rattle.std.specs.Prelude.{◌≡◌, ◌+◌, ◌-◌, ◌*◌, ◌%�
 ghost use Rattle.qm_core.specs.Place.{Place, start};
 ghost use Rattle.qm_core.specs.Code.{stuffed};
 ghost use Rattle.qm_core.specs.Machine.{run_bytes, Digits, FitsIn};
-ghost use Rattle.qm_core.specs.Sink.{Writes};
+ghost use Rattle.qm_core.specs.Sink.{Writes, sink_at};
 
 mod ending;
 mod numbers;
@@ -145,7 +145,7 @@ fn bytes_out(tail: &mut Tail, low: u64, span: u32, bits: u32) -> Shifted
 /// Writes two batches.
 #[inline(always)]
 fn write_both<W: CodeSink>(first: Batch, second: Batch, out: &mut W) -> Result<(), CoderFault>
-    ensures writes { Writes W.took W.refused W.failed out.old (stuffed (run_bytes first.zeros
+    ensures writes { Writes W.CodeSink out.old (stuffed (run_bytes first.zeros
         first.byte first.ones ++ run_bytes second.zeros second.byte second.ones)) out.new result }
     ensures fault { IsErr result → result ≡ Err CoderFault.Write }
 {
@@ -190,7 +190,7 @@ impl Encoder {
     ghost use Rattle.std.specs.Prelude.{replicate, Some};
     ghost use Rattle.qm_core.specs.Place.{after, state_of};
     ghost use Rattle.qm_core.specs.Puts.{event_of};
-    ghost use Rattle.qm_core.specs.Encoder.{event_count, has_failed, EncoderIsAt, FailsOnce, Put, SkipsEvents};
+    ghost use Rattle.qm_core.specs.Encoder.{event_count, has_failed, EncoderIsAt, FailsOnce, Put, SkipsEvents, encoder_state};
     ghost use Rattle.qm_core.specs.Skipping.{IsRun, has_room};
 
     /// An encoder at the beginning of a code, of which nothing was pushed.
@@ -232,8 +232,9 @@ impl Encoder {
         ensures events { has_failed self.old ≡ false → event_count self.new ≡ event_count self.old +
             1 }
         ensures put { (p : Place) (pushed : List ℕ) → has_failed self.old ≡ false →
-            EncoderIsAt self.old p pushed → Put W.took W.refused W.failed out.old out.new
-            (state_of p learned.old) pushed cx.number pixel self.new learned.new result }
+            EncoderIsAt self.old p pushed → Put (sink_at W.CodeSink out.old pushed)
+            (state_of p learned.old) cx.number pixel (encoder_state out.new self.new learned.new)
+            result }
     {
         let cell = learned.cell(cx);
         let cost = cost_of(cell, pixel);

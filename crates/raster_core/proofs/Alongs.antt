@@ -1,28 +1,29 @@
 -- The pixels of a byte, decoded one after another.
 use Rattle.std.proofs.Common.{◌≡◌, ℕ, ◌+◌, ◌-◌, ◌*◌, ◌/◌, ◌%◌, ◌^◌, ◌<◌, Bool, List, [], ◌∷◌, ◌++◌, length, refl, sym, ◌∙◌, ap, arith, subst, append_assoc, Ok, Err}
-use Rattle.std.specs.Prelude.{Result, OnErr, IfErr, IsErrAnd}
+use Rattle.std.specs.Prelude.{Result, OnErr, IfErr, IfOk, IsErr, IsErrAnd}
 use Rattle.std.proofs.lemmas.List.{length-append, append-nil}
 use Rattle.qm_core.specs.Place.{Place, Event, Estimate, after}
-use Rattle.qm_core.specs.Decoder.{DecoderIsAt, Next}
+use Rattle.qm_core.specs.Decoder.{DecoderIsAt, Next, decoder_state}
 use Rattle.qm_core.specs.declared.source.Pulled.{Pulled}
 use Rattle.qm_core.specs.declared.decoder.Decoder.{Decoder}
 use Rattle.qm_core.specs.declared.decoder.Stop.{Stop}
+use Rattle.qm_core.specs.Source.{source_at}
 use Rattle.raster_core.specs.Lines.{Lines, Mode, context_at, pixel_events}
 use Rattle.raster_core.specs.Machine.Registers.{bit, before, past_bits, AreAt}
 use Rattle.raster_core.specs.Events.{Decodes}
 use Rattle.raster_core.specs.declared.place.Pause.{Pause}
-use Rattle.raster_core.specs.Machine.Decoded.{with_row, PixelsSoFar, Along, StopsAlong}
+use Rattle.raster_core.specs.Machine.Decoded.{with_row, PixelsSoFar, Along, StopsAlong, byte_around, plain_row}
 use Rattle.raster_core.proofs.Before.{some_past, second_in, above_in}
 use Rattle.raster_core.proofs.Runs.{decodes_next, decodes_stop}
 use Rattle.raster_core.proofs.Causal.{pixel_events_more, past_next}
 
 pub along_none : {S : Type 0} (pull : S → Pulled → S → Type 0) (old : S) (mode : Mode) (offset second above past : ℕ) (d : Decoder) (learned : List Estimate) →
-    Along pull old old mode offset second above past d learned 0 past d learned
+    Along pull (byte_around mode offset second above past) (decoder_state old d learned) 0 past (decoder_state old d learned)
 along_none {S} pull old mode offset second above past d learned = λ from first s answers lines done so_far s2 a2.
     record {
       pixels = [];
       count = refl;
-      so_far = subst (λ row. PixelsSoFar pull from old mode offset first s answers lines row past d learned) (sym (append-nil done)) so_far;
+      so_far = subst (λ row. PixelsSoFar (source_at pull from answers) (plain_row mode offset first s lines) row past (decoder_state old d learned)) (sym (append-nil done)) so_far;
     }
 
 -- the registers at a pixel of the byte
@@ -46,9 +47,9 @@ pub along_next : {S : Type 0} (pull : S → Pulled → S → Type 0) (old mid to
     (n past past' : ℕ) (d d' : Decoder) (learned learned' : List Estimate) (cx : ℕ) (result : Result Bool Stop) (pixel : Bool) →
     n < 8 → result ≡ Ok pixel → past' ≡ past % 2 ^ (past_bits offset - 1) * 2 + bit pixel →
     ((lines : Lines) (x : ℕ) → AreAt lines offset (second / 2 ^ 7 * 2 ^ n) (above / 2 ^ 6 * 2 ^ n) past x → cx ≡ context_at mode lines offset x) →
-    ((p : Place) (answers : List Pulled) → DecoderIsAt d p answers → Next pull mid to (record { place = p; learned = learned }) answers cx d' learned' result) →
-    Along pull old mid mode offset second above past₀ d₀ learned₀ n past d learned →
-    Along pull old to mode offset second above past₀ d₀ learned₀ (n + 1) past' d' learned'
+    ((p : Place) (answers : List Pulled) → DecoderIsAt d p answers → Next (source_at pull mid answers) (record { place = p; learned = learned }) cx (decoder_state to d' learned') result) →
+    Along pull (byte_around mode offset second above past₀) (decoder_state old d₀ learned₀) n past (decoder_state mid d learned) →
+    Along pull (byte_around mode offset second above past₀) (decoder_state old d₀ learned₀) (n + 1) past' (decoder_state to d' learned')
 along_next {S} pull old mid to mode offset second above past₀ d₀ learned₀ n past past' d d' learned learned' cx result pixel few is past_is context next along = λ from first s answers lines done so_far s2 a2.
     let m = along from first s answers lines done so_far s2 a2 in
     let at = registers_at lines second above past offset n done m.pixels few m.count s2 a2 m.so_far.past_is in
@@ -63,12 +64,12 @@ along_next {S} pull old mid to mode offset second above past₀ d₀ learned₀ 
     ∙ (ap (λ es. first ++ (pixel_events mode (with_row lines (done ++ m.pixels)) offset ++ es)) e₁
     ∙ ap (λ es. first ++ es) (sym (pixel_events_more mode lines offset (done ++ m.pixels) pixel))) in
     let p : past' ≡ before ((done ++ m.pixels) ++ pixel ∷ []) (length ((done ++ m.pixels) ++ pixel ∷ [])) (past_bits offset) = past_is ∙ subst (λ w. past % 2 ^ (past_bits offset - 1) * 2 + bit pixel ≡ before ((done ++ m.pixels) ++ pixel ∷ []) (length ((done ++ m.pixels) ++ pixel ∷ [])) w) (some_past offset) (past_next (done ++ m.pixels) pixel past (past_bits offset - 1) (m.so_far.past_is ∙ ap (λ w. before (done ++ m.pixels) (length (done ++ m.pixels)) w) (sym (some_past offset)))) in
-    let whole : PixelsSoFar pull from to mode offset first s answers lines ((done ++ m.pixels) ++ pixel ∷ []) past' d' learned' =
-    record { past_is = p; more = t.0; decodes = subst (λ es. Decodes pull from to s answers t.0 es d' learned') e t.1 } in
+    let whole : PixelsSoFar (source_at pull from answers) (plain_row mode offset first s lines) ((done ++ m.pixels) ++ pixel ∷ []) past' (decoder_state to d' learned') =
+    record { past_is = p; more = t.0; decodes = subst (λ es. Decodes (source_at pull from answers) s t.0 es (decoder_state to d' learned')) e t.1 } in
     record {
       pixels = m.pixels ++ pixel ∷ [];
       count = length-append m.pixels (pixel ∷ []) ∙ ap (λ k. k + 1) m.count;
-      so_far = subst (λ row. PixelsSoFar pull from to mode offset first s answers lines row past' d' learned') assoc whole;
+      so_far = subst (λ row. PixelsSoFar (source_at pull from answers) (plain_row mode offset first s lines) row past' (decoder_state to d' learned')) assoc whole;
     }
   where
     one_event : (c k : ℕ) (b : Bool) → c ≡ k → (let e : List Event = record { context = c; pixel = b } ∷ [] in e) ≡ record { context = k; pixel = b } ∷ []
@@ -77,9 +78,9 @@ along_next {S} pull old mid to mode offset second above past₀ d₀ learned₀ 
 pub along_stop : {S : Type 0} (pull : S → Pulled → S → Type 0) (old mid to : S) (mode : Mode) (offset second above past₀ : ℕ) (d₀ : Decoder) (learned₀ : List Estimate)
     (n all past : ℕ) (d d' : Decoder) (learned learned' : List Estimate) (cx : ℕ) (result : Result Bool Stop) (fault : Stop) (pause : Pause) →
     n < all → pause.count ≡ n → pause.past ≡ past → result ≡ Err fault →
-    ((p : Place) (answers : List Pulled) → DecoderIsAt d p answers → Next pull mid to (record { place = p; learned = learned }) answers cx d' learned' result) →
-    Along pull old mid mode offset second above past₀ d₀ learned₀ n past d learned →
-    StopsAlong pull old to mode offset second above past₀ d₀ learned₀ all pause d' learned'
+    ((p : Place) (answers : List Pulled) → DecoderIsAt d p answers → Next (source_at pull mid answers) (record { place = p; learned = learned }) cx (decoder_state to d' learned') result) →
+    Along pull (byte_around mode offset second above past₀) (decoder_state old d₀ learned₀) n past (decoder_state mid d learned) →
+    StopsAlong pull (byte_around mode offset second above past₀) (decoder_state old d₀ learned₀) all pause (decoder_state to d' learned')
 along_stop {S} pull old mid to mode offset second above past₀ d₀ learned₀ n all past d d' learned learned' cx result fault pause few count_is past_is is next along = λ from first s answers lines done so_far s2 a2.
     let m = along from first s answers lines done so_far s2 a2 in
     let t = decodes_stop pull from mid to s answers m.so_far.more (first ++ pixel_events mode (with_row lines (done ++ m.pixels)) offset) d d' learned learned' cx result fault is m.so_far.decodes
@@ -91,7 +92,10 @@ pub exit_err : {T E : Type 0} (r : Result T E) (P : Type 0) → P → OnErr r P
 exit_err (Ok x) P h = tt
 exit_err (Err e) P h = h
 
+no_err : {T : Type 0} (E : Type 0) (x : T) → IsErr {T = T} {E = E} (Ok x) → ⊥
+no_err E x h = cc
+
 -- a fact of where it stopped, at an `Err`
-pub exit_as : {T E : Type 0} (r : Result T E) (e : E) (P : E → Type 0) → IsErrAnd r (λ x. x ≡ e) → P e → IfErr r P
-exit_as (Ok x) e P is h = tt
-exit_as (Err y) e P is h = subst P (sym is) h
+pub exit_pair : {T E : Type 0} (r : Result T E) (e : E) (A : T → Type 0) (P : E → Type 0) → IsErr r × IsErrAnd r (λ x. x ≡ e) → P e → IfOk r A × IfErr r P
+exit_pair {T} {E} (Ok x) e A P is h = absurd (no_err E x is.0)
+exit_pair (Err y) e A P is h = (tt, subst P (sym is.1) h)

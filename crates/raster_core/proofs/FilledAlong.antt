@@ -5,9 +5,9 @@ use Rattle.std.proofs.lemmas.Bool.{cases_lt}
 use Rattle.std.proofs.lemmas.List.{length-append, length-replicate}
 use Rattle.qm_core.specs.Place.{State, Estimate, after}
 use Rattle.qm_core.specs.Code.{wanted_bytes}
-use Rattle.qm_core.specs.Source.{bytes_of}
+use Rattle.qm_core.specs.Source.{bytes_of, source_at}
 use Rattle.qm_core.specs.Skipping.{IsRun}
-use Rattle.qm_core.specs.Decoder.{DecoderIsAt, has_stopped}
+use Rattle.qm_core.specs.Decoder.{DecoderIsAt, has_stopped, decoder_state}
 use Rattle.qm_core.specs.declared.source.Pulled.{Pulled}
 use Rattle.qm_core.specs.declared.decoder.Decoder.{Decoder}
 use Rattle.raster_core.specs.Raster.{pixel_at}
@@ -15,7 +15,7 @@ use Rattle.raster_core.specs.Lines.{Mode}
 use Rattle.raster_core.specs.Packed.{packed_row}
 use Rattle.raster_core.specs.Machine.Registers.{bit, before, past_bits}
 use Rattle.raster_core.specs.declared.place.RowPlace.{RowPlace}
-use Rattle.raster_core.specs.Machine.Decoded.{with_row, PixelsSoFar, BytesAlong, SkipsFilledAlong}
+use Rattle.raster_core.specs.Machine.Decoded.{with_row, PixelsSoFar, BytesAlong, SkipsFilledAlong, filled_run, plain_row, bytes_at, row_around, row_part}
 use Rattle.raster_core.specs.Machine.Uniform.{filled, uniform_event, AreFilled, StaysUniform}
 use Rattle.raster_core.proofs.Causal.{before_front}
 use Rattle.raster_core.proofs.Packed.{packed_byte, packed_in}
@@ -23,10 +23,10 @@ use Rattle.raster_core.proofs.SkipsAlong.{run_pixels, run_before, decoded_run}
 use Rattle.raster_core.proofs.Filled.{filled_join, run_join, after_more, filled_uniform, past_filled, register_filled}
 
 pub along_join : (colour : Bool) (above second : List ℕ) (i n at count : ℕ) (d d' d'' : Decoder) (learned : List Estimate) → at ≡ i + n → count ≡ n + 8 →
-    SkipsFilledAlong colour above second i n d learned d' → SkipsFilledAlong colour above second at 8 d' learned d'' → SkipsFilledAlong colour above second i count d learned d''
+    SkipsFilledAlong (filled_run colour i n) above second d learned d' → SkipsFilledAlong (filled_run colour at 8) above second d' learned d'' → SkipsFilledAlong (filled_run colour i count) above second d learned d''
 along_join colour above second i n at count d d' d'' learned at_is count_is a b =
     let behind : at + 1 ≡ (i + 1) + n = omega (arith, at_is) in
-    subst (λ z. SkipsFilledAlong colour above second i z d learned d'') (sym count_is)
+    subst (λ z. SkipsFilledAlong (filled_run colour i z) above second d learned d'') (sym count_is)
     (record {
       above_filled = filled_join colour above (i + 1) n 8 a.above_filled (subst (λ z. AreFilled colour above z 8) behind b.above_filled);
       second_filled = filled_join colour second (i + 1) n 8 a.second_filled (subst (λ z. AreFilled colour second z 8) behind b.second_filled);
@@ -59,9 +59,9 @@ pub bytes_skipped : {S : Type 0} (pull : S → Pulled → S → Type 0) (old mid
     (width left left' i n second' above' past : ℕ) (current current' : List ℕ) (d d' : Decoder) (learned : List Estimate) (colour : Bool) → offset ≤ 127 → left ≡ width - 8 * i → 8 * i < width → 8 * n ≤ left → left' ≡ left - 8 * n →
     1 ≤ n → second' ≡ filled colour 24 → above' ≡ filled colour 24 → past ≡ filled colour (past_bits offset) → has_stopped d ≡ false →
     ((k : ℕ) → i ≤ k → k < i + n → slice_index current' k ≡ bit colour * 255) → ((k : ℕ) → k < i → slice_index current' k ≡ slice_index current k) →
-    SkipsFilledAlong colour above second i n d learned d' →
-    BytesAlong pull old mid mode offset above second place current₀ d₀ learned₀ width left i second' above' past current d learned →
-    BytesAlong pull old mid mode offset above second place current₀ d₀ learned₀ width left' (i + n) second' above' past current' d' learned
+    SkipsFilledAlong (filled_run colour i n) above second d learned d' →
+    BytesAlong pull (row_around mode offset above second) (row_part place current₀ old d₀ learned₀) width (bytes_at left i second' above' past current) (decoder_state mid d learned) →
+    BytesAlong pull (row_around mode offset above second) (row_part place current₀ old d₀ learned₀) width (bytes_at left' (i + n) second' above' past current') (decoder_state mid d' learned)
 bytes_skipped {S} pull old mid mode offset above second place current₀ d₀ learned₀ width left left' i n second' above' past current current' d d' learned colour high left_is inside within left_to some sf af pf going fill kept skips along = λ from first s answers lines done₀ had so_far a s2.
     let b = along from first s answers lines done₀ had so_far a s2 in
     let rest = b.rest in
@@ -94,14 +94,14 @@ bytes_skipped {S} pull old mid mode offset above second place current₀ d₀ le
 -- the same bytes, and the same decoder
 pub kept_along : {S : Type 0} (pull : S → Pulled → S → Type 0) (old mid : S) (mode : Mode) (offset : ℕ) (above second : List ℕ) (place : RowPlace) (current₀ : List ℕ) (d₀ : Decoder) (learned₀ : List Estimate)
     (width left i second' above' past : ℕ) (current current' : List ℕ) (d d' : Decoder) (learned : List Estimate) → d' ≡ d → ((k : ℕ) → k < i → slice_index current' k ≡ slice_index current k) →
-    BytesAlong pull old mid mode offset above second place current₀ d₀ learned₀ width left i second' above' past current d learned →
-    BytesAlong pull old mid mode offset above second place current₀ d₀ learned₀ width left i second' above' past current' d' learned
+    BytesAlong pull (row_around mode offset above second) (row_part place current₀ old d₀ learned₀) width (bytes_at left i second' above' past current) (decoder_state mid d learned) →
+    BytesAlong pull (row_around mode offset above second) (row_part place current₀ old d₀ learned₀) width (bytes_at left i second' above' past current') (decoder_state mid d' learned)
 kept_along {S} pull old mid mode offset above second place current₀ d₀ learned₀ width left i second' above' past current current' d d' learned same kept along = λ from first s answers lines done₀ had so_far a s2.
     let b = along from first s answers lines done₀ had so_far a s2 in
     record {
       done = b.done;
       rest = b.rest;
-      so_far = subst (λ u. PixelsSoFar pull from mid mode offset first s answers lines b.done past u learned) (sym same) b.so_far;
+      so_far = subst (λ u. PixelsSoFar (source_at pull from answers) (plain_row mode offset first s lines) b.done past (decoder_state mid u learned)) (sym same) b.so_far;
       bytes = λ k few. kept k few ∙ b.bytes k few;
       second_is = b.second_is;
       above_is = b.above_is;

@@ -3,11 +3,12 @@ use Rattle.std.proofs.Common.{◌≡◌, ℕ, ◌+◌, ◌*◌, ◌/◌, ◌%◌
 use Rattle.qm_core.specs.Place.{Estimate}
 use Rattle.qm_core.specs.declared.source.Pulled.{Pulled}
 use Rattle.qm_core.specs.declared.decoder.Decoder.{Decoder}
+use Rattle.qm_core.specs.Decoder.{decoder_state}
 use Rattle.raster_core.specs.Lines.{Lines, Mode, context_at}
 use Rattle.raster_core.specs.Machine.Registers.{AreAt}
 use Rattle.raster_core.specs.Machine.Lanes.{lane, around, HasAround}
 use Rattle.raster_core.specs.declared.place.Pause.{Pause}
-use Rattle.raster_core.specs.Machine.Decoded.{Along, StopsAlong, AlongMore, StopsMore, later}
+use Rattle.raster_core.specs.Machine.Decoded.{Along, StopsAlong, AlongMore, StopsMore, later, byte_around, lanes_around}
 use Rattle.raster_core.proofs.Contexts.{three_line_nominal}
 use Rattle.raster_core.proofs.LaneTables.{later_lane}
 
@@ -35,45 +36,45 @@ has_later lanes second above n i k has = λ j few.
     later_lane lanes i j ∙ (has (i + j) (omega arith) ∙ ap (λ m. around second above m) e)
 
 pub more_then : {S : Type 0} (pull : S → Pulled → S → Type 0) (a b c : S) (lanes p : ℕ) (d : Decoder) (l : List Estimate) (i p' : ℕ) (d' : Decoder) (l' : List Estimate) (k p'' : ℕ) (d'' : Decoder) (l'' : List Estimate) →
-    AlongMore pull a b lanes p d l i p' d' l' → AlongMore pull b c (lanes / 2 ^ (16 * i)) p' d' l' k p'' d'' l'' → AlongMore pull a c lanes p d l (i + k) p'' d'' l''
+    AlongMore pull (lanes_around lanes p) (decoder_state a d l) i p' (decoder_state b d' l') → AlongMore pull (lanes_around (lanes / 2 ^ (16 * i)) p') (decoder_state b d' l') k p'' (decoder_state c d'' l'') → AlongMore pull (lanes_around lanes p) (decoder_state a d l) (i + k) p'' (decoder_state c d'' l'')
 more_then {S} pull a b c lanes p d l i p' d' l' k p'' d'' l'' first then = λ typical old second above past₀ d₀ learned₀ n few has so_far.
     let e : (n + i) + k ≡ n + (i + k) = omega arith in
-    subst (λ m. Along pull old c (record { two_line = false; typical = typical }) 0 second above past₀ d₀ learned₀ m p'' d'' l'') e
+    subst (λ m. Along pull (byte_around (record { two_line = false; typical = typical }) 0 second above past₀) (decoder_state old d₀ learned₀) m p'' (decoder_state c d'' l'')) e
     (then typical old second above past₀ d₀ learned₀ (n + i) (omega arith) (has_later lanes second above n i k has)
     (first typical old second above past₀ d₀ learned₀ n (omega arith) (λ j less. has j (omega arith)) so_far))
 
 pub stops_first : {S : Type 0} (pull : S → Pulled → S → Type 0) (a b : S) (lanes p : ℕ) (d : Decoder) (l : List Estimate) (i k : ℕ) (pause : Pause) (d' : Decoder) (l' : List Estimate) → i ≤ k →
-    StopsMore pull a b lanes p d l i pause d' l' → StopsMore pull a b lanes p d l k pause d' l'
+    StopsMore pull (lanes_around lanes p) (decoder_state a d l) i pause (decoder_state b d' l') → StopsMore pull (lanes_around lanes p) (decoder_state a d l) k pause (decoder_state b d' l')
 stops_first {S} pull a b lanes p d l i k pause d' l' h stops = λ typical old second above past₀ d₀ learned₀ n few has so_far.
     stops typical old second above past₀ d₀ learned₀ n (omega arith) (λ j less. has j (omega arith)) so_far
 
 pub stops_then : {S : Type 0} (pull : S → Pulled → S → Type 0) (a b c : S) (lanes p : ℕ) (d : Decoder) (l : List Estimate) (i p' : ℕ) (d' : Decoder) (l' : List Estimate) (k : ℕ) (pause pause' : Pause) (d'' : Decoder) (l'' : List Estimate) →
     pause'.count ≡ i + pause.count → pause'.past ≡ pause.past →
-    AlongMore pull a b lanes p d l i p' d' l' → StopsMore pull b c (lanes / 2 ^ (16 * i)) p' d' l' k pause d'' l'' → StopsMore pull a c lanes p d l (i + k) pause' d'' l''
+    AlongMore pull (lanes_around lanes p) (decoder_state a d l) i p' (decoder_state b d' l') → StopsMore pull (lanes_around (lanes / 2 ^ (16 * i)) p') (decoder_state b d' l') k pause (decoder_state c d'' l'') → StopsMore pull (lanes_around lanes p) (decoder_state a d l) (i + k) pause' (decoder_state c d'' l'')
 stops_then {S} pull a b c lanes p d l i p' d' l' k pause pause' d'' l'' count_is past_is first then = λ typical old second above past₀ d₀ learned₀ n few has so_far.
     let e : (n + i) + pause.count ≡ n + pause'.count = omega (arith, count_is) in
     let same : later (n + i) pause ≡ later n pause' = same_pause _ _ _ _ e (sym past_is) in
-    subst (λ at. StopsAlong pull old c (record { two_line = false; typical = typical }) 0 second above past₀ d₀ learned₀ 8 at d'' l'') same
+    subst (λ at. StopsAlong pull (byte_around (record { two_line = false; typical = typical }) 0 second above past₀) (decoder_state old d₀ learned₀) 8 at (decoder_state c d'' l'')) same
     (then typical old second above past₀ d₀ learned₀ (n + i) (omega arith) (has_later lanes second above n i k has)
     (first typical old second above past₀ d₀ learned₀ n (omega arith) (λ j less. has j (omega arith)) so_far))
 
 -- pixels of a byte
 
 pub along_at : {S : Type 0} (pull : S → Pulled → S → Type 0) (old a b : S) (mode : Mode) (lanes second above past₀ : ℕ) (d₀ : Decoder) (learned₀ : List Estimate) (n p : ℕ) (d : Decoder) (l : List Estimate) (k p' : ℕ) (d' : Decoder) (l' : List Estimate) →
-    mode.two_line ≡ false → n + k ≤ 8 → HasAround lanes second above n k → Along pull old a mode 0 second above past₀ d₀ learned₀ n p d l → AlongMore pull a b lanes p d l k p' d' l' →
-    Along pull old b mode 0 second above past₀ d₀ learned₀ (n + k) p' d' l'
+    mode.two_line ≡ false → n + k ≤ 8 → HasAround lanes second above n k → Along pull (byte_around mode 0 second above past₀) (decoder_state old d₀ learned₀) n p (decoder_state a d l) → AlongMore pull (lanes_around lanes p) (decoder_state a d l) k p' (decoder_state b d' l') →
+    Along pull (byte_around mode 0 second above past₀) (decoder_state old d₀ learned₀) (n + k) p' (decoder_state b d' l')
 along_at {S} pull old a b mode lanes second above past₀ d₀ learned₀ n p d l k p' d' l' three few has so_far more =
     let same : record { two_line = false; typical = mode.typical } ≡ mode = ap (λ t. record { two_line = t; typical = mode.typical }) (sym three) in
-    subst (λ m. Along pull old b m 0 second above past₀ d₀ learned₀ (n + k) p' d' l') same
-    (more mode.typical old second above past₀ d₀ learned₀ n few has (subst (λ m. Along pull old a m 0 second above past₀ d₀ learned₀ n p d l) (sym same) so_far))
+    subst (λ m. Along pull (byte_around m 0 second above past₀) (decoder_state old d₀ learned₀) (n + k) p' (decoder_state b d' l')) same
+    (more mode.typical old second above past₀ d₀ learned₀ n few has (subst (λ m. Along pull (byte_around m 0 second above past₀) (decoder_state old d₀ learned₀) n p (decoder_state a d l)) (sym same) so_far))
 
 pub stops_at : {S : Type 0} (pull : S → Pulled → S → Type 0) (old a b : S) (mode : Mode) (lanes second above past₀ : ℕ) (d₀ : Decoder) (learned₀ : List Estimate) (n p : ℕ) (d : Decoder) (l : List Estimate) (k : ℕ) (pause pause' : Pause) (d' : Decoder) (l' : List Estimate) →
     pause'.count ≡ n + pause.count → pause'.past ≡ pause.past →
-    mode.two_line ≡ false → n + k ≤ 8 → HasAround lanes second above n k → Along pull old a mode 0 second above past₀ d₀ learned₀ n p d l → StopsMore pull a b lanes p d l k pause d' l' →
-    StopsAlong pull old b mode 0 second above past₀ d₀ learned₀ 8 pause' d' l'
+    mode.two_line ≡ false → n + k ≤ 8 → HasAround lanes second above n k → Along pull (byte_around mode 0 second above past₀) (decoder_state old d₀ learned₀) n p (decoder_state a d l) → StopsMore pull (lanes_around lanes p) (decoder_state a d l) k pause (decoder_state b d' l') →
+    StopsAlong pull (byte_around mode 0 second above past₀) (decoder_state old d₀ learned₀) 8 pause' (decoder_state b d' l')
 stops_at {S} pull old a b mode lanes second above past₀ d₀ learned₀ n p d l k pause pause' d' l' count_is past_is three few has so_far more =
     let same : record { two_line = false; typical = mode.typical } ≡ mode = ap (λ t. record { two_line = t; typical = mode.typical }) (sym three) in
     let at : later n pause ≡ pause' = same_pause _ _ _ _ (sym count_is) (sym past_is) in
-    subst (λ z. StopsAlong pull old b mode 0 second above past₀ d₀ learned₀ 8 z d' l') at
-    (subst (λ m. StopsAlong pull old b m 0 second above past₀ d₀ learned₀ 8 (later n pause) d' l') same
-    (more mode.typical old second above past₀ d₀ learned₀ n few has (subst (λ m. Along pull old a m 0 second above past₀ d₀ learned₀ n p d l) (sym same) so_far)))
+    subst (λ z. StopsAlong pull (byte_around mode 0 second above past₀) (decoder_state old d₀ learned₀) 8 z (decoder_state b d' l')) at
+    (subst (λ m. StopsAlong pull (byte_around m 0 second above past₀) (decoder_state old d₀ learned₀) 8 (later n pause) (decoder_state b d' l')) same
+    (more mode.typical old second above past₀ d₀ learned₀ n few has (subst (λ m. Along pull (byte_around m 0 second above past₀) (decoder_state old d₀ learned₀) n p (decoder_state a d l)) (sym same) so_far)))

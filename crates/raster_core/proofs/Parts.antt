@@ -8,7 +8,7 @@ use Rattle.qm_core.specs.Place.{same}
 use Rattle.raster_core.specs.Raster.{pixel_at, pixel_left}
 use Rattle.raster_core.specs.Lines.{Lines, adaptive, numbers_from}
 use Rattle.raster_core.specs.Offset.{agreements, agreement}
-use Rattle.raster_core.specs.Machine.Words.{led, is_within, agreed_from, part_agreement}
+use Rattle.raster_core.specs.Machine.Words.{led, is_within, agreed_from, part_agreement, pixels_from}
 use Rattle.raster_core.proofs.Shifts.{count_same, count_cat}
 
 pub is_lt : (x y : ℕ) → x < y → nat_lt x y ≡ true
@@ -48,7 +48,7 @@ three : {a a' b b' c c' : Bool} → a ≡ a' → b ≡ b' → c ≡ c' → a && 
 three {a} {a'} {b} {b'} {c} {c'} e f g = ap (λ x. x && same b c) e ∙ ap (λ x. a' && same x c) f ∙ ap (λ x. a' && same b' x) g
 
 pub row_part : (lines : Lines) (width lag k n : ℕ) → 1 ≤ lag → lag ≤ 127 →
-    agreed_from (led lines.row) (led lines.row) (is_within width) (64 * k + 128) (64 * k + 128 - lag) (64 * k) n ≡ part_agreement lines width lag (64 * k) n
+    agreed_from (pixels_from (led lines.row) (64 * k + 128)) (pixels_from (led lines.row) (64 * k + 128 - lag)) (pixels_from (is_within width) (64 * k)) n ≡ part_agreement lines width lag (64 * k) n
 unfolding agreed_from part_agreement
 row_part lines width lag k n low high =
     count_same
@@ -71,7 +71,7 @@ row_part lines width lag k n low high =
     at_other b i t h = omega arith
 
 pub nominal_part : (lines : Lines) (width k n : ℕ) →
-    agreed_from (led lines.row) (led lines.above) (is_within width) (64 * k + 128) (64 * (k + 2) + 64 - 62) (64 * k) n ≡ part_agreement lines width 0 (64 * k) n
+    agreed_from (pixels_from (led lines.row) (64 * k + 128)) (pixels_from (led lines.above) (64 * (k + 2) + 64 - 62)) (pixels_from (is_within width) (64 * k)) n ≡ part_agreement lines width 0 (64 * k) n
 unfolding agreed_from part_agreement
 nominal_part lines width k n =
     count_same

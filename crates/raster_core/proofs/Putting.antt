@@ -4,8 +4,8 @@ use Rattle.std.specs.Prelude.{◌↔◌, Result, IsTrue, IsErr, IsErrAnd, OnOk, 
 use Rattle.std.proofs.lemmas.List.{append-nil, length-append}
 use Rattle.qm_core.specs.Counts.{one_more}
 use Rattle.qm_core.specs.Place.{Place, State, Event, Estimate, after}
-use Rattle.qm_core.specs.Encoder.{EncoderIsAt, IsStuffedFront, event_count, has_failed}
-use Rattle.qm_core.specs.Sink.{Took, Refused}
+use Rattle.qm_core.specs.Encoder.{EncoderIsAt, IsStuffedFront, event_count, has_failed, encoder_state}
+use Rattle.qm_core.specs.Sink.{Took, Refused, sink_at}
 use Rattle.qm_core.specs.declared.encoder.Encoder.{Encoder}
 use Rattle.qm_core.specs.declared.encoder.CoderFault.{CoderFault}
 use Rattle.qm_core.specs.declared.sink.CodeSink.{Ghosts}
@@ -54,26 +54,26 @@ refused_later took refused from mid to xs ys t r =
 state_then : (s : State) (xs ys : List Event) (learned : List Estimate) → learned ≡ (after s xs).learned → after (record { place = (after s xs).place; learned = learned }) ys ≡ after s (xs ++ ys)
 state_then s xs ys learned taught = ap (λ l. after (record { place = (after s xs).place; learned = l }) ys) taught ∙ sym (after_append s xs ys)
 
-pub encodes_join : {S : Type 0} (took : S → ℕ → S → Type 0) (a b c : S) (s : State) (pushed : List ℕ) (xs ys : List Event) (e e' : Encoder) (learned learned' : List Estimate) →
-    Encodes took a b s pushed xs e learned →
-    ((p : Place) (given : List ℕ) → EncoderIsAt e p given → Encodes took b c (record { place = p; learned = learned }) given ys e' learned') →
-    Encodes took a c s pushed (xs ++ ys) e' learned'
-encodes_join took a b c s pushed xs ys e e' learned learned' h next =
+pub encodes_join : {S : Type 0} (sink : Ghosts S) (a b c : S) (s : State) (pushed : List ℕ) (xs ys : List Event) (e e' : Encoder) (learned learned' : List Estimate) →
+    Encodes (sink_at sink a pushed) s xs (encoder_state b e learned) →
+    ((p : Place) (given : List ℕ) → EncoderIsAt e p given → Encodes (sink_at sink b given) (record { place = p; learned = learned }) ys (encoder_state c e' learned')) →
+    Encodes (sink_at sink a pushed) s (xs ++ ys) (encoder_state c e' learned')
+encodes_join sink a b c s pushed xs ys e e' learned learned' h next =
     let k = next (after s xs).place (pushed ++ h.more) h.codes in
     let last = state_then s xs ys learned h.taught in
     record {
       more = h.more ++ k.more;
-      taken = Took-append took a b c h.more k.more h.taken k.taken;
+      taken = Took-append sink.took a b c h.more k.more h.taken k.taken;
       codes = subst (λ g. EncoderIsAt e' (after s (xs ++ ys)).place g) (append_assoc pushed h.more k.more)
           (subst (λ t. EncoderIsAt e' t.place ((pushed ++ h.more) ++ k.more)) last k.codes);
       taught = k.taught ∙ ap (λ t. t.learned) last;
     }
 
-fails_later : {S : Type 0} (took : S → ℕ → S → Type 0) (refused : S → S → Type 0) (a b c : S) (s : State) (pushed : List ℕ) (xs ys : List Event) (e : Encoder) (learned : List Estimate) →
-    Encodes took a b s pushed xs e learned →
-    ((p : Place) (given : List ℕ) → EncoderIsAt e p given → FailsIn took refused b c (record { place = p; learned = learned }) given ys) →
-    FailsIn took refused a c s pushed (xs ++ ys)
-fails_later took refused a b c s pushed xs ys e learned h next =
+fails_later : {S : Type 0} (sink : Ghosts S) (a b c : S) (s : State) (pushed : List ℕ) (xs ys : List Event) (e : Encoder) (learned : List Estimate) →
+    Encodes (sink_at sink a pushed) s xs (encoder_state b e learned) →
+    ((p : Place) (given : List ℕ) → EncoderIsAt e p given → FailsIn (sink_at sink b given) (record { place = p; learned = learned }) ys c) →
+    FailsIn (sink_at sink a pushed) s (xs ++ ys) c
+fails_later sink a b c s pushed xs ys e learned h next =
     let k = next (after s xs).place (pushed ++ h.more) h.codes in
     let last = state_then s xs k.events learned h.taught in
     record {
@@ -82,15 +82,15 @@ fails_later took refused a b c s pushed xs ys e learned h next =
       all_are = ap (λ zs. xs ++ zs) k.all_are ∙ sym (append_assoc xs k.events k.rest);
       fails = record {
         more = h.more ++ k.fails.more;
-        cut = refused_later took refused a b c h.more k.fails.more h.taken k.fails.cut;
+        cut = refused_later sink.took sink.refused a b c h.more k.fails.more h.taken k.fails.cut;
         begins = subst (λ g. IsStuffedFront g (after s (xs ++ k.events)).place) (append_assoc pushed h.more k.fails.more)
             (subst (λ t. IsStuffedFront ((pushed ++ h.more) ++ k.fails.more) t.place) last k.fails.begins);
       };
     }
 
-fails_first : {S : Type 0} (took : S → ℕ → S → Type 0) (refused : S → S → Type 0) (a b : S) (s : State) (pushed : List ℕ) (xs ys : List Event) →
-    FailsIn took refused a b s pushed xs → FailsIn took refused a b s pushed (xs ++ ys)
-fails_first took refused a b s pushed xs ys h =
+fails_first : {S : Type 0} (sink : Ghosts S) (a b : S) (s : State) (pushed : List ℕ) (xs ys : List Event) →
+    FailsIn (sink_at sink a pushed) s xs b → FailsIn (sink_at sink a pushed) s (xs ++ ys) b
+fails_first sink a b s pushed xs ys h =
     record { events = h.events; rest = h.rest ++ ys; all_are = ap (λ zs. zs ++ ys) h.all_are ∙ append_assoc h.events h.rest ys; fails = h.fails }
 
 -- ---- no event
@@ -151,14 +151,14 @@ puts_join sink a b c xs ys result h k =
     failures (Err f) e = e ∙ ap one_more h.same
 
     coded : (r : Result (Unit {0}) CoderFault) → GoesOn sink xs a b (Ok tt) → GoesOn sink ys b c r → OnOk r ((p : Place) (pushed : List ℕ) → EncoderIsAt a.encoder.now p pushed →
-        Encodes sink.took a.out.now c.out.now (state_at a p) pushed (xs ++ ys) c.encoder.now c.learned.now)
-    coded (Ok x) first second = λ p pushed at. encodes_join sink.took a.out.now b.out.now c.out.now (state_at a p) pushed xs ys b.encoder.now c.encoder.now b.learned.now c.learned.now (first.ok p pushed at) second.ok
+        Encodes (sink_at sink a.out.now pushed) (state_at a p) (xs ++ ys) (encoder_state c.out.now c.encoder.now c.learned.now))
+    coded (Ok x) first second = λ p pushed at. encodes_join sink a.out.now b.out.now c.out.now (state_at a p) pushed xs ys b.encoder.now c.encoder.now b.learned.now c.learned.now (first.ok p pushed at) second.ok
     coded (Err f) first second = tt
 
     failed : (r : Result (Unit {0}) CoderFault) → GoesOn sink xs a b (Ok tt) → GoesOn sink ys b c r → OnErr r ((p : Place) (pushed : List ℕ) → EncoderIsAt a.encoder.now p pushed →
-        FailsIn sink.took sink.refused a.out.now c.out.now (state_at a p) pushed (xs ++ ys))
+        FailsIn (sink_at sink a.out.now pushed) (state_at a p) (xs ++ ys) c.out.now)
     failed (Ok x) first second = tt
-    failed (Err f) first second = λ p pushed at. fails_later sink.took sink.refused a.out.now b.out.now c.out.now (state_at a p) pushed xs ys b.encoder.now b.learned.now (first.ok p pushed at) second.err
+    failed (Err f) first second = λ p pushed at. fails_later sink a.out.now b.out.now c.out.now (state_at a p) pushed xs ys b.encoder.now b.learned.now (first.ok p pushed at) second.err
 
 -- a failure that `?` hands on
 pub puts_handed : {S : Type 0} (sink : Ghosts S) (a b : Coder S) (xs : List Event) (f : CoderFault) (result : Result (Unit {0}) CoderFault) →
@@ -181,7 +181,7 @@ puts_stop sink a b xs ys f result is h = puts_handed sink a b (xs ++ ys) f resul
         fault = g.fault;
         counted = g.counted;
         ok = tt;
-        err = λ p pushed at. fails_first sink.took sink.refused a.out.now b.out.now (state_at a p) pushed xs ys (g.err p pushed at);
+        err = λ p pushed at. fails_first sink a.out.now b.out.now (state_at a p) pushed xs ys (g.err p pushed at);
       };
 })
 

@@ -7,12 +7,14 @@ use Rattle.std.proofs.lemmas.List.{length-append}
 use Rattle.qm_core.specs.Place.{Estimate}
 use Rattle.qm_core.specs.declared.source.Pulled.{Pulled}
 use Rattle.qm_core.specs.declared.decoder.Decoder.{Decoder}
+use Rattle.qm_core.specs.Source.{source_at}
+use Rattle.qm_core.specs.Decoder.{decoder_state}
 use Rattle.raster_core.specs.Lines.{Mode}
 use Rattle.raster_core.specs.Packed.{packed_row}
 use Rattle.raster_core.specs.Machine.Registers.{before, past_bits}
 use Rattle.raster_core.specs.declared.place.Pause.{Pause}
 use Rattle.raster_core.specs.declared.place.RowPlace.{RowPlace}
-use Rattle.raster_core.specs.Machine.Decoded.{PixelsSoFar, PixelsHeld, Along, StopsAlong, BytesAlong, ByteEnds, RowAlong, RowStops}
+use Rattle.raster_core.specs.Machine.Decoded.{PixelsSoFar, PixelsHeld, Along, StopsAlong, BytesAlong, ByteEnds, RowAlong, RowStops, byte_around, plain_row, bytes_at, row_around, row_part}
 use Rattle.raster_core.proofs.Causal.{before_front}
 use Rattle.raster_core.proofs.Packed.{packed_byte, packed_is, byte_in, byte_out}
 
@@ -20,7 +22,7 @@ use Rattle.raster_core.proofs.Packed.{packed_byte, packed_is, byte_in, byte_out}
 pub bytes_none : {S : Type 0} (pull : S → Pulled → S → Type 0) (old : S) (mode : Mode) (offset : ℕ) (above second : List ℕ) (place : RowPlace) (d : Decoder) (learned : List Estimate)
     (width left i second' above' : ℕ) (current : List ℕ) → place.done ≡ 8 * i → place.done + left ≡ width →
     ((row : List Bool) → second ≡ packed_row row → second' ≡ before row (8 * i + 8) 24) → ((row : List Bool) → above ≡ packed_row row → above' ≡ before row (8 * i + 8) 24) →
-    BytesAlong pull old old mode offset above second place current d learned width left i second' above' place.past current d learned
+    BytesAlong pull (row_around mode offset above second) (row_part place current old d learned) width (bytes_at left i second' above' place.past current) (decoder_state old d learned)
 bytes_none pull old mode offset above second place d learned width left i second' above' current at rest second_is above_is = λ from first s answers lines done had so_far a s2.
     record {
       done = done;
@@ -51,10 +53,9 @@ set_bytes current byte i done h is each k l =
 pub bytes_next : {S : Type 0} (pull : S → Pulled → S → Type 0) (old mid to : S) (mode : Mode) (offset : ℕ) (above second : List ℕ) (place : RowPlace) (current₀ : List ℕ) (d₀ : Decoder) (learned₀ : List Estimate)
     (width left i second' above' past past' n byte : ℕ) (current : List ℕ) (d d' : Decoder) (learned learned' : List Estimate) →
     left ≡ width - 8 * i → 8 * i < width → i < length current → n ≡ min left 8 → byte ≡ past' % 256 * 2 ^ (8 - n) % 256 →
-    BytesAlong pull old mid mode offset above second place current₀ d₀ learned₀ width left i second' above' past current d learned →
-    Along pull mid to mode offset (second' % 65536 * 256 + slice_index second (i + 1)) (above' % 65536 * 256 + slice_index above (i + 1)) past d learned n past' d' learned' →
-    BytesAlong pull old to mode offset above second place current₀ d₀ learned₀ width (left - n) (i + 1) (second' % 65536 * 256 + slice_index second (i + 1)) (above' % 65536 * 256 + slice_index above (i + 1))
-    past' (slice_set current i byte) d' learned'
+    BytesAlong pull (row_around mode offset above second) (row_part place current₀ old d₀ learned₀) width (bytes_at left i second' above' past current) (decoder_state mid d learned) →
+    Along pull (byte_around mode offset (second' % 65536 * 256 + slice_index second (i + 1)) (above' % 65536 * 256 + slice_index above (i + 1)) past) (decoder_state mid d learned) n past' (decoder_state to d' learned') →
+    BytesAlong pull (row_around mode offset above second) (row_part place current₀ old d₀ learned₀) width (bytes_at (left - n) (i + 1) (second' % 65536 * 256 + slice_index second (i + 1)) (above' % 65536 * 256 + slice_index above (i + 1)) past' (slice_set current i byte)) (decoder_state to d' learned')
 bytes_next {S} pull old mid to mode offset above second place current₀ d₀ learned₀ width left i second' above' past past' n byte current d d' learned learned' left_is inside within n_is byte_is along byte_along = λ from first s answers lines done₀ had so_far a s2.
     let b = along from first s answers lines done₀ had so_far a s2 in
     let r2 = register_in lines.second second second' i s2 b.second_is in
@@ -80,9 +81,9 @@ bytes_next {S} pull old mid to mode offset above second place current₀ d₀ le
 pub bytes_stop : {S : Type 0} (pull : S → Pulled → S → Type 0) (old mid to : S) (mode : Mode) (offset : ℕ) (above second : List ℕ) (place : RowPlace) (current₀ : List ℕ) (d₀ : Decoder) (learned₀ : List Estimate)
     (width left i second' above' past n : ℕ) (current : List ℕ) (d d' : Decoder) (learned learned' : List Estimate) (pause : Pause) (place' : RowPlace) →
     left ≡ width - 8 * i → 8 * i < width → n ≡ min left 8 → place'.is_begun ≡ true → place'.done ≡ 8 * i + pause.count → place'.past ≡ pause.past →
-    BytesAlong pull old mid mode offset above second place current₀ d₀ learned₀ width left i second' above' past current d learned →
-    StopsAlong pull mid to mode offset (second' % 65536 * 256 + slice_index second (i + 1)) (above' % 65536 * 256 + slice_index above (i + 1)) past d learned n pause d' learned' →
-    RowStops pull old to mode offset above second place current₀ d₀ learned₀ width place' current d' learned'
+    BytesAlong pull (row_around mode offset above second) (row_part place current₀ old d₀ learned₀) width (bytes_at left i second' above' past current) (decoder_state mid d learned) →
+    StopsAlong pull (byte_around mode offset (second' % 65536 * 256 + slice_index second (i + 1)) (above' % 65536 * 256 + slice_index above (i + 1)) past) (decoder_state mid d learned) n pause (decoder_state to d' learned') →
+    RowStops pull (row_around mode offset above second) (row_part place current₀ old d₀ learned₀) width (row_part place' current to d' learned')
 bytes_stop {S} pull old mid to mode offset above second place current₀ d₀ learned₀ width left i second' above' past n current d d' learned learned' pause place' left_is inside n_is begun_is done_is past_is along stops = λ from first s answers lines done₀ had so_far a s2.
     let b = along from first s answers lines done₀ had so_far a s2 in
     let r2 = register_in lines.second second second' i s2 b.second_is in
@@ -114,8 +115,8 @@ pub byte_ended : {S : Type 0} (pull : S → Pulled → S → Type 0) (old to : S
     ((row : List Bool) → second ≡ packed_row row → second' ≡ before row (place.done + 16) 24) → ((row : List Bool) → above ≡ packed_row row → above' ≡ before row (place.done + 16) 24) →
     1 ≤ place.done % 8 → n ≤ 8 - place.done % 8 → place.done / 8 < length current →
     current' ≡ slice_set current (place.done / 8) byte → byte ≡ past' % 256 * 2 ^ ((8 - place.done % 8) - n) % 256 → place'.done ≡ place.done + n → place'.past ≡ past' →
-    Along pull old to mode offset second' above' place.past d learned n past' d' learned' →
-    ByteEnds pull old to mode offset above second place current d learned place' current' d' learned'
+    Along pull (byte_around mode offset second' above' place.past) (decoder_state old d learned) n past' (decoder_state to d' learned') →
+    ByteEnds pull (row_around mode offset above second) (row_part place current old d learned) (row_part place' current' to d' learned')
 byte_ended {S} pull old to mode offset above second place current d learned second' above' n byte past' current' d' learned' place' s2_is a_is part few inside current_is byte_is done_is past_is along = λ from first s answers lines done had so_far a s2.
     let count = had.count in
     let m = along from first s answers lines done so_far (subst (λ z. second' ≡ before lines.second (z + 16) 24) count (s2_is lines.second s2)) (subst (λ z. above' ≡ before lines.above (z + 16) 24) count (a_is lines.above a)) in
@@ -132,7 +133,7 @@ byte_ended {S} pull old to mode offset above second place current d learned seco
           subst (λ l. slice_index l k ≡ before (done ++ m.pixels) (8 * k + 8) 8) (sym current_is)
           (set_bytes current byte i (done ++ m.pixels) inside here
           (λ j l. had.bytes j (omega arith) ∙ sym (before_front done m.pixels (8 * j + 8) 8 (omega arith))) k (omega arith));
-      so_far = subst (λ p. PixelsSoFar pull from to mode offset first s answers lines (done ++ m.pixels) p d' learned') (sym past_is) m.so_far;
+      so_far = subst (λ p. PixelsSoFar (source_at pull from answers) (plain_row mode offset first s lines) (done ++ m.pixels) p (decoder_state to d' learned')) (sym past_is) m.so_far;
     }
 
 -- the source stopped in it
@@ -140,8 +141,8 @@ pub byte_stopped : {S : Type 0} (pull : S → Pulled → S → Type 0) (old to :
     (second' above' n width : ℕ) (d' : Decoder) (learned' : List Estimate) (pause : Pause) (place' : RowPlace) →
     ((row : List Bool) → second ≡ packed_row row → second' ≡ before row (place.done + 16) 24) → ((row : List Bool) → above ≡ packed_row row → above' ≡ before row (place.done + 16) 24) →
     n ≤ 8 - place.done % 8 → place.done + n ≤ width → place'.is_begun ≡ true → place'.done ≡ place.done + pause.count → place'.past ≡ pause.past →
-    StopsAlong pull old to mode offset second' above' place.past d learned n pause d' learned' →
-    RowStops pull old to mode offset above second place current d learned width place' current d' learned'
+    StopsAlong pull (byte_around mode offset second' above' place.past) (decoder_state old d learned) n pause (decoder_state to d' learned') →
+    RowStops pull (row_around mode offset above second) (row_part place current old d learned) width (row_part place' current to d' learned')
 byte_stopped {S} pull old to mode offset above second place current d learned second' above' n width d' learned' pause place' s2_is a_is few within begun_is done_is past_is stops = λ from first s answers lines done had so_far a s2.
     let count = had.count in
     let m = stops from first s answers lines done so_far (subst (λ z. second' ≡ before lines.second (z + 16) 24) count (s2_is lines.second s2)) (subst (λ z. above' ≡ before lines.above (z + 16) 24) count (a_is lines.above a)) in
@@ -164,8 +165,8 @@ byte_stopped {S} pull old to mode offset above second place current d learned se
 -- a row that ended with a byte, or with its last pixel
 pub ended_row : {S : Type 0} (pull : S → Pulled → S → Type 0) (old to : S) (mode : Mode) (offset : ℕ) (above second : List ℕ) (place : RowPlace) (current : List ℕ) (d : Decoder) (learned : List Estimate)
     (width : ℕ) (place' : RowPlace) (current' : List ℕ) (d' : Decoder) (learned' : List Estimate) → place'.done ≡ width → length current' ≡ div_ceil width 8 →
-    ByteEnds pull old to mode offset above second place current d learned place' current' d' learned' →
-    RowAlong pull old to mode offset above second place current d learned width current' d' learned'
+    ByteEnds pull (row_around mode offset above second) (row_part place current old d learned) (row_part place' current' to d' learned') →
+    RowAlong pull (row_around mode offset above second) (row_part place current old d learned) width current' (decoder_state to d' learned')
 ended_row pull old to mode offset above second place current d learned width place' current' d' learned' all long ends = λ from first s answers lines done had so_far a s2.
     let e = ends from first s answers lines done had so_far a s2 in
     let wide : length e.done ≡ width = sym e.count ∙ all in
@@ -184,18 +185,18 @@ ended_held offset place current done count past bytes = record { count = count; 
 -- and then the bytes after it
 pub then_row : {S : Type 0} (pull : S → Pulled → S → Type 0) (old mid to : S) (mode : Mode) (offset : ℕ) (above second : List ℕ) (place : RowPlace) (current : List ℕ) (d : Decoder) (learned : List Estimate)
     (width : ℕ) (place' : RowPlace) (current' current'' : List ℕ) (d' d'' : Decoder) (learned' learned'' : List Estimate) →
-    ByteEnds pull old mid mode offset above second place current d learned place' current' d' learned' →
-    RowAlong pull mid to mode offset above second place' current' d' learned' width current'' d'' learned'' →
-    RowAlong pull old to mode offset above second place current d learned width current'' d'' learned''
+    ByteEnds pull (row_around mode offset above second) (row_part place current old d learned) (row_part place' current' mid d' learned') →
+    RowAlong pull (row_around mode offset above second) (row_part place' current' mid d' learned') width current'' (decoder_state to d'' learned'') →
+    RowAlong pull (row_around mode offset above second) (row_part place current old d learned) width current'' (decoder_state to d'' learned'')
 then_row pull old mid to mode offset above second place current d learned width place' current' current'' d' d'' learned' learned'' ends along = λ from first s answers lines done had so_far a s2.
     let e = ends from first s answers lines done had so_far a s2 in
     along from first s answers lines e.done (ended_held offset place' current' e.done e.count e.so_far.past_is e.bytes) e.so_far a s2
 
 pub then_stops : {S : Type 0} (pull : S → Pulled → S → Type 0) (old mid to : S) (mode : Mode) (offset : ℕ) (above second : List ℕ) (place : RowPlace) (current : List ℕ) (d : Decoder) (learned : List Estimate)
     (width : ℕ) (place' place'' : RowPlace) (current' current'' : List ℕ) (d' d'' : Decoder) (learned' learned'' : List Estimate) →
-    ByteEnds pull old mid mode offset above second place current d learned place' current' d' learned' →
-    RowStops pull mid to mode offset above second place' current' d' learned' width place'' current'' d'' learned'' →
-    RowStops pull old to mode offset above second place current d learned width place'' current'' d'' learned''
+    ByteEnds pull (row_around mode offset above second) (row_part place current old d learned) (row_part place' current' mid d' learned') →
+    RowStops pull (row_around mode offset above second) (row_part place' current' mid d' learned') width (row_part place'' current'' to d'' learned'') →
+    RowStops pull (row_around mode offset above second) (row_part place current old d learned) width (row_part place'' current'' to d'' learned'')
 then_stops pull old mid to mode offset above second place current d learned width place' place'' current' current'' d' d'' learned' learned'' ends stops = λ from first s answers lines done had so_far a s2.
     let e = ends from first s answers lines done had so_far a s2 in
     stops from first s answers lines e.done (ended_held offset place' current' e.done e.count e.so_far.past_is e.bytes) e.so_far a s2
@@ -203,8 +204,8 @@ then_stops pull old mid to mode offset above second place current d learned widt
 pub bytes_all : {S : Type 0} (pull : S → Pulled → S → Type 0) (old to : S) (mode : Mode) (offset : ℕ) (above second : List ℕ) (place : RowPlace) (current₀ : List ℕ) (d₀ : Decoder) (learned₀ : List Estimate)
     (width left i second' above' past : ℕ) (current : List ℕ) (d : Decoder) (learned : List Estimate) →
     left ≡ width - 8 * i → length current ≡ div_ceil width 8 → length current ≤ i →
-    BytesAlong pull old to mode offset above second place current₀ d₀ learned₀ width left i second' above' past current d learned →
-    RowAlong pull old to mode offset above second place current₀ d₀ learned₀ width current d learned
+    BytesAlong pull (row_around mode offset above second) (row_part place current₀ old d₀ learned₀) width (bytes_at left i second' above' past current) (decoder_state to d learned) →
+    RowAlong pull (row_around mode offset above second) (row_part place current₀ old d₀ learned₀) width current (decoder_state to d learned)
 bytes_all pull old to mode offset above second place current₀ d₀ learned₀ width left i second' above' past current d learned left_is long all along = λ from first s answers lines done₀ had so_far a s2.
     let b = along from first s answers lines done₀ had so_far a s2 in
     let rest = b.rest in

@@ -4,7 +4,7 @@ use Rattle.std.specs.Prelude.{Result, map, IsTrue, OnOk, nat_lt, ◌==◌, if◌
 use Rattle.std.proofs.lemmas.Bool.Decides.{nat_tests}
 use Rattle.std.proofs.lemmas.List.{append-nil}
 use Rattle.qm_core.specs.Place.{Place, Event, Estimate, same}
-use Rattle.qm_core.specs.Encoder.{EncoderIsAt, FailsOnce, event_count, has_failed}
+use Rattle.qm_core.specs.Encoder.{EncoderIsAt, FailsOnce, event_count, has_failed, encoder_state}
 use Rattle.qm_core.specs.declared.encoder.Encoder.{Encoder}
 use Rattle.qm_core.specs.declared.encoder.CoderFault.{CoderFault}
 use Rattle.qm_core.specs.declared.encoder.CoderFault.TheVariants.{Failed}
@@ -13,12 +13,13 @@ use Rattle.raster_core.specs.Raster.{pixel_at, pixel_left}
 use Rattle.raster_core.specs.Lines.{Lines, Mode, binary, numbers_from, two_line, three_line, adaptive, context_at, pixel_events, row_events, pseudo_context, may_be_typical}
 use Rattle.raster_core.specs.Packed.{HasLines}
 use Rattle.qm_core.specs.Puts.{failed_answer, Puts}
-use Rattle.raster_core.specs.Row.{first_events, canonical_events, RowEncoded}
+use Rattle.raster_core.specs.Row.{first_events, canonical_events, RowEncoded, row_task}
 use Rattle.raster_core.specs.Window.{shape_mode}
 use Rattle.raster_core.specs.Machine.Registers.{bit, before}
 use Rattle.raster_core.specs.Machine.Bytes.{events_from}
 use Rattle.raster_core.specs.Machine.Rows.{lines_in, held_in, plain_events, coded_events}
 use Rattle.qm_core.specs.declared.coder.Coder.{Coder}
+use Rattle.qm_core.specs.Sink.{sink_at}
 use Rattle.raster_core.specs.declared.shape.Shape.{Shape}
 use Rattle.raster_core.specs.declared.shape.Kept.{Kept}
 use Rattle.raster_core.specs.declared.rows.Rows.{Rows}
@@ -179,7 +180,7 @@ pub row_coded : {S : Type 0} (sink : Ghosts S) (shape : Shape) (kept kept' : Kep
     template.two_line ≡ shape.two_line → template.offset ≡ kept.offset → HasLines (held_in rows) lines → flag ≡ may_be_typical (shape_mode shape) lines →
     OnOk result ((kept'.offset ≡ kept.offset) × (kept'.previous_typical ≡ flag)) →
     Puts sink (coded_events (shape_mode shape) template rows kept.previous_typical flag) c c' result → has_failed c.encoder.now ≡ false → EncoderIsAt c.encoder.now p pushed →
-    RowEncoded sink.took sink.refused c.out.now to shape kept kept' (record { place = p; learned = c.learned.now }) pushed lines e' learned' result
+    RowEncoded (sink_at sink c.out.now pushed) (row_task shape kept (record { place = p; learned = c.learned.now }) lines) kept' (encoder_state to e' learned') result
 row_coded {S} sink shape kept kept' template rows lines flag c c' result p pushed e' learned' to e_is learned_is to_is two_line offset w is kept_is h going at =
     by result kept_is (subst (λ es. Puts sink es c c' result) events_are h)
   where
@@ -192,7 +193,7 @@ row_coded {S} sink shape kept kept' template rows lines flag c c' result p pushe
         ∙ ap (λ f. row_events (shape_mode shape) lines kept.offset kept.previous_typical f) is)))
 
     by : (r : Result (Unit {0}) CoderFault) → OnOk r ((kept'.offset ≡ kept.offset) × (kept'.previous_typical ≡ flag)) → Puts sink (canonical_events shape kept lines) c c' r →
-        RowEncoded sink.took sink.refused c.out.now to shape kept kept' (record { place = p; learned = c.learned.now }) pushed lines e' learned' r
+        RowEncoded (sink_at sink c.out.now pushed) (row_task shape kept (record { place = p; learned = c.learned.now }) lines) kept' (encoder_state to e' learned') r
     by (Ok x) k h = record {
       ok = record {
         encodes = rw (e_is, learned_is, to_is) ((h.goes going).ok p pushed at);

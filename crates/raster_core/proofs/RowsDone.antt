@@ -5,10 +5,10 @@ use Rattle.qm_core.specs.declared.source.Heard.{Heard}
 use Rattle.qm_core.specs.declared.source.Heard.TheVariants.{Stopped}
 use Rattle.raster_core.proofs.Joins.{bytes_before}
 use Rattle.std.proofs.lemmas.List.{append-nil}
-use Rattle.qm_core.specs.Place.{Place, IsPlace, State, Event, Estimate, step, after, same}
+use Rattle.qm_core.specs.Place.{Place, IsPlace, State, Event, Estimate, step, after, same, state_of}
 use Rattle.qm_core.specs.Code.{Lies, wanted_bytes}
-use Rattle.qm_core.specs.Source.{bytes_of, heard_of, is_stopped, Agrees, before_fault}
-use Rattle.qm_core.specs.Decoder.{DecoderIsAt, has_stopped}
+use Rattle.qm_core.specs.Source.{bytes_of, heard_of, is_stopped, Agrees, before_fault, source_at}
+use Rattle.qm_core.specs.Decoder.{DecoderIsAt, has_stopped, decoder_state}
 use Rattle.qm_core.specs.declared.source.Pulled.{Pulled}
 use Rattle.qm_core.specs.declared.decoder.Decoder.{Decoder}
 use Rattle.qm_core.specs.declared.decoder.Stop.{Stop}
@@ -18,8 +18,8 @@ use Rattle.raster_core.specs.Window.{shape_mode}
 use Rattle.raster_core.specs.Packed.{packed_row, Held, HasLines}
 use Rattle.raster_core.specs.Events.{Decodes}
 use Rattle.raster_core.specs.Enough.{AreEnough}
-use Rattle.raster_core.specs.Machine.Decoded.{with_row, PixelsSoFar, PixelsHeld, RowPaused, RowPixels}
-use Rattle.raster_core.specs.Row.{first_events, events_after, plain_events_of, FirstDecoded, FirstStopped, RowIs, IsRowUndecided, RowDecoded, IsRowStart, HasAbove, StandsInPixels, StandsInRow, RowBegins, RowGoesOn, RowPasses}
+use Rattle.raster_core.specs.Machine.Decoded.{with_row, PixelsSoFar, PixelsHeld, RowPaused, RowPixels, plain_row, row_part}
+use Rattle.raster_core.specs.Row.{first_events, events_after, plain_events_of, FirstDecoded, FirstStopped, RowIs, IsRowUndecided, RowDecoded, IsRowStart, HasAbove, StandsInPixels, StandsInRow, RowBegins, RowGoesOn, RowPasses, row_task, row_left}
 use Rattle.raster_core.specs.declared.place.RowPlace.{RowPlace}
 use Rattle.raster_core.specs.Machine.Registers.{past_bits}
 use Rattle.raster_core.specs.declared.shape.Shape.{Shape}
@@ -148,8 +148,8 @@ same_row_self (b ∷ row) = rw (same_self b, same_row_self row) refl
 pub row_is : AnswersLie → {S : Type 0} (pull : S → Pulled → S → Type 0) (from to : S) (shape : Shape) (kept kept' : Kept) (s : State) (answers more : List Pulled) (lines : Lines) (row : List Bool) (flag : Bool)
     (window : Held) (d : Decoder) (learned : List Estimate) → length row ≡ shape.width → IsLegalFlag (shape_mode shape) (with_row lines row) flag → HasLines window (with_row lines row) →
     kept'.offset ≡ kept.offset → kept'.previous_typical ≡ flag →
-    Decodes pull from to s answers more (events_after shape kept (with_row lines row) flag) d learned →
-    RowIs shape kept kept' s (answers ++ more) lines window learned d
+    Decodes (source_at pull from answers) s more (events_after shape kept (with_row lines row) flag) (decoder_state to d learned) →
+    RowIs (row_task shape kept s lines) (answers ++ more) (row_left kept' window) learned d
 row_is lie pull from to shape kept kept' s answers more lines row flag window d learned wide legal lines_are offset_is flag_is h =
     record {
       row = row;
@@ -192,8 +192,8 @@ not_begun : (b : Bool) → b ≡ false → b ≡ true → ⊥
 not_begun b e f = no_false (sym e ∙ f)
 
 pub stop_first : {S : Type 0} (pull : S → Pulled → S → Type 0) (from to : S) (shape : Shape) (kept kept' : Kept) (s : State) (learned' : List Estimate) (answers : List Pulled) (lines : Lines)
-    (window : Held) (place : RowPlace) (d : Decoder) (result : Result (Unit {0}) Stop) → IsErr result → HasAbove window lines → IsRowStart place → FirstStopped pull from to (shape_mode shape) s.place s.learned answers d learned' →
-    RowGoesOn pull from to shape kept kept' s answers lines window place learned' d result
+    (window : Held) (place : RowPlace) (d : Decoder) (result : Result (Unit {0}) Stop) → IsErr result → HasAbove window lines → IsRowStart place → FirstStopped (source_at pull from answers) (shape_mode shape) s (decoder_state to d learned') →
+    RowGoesOn (source_at pull from answers) (row_task shape kept s lines) (row_left kept' window) place (decoder_state to d learned') result
 stop_first pull from to shape kept kept' s learned' answers lines window place d (Ok x) err above start f = absurd (not_err x err)
 stop_first pull from to shape kept kept' s learned' answers lines window place d (Err e) err above start f =
     record {
@@ -214,8 +214,8 @@ stop_first pull from to shape kept kept' s learned' answers lines window place d
 
 pub stop_pixels : AnswersLie → PartForever → {S : Type 0} (pull : S → Pulled → S → Type 0) (from to : S) (shape : Shape) (kept kept' : Kept) (s : State) (learned' : List Estimate) (answers : List Pulled) (lines : Lines)
     (window : Held) (place : RowPlace) (d : Decoder) (result : Result (Unit {0}) Stop) → IsErr result → HasAbove window lines →
-    RowPaused pull from to (shape_mode shape) kept.offset (first_events (shape_mode shape) kept.previous_typical false) s answers lines shape.width place window.current d learned' →
-    RowGoesOn pull from to shape kept kept' s answers lines window place learned' d result
+    RowPaused (source_at pull from answers) (plain_row (shape_mode shape) kept.offset (first_events (shape_mode shape) kept.previous_typical false) s lines) shape.width (row_part place window.current to d learned') →
+    RowGoesOn (source_at pull from answers) (row_task shape kept s lines) (row_left kept' window) place (decoder_state to d learned') result
 stop_pixels lie apart pull from to shape kept kept' s learned' answers lines window place d (Ok x) err above f = absurd (not_err x err)
 stop_pixels lie apart pull from to shape kept kept' s learned' answers lines window place d (Err e) err above f =
     record {
@@ -240,21 +240,21 @@ held_none offset place current start =
     record { count = start.done; past_is = start.past ∙ sym (before_none [] (past_bits offset)); bytes = λ k h. absurd (omega arith) }
 
 pub begin_pixels : {S : Type 0} (pull : S → Pulled → S → Type 0) (from to : S) (shape : Shape) (kept : Kept) (place : RowPlace) (s : State) (learned' : List Estimate) (answers : List Pulled) (lines : Lines) (window : Held) (d : Decoder) (flag : Bool) →
-    IsRowStart place → (flag ≡ true → shape.typical ≡ true) → FirstDecoded pull from to (shape_mode shape) kept.previous_typical flag s.place s.learned answers d learned' →
-    RowBegins pull from to shape kept place s answers lines window flag learned' d
+    IsRowStart place → (flag ≡ true → shape.typical ≡ true) → FirstDecoded (source_at pull from answers) (shape_mode shape) kept.previous_typical flag s (decoder_state to d learned') →
+    RowBegins (source_at pull from answers) (row_task shape kept s lines) place window flag (decoder_state to d learned')
 begin_pixels {S} pull from to shape kept place s learned' answers lines window d flag start typical f =
     record {
-      plain = λ e. ([], held_none kept.offset place window.current start, so_far (subst (λ b. FirstDecoded pull from to (shape_mode shape) kept.previous_typical b s.place s.learned answers d learned') e f));
-      typical = λ e. (typical e, subst (λ b. FirstDecoded pull from to (shape_mode shape) kept.previous_typical b s.place s.learned answers d learned') e f);
+      plain = λ e. ([], held_none kept.offset place window.current start, so_far (subst (λ b. FirstDecoded (source_at pull from answers) (shape_mode shape) kept.previous_typical b s (decoder_state to d learned')) e f));
+      typical = λ e. (typical e, subst (λ b. FirstDecoded (source_at pull from answers) (shape_mode shape) kept.previous_typical b s (decoder_state to d learned')) e f);
     }
   where
-    so_far : FirstDecoded pull from to (shape_mode shape) kept.previous_typical false s.place s.learned answers d learned' →
-        PixelsSoFar pull from to (shape_mode shape) kept.offset (first_events (shape_mode shape) kept.previous_typical false) s answers lines [] place.past d learned'
+    so_far : FirstDecoded (source_at pull from answers) (shape_mode shape) kept.previous_typical false s (decoder_state to d learned') →
+        PixelsSoFar (source_at pull from answers) (plain_row (shape_mode shape) kept.offset (first_events (shape_mode shape) kept.previous_typical false) s lines) [] place.past (decoder_state to d learned')
     so_far g =
         record {
           past_is = start.past ∙ sym (before_none [] (past_bits kept.offset));
           more = g.more;
-          decodes = subst (λ es. Decodes pull from to s answers g.more es d learned') (sym (append-nil (first_events (shape_mode shape) kept.previous_typical false))) g.decodes;
+          decodes = subst (λ es. Decodes (source_at pull from answers) s g.more es (decoder_state to d learned')) (sym (append-nil (first_events (shape_mode shape) kept.previous_typical false))) g.decodes;
         }
 
 -- whether some of them are decoded or not
@@ -272,8 +272,8 @@ not_false false h = cc
 
 -- some of them are decoded
 pub begun_pixels : {S : Type 0} (pull : S → Pulled → S → Type 0) (from : S) (shape : Shape) (kept : Kept) (place : RowPlace) (s : State) (learned : List Estimate) (answers : List Pulled) (lines : Lines) (window : Held) (d : Decoder) →
-    has_stopped d ≡ false → StandsInPixels shape kept place s answers lines window learned d →
-    RowBegins pull from from shape kept place s answers lines window false learned d
+    has_stopped d ≡ false → StandsInPixels (row_task shape kept s lines) place answers window learned d →
+    RowBegins (source_at pull from answers) (row_task shape kept s lines) place window false (decoder_state from d learned)
 begun_pixels pull from shape kept place s learned answers lines window d going h =
     record {
       plain = λ _. (
@@ -300,8 +300,8 @@ begun_pixels pull from shape kept place s learned answers lines window d going h
 pub done_plain : AnswersLie → {S : Type 0} (pull : S → Pulled → S → Type 0) (from to : S) (shape : Shape) (kept kept' : Kept) (s : State) (learned : List Estimate) (answers : List Pulled) (lines : Lines) (current : List ℕ)
     (window : Held) (d : Decoder) → 1 ≤ shape.width → kept'.offset ≡ kept.offset → kept'.previous_typical ≡ false →
     ((row : List Bool) → length row ≡ shape.width → current ≡ packed_row row → HasLines window (with_row lines row)) →
-    RowPixels pull from to (shape_mode shape) kept.offset (first_events (shape_mode shape) kept.previous_typical false) s answers lines shape.width current d learned →
-    RowDecoded pull from to shape kept kept' s answers lines window learned d (Ok tt)
+    RowPixels (source_at pull from answers) (plain_row (shape_mode shape) kept.offset (first_events (shape_mode shape) kept.previous_typical false) s lines) shape.width current (decoder_state to d learned) →
+    RowDecoded (source_at pull from answers) (row_task shape kept s lines) (row_left kept' window) (decoder_state to d learned) (Ok tt)
 done_plain lie pull from to shape kept kept' s learned answers lines current window d some offset_is flag_is has r =
     record {
       more = r.more;
@@ -315,14 +315,14 @@ done_plain lie pull from to shape kept kept' s learned answers lines current win
 pub done_typical : AnswersLie → {S : Type 0} (pull : S → Pulled → S → Type 0) (from to : S) (shape : Shape) (kept kept' : Kept) (p : Place) (learned learned' : List Estimate) (answers : List Pulled) (lines : Lines)
     (window : Held) (d : Decoder) → shape.typical ≡ true → kept'.offset ≡ kept.offset → kept'.previous_typical ≡ true → length lines.above ≡ shape.width →
     HasLines window (with_row lines lines.above) →
-    FirstDecoded pull from to (shape_mode shape) kept.previous_typical true p learned answers d learned' →
-    RowDecoded pull from to shape kept kept' (record { place = p; learned = learned }) answers lines window learned' d (Ok tt)
+    FirstDecoded (source_at pull from answers) (shape_mode shape) kept.previous_typical true (state_of p learned) (decoder_state to d learned') →
+    RowDecoded (source_at pull from answers) (row_task shape kept (record { place = p; learned = learned }) lines) (row_left kept' window) (decoder_state to d learned') (Ok tt)
 done_typical lie {S} pull from to shape kept kept' p learned learned' answers lines window d typical offset_is flag_is wide has f =
     record {
       more = f.more;
       gives = f.decodes.gives;
       ok = row_is lie pull from to shape kept kept' (record { place = p; learned = learned }) answers f.more lines lines.above true window d learned' wide legal has offset_is flag_is
-          (subst (λ es. Decodes pull from to (record { place = p; learned = learned }) answers f.more es d learned') (sym (append-nil (first_events (shape_mode shape) kept.previous_typical true))) f.decodes);
+          (subst (λ es. Decodes (source_at pull from answers) (record { place = p; learned = learned }) f.more es (decoder_state to d learned')) (sym (append-nil (first_events (shape_mode shape) kept.previous_typical true))) f.decodes);
       stop = ((λ e. absurd (not_err tt e)), (λ e. absurd (some_first shape.typical typical (f.decodes.going e))));
       undecided = tt;
       stays = tt;
@@ -337,33 +337,33 @@ done_typical lie {S} pull from to shape kept kept' p learned learned' answers li
 
 -- a row that is decoded waits for nothing
 pub all_done : {S : Type 0} (pull : S → Pulled → S → Type 0) (from to : S) (shape : Shape) (kept kept' : Kept) (s : State) (answers : List Pulled) (lines : Lines) (window : Held) (place : RowPlace) (learned : List Estimate) (d : Decoder) →
-    RowDecoded pull from to shape kept kept' s answers lines window learned d (Ok tt) → RowGoesOn pull from to shape kept kept' s answers lines window place learned d (Ok tt)
+    RowDecoded (source_at pull from answers) (row_task shape kept s lines) (row_left kept' window) (decoder_state to d learned) (Ok tt) → RowGoesOn (source_at pull from answers) (row_task shape kept s lines) (row_left kept' window) place (decoder_state to d learned) (Ok tt)
 all_done pull from to shape kept kept' s answers lines window place learned d h = record { decoded = h; waits = tt }
 
 -- the same for equal states
 pub carried : {S : Type 0} {pull : S → Pulled → S → Type 0} {from : S} {shape : Shape} {kept kept' : Kept} {s : State} {answers : List Pulled} {lines : Lines} {result : Result (Unit {0}) Stop} {place : RowPlace}
     (width : ℕ) (above second : List ℕ) (to to' : S) (current current' : List ℕ) (learned learned' : List Estimate) (d d' : Decoder) →
     to' ≡ to → current' ≡ current → learned' ≡ learned → d' ≡ d →
-    RowGoesOn pull from to shape kept kept' s answers lines (record { width = width; current = current; above = above; second = second }) place learned d result →
-    RowGoesOn pull from to' shape kept kept' s answers lines (record { width = width; current = current'; above = above; second = second }) place learned' d' result
+    RowGoesOn (source_at pull from answers) (row_task shape kept s lines) (row_left kept' (record { width = width; current = current; above = above; second = second })) place (decoder_state to d learned) result →
+    RowGoesOn (source_at pull from answers) (row_task shape kept s lines) (row_left kept' (record { width = width; current = current'; above = above; second = second })) place (decoder_state to' d' learned') result
 carried {S} {pull} {from} {shape} {kept} {kept'} {s} {answers} {lines} {result} {place} width above second to to' current current' learned learned' d d' a b e f h =
-    subst (λ x. RowGoesOn pull from x shape kept kept' s answers lines (record { width = width; current = current'; above = above; second = second }) place learned' d' result) (sym a)
-    (subst (λ x. RowGoesOn pull from to shape kept kept' s answers lines (record { width = width; current = x; above = above; second = second }) place learned' d' result) (sym b)
-    (subst (λ x. RowGoesOn pull from to shape kept kept' s answers lines (record { width = width; current = current; above = above; second = second }) place x d' result) (sym e)
-    (subst (λ x. RowGoesOn pull from to shape kept kept' s answers lines (record { width = width; current = current; above = above; second = second }) place learned x result) (sym f) h)))
+    subst (λ x. RowGoesOn (source_at pull from answers) (row_task shape kept s lines) (row_left kept' (record { width = width; current = current'; above = above; second = second })) place (decoder_state x d' learned') result) (sym a)
+    (subst (λ x. RowGoesOn (source_at pull from answers) (row_task shape kept s lines) (row_left kept' (record { width = width; current = x; above = above; second = second })) place (decoder_state to d' learned') result) (sym b)
+    (subst (λ x. RowGoesOn (source_at pull from answers) (row_task shape kept s lines) (row_left kept' (record { width = width; current = current; above = above; second = second })) place (decoder_state to d' x) result) (sym e)
+    (subst (λ x. RowGoesOn (source_at pull from answers) (row_task shape kept s lines) (row_left kept' (record { width = width; current = current; above = above; second = second })) place (decoder_state to x learned) result) (sym f) h)))
 
 -- the same rows before, and the same after
 pub same_goes : {S : Type 0} {pull : S → Pulled → S → Type 0} {from to : S} {shape : Shape} {kept kept' : Kept} {place place' : RowPlace} {s : State} {answers : List Pulled} {lines : Lines}
     {learned learned' : List Estimate} {d d' : Decoder} {result : Result (Unit {0}) Stop} {v v' : Held} (w w' : Held) → v ≡ w → v' ≡ w' →
-    (StandsInRow shape kept place s answers lines w learned d → RowGoesOn pull from to shape kept kept' s answers lines w' place' learned' d' result) →
-    StandsInRow shape kept place s answers lines v learned d → RowGoesOn pull from to shape kept kept' s answers lines v' place' learned' d' result
+    (StandsInRow (row_task shape kept s lines) place answers w learned d → RowGoesOn (source_at pull from answers) (row_task shape kept s lines) (row_left kept' w') place' (decoder_state to d' learned') result) →
+    StandsInRow (row_task shape kept s lines) place answers v learned d → RowGoesOn (source_at pull from answers) (row_task shape kept s lines) (row_left kept' v') place' (decoder_state to d' learned') result
 same_goes {S} {pull} {from} {to} {shape} {kept} {kept'} {place} {place'} {s} {answers} {lines} {learned} {learned'} {d} {d'} {result} {v} {v'} w w' e f goes h =
-    subst (λ u. RowGoesOn pull from to shape kept kept' s answers lines u place' learned' d' result) (sym f)
-    (goes (subst (λ u. StandsInRow shape kept place s answers lines u learned d) e h))
+    subst (λ u. RowGoesOn (source_at pull from answers) (row_task shape kept s lines) (row_left kept' u) place' (decoder_state to d' learned') result) (sym f)
+    (goes (subst (λ u. StandsInRow (row_task shape kept s lines) place answers u learned d) e h))
 
 -- a row before which its source stood so
 pub fresh_row : (shape : Shape) (kept : Kept) (place : RowPlace) (p : Place) (learned : List Estimate) (answers : List Pulled) (lines : Lines) (w : Held) (d : Decoder) → IsRowStart place → DecoderIsAt d p answers → HasAbove w lines →
-    StandsInRow shape kept place (record { place = p; learned = learned }) answers lines w learned d
+    StandsInRow (row_task shape kept (record { place = p; learned = learned }) lines) place answers w learned d
 fresh_row shape kept place p learned answers lines w d start stands above =
     record {
       above = above;
@@ -377,7 +377,7 @@ above_lines w lines h = record { above_is = h.above_is; second_is = h.second_is;
 -- the source is asked again
 pub waits_again : (shape : Shape) (kept : Kept) (place : RowPlace) (s : State) (answers : List Pulled) (lines : Lines) (w : Held) (learned : List Estimate) (d d' : Decoder) →
     ((p : Place) (given : List Pulled) → DecoderIsAt d p given → DecoderIsAt d' p (before_fault given)) →
-    StandsInRow shape kept place s answers lines w learned d → StandsInRow shape kept place s (before_fault answers) lines w learned d'
+    StandsInRow (row_task shape kept s lines) place answers w learned d → StandsInRow (row_task shape kept s lines) place (before_fault answers) w learned d'
 waits_again shape kept place s answers lines w learned d d' again h =
     record {
       above = h.above;
@@ -395,12 +395,12 @@ waits_again shape kept place s answers lines w learned d d' again h =
 
 pub passes : {S : Type 0} (pull : S → Pulled → S → Type 0) (from to : S) (shape : Shape) (kept kept' : Kept) (s : State) (answers : List Pulled) (lines : Lines) (w : Held) (place place' : RowPlace) (learned : List Estimate) (d d' : Decoder) (result : Result (Unit {0}) Stop) →
     (IsErr result → place' ≡ place) → (has_stopped d ≡ false → d' ≡ d) → (IsTrue (has_stopped d) ↔ IsErr result) → ((p : Place) (given : List Pulled) → DecoderIsAt d p given → DecoderIsAt d' p (before_fault given)) →
-    RowGoesOn pull from to shape kept kept' s answers lines w place learned d result → RowPasses pull from to shape kept kept' s answers lines w place' learned d' result
+    RowGoesOn (source_at pull from answers) (row_task shape kept s lines) (row_left kept' w) place (decoder_state to d learned) result → RowPasses (source_at pull from answers) (row_task shape kept s lines) (row_left kept' w) place' (decoder_state to d' learned) result
 passes pull from to shape kept kept' s answers lines w place place' learned d d' (Ok x) there same stops again h =
     record {
       more = h.decoded.more;
       gives = h.decoded.gives;
-      ok = subst (RowIs shape kept kept' s (answers ++ h.decoded.more) lines w learned) (sym (same (going (has_stopped d) (λ t. not_err x (stops.0 t))))) h.decoded.ok;
+      ok = subst (RowIs (row_task shape kept s lines) (answers ++ h.decoded.more) (row_left kept' w) learned) (sym (same (going (has_stopped d) (λ t. not_err x (stops.0 t))))) h.decoded.ok;
       stop = h.decoded.stop;
       undecided = tt;
       closed = tt;
@@ -418,6 +418,6 @@ passes pull from to shape kept kept' s answers lines w place place' learned d d'
       stop = h.decoded.stop;
       undecided = h.decoded.undecided;
       closed = (h.decoded.stays.1.closed, h.decoded.stays.1.bytes);
-      waits = subst (λ z. StandsInRow shape kept z s (before_fault (answers ++ h.decoded.more)) lines w learned d') (sym (there (is_err e)))
+      waits = subst (λ z. StandsInRow (row_task shape kept s lines) z (before_fault (answers ++ h.decoded.more)) w learned d') (sym (there (is_err e)))
           (waits_again shape kept place s (answers ++ h.decoded.more) lines w learned d d' again h.waits);
     }

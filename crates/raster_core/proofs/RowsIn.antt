@@ -8,7 +8,7 @@ use Rattle.raster_core.specs.Lines.{Lines, binary, two_line, three_line}
 use Rattle.raster_core.specs.Machine.Registers.{bit, before, past_bits, AreAt}
 use Rattle.raster_core.specs.Machine.Registers.{ByteAt}
 use Rattle.raster_core.specs.Machine.Bytes.{bits, byte_lines, events_from, byte_events}
-use Rattle.raster_core.specs.Machine.Rows.{row_in, lines_in, RemembersOnly, StandsAt, StopsAt, IsByte, AreUniform, PassesRun}
+use Rattle.raster_core.specs.Machine.Rows.{row_in, lines_in, RemembersOnly, StandsAt, StopsAt, IsByte, AreUniform, PassesRun, byte_range}
 use Rattle.raster_core.specs.Machine.Uniform.{filled, uniform_event, AreFilled}
 use Rattle.qm_core.specs.declared.sink.CodeSink.{Ghosts}
 use Rattle.qm_core.specs.declared.coder.Coder.{Coder}
@@ -209,7 +209,7 @@ byte_on b t u lines i n k small is template few size =
 
 -- no byte at all
 pub no_run : {S : Type 0} (sink : Ghosts S) (a : Around) (rows : Rows) (i : ℕ) (c : Coder S) → 8 * i < rows.width → StandsAt a a.template (lines_in rows) i →
-    ((colour : Bool) → RemembersOnly colour a → StopsAt colour rows i c) → PassesRun sink a rows i 0 c c
+    ((colour : Bool) → RemembersOnly colour a → StopsAt colour rows i c) → PassesRun sink a (byte_range rows i 0) c c
 no_run sink a rows i c inside stands stops =
     let same : i ≡ i + 0 = omega arith in
     record {

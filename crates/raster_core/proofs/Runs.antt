@@ -4,8 +4,8 @@ use Rattle.std.specs.Prelude.{Result, IsErr}
 use Rattle.std.proofs.lemmas.List.{append-nil, length-append}
 use Rattle.qm_core.specs.Place.{State, Event, Estimate, step, after}
 use Rattle.qm_core.specs.Code.{wanted_bytes}
-use Rattle.qm_core.specs.Source.{bytes_of, heard_of}
-use Rattle.qm_core.specs.Decoder.{DecoderIsAt, Next}
+use Rattle.qm_core.specs.Source.{bytes_of, heard_of, source_at}
+use Rattle.qm_core.specs.Decoder.{DecoderIsAt, Next, decoder_state}
 use Rattle.qm_core.specs.declared.source.Pulled.{Pulled}
 use Rattle.qm_core.specs.declared.source.Pulled.TheVariants.{Byte, End, Fault}
 use Rattle.qm_core.specs.declared.source.Heard.{Heard}
@@ -72,25 +72,25 @@ no_err : (pixel : Bool) → IsErr {T = Bool} {E = Stop} (Ok pixel) → ⊥
 no_err pixel h = cc
 
 pub decodes_none : {S : Type 0} (pull : S → Pulled → S → Type 0) (from : S) (s : State) (answers : List Pulled) (d : Decoder) →
-    DecoderIsAt d s.place answers → Decodes pull from from s answers [] [] d s.learned
+    DecoderIsAt d s.place answers → Decodes (source_at pull from answers) s [] [] (decoder_state from d s.learned)
 decodes_none pull from s answers d h =
     record { gives = refl; stands = rw append-nil h; taught = refl; enough = λ _. tt; going = λ _. refl }
 
 pub decodes_next : {S : Type 0} (pull : S → Pulled → S → Type 0) (from mid to : S) (s : State) (answers more : List Pulled) (events : List Event)
     (d d' : Decoder) (learned learned' : List Estimate) (cx : ℕ) (result : Result Bool Stop) (pixel : Bool) → result ≡ Ok pixel →
-    Decodes pull from mid s answers more events d learned →
-    Next pull mid to (record { place = (after s events).place; learned = learned }) (answers ++ more) cx d' learned' result →
-    (more' : List Pulled) × Decodes pull from to s answers more' (events ++ record { context = cx; pixel = pixel } ∷ []) d' learned'
+    Decodes (source_at pull from answers) s more events (decoder_state mid d learned) →
+    Next (source_at pull mid (answers ++ more)) (record { place = (after s events).place; learned = learned }) cx (decoder_state to d' learned') result →
+    (more' : List Pulled) × Decodes (source_at pull from answers) s more' (events ++ record { context = cx; pixel = pixel } ∷ []) (decoder_state to d' learned')
 decodes_next {S} pull from mid to s answers more events d d' learned learned' cx result pixel is h n =
-    let at : Next pull mid to (after s events) (answers ++ more) cx d' learned' (Ok pixel) =
-    subst (λ r. Next pull mid to (after s events) (answers ++ more) cx d' learned' r) is
-    (subst (λ l. Next pull mid to (record { place = (after s events).place; learned = l }) (answers ++ more) cx d' learned' result) h.taught n) in
+    let at : Next (source_at pull mid (answers ++ more)) (after s events) cx (decoder_state to d' learned') (Ok pixel) =
+    subst (λ r. Next (source_at pull mid (answers ++ more)) (after s events) cx (decoder_state to d' learned') r) is
+    (subst (λ l. Next (source_at pull mid (answers ++ more)) (record { place = (after s events).place; learned = l }) cx (decoder_state to d' learned') result) h.taught n) in
     let last : after s (events ++ record { context = cx; pixel = pixel } ∷ []) ≡ step (after s events) cx pixel = after_append s events (record { context = cx; pixel = pixel } ∷ []) in
     (more ++ at.more, parts at last)
   where
-    parts : (at : Next pull mid to (after s events) (answers ++ more) cx d' learned' (Ok pixel)) →
+    parts : (at : Next (source_at pull mid (answers ++ more)) (after s events) cx (decoder_state to d' learned') (Ok pixel)) →
         after s (events ++ record { context = cx; pixel = pixel } ∷ []) ≡ step (after s events) cx pixel →
-        Decodes pull from to s answers (more ++ at.more) (events ++ record { context = cx; pixel = pixel } ∷ []) d' learned'
+        Decodes (source_at pull from answers) s (more ++ at.more) (events ++ record { context = cx; pixel = pixel } ∷ []) (decoder_state to d' learned')
     parts at last =
         let assoc : (answers ++ more) ++ at.more ≡ answers ++ (more ++ at.more) = append_assoc answers more at.more in
         record {
@@ -113,16 +113,16 @@ decodes_next {S} pull from mid to s answers more events d d' learned learned' cx
 
 pub decodes_stop : {S : Type 0} (pull : S → Pulled → S → Type 0) (from mid to : S) (s : State) (answers more : List Pulled) (events : List Event)
     (d d' : Decoder) (learned learned' : List Estimate) (cx : ℕ) (result : Result Bool Stop) (fault : Stop) → result ≡ Err fault →
-    Decodes pull from mid s answers more events d learned →
-    Next pull mid to (record { place = (after s events).place; learned = learned }) (answers ++ more) cx d' learned' result →
-    (more' : List Pulled) × Stops pull from to s answers more' events d' learned'
+    Decodes (source_at pull from answers) s more events (decoder_state mid d learned) →
+    Next (source_at pull mid (answers ++ more)) (record { place = (after s events).place; learned = learned }) cx (decoder_state to d' learned') result →
+    (more' : List Pulled) × Stops (source_at pull from answers) s more' events (decoder_state to d' learned')
 decodes_stop {S} pull from mid to s answers more events d d' learned learned' cx result fault is h n =
-    let at : Next pull mid to (after s events) (answers ++ more) cx d' learned' (Err fault) =
-    subst (λ r. Next pull mid to (after s events) (answers ++ more) cx d' learned' r) is
-    (subst (λ l. Next pull mid to (record { place = (after s events).place; learned = l }) (answers ++ more) cx d' learned' result) h.taught n) in
+    let at : Next (source_at pull mid (answers ++ more)) (after s events) cx (decoder_state to d' learned') (Err fault) =
+    subst (λ r. Next (source_at pull mid (answers ++ more)) (after s events) cx (decoder_state to d' learned') r) is
+    (subst (λ l. Next (source_at pull mid (answers ++ more)) (record { place = (after s events).place; learned = l }) cx (decoder_state to d' learned') result) h.taught n) in
     (more ++ at.more, parts at)
   where
-    parts : (at : Next pull mid to (after s events) (answers ++ more) cx d' learned' (Err fault)) → Stops pull from to s answers (more ++ at.more) events d' learned'
+    parts : (at : Next (source_at pull mid (answers ++ more)) (after s events) cx (decoder_state to d' learned') (Err fault)) → Stops (source_at pull from answers) s (more ++ at.more) events (decoder_state to d' learned')
     parts at =
         let assoc : (answers ++ more) ++ at.more ≡ answers ++ (more ++ at.more) = append_assoc answers more at.more in
         let stopped : heard_of ((answers ++ more) ++ at.more) ≡ Stopped = at.stop.0 refl in

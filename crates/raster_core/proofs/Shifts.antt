@@ -8,7 +8,7 @@ use Rattle.std.proofs.lemmas.List.Sums.{sum_by-cons, sum_by-append}
 use Rattle.raster_core.proofs.Choosing.{le_cases}
 use Rattle.qm_core.specs.Place.{same}
 use Rattle.raster_core.specs.Lines.{numbers_from}
-use Rattle.raster_core.specs.Machine.Words.{word, agreed_from}
+use Rattle.raster_core.specs.Machine.Words.{word, agreed_from, pixels_from}
 use Rattle.raster_core.specs.Machine.Registers.{bit}
 
 pub order : (a b : ℕ) → (a < b) ⊎ (b ≤ a)
@@ -224,7 +224,7 @@ pub count_cat : (f : ℕ → Bool) (a n k : ℕ) → count_by f (numbers_from a 
 count_cat f a n k = ap (count_by f) (numbers_cat a n k) ∙ sum_by-append (λ x. cond (f x) 1 0) (numbers_from a n) (numbers_from (a + n) k)
 
 agreed_word_n : (p q m : ℕ → Bool) (a b c n : ℕ) →
-    count_ones (bit_and (word m c n) (2 ^ n - 1 - bit_xor (word p a n) (word q b n))) ≡ agreed_from p q m a b c n
+    count_ones (bit_and (word m c n) (2 ^ n - 1 - bit_xor (word p a n) (word q b n))) ≡ agreed_from (pixels_from p a) (pixels_from q b) (pixels_from m c) n
 unfolding agreed_from
 agreed_word_n p q m a b c n =
     ap (λ x. count_ones (bit_and (word m c n) (2 ^ n - 1 - x))) (word_xor p q a b n)
@@ -240,7 +240,7 @@ agreed_word_n p q m a b c n =
         ∙ ap (λ k. m (c + i) && same (p (a + k)) (q (b + k))) (start i)
 
 pub agreed_word_is : (p q m : ℕ → Bool) (a b c : ℕ) →
-    count_ones (bit_and (word m c 64) (2 ^ 64 - 1 - bit_xor (word p a 64) (word q b 64))) ≡ agreed_from p q m a b c 64
+    count_ones (bit_and (word m c 64) (2 ^ 64 - 1 - bit_xor (word p a 64) (word q b 64))) ≡ agreed_from (pixels_from p a) (pixels_from q b) (pixels_from m c) 64
 agreed_word_is p q m a b c = agreed_word_n p q m a b c 64
 
 -- ---- a word's left neighbour moves in, a pixel at a time
@@ -326,7 +326,7 @@ same_self true = refl
 same_self false = refl
 
 even_n : (p m : ℕ → Bool) (place c lag n : ℕ) → ((i : ℕ) → i < 192 → p (place + i) ≡ p place) → lag ≤ 127 → n ≤ 64 →
-    count_ones (word m c n) ≡ agreed_from p p m (place + 128) (place + 128 - lag) c n
+    count_ones (word m c n) ≡ agreed_from (pixels_from p (place + 128)) (pixels_from p (place + 128 - lag)) (pixels_from m c) n
 unfolding agreed_from
 even_n p m place c lag n h high le =
     word_ones m c n
@@ -355,5 +355,5 @@ even_n p m place c lag n h high le =
         ∙ kept (m (c + (0 + i))) ∙ ap (λ k. m (c + k)) (start i)
 
 pub even_agreed : (p m : ℕ → Bool) (place c lag : ℕ) → ((i : ℕ) → i < 192 → p (place + i) ≡ p place) → lag ≤ 127 →
-    count_ones (word m c 64) ≡ agreed_from p p m (place + 128) (place + 128 - lag) c 64
+    count_ones (word m c 64) ≡ agreed_from (pixels_from p (place + 128)) (pixels_from p (place + 128 - lag)) (pixels_from m c) 64
 even_agreed p m place c lag h high = even_n p m place c lag 64 h high (lit≤ tt)

@@ -5,9 +5,9 @@ use Rattle.std.proofs.lemmas.Nat.{pow_pos}
 use Rattle.std.proofs.lemmas.List.{replicate-append-replicate, append-nil, length-append, length-replicate, get_or-append-add, get_or-replicate}
 use Rattle.qm_core.specs.Place.{Place, State, Event, Estimate, step, after}
 use Rattle.qm_core.specs.Code.{wanted_bytes}
-use Rattle.qm_core.specs.Source.{bytes_of, heard_of, is_stopped}
+use Rattle.qm_core.specs.Source.{bytes_of, heard_of, is_stopped, source_at}
 use Rattle.qm_core.specs.Skipping.{IsRun}
-use Rattle.qm_core.specs.Decoder.{DecoderIsAt, has_stopped}
+use Rattle.qm_core.specs.Decoder.{DecoderIsAt, has_stopped, decoder_state}
 use Rattle.qm_core.specs.declared.source.Pulled.{Pulled}
 use Rattle.qm_core.specs.declared.source.Heard.TheVariants.{More, Stopped}
 use Rattle.qm_core.specs.declared.decoder.Decoder.{Decoder}
@@ -15,7 +15,7 @@ use Rattle.raster_core.specs.Raster.{pixel_at}
 use Rattle.raster_core.specs.Lines.{Lines, Mode, context_at, pixel_events}
 use Rattle.raster_core.specs.Machine.Registers.{bit, before, past_bits}
 use Rattle.raster_core.specs.Enough.{AreEnough}
-use Rattle.raster_core.specs.Machine.Decoded.{with_row, PixelsSoFar, Along, SkipsAlong}
+use Rattle.raster_core.specs.Machine.Decoded.{with_row, PixelsSoFar, Along, SkipsAlong, byte_around, plain_row}
 use Rattle.raster_core.specs.Machine.Uniform.{uniform_context, uniform_event, StaysUniform}
 use Rattle.raster_core.proofs.Before.{before_suc, before_zero}
 use Rattle.raster_core.proofs.Causal.{context_front, before_front, pixel_events_more}
@@ -90,14 +90,14 @@ not_stopped d p answers h going stopped =
 -- n pixels in one step
 pub decoded_run : {S : Type 0} (pull : S → Pulled → S → Type 0) (from old : S) (mode : Mode) (offset : ℕ) (first : List Event) (s : State) (answers : List Pulled) (lines : Lines) (done : List Bool)
     (n past past' : ℕ) (d d' : Decoder) (learned : List Estimate) (c : Bool) →
-    PixelsSoFar pull from old mode offset first s answers lines done past d learned →
+    PixelsSoFar (source_at pull from answers) (plain_row mode offset first s lines) done past (decoder_state old d learned) →
     StaysUniform mode (with_row lines (done ++ replicate n c)) offset c (length done) n → past' ≡ before (done ++ replicate n c) (length (done ++ replicate n c)) (past_bits offset) →
     has_stopped d ≡ false →
     ((p : Place) (given : List Pulled) → DecoderIsAt d p given →
     IsRun (record { place = p; learned = learned }) (uniform_event c) n
     × DecoderIsAt d' (after (record { place = p; learned = learned }) (replicate n (uniform_event c))).place given
     × (heard_of given ≡ More → wanted_bytes p.doublings ≤ length (bytes_of given))) →
-    PixelsSoFar pull from old mode offset first s answers lines (done ++ replicate n c) past' d' learned
+    PixelsSoFar (source_at pull from answers) (plain_row mode offset first s lines) (done ++ replicate n c) past' (decoder_state old d' learned)
 decoded_run {S} pull from old mode offset first s answers lines done n past past' d d' learned c h stays past_is going decoded =
     let es = first ++ pixel_events mode (with_row lines done) offset in
     let given = answers ++ h.more in
@@ -123,8 +123,8 @@ decoded_run {S} pull from old mode offset first s answers lines done n past past
     }
 
 pub skipped_along : {S : Type 0} (pull : S → Pulled → S → Type 0) (old : S) (mode : Mode) (offset second above byte past past' : ℕ) (d d' : Decoder) (learned : List Estimate) →
-    SkipsAlong mode offset second above byte past d learned d' → past' ≡ past % 2 ^ (past_bits offset - 8) * 256 + byte →
-    Along pull old old mode offset second above past d learned 8 past' d' learned
+    SkipsAlong (byte_around mode offset second above past) byte d learned d' → past' ≡ past % 2 ^ (past_bits offset - 8) * 256 + byte →
+    Along pull (byte_around mode offset second above past) (decoder_state old d learned) 8 past' (decoder_state old d' learned)
 skipped_along {S} pull old mode offset second above byte past past' d d' learned k past_is = λ from first s answers lines done so_far s2 a2.
     let row = done ++ replicate 8 k.colour in
     let near : past ≡ before row (length done) (past_bits offset) = so_far.past_is ∙ sym (before_front done (replicate 8 k.colour) (length done) (past_bits offset) (omega arith)) in

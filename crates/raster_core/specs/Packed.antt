@@ -18,6 +18,9 @@ pub record Held : Type 0 where
   pub above : List ℕ
   pub second : List ℕ
 
+abbrev pub held_rows : ℕ → List ℕ → List ℕ → List ℕ → Held
+held_rows width current above second = record { width = width; current = current; above = above; second = second }
+
 -- the row at a place of bytes that are rows of this length
 abbrev pub row_placed : ℕ → List ℕ → ℕ → List ℕ
 row_placed long bytes place = take long (drop (place * long) bytes)

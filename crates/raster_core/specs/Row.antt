@@ -1,7 +1,8 @@
 -- What a row leaves that was encoded or decoded.
 use Rattle.std.specs.Prelude.{ℕ, ◌≡◌, ◌/◌, ◌%◌, ◌^◌, List, ◌++◌, Result, OnOk, OnErr, ◌↔◌, Bool, true, false, [], ◌∷◌, length, replicate, ◌≤◌, IsErr, IsTrue, if◌then◌else◌}
 use Rattle.qm_core.specs.Place.{State, Event, Estimate, Place, IsPlace, after}
-use Rattle.qm_core.specs.declared.encoder.Encoder.{Encoder}
+use Rattle.qm_core.specs.Encoder.{EncoderState}
+use Rattle.qm_core.specs.Sink.{SinkAt}
 use Rattle.qm_core.specs.declared.encoder.CoderFault.{CoderFault}
 use Rattle.raster_core.specs.Lines.{Lines, row_events, pixel_events, may_be_typical, Mode, pseudo_event, IsLegalFlag}
 use Rattle.raster_core.specs.Window.{shape_mode}
@@ -11,15 +12,15 @@ use Rattle.raster_core.specs.declared.shape.Shape.{Shape}
 use Rattle.raster_core.specs.declared.shape.Kept.{Kept}
 use Rattle.qm_core.specs.Code.{Lies, IsBytes, wanted_bytes}
 use Rattle.qm_core.specs.Skipping.{IsRun, CanSkip}
-use Rattle.qm_core.specs.Source.{bytes_of, heard_of, IsClosed, Agrees, Gives, before_fault}
-use Rattle.qm_core.specs.Decoder.{DecoderIsAt}
+use Rattle.qm_core.specs.Source.{bytes_of, heard_of, IsClosed, Agrees, Gives, SourceAt, before_fault, source_at}
+use Rattle.qm_core.specs.Decoder.{DecoderIsAt, DecoderState}
 use Rattle.qm_core.specs.declared.source.Pulled.{Pulled}
 use Rattle.qm_core.specs.declared.source.Heard.TheVariants.{More, Stopped}
 use Rattle.qm_core.specs.declared.decoder.Decoder.{Decoder}
 use Rattle.qm_core.specs.declared.decoder.Stop.{Stop}
 use Rattle.raster_core.specs.Packed.{Held, HasLines, packed_row}
 use Rattle.raster_core.specs.Enough.{AreEnough}
-use Rattle.raster_core.specs.Machine.Decoded.{with_row, PixelsSoFar, PixelsHeld}
+use Rattle.raster_core.specs.Machine.Decoded.{PixelsHeld, PixelsSoFar, PlainRow, plain_row, with_row}
 use Rattle.raster_core.specs.declared.place.RowPlace.{RowPlace}
 use Rattle.raster_core.specs.declared.place.RowPlaceNumbers.{RowPlaceNumbers}
 
@@ -27,54 +28,72 @@ use Rattle.raster_core.specs.declared.place.RowPlaceNumbers.{RowPlaceNumbers}
 abbrev pub canonical_events : Shape → Kept → Lines → List Event
 canonical_events shape kept lines = row_events (shape_mode shape) lines kept.offset kept.previous_typical (may_be_typical (shape_mode shape) lines)
 
-pub record RowCoded {S : Type 0} (took : S → ℕ → S → Type 0) (from to : S) (shape : Shape) (kept kept' : Kept) (s : State) (pushed : List ℕ) (lines : Lines)
-    (e : Encoder) (learned : List Estimate) : Type 0 where
-  pub encodes : Encodes took from to s pushed (canonical_events shape kept lines) e learned
-  pub offset_is : kept'.offset ≡ kept.offset
-  pub flag_is : kept'.previous_typical ≡ may_be_typical (shape_mode shape) lines
+-- What a row is coded or decoded with: its shape, what is kept from the row before it, the state before it, and the lines.
+pub record RowTask : Type 0 where
+  pub shape : Shape
+  pub kept : Kept
+  pub state : State
+  pub lines : Lines
+
+abbrev pub row_task : Shape → Kept → State → Lines → RowTask
+row_task shape kept state lines = record { shape = shape; kept = kept; state = state; lines = lines }
+
+-- A row was coded.
+pub record RowCoded {S : Type 0} (old : SinkAt S) (task : RowTask) (kept' : Kept) (new : EncoderState S) : Type 0 where
+  pub encodes : Encodes old task.state (canonical_events task.shape task.kept task.lines) new
+  pub offset_is : kept'.offset ≡ task.kept.offset
+  pub flag_is : kept'.previous_typical ≡ may_be_typical (shape_mode task.shape) task.lines
 
 -- What a call of `encode_row` leaves, for an encoder at a state with these bytes pushed, and a window with these lines.
-pub record RowEncoded {S : Type 0} (took : S → ℕ → S → Type 0) (refused : S → S → Type 0) (from to : S) (shape : Shape) (kept kept' : Kept) (s : State) (pushed : List ℕ) (lines : Lines)
-    (e : Encoder) (learned : List Estimate) (result : Result (Unit {0}) CoderFault) : Type 0 where
-  pub ok : OnOk result (RowCoded took from to shape kept kept' s pushed lines e learned)
-  pub err : OnErr result (FailsIn took refused from to s pushed (canonical_events shape kept lines))
+pub record RowEncoded {S : Type 0} (old : SinkAt S) (task : RowTask) (kept' : Kept) (new : EncoderState S) (result : Result (Unit {0}) CoderFault) : Type 0 where
+  pub ok : OnOk result (RowCoded old task kept' new)
+  pub err : OnErr result (FailsIn old task.state (canonical_events task.shape task.kept task.lines) new.out)
 
 -- what is coded before a row's pixels
 abbrev pub first_events : Mode → Bool → Bool → List Event
 first_events mode previous flag = if mode.typical then pseudo_event mode previous flag ∷ [] else []
 
 -- what comes before a row's pixels was decoded
-pub record FirstDecoded {S : Type 0} (pull : S → Pulled → S → Type 0) (old new : S) (mode : Mode) (previous flag : Bool) (p : Place) (learned : List Estimate)
-    (answers : List Pulled) (d' : Decoder) (learned' : List Estimate) : Type 0 where
+pub record FirstDecoded {S : Type 0} (old : SourceAt S) (mode : Mode) (previous flag : Bool) (s : State) (new : DecoderState S) : Type 0 where
   pub more : List Pulled
-  pub decodes : Decodes pull old new (record { place = p; learned = learned }) answers more (first_events mode previous flag) d' learned'
+  pub decodes : Decodes old s more (first_events mode previous flag) new
 
 -- the source stopped there
-pub record FirstStopped {S : Type 0} (pull : S → Pulled → S → Type 0) (old new : S) (mode : Mode) (p : Place) (learned : List Estimate)
-    (answers : List Pulled) (d' : Decoder) (learned' : List Estimate) : Type 0 where
+pub record FirstStopped {S : Type 0} (old : SourceAt S) (mode : Mode) (s : State) (new : DecoderState S) : Type 0 where
   pub more : List Pulled
-  pub stops : Stops pull old new (record { place = p; learned = learned }) answers more [] d' learned'
+  pub stops : Stops old s more [] new
   pub typical : IsTrue mode.typical
 
 -- what a row's events are, for a coder that keeps this
 abbrev pub events_after : Shape → Kept → Lines → Bool → List Event
 events_after shape kept lines flag = row_events (shape_mode shape) lines kept.offset kept.previous_typical flag
 
+-- What a decoded row leaves: what is kept for the row after it, and the rows of the window.
+pub record RowLeft : Type 0 where
+  pub kept : Kept
+  pub window : Held
+
+abbrev pub row_left : Kept → Held → RowLeft
+row_left kept window = record { kept = kept; window = window }
+
+-- what a row's events are, with these pixels and this flag
+abbrev pub task_events : RowTask → List Bool → Bool → List Event
+task_events task row flag = events_after task.shape task.kept (with_row task.lines row) flag
+
 -- The row is decoded: with a legal flag its events keep the code inside, however the code goes on.
-pub record RowIs (shape : Shape) (kept kept' : Kept) (s : State) (answers : List Pulled) (lines : Lines) (window : Held)
-    (learned : List Estimate) (d : Decoder) : Type 0 where
+pub record RowIs (task : RowTask) (answers : List Pulled) (left : RowLeft) (learned : List Estimate) (d : Decoder) : Type 0 where
   pub row : List Bool
   pub flag : Bool
-  pub wide : length row ≡ shape.width
-  pub legal : IsLegalFlag (shape_mode shape) (with_row lines row) flag
-  pub inside : (c : List ℕ) → Agrees answers c → Lies c (after s (events_after shape kept (with_row lines row) flag)).place
-  pub lines_are : HasLines window (with_row lines row)
-  pub offset_is : kept'.offset ≡ kept.offset
-  pub flag_is : kept'.previous_typical ≡ flag
-  pub stands : DecoderIsAt d (after s (events_after shape kept (with_row lines row) flag)).place answers
-  pub taught : learned ≡ (after s (events_after shape kept (with_row lines row) flag)).learned
+  pub wide : length row ≡ task.shape.width
+  pub legal : IsLegalFlag (shape_mode task.shape) (with_row task.lines row) flag
+  pub inside : (c : List ℕ) → Agrees answers c → Lies c (after task.state (task_events task row flag)).place
+  pub lines_are : HasLines left.window (with_row task.lines row)
+  pub offset_is : left.kept.offset ≡ task.kept.offset
+  pub flag_is : left.kept.previous_typical ≡ flag
+  pub stands : DecoderIsAt d (after task.state (task_events task row flag)).place answers
+  pub taught : learned ≡ (after task.state (task_events task row flag)).learned
   -- where the code still goes on, the bytes that came were enough for each of the row's events
-  pub enough : heard_of answers ≡ More → AreEnough (length (bytes_of answers)) s (events_after shape kept (with_row lines row) flag)
+  pub enough : heard_of answers ≡ More → AreEnough (length (bytes_of answers)) task.state (task_events task row flag)
 
 -- no row's events are all decided by the bytes that came
 abbrev pub IsRowUndecided : Shape → Kept → State → List Pulled → Lines → Type 0
@@ -88,16 +107,15 @@ abbrev pub StaysStopped : Decoder → List Pulled → Type 0
 StaysStopped d answers = (p : Place) × DecoderIsAt d p answers
 
 -- What a call of `decode_row` leaves, for a decoder at a state whose source has answered so, in a window with these lines.
-pub record RowDecoded {S : Type 0} (pull : S → Pulled → S → Type 0) (from to : S) (shape : Shape) (kept kept' : Kept)
-    (s : State) (answers : List Pulled) (lines : Lines) (window : Held) (learned : List Estimate) (d : Decoder) (result : Result (Unit {0}) Stop) : Type 0 where
+pub record RowDecoded {S : Type 0} (old : SourceAt S) (task : RowTask) (left : RowLeft) (new : DecoderState S) (result : Result (Unit {0}) Stop) : Type 0 where
   -- what the source answered in this call
   pub more : List Pulled
-  pub gives : Gives pull from more to
-  pub ok : OnOk result (RowIs shape kept kept' s (answers ++ more) lines window learned d)
+  pub gives : Gives old.pull old.from more new.source
+  pub ok : OnOk result (RowIs task (old.answers ++ more) left new.learned new.decoder)
   -- it stops where the source has
-  pub stop : IsErr result ↔ (heard_of (answers ++ more) ≡ Stopped)
-  pub undecided : OnErr result (IsPlace s.place → IsRowUndecided shape kept s (answers ++ more) lines)
-  pub stays : OnErr result (StaysStopped d (answers ++ more))
+  pub stop : IsErr result ↔ (heard_of (old.answers ++ more) ≡ Stopped)
+  pub undecided : OnErr result (IsPlace task.state.place → IsRowUndecided task.shape task.kept task.state (old.answers ++ more) task.lines)
+  pub stays : OnErr result (StaysStopped new.decoder (old.answers ++ more))
 
 -- ---- typical rows, several at once
 
@@ -148,15 +166,19 @@ abbrev pub plain_events_of : Shape → Kept → Lines → List Bool → List Eve
 plain_events_of shape kept lines done =
     first_events (shape_mode shape) kept.previous_typical false ++ pixel_events (shape_mode shape) (with_row lines done) kept.offset
 
+-- the row, if it is plain
+abbrev pub plain_row_of : RowTask → PlainRow
+plain_row_of task =
+    plain_row (shape_mode task.shape) task.kept.offset (first_events (shape_mode task.shape) task.kept.previous_typical false) task.state task.lines
+
 -- Pixels of a plain row are decoded, for a decoder that was at this state before the row: its source has answered so
 -- since its code began, and that was enough for them.
-pub record StandsInPixels (shape : Shape) (kept : Kept) (place : RowPlace) (s : State) (answers : List Pulled) (lines : Lines) (window : Held)
-    (learned : List Estimate) (d : Decoder) : Type 0 where
+pub record StandsInPixels (task : RowTask) (place : RowPlace) (answers : List Pulled) (window : Held) (learned : List Estimate) (d : Decoder) : Type 0 where
   pub done : List Bool
-  pub held : PixelsHeld kept.offset place window.current done
-  pub stands : DecoderIsAt d (after s (plain_events_of shape kept lines done)).place answers
-  pub taught : learned ≡ (after s (plain_events_of shape kept lines done)).learned
-  pub enough : AreEnough (length (bytes_of answers)) s (plain_events_of shape kept lines done)
+  pub held : PixelsHeld task.kept.offset place window.current done
+  pub stands : DecoderIsAt d (after task.state (plain_events_of task.shape task.kept task.lines done)).place answers
+  pub taught : learned ≡ (after task.state (plain_events_of task.shape task.kept task.lines done)).learned
+  pub enough : AreEnough (length (bytes_of answers)) task.state (plain_events_of task.shape task.kept task.lines done)
 
 -- nothing of a row is decoded
 pub record StandsBeforeRow (place : RowPlace) (s : State) (answers : List Pulled) (learned : List Estimate) (d : Decoder) : Type 0 where
@@ -165,35 +187,37 @@ pub record StandsBeforeRow (place : RowPlace) (s : State) (answers : List Pulled
   pub taught : learned ≡ s.learned
 
 -- A row has come as far as its place says.
-pub record StandsInRow (shape : Shape) (kept : Kept) (place : RowPlace) (s : State) (answers : List Pulled) (lines : Lines) (window : Held)
-    (learned : List Estimate) (d : Decoder) : Type 0 where
-  pub above : HasAbove window lines
-  pub before_it : place.is_begun ≡ false → StandsBeforeRow place s answers learned d
-  pub in_it : place.is_begun ≡ true → StandsInPixels shape kept place s answers lines window learned d
+pub record StandsInRow (task : RowTask) (place : RowPlace) (answers : List Pulled) (window : Held) (learned : List Estimate) (d : Decoder) : Type 0 where
+  pub above : HasAbove window task.lines
+  pub before_it : place.is_begun ≡ false → StandsBeforeRow place task.state answers learned d
+  pub in_it : place.is_begun ≡ true → StandsInPixels task place answers window learned d
+
+-- What a step leaves of a row that has come as far as its place says, from whatever state and code it was decoded.
+abbrev pub FromRowPlace : {S : Type 0} (pull : S → Pulled → S → Type 0) (shape : Shape) (kept : Kept) (place : RowPlace) (old : DecoderState S) (Leaves : SourceAt S → RowTask → Held → Type 0) → Type 0
+FromRowPlace {S} pull shape kept place old Leaves =
+    (s : State) (answers : List Pulled) (lines : Lines) (window : Held) → StandsInRow (row_task shape kept s lines) place answers window old.learned old.decoder →
+    Leaves (source_at pull old.source answers) (row_task shape kept s lines) window
 
 -- What comes before a row's pixels is decoded, of a row that had come as far as its place says.
-pub record RowBegins {S : Type 0} (pull : S → Pulled → S → Type 0) (from to : S) (shape : Shape) (kept : Kept) (place : RowPlace) (s : State) (answers : List Pulled) (lines : Lines) (window : Held)
-    (flag : Bool) (learned : List Estimate) (d : Decoder) : Type 0 where
-  pub plain : flag ≡ false → (done : List Bool) × PixelsHeld kept.offset place window.current done
-      × PixelsSoFar pull from to (shape_mode shape) kept.offset (first_events (shape_mode shape) kept.previous_typical false) s answers lines done place.past d learned
-  pub typical : flag ≡ true → (shape.typical ≡ true) × FirstDecoded pull from to (shape_mode shape) kept.previous_typical true s.place s.learned answers d learned
+pub record RowBegins {S : Type 0} (old : SourceAt S) (task : RowTask) (place : RowPlace) (window : Held) (flag : Bool) (new : DecoderState S) : Type 0 where
+  pub plain : flag ≡ false → (done : List Bool) × PixelsHeld task.kept.offset place window.current done
+      × PixelsSoFar old (plain_row_of task) done place.past new
+  pub typical : flag ≡ true → (task.shape.typical ≡ true) × FirstDecoded old (shape_mode task.shape) task.kept.previous_typical true task.state new
 
 -- What going on with a row leaves, of which the source has stopped for good or not.
-pub record RowGoesOn {S : Type 0} (pull : S → Pulled → S → Type 0) (from to : S) (shape : Shape) (kept kept' : Kept)
-    (s : State) (answers : List Pulled) (lines : Lines) (window : Held) (place : RowPlace) (learned : List Estimate) (d : Decoder) (result : Result (Unit {0}) Stop) : Type 0 where
-  pub decoded : RowDecoded pull from to shape kept kept' s answers lines window learned d result
-  pub waits : OnErr result (StandsInRow shape kept place s (answers ++ decoded.more) lines window learned d)
+pub record RowGoesOn {S : Type 0} (old : SourceAt S) (task : RowTask) (left : RowLeft) (place : RowPlace) (new : DecoderState S) (result : Result (Unit {0}) Stop) : Type 0 where
+  pub decoded : RowDecoded old task left new result
+  pub waits : OnErr result (StandsInRow task place (old.answers ++ decoded.more) left.window new.learned new.decoder)
 
 -- What a call of `go_on_row` leaves, for a row that had come so far while the source answered so.
-pub record RowPasses {S : Type 0} (pull : S → Pulled → S → Type 0) (from to : S) (shape : Shape) (kept kept' : Kept)
-    (s : State) (answers : List Pulled) (lines : Lines) (window : Held) (place : RowPlace) (learned : List Estimate) (d : Decoder) (result : Result (Unit {0}) Stop) : Type 0 where
+pub record RowPasses {S : Type 0} (old : SourceAt S) (task : RowTask) (left : RowLeft) (place : RowPlace) (new : DecoderState S) (result : Result (Unit {0}) Stop) : Type 0 where
   -- what the source answered in this call
   pub more : List Pulled
-  pub gives : Gives pull from more to
-  pub ok : OnOk result (RowIs shape kept kept' s (answers ++ more) lines window learned d)
+  pub gives : Gives old.pull old.from more new.source
+  pub ok : OnOk result (RowIs task (old.answers ++ more) left new.learned new.decoder)
   -- it stops where the source has
-  pub stop : IsErr result ↔ (heard_of (answers ++ more) ≡ Stopped)
-  pub undecided : OnErr result (IsPlace s.place → IsRowUndecided shape kept s (answers ++ more) lines)
-  pub closed : OnErr result (IsClosed (answers ++ more) × IsBytes (bytes_of (answers ++ more)))
+  pub stop : IsErr result ↔ (heard_of (old.answers ++ more) ≡ Stopped)
+  pub undecided : OnErr result (IsPlace task.state.place → IsRowUndecided task.shape task.kept task.state (old.answers ++ more) task.lines)
+  pub closed : OnErr result (IsClosed (old.answers ++ more) × IsBytes (bytes_of (old.answers ++ more)))
   -- the row has come further, and waits for what follows
-  pub waits : OnErr result (StandsInRow shape kept place s (before_fault (answers ++ more)) lines window learned d)
+  pub waits : OnErr result (StandsInRow task place (before_fault (old.answers ++ more)) left.window new.learned new.decoder)

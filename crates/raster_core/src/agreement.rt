@@ -4,7 +4,7 @@ ghost use Rattle.std.specs.Prelude.{ℕ, ◌+◌, ◌-◌, ◌*◌, ◌%◌, ◌
 ghost use Rattle.std.specs.Int.{div_ceil};
 ghost use Rattle.raster_core.specs.Lines.{Lines};
 ghost use Rattle.raster_core.specs.Packed.{packed_row};
-ghost use Rattle.raster_core.specs.Machine.Words.{word as pixels_word, led, is_within, agreed_from, part_agreement};
+ghost use Rattle.raster_core.specs.Machine.Words.{word as pixels_word, led, is_within, agreed_from, part_agreement, pixels_from};
 
 use crate::words::{agreed_word, joined, mask_at, word_at};
 
@@ -85,11 +85,11 @@ pub(crate) fn add_word(
     requires most { most ≤ 127 }
     requires room { (lag : ℕ) → slice_index counts.old lag + 128 < 2 ^ 64 }
     ensures counts { (p m : ℕ → Bool) (place c : ℕ) → second ≡ pixels_word p place 64 →
-        before ≡ pixels_word p (place + 64) 64
-        → word ≡ pixels_word p (place + 128) 64 → mask ≡ pixels_word m c 64
-        → (lag : ℕ) → least ≤ lag → lag ≤ most
-        → slice_index counts.new lag + result ≡ slice_index counts.old lag + agreed_from p p m
-        (place + 128) (place + 128 - lag) c 64 }
+        before ≡ pixels_word p (place + 64) 64 → word ≡ pixels_word p (place + 128) 64 →
+        mask ≡ pixels_word m c 64 → (lag : ℕ) → least ≤ lag → lag ≤ most →
+        slice_index counts.new lag + result ≡ slice_index counts.old lag +
+        agreed_from (pixels_from p (place + 128)) (pixels_from p (place + 128 - lag))
+        (pixels_from m c) 64 }
     ensures room { (lag : ℕ) → slice_index counts.new lag + result ≤ slice_index counts.old lag +
         64 }
 {
@@ -123,10 +123,10 @@ fn add_lags(
     requires fits { end + shift ≤ from + 64 }
     requires room { (lag : ℕ) → slice_index counts.old lag + 64 < 2 ^ 64 }
     ensures counts { (p m : ℕ → Bool) (place a c : ℕ) → first ≡ pixels_word p place 64 →
-        next ≡ pixels_word p (place + 64) 64 → word ≡ pixels_word p a 64 → mask ≡ pixels_word m c 64
-        → (lag : ℕ) → from ≤ lag → lag < end
-        → slice_index counts.new lag ≡ slice_index counts.old lag + agreed_from p p m a (place + 64
-        + from - (shift + lag)) c 64 }
+        next ≡ pixels_word p (place + 64) 64 → word ≡ pixels_word p a 64 →
+        mask ≡ pixels_word m c 64 → (lag : ℕ) → from ≤ lag → lag < end →
+        slice_index counts.new lag ≡ slice_index counts.old lag + agreed_from (pixels_from p a)
+        (pixels_from p (place + 64 + from - (shift + lag))) (pixels_from m c) 64 }
     ensures below { (lag : ℕ) → lag < from →
         slice_index counts.new lag ≡ slice_index counts.old lag }
     ensures above { (lag : ℕ) → end ≤ lag →

@@ -3,15 +3,14 @@
 ghost use Rattle.std.specs.Prelude.{◌≡◌, ◌+◌, ◌*◌, ◌<◌, ◌≤◌, ◌↔◌, ◌++◌, ℕ, length, List, IsTrue, OnOk, OnErr, false, true};
 ghost use Rattle.std.specs.Int.{div_ceil};
 ghost use Rattle.qm_core.specs.Counts.{one_more};
-ghost use Rattle.qm_core.specs.Source.{Pulls};
 ghost use Rattle.qm_core.specs.Place.{Place, State, state_of};
-ghost use Rattle.qm_core.specs.Decoder.{StopsOnce, DecoderIsAt, has_stopped};
+ghost use Rattle.qm_core.specs.Decoder.{StopsOnce, DecoderIsAt, has_stopped, decoder_state, source_of};
 ghost use Rattle.qm_core.specs.declared.source.Pulled.{Pulled};
 ghost use Rattle.raster_core.specs.Lines.{Lines};
 ghost use Rattle.raster_core.specs.Window.{held};
-ghost use Rattle.raster_core.specs.Packed.{HasLines, SameAbove, row_placed, rows_at, rows_beside, next_place};
+ghost use Rattle.raster_core.specs.Packed.{HasLines, SameAbove, held_rows, row_placed, rows_at, rows_beside, next_place};
 ghost use Rattle.raster_core.specs.Machine.Places.{DecodesCurrent, LeavesPlace, MayCodeRow, MayGoOnIn, MayGoOnRow};
-ghost use Rattle.raster_core.specs.Row.{RowDecoded, IsRowStart, StandsInRow, RowGoesOn, RowPasses, RowsSkipped, CanSkipRows};
+ghost use Rattle.raster_core.specs.Row.{RowDecoded, IsRowStart, StandsInRow, RowGoesOn, RowPasses, RowsSkipped, CanSkipRows, row_task, row_left};
 
 mod begin;
 mod byte;
@@ -44,19 +43,11 @@ fn decode_below<S: CodeBytes>(
     ensures stop { StopsOnce S.failed decoder.old decoder.new source.old source.new result }
     ensures place { LeavesPlace shape kept.old kept.new place.new result }
     ensures row { (s : State) (answers : List Pulled) (lines : Lines) →
-        StandsInRow shape kept.old place.old s answers lines (record {
-          width = shape.width;
-          current = current.old;
-          above = above.now;
-          second = second.now;
-        }) learned.old decoder.old →
-        RowGoesOn (Pulls S.gives S.failed) source.old source.new shape kept.old kept.new
-        s answers lines (record {
-          width = shape.width;
-          current = current.new;
-          above = above.now;
-          second = second.now;
-        }) place.new learned.new decoder.new result }
+        StandsInRow (row_task shape kept.old s lines) place.old answers
+        (held_rows shape.width current.old above.now second.now) learned.old decoder.old →
+        RowGoesOn (source_of S.CodeBytes source.old answers) (row_task shape kept.old s lines)
+        (row_left kept.new (held_rows shape.width current.new above.now second.now)) place.new
+        (decoder_state source.new decoder.new learned.new) result }
 {
     // What the proof cites of the coder.
     laws::answers();
@@ -131,10 +122,11 @@ fn decode_beside<S: CodeBytes>(
     ensures above { SameAbove (rows_beside at shape.width head.now row.old tail.now)
         (rows_beside at shape.width head.now row.new tail.now) }
     ensures row { (s : State) (answers : List Pulled) (lines : Lines) →
-        StandsInRow shape kept.old place.old s answers lines (rows_beside at shape.width head.now
-        row.old tail.now) learned.old decoder.old → RowGoesOn (Pulls S.gives S.failed) source.old
-        source.new shape kept.old kept.new s answers lines (rows_beside at shape.width head.now
-        row.new tail.now) place.new learned.new decoder.new result }
+        StandsInRow (row_task shape kept.old s lines) place.old answers
+        (rows_beside at shape.width head.now row.old tail.now) learned.old decoder.old →
+        RowGoesOn (source_of S.CodeBytes source.old answers) (row_task shape kept.old s lines)
+        (row_left kept.new (rows_beside at shape.width head.now row.new tail.now)) place.new
+        (decoder_state source.new decoder.new learned.new) result }
 {
     let long = shape.width.div_ceil(8) as usize;
     let (above, second) = rows_above(head, tail, long, at);
@@ -163,11 +155,11 @@ fn decode_at<S: CodeBytes>(
     ensures above { SameAbove (rows_at current shape.width rows.old)
         (rows_at current shape.width rows.new) }
     ensures row { (s : State) (answers : List Pulled) (lines : Lines) →
-        StandsInRow shape kept.old place.old s answers lines
+        StandsInRow (row_task shape kept.old s lines) place.old answers
         (rows_at current shape.width rows.old) learned.old decoder.old →
-        RowGoesOn (Pulls S.gives S.failed) source.old source.new shape kept.old kept.new
-        s answers lines (rows_at current shape.width rows.new) place.new learned.new decoder.new
-        result }
+        RowGoesOn (source_of S.CodeBytes source.old answers) (row_task shape kept.old s lines)
+        (row_left kept.new (rows_at current shape.width rows.new)) place.new
+        (decoder_state source.new decoder.new learned.new) result }
 {
     let long = shape.width.div_ceil(8) as usize;
     let (front, rest) = rows.split_at_mut(current as usize * long);
@@ -195,8 +187,9 @@ pub fn decode_row<S: CodeBytes>(
     ensures window { DecodesCurrent window.old window.new }
     ensures row { (p : Place) (answers : List Pulled) (lines : Lines) →
         DecoderIsAt decoder.old p answers → HasLines (held window.old) lines →
-        RowDecoded (Pulls S.gives S.failed) source.old source.new shape kept.old kept.new
-        (state_of p learned.old) answers lines (held window.new) learned.new decoder.new result }
+        RowDecoded (source_of S.CodeBytes source.old answers) (row_task shape kept.old
+        (state_of p learned.old) lines) (row_left kept.new (held window.new))
+        (decoder_state source.new decoder.new learned.new) result }
 {
     let mut place = RowPlace::start();
     decode_at(
@@ -262,9 +255,10 @@ pub fn go_on_row<S: CodeBytes>(
     ensures within { place.new.done < shape.width }
     ensures start { OnOk result (IsRowStart place.new) }
     ensures row { (s : State) (answers : List Pulled) (lines : Lines) →
-        StandsInRow shape kept.old place.old s answers lines (held window.old) learned.old
-        decoder.old → RowPasses (Pulls S.gives S.failed) source.old source.new shape kept.old
-        kept.new s answers lines (held window.new) place.new learned.new decoder.new result }
+        StandsInRow (row_task shape kept.old s lines) place.old answers (held window.old)
+        learned.old decoder.old → RowPasses (source_of S.CodeBytes source.old answers)
+        (row_task shape kept.old s lines) (row_left kept.new (held window.new)) place.new
+        (decoder_state source.new decoder.new learned.new) result }
 {
     let outcome = decode_at(
         shape,

@@ -1,13 +1,14 @@
 //! Encoding a row.
 
 ghost use Rattle.std.specs.Prelude.{◌≡◌, ℕ, ◌+◌, ◌≤◌, List, IsTrue, OnOk, false};
-ghost use Rattle.qm_core.specs.Encoder.{EncoderIsAt, FailsOnce, event_count, has_failed};
+ghost use Rattle.qm_core.specs.Encoder.{EncoderIsAt, FailsOnce, event_count, has_failed, encoder_state};
 ghost use Rattle.qm_core.specs.Place.{Place, state_of};
 ghost use Rattle.raster_core.specs.Machine.Places.{MayCodeRow};
 ghost use Rattle.raster_core.specs.Lines.{Lines, may_be_typical};
 ghost use Rattle.raster_core.specs.Packed.{HasLines};
 ghost use Rattle.qm_core.specs.Puts.{HasRoom, Puts};
-ghost use Rattle.raster_core.specs.Row.{RowEncoded};
+ghost use Rattle.qm_core.specs.Sink.{sink_at};
+ghost use Rattle.raster_core.specs.Row.{RowEncoded, row_task};
 ghost use Rattle.raster_core.specs.Window.{shape_mode, held};
 ghost use Rattle.raster_core.specs.Machine.Rows.{coded_events, flag_events, held_in};
 
@@ -91,8 +92,9 @@ pub fn encode_row<W: CodeSink>(
     ensures offset { OnOk result (kept.new.offset ≡ kept.old.offset) }
     ensures row { (p : Place) (pushed : List ℕ) (lines : Lines) → has_failed encoder.old ≡ false →
         EncoderIsAt encoder.old p pushed → HasLines (held window.now) lines →
-        RowEncoded W.took W.refused out.old out.new shape kept.old kept.new
-        (state_of p learned.old) pushed lines encoder.new learned.new result }
+        RowEncoded (sink_at W.CodeSink out.old pushed)
+        (row_task shape kept.old (state_of p learned.old) lines) kept.new
+        (encoder_state out.new encoder.new learned.new) result }
 {
     let rows = window.rows();
     let flag = is_typical(shape, rows);

@@ -2,7 +2,7 @@
 
 ghost use Rattle.std.specs.Prelude.{ℕ, ◌+◌, ◌-◌, ◌*◌, ◌^◌, ◌≡◌, ◌≤◌, ◌<◌, Bool, List};
 ghost use Rattle.raster_core.specs.Packed.{packed_row};
-ghost use Rattle.raster_core.specs.Machine.Words.{word, led, is_within, agreed_from};
+ghost use Rattle.raster_core.specs.Machine.Words.{word, led, is_within, agreed_from, pixels_from};
 
 use crate::bytes::byte_at;
 
@@ -60,7 +60,8 @@ pub(crate) fn joined(first: u64, second: u64, shift: u32) -> u64
 #[inline(always)]
 pub(crate) fn agreed_word(mask: u64, one: u64, other: u64) -> u64
     ensures agreed { (p q m : ℕ → Bool) (a b c : ℕ) → one ≡ word p a 64 → other ≡ word q b 64 →
-        mask ≡ word m c 64 → result ≡ agreed_from p q m a b c 64 }
+        mask ≡ word m c 64 → result ≡ agreed_from (pixels_from p a) (pixels_from q b)
+        (pixels_from m c) 64 }
     ensures small { result ≤ 64 }
 {
     u64::from((mask & !(one ^ other)).count_ones())

@@ -22,7 +22,8 @@ use Rattle.t85_core.specs.Jbg.{AreSettings, Settings, head_of, is_low, jbg, jbg_
 use Rattle.t85_core.specs.Laws.{CodeDenotes}
 use Rattle.t85_core.specs.Options.{refusal_of, settings_of}
 use Rattle.t85_core.specs.RowNumbers.{row_numbers}
-use Rattle.t85_core.specs.Steps.ByRow.{EndsImage, HaveCome, IsPlan, MayCome, MayGoOn, RowPlan, RowView, Stands, TakesNextRow, plan_of, view_of}
+use Rattle.t85_core.specs.Steps.ByRow.{EndsImage, HaveCome, IsPlan, MayGoOn, RowPlan, RowView, Stands, TakesNextRow, plan_of, view_of, encoder_at}
+use Rattle.t85_core.specs.RowImage.{MayCome, Image, image_of}
 use Rattle.t85_core.specs.Steps.RowLaws.{RowFronts, RowsGoElsewhere}
 use Rattle.t85_core.specs.Steps.MostBytes.{AppendsAtMost, most_end_bytes, most_row_bytes}
 use Rattle.t85_core.specs.Steps.RowSteps.{IsGoing, given_row}
@@ -36,7 +37,7 @@ use Rattle.t85_core.specs.declared.fault.Fault.TheVariants.{AnnouncedLow, Commen
 use Rattle.t85.specs.Decoded.{window_bytes}
 use Rattle.t85.specs.Delivered.{lending}
 use Rattle.t85.specs.Encoded.{or_else, settings_chosen, status_if}
-use Rattle.t85.specs.Encoder.{BeginsStream, EndsStream, HasBeenEnded, HasCome, Image, IsNotBegun, PutsEnd, PutsRow, StartCall, StartsStream, TakesOne, TellsLeft, TellsRoom, encoder_hold, end_refusal, image_of, numbers_of_encoder, row_refusal, settings_kept, start_refusal, without_comment}
+use Rattle.t85.specs.Encoder.{BeginsStream, EndsStream, HasBeenEnded, HasCome, IsNotBegun, PutsEnd, PutsRow, StartCall, StartsStream, TakesOne, TellsLeft, TellsRoom, encoder_hold, end_refusal, numbers_of_encoder, row_refusal, settings_kept, start_refusal, without_comment}
 use Rattle.t85.specs.EncoderSteps.{GoesOnFrom, HasBegun, IsIdle, IsOfNone, AwaitsCall, RefusesCall}
 use Rattle.t85.specs.Laws.{SentIsFront}
 use Rattle.t85.specs.declared.encoder.T85Encoder.{T85Encoder}
@@ -45,18 +46,18 @@ use Rattle.t85.proofs.Stored.{are_settings}
 
 -- ---- what stands says of the plan, and of the rows
 
-pub plan_in : {s : Settings} {width limit : ℕ} {rows : List (List Bool)} {v : RowView} {window : Held} {origin : Origin} {text : Option (List ℕ)} → Stands s width limit rows v window origin text → IsPlan s width limit v.plan
+pub plan_in : {s : Settings} {width limit : ℕ} {rows : List (List Bool)} {v : RowView} {window : Held} {origin : Origin} {text : Option (List ℕ)} → Stands (image_of s width limit) rows v window origin text → IsPlan (image_of s width limit) v.plan
 plan_in (inl w) = w.plan_is
 plan_in (inr r) = r.0.plan_is
 
-pub come_in : {s : Settings} {width limit : ℕ} {rows : List (List Bool)} {v : RowView} {window : Held} {origin : Origin} {text : Option (List ℕ)} → Stands s width limit rows v window origin text → HaveCome width limit rows v.rows
+pub come_in : {s : Settings} {width limit : ℕ} {rows : List (List Bool)} {v : RowView} {window : Held} {origin : Origin} {text : Option (List ℕ)} → Stands (image_of s width limit) rows v window origin text → HaveCome width limit rows v.rows
 come_in (inl w) = w.come
 come_in (inr r) = r.0.come
 
 -- ---- the choices that the struct has
 
 -- a plan doesn't look at the comment
-plan_bare : (s : Settings) (width limit : ℕ) (p : RowPlan) → IsPlan s width limit p → IsPlan (without_comment s) width limit p
+plan_bare : (s : Settings) (width limit : ℕ) (p : RowPlan) → IsPlan (image_of s width limit) p → IsPlan (image_of (without_comment s) width limit) p
 plan_bare s width limit p is = record {
   width_is = is.width_is;
   limit_is = is.limit_is;
@@ -103,26 +104,26 @@ none_sized d (inr (inr e)) = λ window image rows sent k. (let from = k.some in 
 
 -- the one that has the numbers
 module _ (d : T85Encoder) (o : Settings) (same : o ≡ settings_kept d) (numbers : RowNumbers) (numbers_are : numbers ≡ numbers_of_encoder d) (result : Option RowEncoder)
-    (resumes : (e : RowEncoder) → is_low o d.height ≡ false → IsPlan o d.width d.height (plan_of e) → MayGoOn e → numbers ≡ row_numbers e → IsSomeAnd result (λ r. (l : Learning) → view_of r l ≡ view_of e l)) where
+    (resumes : (e : RowEncoder) → is_low o d.height ≡ false → IsPlan (image_of o d.width d.height) (plan_of e) → MayGoOn e → numbers ≡ row_numbers e → IsSomeAnd result (λ r. (l : Learning) → view_of r l ≡ view_of e l)) where
   found : (window : List ℕ) (image : Image) (rows : List (List Bool)) (sent : List ℕ) (k : HasCome image (encoder_hold d window) rows sent) → IsSomeAnd result (λ r. (l : Learning) → view_of r l ≡ view_of k.engine l)
   found window image rows sent k =
       let is : o ≡ without_comment image.settings = same ∙ k.settings_are in
-      let bare : IsPlan (without_comment image.settings) image.width image.limit (plan_of k.engine) = plan_bare image.settings image.width image.limit (plan_of k.engine) (plan_in (k.stands None)) in
+      let bare : IsPlan (image_of (without_comment image.settings) image.width image.limit) (plan_of k.engine) = plan_bare image.settings image.width image.limit (plan_of k.engine) (plan_in (k.stands None)) in
       resumes k.engine
       (subst (λ z. is_low z d.height ≡ false) (sym is) (subst (λ h. is_low (without_comment image.settings) h ≡ false) (sym k.limit_is) k.not_low))
-      (subst (λ z. IsPlan z d.width d.height (plan_of k.engine)) (sym is) (subst (λ w. IsPlan (without_comment image.settings) w d.height (plan_of k.engine)) (sym k.width_is) (subst (λ h. IsPlan (without_comment image.settings) image.width h (plan_of k.engine)) (sym k.limit_is) bare)))
+      (subst (λ z. IsPlan (image_of z d.width d.height) (plan_of k.engine)) (sym is) (subst (λ w. IsPlan (image_of (without_comment image.settings) w d.height) (plan_of k.engine)) (sym k.width_is) (subst (λ h. IsPlan (image_of (without_comment image.settings) image.width h) (plan_of k.engine)) (sym k.limit_is) bare)))
       k.ready (numbers_are ∙ k.numbers_are)
 
 pub resumed : (d : T85Encoder) (o : Settings) (size : Size) (same : o ≡ settings_kept d) (numbers : RowNumbers) (numbers_are : numbers ≡ numbers_of_encoder d) (result : Option RowEncoder)
-    (resumes : (e : RowEncoder) → is_low o d.height ≡ false → IsPlan o d.width d.height (plan_of e) → MayGoOn e → numbers ≡ row_numbers e → IsSomeAnd result (λ r. (l : Learning) → view_of r l ≡ view_of e l)) →
-    size.width ≡ d.width → size.height ≡ d.height → IfSome result MayGoOn → IfSome result (λ r. IsPlan o d.width d.height (plan_of r)) → IfSome result (λ r. row_numbers r ≡ numbers) → IfSome result (λ r. r.size ≡ size) → IfSome result IsGoing → MatchOption result (IsOfNone d) (λ r. GoesOnFrom d r)
+    (resumes : (e : RowEncoder) → is_low o d.height ≡ false → IsPlan (image_of o d.width d.height) (plan_of e) → MayGoOn e → numbers ≡ row_numbers e → IsSomeAnd result (λ r. (l : Learning) → view_of r l ≡ view_of e l)) →
+    size.width ≡ d.width → size.height ≡ d.height → IfSome result MayGoOn → IfSome result (λ r. IsPlan (image_of o d.width d.height) (plan_of r)) → IfSome result (λ r. row_numbers r ≡ numbers) → IfSome result (λ r. r.size ≡ size) → IfSome result IsGoing → MatchOption result (IsOfNone d) (λ r. GoesOnFrom d r)
 resumed d o size same numbers numbers_are None resumes wide high ready plan are sized going = λ window image rows sent k. found d o same numbers numbers_are None resumes window image rows sent k
 resumed d o size same numbers numbers_are (Some r) resumes wide high ready plan are sized going = record {
   ready = ready;
   going = going;
   width_is = ap (λ z. z.width) sized ∙ wide;
   limit_is = ap (λ z. z.height) sized ∙ high;
-  plan_is = subst (λ z. IsPlan z d.width d.height (plan_of r)) same plan;
+  plan_is = subst (λ z. IsPlan (image_of z d.width d.height) (plan_of r)) same plan;
   numbers_are = are ∙ numbers_are;
   resumes = λ window image rows sent k. found d o same numbers numbers_are (Some r) resumes window image rows sent k;
 }
@@ -194,18 +195,18 @@ end_within e room enough = omega (arith, enough)
 
 module _ (d : T85Encoder) (e : RowEncoder) (ready : AwaitsCall d e) (memory : List ℕ) (window : Window) (long : length memory ≡ window_bytes d.width) (at : rows_held window ≡ rows_at d.place d.width memory) (image : Image) (rows : List (List Bool)) (sent : List ℕ) (k : HasCome image (encoder_hold d memory) rows sent) where
   -- what the engine has of an image
-  pub stands_lent : Stands image.settings image.width image.limit rows (view_of e d.learning) (rows_held window) (behind sent (Some [])) (Some [])
+  pub stands_lent : Stands image rows (view_of e d.learning) (rows_held window) (behind sent (Some [])) (Some [])
   stands_lent =
       let same : rows_at d.place image.width (take (window_bytes image.width) memory) ≡ rows_held window =
       ap (λ m. rows_at d.place image.width m) (take_all (window_bytes image.width) memory (subst (λ w. length memory ≤ window_bytes w) k.width_is (omega (arith, long)))) ∙ ap (λ w. rows_at d.place w memory) (sym k.width_is) ∙ sym at in
-      subst (λ w. Stands image.settings image.width image.limit rows (view_of e d.learning) w (behind sent (Some [])) (Some [])) same
-      (subst (λ v. Stands image.settings image.width image.limit rows v (rows_at d.place image.width (take (window_bytes image.width) memory)) (behind sent (Some [])) (Some [])) (sym (ready.goes_on.resumes memory image rows sent k d.learning)) (k.stands (Some [])))
+      subst (λ w. Stands image rows (view_of e d.learning) w (behind sent (Some [])) (Some [])) same
+      (subst (λ v. Stands image rows v (rows_at d.place image.width (take (window_bytes image.width) memory)) (behind sent (Some [])) (Some [])) (sym (ready.goes_on.resumes memory image rows sent k d.learning)) (k.stands (Some [])))
 
   -- and once rows have come that the struct has the numbers of
   pub come_so : (law : RowsGoElsewhere) (kept : T85Encoder) (e' : RowEncoder) (learning : Learning) (memory' bytes : List ℕ) (window' : Window) (all : List (List Bool)) → length memory' ≡ window_bytes d.width → rows_held window' ≡ rows_at kept.place d.width memory' → kept.version ≡ d.version → kept.next ≡ d.next → kept.width ≡ d.width → kept.height ≡ d.height → settings_kept kept ≡ settings_kept d → kept.learning ≡ learning → kept.place ≡ 2 * length all % 3 → MayGoOn e' →
-      numbers_of_encoder kept ≡ row_numbers e' → Stands image.settings image.width image.limit all (view_of e' learning) (rows_held window') (behind sent (Some [])) (Some bytes) → HasCome image (encoder_hold kept memory') all (sent ++ bytes)
+      numbers_of_encoder kept ≡ row_numbers e' → Stands image all (view_of e' learning) (rows_held window') (behind sent (Some [])) (Some bytes) → HasCome image (encoder_hold kept memory') all (sent ++ bytes)
   come_so law kept e' learning memory' bytes window' all long' at' version next wide high settings learned placed may numbers now =
-      let goes = law image.settings image.width image.limit all (view_of e' learning) (rows_held window') (behind sent (Some [])) (Some bytes) now in
+      let goes = law image all (view_of e' learning) (rows_held window') (behind sent (Some [])) (Some bytes) now in
       let sends = goes.1 in
       let sent_is : goes.0 ≡ sent ++ bytes = sends.all ∙ ap (λ m. sent ++ m) (sym sends.appended) in
       let come = come_in now in
@@ -226,9 +227,9 @@ module _ (d : T85Encoder) (e : RowEncoder) (ready : AwaitsCall d e) (memory : Li
         ready = may;
         numbers_are = numbers;
         stands = λ text.
-            subst (λ b. Stands image.settings image.width image.limit all (view_of e' kept.learning) (rows_at kept.place image.width (take (window_bytes image.width) memory')) (behind b text) text) sent_is
-            (subst (λ l. Stands image.settings image.width image.limit all (view_of e' l) (rows_at kept.place image.width (take (window_bytes image.width) memory')) (behind goes.0 text) text) (sym learned)
-            (subst (λ w. Stands image.settings image.width image.limit all (view_of e' learning) w (behind goes.0 text) text) same_rows (goes.2 text)));
+            subst (λ b. Stands image all (view_of e' kept.learning) (rows_at kept.place image.width (take (window_bytes image.width) memory')) (behind b text) text) sent_is
+            (subst (λ l. Stands image all (view_of e' l) (rows_at kept.place image.width (take (window_bytes image.width) memory')) (behind goes.0 text) text) (sym learned)
+            (subst (λ w. Stands image all (view_of e' learning) w (behind goes.0 text) text) same_rows (goes.2 text)));
       }
 
 -- a row further in the window
@@ -246,15 +247,15 @@ place_on place rows row is =
 -- a row was put
 pub row_taken : (law : RowsGoElsewhere) (d kept : T85Encoder) (e e' : RowEncoder) (learning : Learning) (memory memory' row room stream : List ℕ) (n : ℕ) (window window' : Window) → AwaitsCall d e → length memory ≡ window_bytes d.width → length memory' ≡ window_bytes d.width → length row ≡ div_ceil d.width 8 →
     rows_held window ≡ rows_at d.place d.width memory → rows_held window' ≡ rows_at kept.place d.width memory' → kept.version ≡ d.version → kept.next ≡ d.next → kept.width ≡ d.width → kept.height ≡ d.height → settings_kept kept ≡ settings_kept d → kept.learning ≡ learning → (most_row_bytes e ≤ length room → kept.place ≡ next_place (next_place d.place)) → numbers_of_encoder kept ≡ row_numbers e' → room ≡ stream → most_row_bytes e ≤ length stream → (most_row_bytes e ≤ length room → MayGoOn e') →
-    (most_row_bytes e ≤ length room → TakesNextRow (given_row e row) (view_of e d.learning) (view_of e' learning) (rows_held window) (rows_held window') (Some []) (Some (take n room))) → TakesOne (encoder_hold d memory) (encoder_hold kept memory') row (take n stream)
+    (most_row_bytes e ≤ length room → TakesNextRow (given_row e row) (encoder_at (view_of e d.learning) (rows_held window) (Some [])) (encoder_at (view_of e' learning) (rows_held window') (Some (take n room)))) → TakesOne (encoder_hold d memory) (encoder_hold kept memory') row (take n stream)
 row_taken law d kept e e' learning memory memory' row room stream n window window' ready long long' whole at at' version next wide high settings learned turned numbers same enough may puts = λ image rows sent k.
     let fits : most_row_bytes e ≤ length room = subst (λ b. most_row_bytes e ≤ length b) (sym same) enough in
     let pixels : pixels_of e.size.width row ≡ pixels_of image.width (take (div_ceil image.width 8) row) =
     ap (λ w. pixels_of w row) (ready.goes_on.width_is ∙ k.width_is) ∙ ap (λ r. pixels_of image.width r) (sym (take_all (div_ceil image.width 8) row (subst (λ w. length row ≤ div_ceil w 8) k.width_is (omega (arith, whole))))) in
-    let now = puts fits image.settings image.width image.limit rows (behind sent (Some [])) (stands_lent d e ready memory window long at image rows sent k) in
+    let now = puts fits image rows (behind sent (Some [])) (stands_lent d e ready memory window long at image rows sent k) in
     come_so d e ready memory window long at image rows sent k law kept e' learning memory' (take n stream) window' (rows ++ pixels_of image.width (take (div_ceil image.width 8) row) ∷ []) long' at' version next wide high settings learned (turned fits ∙ place_on d.place rows (pixels_of image.width (take (div_ceil image.width 8) row)) k.place_is) (may fits) numbers
-    (subst (λ b. Stands image.settings image.width image.limit (rows ++ pixels_of image.width (take (div_ceil image.width 8) row) ∷ []) (view_of e' learning) (rows_held window') (behind sent (Some [])) (Some (take n b))) same
-    (subst (λ r. Stands image.settings image.width image.limit (rows ++ r ∷ []) (view_of e' learning) (rows_held window') (behind sent (Some [])) (Some (take n room))) pixels now))
+    (subst (λ b. Stands image (rows ++ pixels_of image.width (take (div_ceil image.width 8) row) ∷ []) (view_of e' learning) (rows_held window') (behind sent (Some [])) (Some (take n b))) same
+    (subst (λ r. Stands image (rows ++ r ∷ []) (view_of e' learning) (rows_held window') (behind sent (Some [])) (Some (take n room))) pixels now))
 
 -- ---- the end
 
@@ -268,7 +269,7 @@ pub stream_ended : (denotes : CodeDenotes) (d : T85Encoder) (e : RowEncoder) (me
 stream_ended denotes d e memory room stream n window ready long at some same enough ends = λ image rows sent k.
     let stood = stands_lent d e ready memory window long at image rows sent k in
     let fits : most_row_bytes e ≤ length room = subst (λ b. most_row_bytes e ≤ length b) (sym same) enough in
-    let sends = ends fits image.settings image.width image.limit rows (behind sent (Some [])) stood in
+    let sends = ends fits image rows (behind sent (Some [])) stood in
     let plan = plan_in stood in
     let come = come_in stood in
     let is : sent ++ take n stream ≡ jbg image.settings (raster_of image.width rows) = ap (λ b. sent ++ take n b) (sym same) ∙ ap (λ m. sent ++ m) sends.appended ∙ sym sends.all in
@@ -293,7 +294,7 @@ all_white zero width = tt
 all_white (suc n) width = (length-replicate width false, all_white n width)
 
 -- what stands before the first row is the head
-head_sent : {s : Settings} {width limit : ℕ} {v : RowView} {window : Held} {origin : Origin} {text : Option (List ℕ)} → 1 ≤ limit → Stands s width limit [] v window origin text → Sends origin text (head_of s width limit)
+head_sent : {s : Settings} {width limit : ℕ} {v : RowView} {window : Held} {origin : Origin} {text : Option (List ℕ)} → 1 ≤ limit → Stands (image_of s width limit) [] v window origin text → Sends origin text (head_of s width limit)
 head_sent {s} {width} {limit} {v} {window} {origin} {text} some (inl w) =
     let plan = w.plan_is in
     let tall = plan.limit_to in
@@ -303,7 +304,7 @@ head_sent {s} {width} {limit} {v} {window} {origin} {text} some (inl w) =
     let none : w.i ≡ 0 = none_whole w.i s.stripe_rows one (sym many) in
     let long : length (replicate limit (white_row width)) ≡ limit = length-replicate limit (white_row width) in
     let proper : IsRaster (raster_of width (replicate limit (white_row width))) = record { width_from = plan.width_from; width_to = omega (arith, wide); height_from = omega (arith, some, long); height_to = omega (arith, tall, long); rows = all_white limit width } in
-    let may : MayCome s width limit [] (raster_of width (replicate limit (white_row width))) = record { proper = proper; width_is = refl; height_to = omega (arith, long); height_is = λ e. long; first = refl } in
+    let may : MayCome (image_of s width limit) [] (raster_of width (replicate limit (white_row width))) = record { proper = proper; width_is = refl; height_to = omega (arith, long); height_is = λ e. long; first = refl } in
     let front_is : w.front ≡ head_of s width limit =
     w.stripes.front_is (raster_of width (replicate limit (white_row width))) may ∙ ap (λ i. jbg_up_to s (raster_of width (replicate limit (white_row width))) i) none ∙ append-nil (head_of s width (length (replicate limit (white_row width)))) ∙ ap (λ h. head_of s width h) long in
     subst (λ b. Sends origin text b) front_is w.sent
@@ -313,9 +314,9 @@ head_sent some (inr (r, from, to)) =
 
 -- the head was written into room for it
 pub head_written : (s : Settings) (width limit len : ℕ) (v : RowView) (window : Held) (memory old : List ℕ) (spilled : Option ℕ) → 1 ≤ limit → old ≡ [] → len ≤ length memory → (is_some spilled ≡ true → len ≡ length memory) → length (head_of s width limit) ≤ length memory →
-    Stands s width limit [] v window (here (Some old)) (Some (take len memory ++ option_to_list spilled)) → Stands s width limit [] v window (here (Some [])) (Some (take len memory)) × (take len memory ≡ head_of s width limit)
+    Stands (image_of s width limit) [] v window (here (Some old)) (Some (take len memory ++ option_to_list spilled)) → Stands (image_of s width limit) [] v window (here (Some [])) (Some (take len memory)) × (take len memory ≡ head_of s width limit)
 head_written s width limit len v window memory old (Some b) some none within last enough stands =
-    let at : Stands s width limit [] v window (here (Some [])) (Some (take len memory ++ b ∷ [])) = subst (λ o. Stands s width limit [] v window (here (Some o)) (Some (take len memory ++ b ∷ []))) none stands in
+    let at : Stands (image_of s width limit) [] v window (here (Some [])) (Some (take len memory ++ b ∷ [])) = subst (λ o. Stands (image_of s width limit) [] v window (here (Some o)) (Some (take len memory ++ b ∷ []))) none stands in
     let sends = head_sent some at in
     let long : length (take len memory ++ b ∷ []) ≡ length (head_of s width limit) = ap length (sends.appended ∙ sym sends.all) in
     let more : length (take len memory ++ b ∷ []) ≡ length (take len memory) + 1 = length-append (take len memory) (b ∷ []) in
@@ -323,7 +324,7 @@ head_written s width limit len v window memory old (Some b) some none within las
     let all : len ≡ length memory = last refl in
     absurd (omega (arith, long, more, cut, all, enough))
 head_written s width limit len v window memory old None some none within last enough stands =
-    let at : Stands s width limit [] v window (here (Some [])) (Some (take len memory)) = subst (λ o. Stands s width limit [] v window (here (Some o)) (Some (take len memory))) none (subst (λ t. Stands s width limit [] v window (here (Some old)) (Some t)) (append-nil (take len memory)) stands) in
+    let at : Stands (image_of s width limit) [] v window (here (Some [])) (Some (take len memory)) = subst (λ o. Stands (image_of s width limit) [] v window (here (Some o)) (Some (take len memory))) none (subst (λ t. Stands (image_of s width limit) [] v window (here (Some old)) (Some t)) (append-nil (take len memory)) stands) in
     let sends = head_sent some at in
     (at, sends.appended ∙ sym sends.all)
 
@@ -349,7 +350,7 @@ pub stream_begun : (law : RowsGoElsewhere) (o : Options) (size : Size) (d : T85E
 stream_begun law o size d memory room stream n window low long wide first is same enough begins =
     let s = settings_of o in
     let k = begins (subst (λ b. length (head_of s size.width size.height) ≤ length b) (sym same) enough) in
-    let goes = law s size.width size.height [] (view_of k.engine d.learning) (rows_held window) (here (Some [])) (Some (take n room)) k.stands in
+    let goes = law (image_of s size.width size.height) [] (view_of k.engine d.learning) (rows_held window) (here (Some [])) (Some (take n room)) k.stands in
     let sends = goes.1 in
     let sent_is : goes.0 ≡ take n stream = sends.all ∙ sym sends.appended ∙ ap (λ b. take n b) same in
     let come = come_in k.stands in
@@ -372,8 +373,8 @@ stream_begun law o size d memory room stream n window low long wide first is sam
         ready = k.ready;
         numbers_are = k.numbers_are;
         stands = λ text.
-            subst (λ b. Stands s size.width size.height [] (view_of k.engine d.learning) (rows_at d.place size.width (take (window_bytes size.width) memory)) (behind b text) text) sent_is
-            (subst (λ w. Stands s size.width size.height [] (view_of k.engine d.learning) w (behind goes.0 text) text) same_rows (goes.2 text));
+            subst (λ b. Stands (image_of s size.width size.height) [] (view_of k.engine d.learning) (rows_at d.place size.width (take (window_bytes size.width) memory)) (behind b text) text) sent_is
+            (subst (λ w. Stands (image_of s size.width size.height) [] (view_of k.engine d.learning) w (behind goes.0 text) text) same_rows (goes.2 text));
       };
     }
 
@@ -395,7 +396,7 @@ other_window image d window window' rows sent same k = record {
   engine = k.engine;
   ready = k.ready;
   numbers_are = k.numbers_are;
-  stands = λ text. subst (λ m. Stands image.settings image.width image.limit rows (view_of k.engine d.learning) (rows_at d.place image.width m) (behind sent text) text) same (k.stands text);
+  stands = λ text. subst (λ m. Stands image rows (view_of k.engine d.learning) (rows_at d.place image.width m) (behind sent text) text) same (k.stands text);
 }
 
 take_twice : (n m : ℕ) (xs : List ℕ) → n ≡ m → take n (take m xs) ≡ take n xs
@@ -519,7 +520,7 @@ start_done call d d' window memory' rest stream stream' n s size none same wide 
 pub sent_is_front : RowFronts → SentIsFront
 sent_is_front law = λ image hold rows sent raster k may.
     let stands = k.stands (Some []) in
-    let front = law image.settings image.width image.limit rows (view_of k.engine hold.encoder.learning) (rows_at hold.encoder.place image.width (take (window_bytes image.width) hold.window)) (behind sent (Some [])) (Some []) stands in
+    let front = law image rows (view_of k.engine hold.encoder.learning) (rows_at hold.encoder.place image.width (take (window_bytes image.width) hold.window)) (behind sent (Some [])) (Some []) stands in
     let sends = front.sent in
     let is : front.bytes ≡ sent = sends.all ∙ ap (λ m. sent ++ m) (sym sends.appended) ∙ append-nil sent in
     subst (λ b. HoldsStripes image.settings raster (length rows) b) is (front.begun raster may)

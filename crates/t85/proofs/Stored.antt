@@ -14,7 +14,7 @@ use Rattle.raster_core.specs.Raster.{Raster, IsRaster}
 use Rattle.t85_core.specs.declared.fault.Fault.{Fault}
 use Rattle.t85_core.specs.declared.fault.Fault.TheVariants.{Write, AnnouncedLow, Pbm}
 use Rattle.t85_core.specs.declared.options.Options.{Options}
-use Rattle.t85_core.specs.Encode.{Encode, WritesCodeFront, BeginsWith, raster_of}
+use Rattle.t85_core.specs.Encode.{Encode, WritesCodeFront, BeginsWith, raster_of, layout_of}
 use Rattle.t85_core.specs.Jbg.{Settings, AreSettings, IsAnnounced, is_low, jbg}
 use Rattle.t85_core.specs.Laws.{CodeDenotes}
 use Rattle.t85_core.specs.Options.{settings_of}
@@ -49,7 +49,7 @@ not_low a b e = grind (arith, nat_tests)
 
 module _ (s : Settings) (width height' : ℕ) (body memory : List ℕ) (len : ℕ) (low : is_low s height' ≡ false) where
   by_fault : (in_new : Option (List ℕ)) (f : Fault) → len ≤ length memory →
-      Encode s Raw width height' (between (Some body) in_new 0 0) (between (Some []) (Some (take len memory ++ [])) 0 0) (Err f) → DeliversCode (asked s width height') body memory len (answer_status (Err f))
+      Encode s (layout_of Raw width height') (between (Some body) in_new 0 0) (between (Some []) (Some (take len memory ++ [])) 0 0) (Err f) → DeliversCode (asked s width height') body memory len (answer_status (Err f))
   by_fault in_new (Pbm Truncated) within d =
       let w = d.short Truncated (λ e. absurd (let bot : ⊥ = cc in bot)) refl in
       inr (record {
@@ -70,7 +70,7 @@ module _ (s : Settings) (width height' : ℕ) (body memory : List ℕ) (len : �
   by_fault in_new f within d = absurd (d.among (λ e. absurd (let bot : ⊥ = cc in bot)))
 
   by_answer : (in_new : Option (List ℕ)) (answer : Result (Unit {0}) Fault) → len ≤ length memory →
-      Encode s Raw width height' (between (Some body) in_new 0 0) (between (Some []) (Some (take len memory ++ [])) 0 0) answer → DeliversCode (asked s width height') body memory len (answer_status answer)
+      Encode s (layout_of Raw width height') (between (Some body) in_new 0 0) (between (Some []) (Some (take len memory ++ [])) 0 0) answer → DeliversCode (asked s width height') body memory len (answer_status answer)
   by_answer in_new (Ok u) within d =
       let w = d.whole in
       inl (record {
@@ -85,18 +85,18 @@ module _ (s : Settings) (width height' : ℕ) (body memory : List ℕ) (len : �
 
   pub stored : (old : List ℕ) (in_new : Option (List ℕ)) (answer : Result (Unit {0}) Fault) (spilled : Option ℕ) (before failures : ℕ) → old ≡ [] → before ≡ 0 → is_some spilled ≡ false →
       (0 < failures → is_some spilled ≡ true) → len ≤ length memory →
-      Encode s Raw width height' (between (Some body) in_new 0 0) (between (Some old) (Some (take len memory ++ option_to_list spilled)) before failures) answer →
+      Encode s (layout_of Raw width height') (between (Some body) in_new 0 0) (between (Some old) (Some (take len memory ++ option_to_list spilled)) before failures) answer →
       DeliversCode (asked s width height') body memory len (answer_status answer)
   stored old in_new answer (Some b) before failures empty fresh none full within d = absurd (true≢false none)
   stored old in_new answer None before failures empty fresh none full within d =
-      let D : List ℕ → ℕ → ℕ → Type 0 = λ start m n. Encode s Raw width height' (between (Some body) in_new 0 0) (between (Some start) (Some (take len memory ++ [])) m n) answer in
+      let D : List ℕ → ℕ → ℕ → Type 0 = λ start m n. Encode s (layout_of Raw width height') (between (Some body) in_new 0 0) (between (Some start) (Some (take len memory ++ [])) m n) answer in
       let e : D [] before failures = subst (λ l. D l before failures) empty d in
       let f : D [] 0 failures = subst (λ m. D [] m failures) fresh e in
       by_answer in_new answer within (subst (λ n. D [] 0 n) (none_failed failures false none full) f)
 
   module _ (law : CodeDenotes) (proper : AreSettings s) (width_from : 1 ≤ width) (width_to : width ≤ 2 ^ 20) (height_from : 1 ≤ height') (height_to : height' < 2 ^ 32) (all : len ≡ length memory) (b : ℕ) where
     -- the memory is full of the code of each raster that begins with the rows that are there
-    each : (given left : List ℕ) → body ≡ given ++ left → WritesCodeFront s Raw width height' given (Some []) (Some (take len memory ++ b ∷ [])) → (held : RowsOf width height' body) →
+    each : (given left : List ℕ) → body ≡ given ++ left → WritesCodeFront s (layout_of Raw width height') given (Some []) (Some (take len memory ++ b ∷ [])) → (held : RowsOf width height' body) →
         (raster : Raster) → BeginsWith width height' held.rows raster → IsFull (jbg s raster) memory len 18
     each given left taken w held raster begins =
         let same : w.holds.front ++ (w.rest ++ left) ≡ held.holds.front ++ held.rest =
@@ -115,7 +115,7 @@ module _ (s : Settings) (width height' : ℕ) (body memory : List ℕ) (len : �
     is_raster : (held : RowsOf width height' body) → length held.rows ≡ height' → IsRaster (raster_of width held.rows)
     is_raster held many = record { width_from = width_from; width_to = width_to; height_from = omega arith; height_to = omega arith; rows = held.wide }
 
-    filled : (given left : List ℕ) → body ≡ given ++ left → WritesCodeFront s Raw width height' given (Some []) (Some (take len memory ++ b ∷ [])) → (held : RowsOf width height' body) →
+    filled : (given left : List ℕ) → body ≡ given ++ left → WritesCodeFront s (layout_of Raw width height') given (Some []) (Some (take len memory ++ b ∷ [])) → (held : RowsOf width height' body) →
         DeliversCode (asked s width height') body memory len 18
     filled given left taken w held = elim held.ends [
       | inl many ↦
@@ -146,15 +146,15 @@ module _ (s : Settings) (width height' : ℕ) (body memory : List ℕ) (len : �
           })
     ]
 
-    begun : (in_new : Option (List ℕ)) (given : List ℕ) → Consumes (Some body) in_new given → WritesCodeFront s Raw width height' given (Some []) (Some (take len memory ++ b ∷ [])) →
+    begun : (in_new : Option (List ℕ)) (given : List ℕ) → Consumes (Some body) in_new given → WritesCodeFront s (layout_of Raw width height') given (Some []) (Some (take len memory ++ b ∷ [])) →
         DeliversCode (asked s width height') body memory len 18
     begun None given taken w = absurd taken
     begun (Some left) given taken w = filled given left taken w (rows_of width height' body)
 
   pub overfull : (law : CodeDenotes) (proper : AreSettings s) → 1 ≤ width → width ≤ 2 ^ 20 → 1 ≤ height' → height' < 2 ^ 32 → (old : List ℕ) (in_new : Option (List ℕ)) (answer : Result (Unit {0}) Fault) (spilled : Option ℕ) (before failures : ℕ) →
       old ≡ [] → is_some spilled ≡ true → (is_some spilled ≡ true → len ≡ length memory) →
-      Encode s Raw width height' (between (Some body) in_new 0 0) (between (Some old) (Some (take len memory ++ option_to_list spilled)) before failures) answer → DeliversCode (asked s width height') body memory len 18
+      Encode s (layout_of Raw width height') (between (Some body) in_new 0 0) (between (Some old) (Some (take len memory ++ option_to_list spilled)) before failures) answer → DeliversCode (asked s width height') body memory len 18
   overfull law proper wf wt hf ht old in_new answer None before failures empty some last d = absurd (true≢false (sym some))
   overfull law proper wf wt hf ht old in_new answer (Some b) before failures empty some last d =
       begun law proper wf wt hf ht (last some) b in_new d.front.0 d.front.1
-      (subst (λ l. WritesCodeFront s Raw width height' d.front.0 (Some l) (Some (take len memory ++ b ∷ []))) empty d.front.2)
+      (subst (λ l. WritesCodeFront s (layout_of Raw width height') d.front.0 (Some l) (Some (take len memory ++ b ∷ []))) empty d.front.2)

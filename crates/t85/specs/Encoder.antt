@@ -8,6 +8,7 @@ use Rattle.t85_core.specs.Encode.{raster_of}
 use Rattle.t85_core.specs.Jbg.{AreSettings, Settings, head_of, is_low, jbg}
 use Rattle.t85_core.specs.RowNumbers.{row_numbers}
 use Rattle.t85_core.specs.Steps.ByRow.{MayGoOn, Stands, view_of}
+use Rattle.t85_core.specs.RowImage.{Image, image_of}
 use Rattle.t85_core.specs.Steps.Sent.{behind}
 use Rattle.t85_core.specs.declared.encoding.by_row.RowEncoder.{RowEncoder}
 use Rattle.t85_core.specs.declared.encoding.by_row.numbers.RowNumbers.{RowNumbers}
@@ -61,12 +62,6 @@ pub record EncoderHold : Type 0 where
 abbrev pub encoder_hold : T85Encoder → List ℕ → EncoderHold
 encoder_hold encoder window = record { encoder = encoder; window = window }
 
--- an image that is coded with these settings, of this width, and of this many rows or, where a height is announced, at most so many
-pub record Image : Type 0 where
-  pub settings : Settings
-  pub width : ℕ
-  pub limit : ℕ
-
 -- The struct and the window are as calls leave them that began the stream of an image, took these rows of it, and wrote these bytes.
 pub record HasCome (image : Image) (hold : EncoderHold) (rows : List (List Bool)) (sent : List ℕ) : Type 0 where
   pub version_is : hold.encoder.version ≡ 1
@@ -84,7 +79,7 @@ pub record HasCome (image : Image) (hold : EncoderHold) (rows : List (List Bool)
   pub ready : MayGoOn engine
   pub numbers_are : numbers_of_encoder hold.encoder ≡ row_numbers engine
   pub stands : (text : Option (List ℕ)) →
-      Stands image.settings image.width image.limit rows (view_of engine hold.encoder.learning) (rows_at hold.encoder.place image.width (take (window_bytes image.width) hold.window)) (behind sent text) text
+      Stands image rows (view_of engine hold.encoder.learning) (rows_at hold.encoder.place image.width (take (window_bytes image.width) hold.window)) (behind sent text) text
 
 -- what is said of each image whose stream a caller may have begun, of the rows that it handed, and of the bytes that were written
 abbrev pub OfEach : EncoderHold → (Image → List (List Bool) → List ℕ → Type 0) → Type 0
@@ -132,9 +127,6 @@ start_refusal call window room =
     or_else (status_if (not (call.size == 5360)) 50)
     (or_else (refusal_told call.choice call.comment call.width call.height (div_ceil call.width 8) window)
     (status_if (nat_lt room (head_length call.choice (length call.comment))) 18))
-
-abbrev pub image_of : Settings → ℕ → ℕ → Image
-image_of s width limit = record { settings = s; width = width; limit = limit }
 
 -- The head of an image's stream was written, and no row has come.
 pub record BeginsStream (image : Image) (new : EncoderHold) (bytes : List ℕ) : Type 0 where

@@ -6,11 +6,12 @@ use Rattle.raster_core.specs.declared.window.Window.{Window}
 use Rattle.t85_core.specs.Jbg.{Settings, head_of}
 use Rattle.t85_core.specs.RowNumbers.{row_numbers}
 use Rattle.t85_core.specs.Steps.ByRow.{IsPlan, MayGoOn, Stands, plan_of, view_of}
+use Rattle.t85_core.specs.RowImage.{Image, image_of}
 use Rattle.t85_core.specs.Steps.Sent.{here}
 use Rattle.t85_core.specs.Steps.RowSteps.{IsGoing}
 use Rattle.t85_core.specs.declared.encoding.by_row.RowEncoder.{RowEncoder}
 use Rattle.t85_core.specs.declared.encoding.learning.Learning.{Learning}
-use Rattle.t85.specs.Encoder.{HasBeenEnded, HasCome, Image, IsNotBegun, OfEach, encoder_hold, numbers_of_encoder, settings_kept, without_comment}
+use Rattle.t85.specs.Encoder.{HasBeenEnded, HasCome, IsNotBegun, OfEach, encoder_hold, numbers_of_encoder, settings_kept, without_comment}
 use Rattle.t85.specs.declared.encoder.T85Encoder.{T85Encoder}
 
 -- what is chosen for the stream, and what was learned of the image
@@ -32,7 +33,7 @@ pub record GoesOnFrom (d : T85Encoder) (e : RowEncoder) : Type 0 where
   pub going : IsGoing e
   pub width_is : e.size.width ≡ d.width
   pub limit_is : e.size.height ≡ d.height
-  pub plan_is : IsPlan (settings_kept d) d.width d.height (plan_of e)
+  pub plan_is : IsPlan (image_of (settings_kept d) d.width d.height) (plan_of e)
   pub numbers_are : row_numbers e ≡ numbers_of_encoder d
   pub resumes : ResumesEach d e
 
@@ -72,5 +73,5 @@ pub record HasBegun (s : Settings) (size : Size) (d : T85Encoder) (window : Wind
   pub ready : MayGoOn engine
   pub numbers_are : numbers_of_encoder d ≡ row_numbers engine
   pub place_is : d.place ≡ current_place window
-  pub stands : Stands s size.width size.height [] (view_of engine d.learning) (held window) (here (Some [])) (Some bytes)
+  pub stands : Stands (image_of s size.width size.height) [] (view_of engine d.learning) (held window) (here (Some [])) (Some bytes)
   pub head_is : bytes ≡ head_of s size.width size.height

@@ -9,12 +9,12 @@ use Rattle.t85_core.specs.Denotes.{Denotes}
 use Rattle.t85_core.specs.Encode.{HoldsStripes}
 use Rattle.t85_core.specs.Jbg.{jbg}
 use Rattle.t85_core.specs.Outcome.{pbm_text}
-use Rattle.t85_core.specs.Steps.ByRow.{MayCome}
+use Rattle.t85_core.specs.RowImage.{MayCome, Image}
 use Rattle.t85.specs.Decoded.{DecodesImage}
 use Rattle.t85.specs.DecodedRows.{DecodesRows}
 use Rattle.t85.specs.Encoded.{EncodingCall, EncodesImage, settings_chosen}
 use Rattle.t85.specs.Delivered.{lending, lined}
-use Rattle.t85.specs.Encoder.{EncoderHold, HasCome, Image}
+use Rattle.t85.specs.Encoder.{EncoderHold, HasCome}
 
 -- the one raster that a stream denotes
 pub record IsOnly (stream : List ℕ) (raster : Raster) : Type 0 where
@@ -54,5 +54,5 @@ EncodedIsStream =
 -- and has each stripe whose rows all came.
 abbrev pub SentIsFront : Type 0
 SentIsFront =
-    (image : Image) (hold : EncoderHold) (rows : List (List Bool)) (sent : List ℕ) (raster : Raster) → HasCome image hold rows sent → MayCome image.settings image.width image.limit rows raster
+    (image : Image) (hold : EncoderHold) (rows : List (List Bool)) (sent : List ℕ) (raster : Raster) → HasCome image hold rows sent → MayCome image rows raster
     → HoldsStripes image.settings raster (length rows) sent

@@ -6,14 +6,15 @@ ghost use Rattle.raster_core.specs.Window.{held as rows_of, width_of};
 ghost use Rattle.t85_core.specs.Jbg.{head_of, is_low};
 ghost use Rattle.t85_core.specs.Lent.{KeepsWindow, StaysWindow, TurnsWindow};
 ghost use Rattle.t85_core.specs.Options.{refusal_of, settings_of};
-ghost use Rattle.t85_core.specs.Steps.ByRow.{EndsImage, MayGoOn, TakesNextRow, view_of};
+ghost use Rattle.t85_core.specs.Steps.ByRow.{EndsImage, MayGoOn, TakesNextRow, view_of, lent_to};
+ghost use Rattle.t85_core.specs.RowImage.{image_of};
 ghost use Rattle.t85_core.specs.Steps.MostBytes.{most_row_bytes};
 ghost use Rattle.t85_core.specs.Steps.RowCalls.{MayEnd, MayTakeRow};
 ghost use Rattle.t85_core.specs.Steps.RowSteps.{IsGoing, given_row};
 ghost use Rattle.t85.specs.Decoded.{window_bytes as window_of};
 ghost use Rattle.t85.specs.Delivered.{IsEmptyRoom, lending};
 ghost use Rattle.t85.specs.Encoded.{settings_chosen};
-ghost use Rattle.t85.specs.Encoder.{BeginsStream, EndsStream, HasBeenEnded, PutsEnd, PutsRow, StartsStream, TakesOne, TellsLeft, TellsRoom, encoder_hold, end_refusal, head_length, image_of, numbers_of_encoder, row_refusal, settings_kept, start_call, start_refusal, without_comment};
+ghost use Rattle.t85.specs.Encoder.{BeginsStream, EndsStream, HasBeenEnded, PutsEnd, PutsRow, StartsStream, TakesOne, TellsLeft, TellsRoom, encoder_hold, end_refusal, head_length, numbers_of_encoder, row_refusal, settings_kept, start_call, start_refusal, without_comment};
 ghost use Rattle.t85.specs.EncoderSteps.{GoesOnFrom, HasBegun, IsIdle, IsOfNone, AwaitsCall, KeepsChoices, RefusesCall};
 
 use crate::decoding::FULL;
@@ -532,8 +533,9 @@ fn put_in(
     requires room { IsEmptyRoom room.old }
     ensures put { most_row_bytes engine.old ≤ length room.new.bytes.now → MayGoOn engine.new ×
         TurnsWindow window.old window.new × TakesNextRow (given_row engine.old row.now)
-        (view_of engine.old learning.old) (view_of engine.new learning.new) (rows_of window.old)
-        (rows_of window.new) (Some []) (Some (take room.new.len room.new.bytes.now)) }
+        (lent_to engine.old learning.old (rows_of window.old) (Some []))
+        (lent_to engine.new learning.new (rows_of window.new)
+        (Some (take room.new.len room.new.bytes.now))) }
     ensures window { KeepsWindow window.old window.new }
     ensures same_reference { room.new.bytes.ghost_name ≡ room.old.bytes.ghost_name }
 {

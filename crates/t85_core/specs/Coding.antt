@@ -37,6 +37,14 @@ pub record Coding : Type 0 where
   pub resets : List Bool
   pub flags : List Bool
 
+-- Rows, and of each whether it is coded as typical.
+pub record FlaggedRows : Type 0 where
+  pub rows : List (List Bool)
+  pub flags : List Bool
+
+abbrev pub flagged : List (List Bool) → List Bool → FlaggedRows
+flagged rows flags = record { rows = rows; flags = flags }
+
 -- the rows of stripe i
 abbrev pub rows_of : Coding → ℕ → List ℕ
 rows_of c i = numbers_from (i * c.stripe_rows) (min c.stripe_rows (height c.raster - i * c.stripe_rows))

@@ -12,6 +12,20 @@ use Rattle.t85_core.specs.declared.fault.Fault.{Fault}
 use Rattle.t85_core.specs.declared.fault.Fault.TheVariants.{Write, AnnouncedLow, Pbm}
 use Rattle.t85_core.specs.Denotes.{Denotes}
 use Rattle.t85_core.specs.Failures.{CountsBoth, CountsWrite}
+use Rattle.pbm_core.specs.declared.size.Size.{Size}
+
+-- How the rows of an image come: in which form, how wide, and how many.
+pub record Layout : Type 0 where
+  pub form : Form
+  pub width : ℕ
+  pub height : ℕ
+
+abbrev pub layout_of : Form → ℕ → ℕ → Layout
+layout_of form width height = record { form = form; width = width; height = height }
+
+-- of an image of this size
+abbrev pub layout_for : Form → Size → Layout
+layout_for form size = layout_of form size.width size.height
 
 -- a beginning of bytes
 pub record IsBeginning (front bytes : List ℕ) : Type 0 where
@@ -38,13 +52,13 @@ pub record BeginsWith (width height' : ℕ) (rows : List (List Bool)) (raster : 
   pub first : take (length rows) raster.rows ≡ rows
 
 -- the whole code of these rows was written, and it denotes them
-pub record WritesCode (s : Settings) (form : Form) (width height' : ℕ) (body : List ℕ) (old new : Option (List ℕ)) : Type 0 where
+pub record WritesCode (s : Settings) (layout : Layout) (body : List ℕ) (old new : Option (List ℕ)) : Type 0 where
   pub rows : List (List Bool)
   pub rest : List ℕ
-  pub holds : HoldsRows form body width rows rest
-  pub many : length rows ≡ height'
-  pub appends : Appends old new (jbg s (raster_of width rows))
-  pub denotes : Denotes (jbg s (raster_of width rows)) (raster_of width rows)
+  pub holds : HoldsRows layout.form body layout.width rows rest
+  pub many : length rows ≡ layout.height
+  pub appends : Appends old new (jbg s (raster_of layout.width rows))
+  pub denotes : Denotes (jbg s (raster_of layout.width rows)) (raster_of layout.width rows)
 
 -- The text holds the header, the comment and each stripe whose rows all came, and is a beginning of the whole.
 pub record HoldsStripes (s : Settings) (raster : Raster) (count : ℕ) (text : List ℕ) : Type 0 where
@@ -53,27 +67,27 @@ pub record HoldsStripes (s : Settings) (raster : Raster) (count : ℕ) (text : L
 
 -- The rows have this fault: the input ended, could not be read, or has a byte that is no digit. What is written is a
 -- beginning of the code of each raster that begins with the rows that came.
-pub record WritesCodeBegun (s : Settings) (form : Form) (width height' : ℕ) (body : List ℕ) (fault : PbmFault) (old new : Option (List ℕ)) : Type 0 where
+pub record WritesCodeBegun (s : Settings) (layout : Layout) (body : List ℕ) (fault : PbmFault) (old new : Option (List ℕ)) : Type 0 where
   pub rows : List (List Bool)
   pub rest : List ℕ
-  pub holds : HoldsRows form body width rows rest
-  pub few : length rows < height'
-  pub part : HasRowFault form width rest fault
+  pub holds : HoldsRows layout.form body layout.width rows rest
+  pub few : length rows < layout.height
+  pub part : HasRowFault layout.form layout.width rest fault
   pub text : List ℕ
-  pub begun : (raster : Raster) → BeginsWith width height' rows raster → HoldsStripes s raster (length rows) text
+  pub begun : (raster : Raster) → BeginsWith layout.width layout.height rows raster → HoldsStripes s raster (length rows) text
   pub appends : Appends old new text
 
 -- What was written is a beginning of the code of each raster that begins with the rows in these bytes. What
 -- is after them ends within a row.
-pub record WritesCodeFront (s : Settings) (form : Form) (width height' : ℕ) (body : List ℕ) (old new : Option (List ℕ)) : Type 0 where
+pub record WritesCodeFront (s : Settings) (layout : Layout) (body : List ℕ) (old new : Option (List ℕ)) : Type 0 where
   pub rows : List (List Bool)
   pub rest : List ℕ
-  pub holds : HoldsRows form body width rows rest
-  pub few : length rows ≤ height'
+  pub holds : HoldsRows layout.form body layout.width rows rest
+  pub few : length rows ≤ layout.height
   pub fault : PbmFault
-  pub part : RowFault form width rest fault
+  pub part : RowFault layout.form layout.width rest fault
   pub text : List ℕ
-  pub begins : (raster : Raster) → BeginsWith width height' rows raster → IsBeginning text (jbg s raster)
+  pub begins : (raster : Raster) → BeginsWith layout.width layout.height rows raster → IsBeginning text (jbg s raster)
   pub appends : Appends old new text
 
 -- The bytes are all rows of an image, and nothing after them.
@@ -82,20 +96,20 @@ pub record AreAllRows (form : Form) (width height' : ℕ) (bytes : List ℕ) : T
   pub are_rows : AreRows form width bytes rows
   pub many : length rows ≡ height'
 
--- What `encode` leaves for these settings and an image of this size. Of each device are given the known bytes and the
+-- What `encode` leaves for these settings and an image whose rows come so. Of each device are given the known bytes and the
 -- count of failures, before the call and after it.
-pub record Encode (s : Settings) (form : Form) (width height' : ℕ) (input output : Change) (answer : Result (Unit {0}) Fault) : Type 0 where
+pub record Encode (s : Settings) (layout : Layout) (input output : Change) (answer : Result (Unit {0}) Fault) : Type 0 where
   -- an announced height that is too low is reported before all else, with nothing read and nothing written
-  pub low : IsErrOf answer AnnouncedLow → (is_low s height' ≡ true) × Keeps input.old.bytes input.new.bytes × Keeps output.old.bytes output.new.bytes
-  pub not_low : OnOk answer (is_low s height' ≡ false)
-  pub told_if_low : IfErr answer (λ f. f ≢ AnnouncedLow → is_low s height' ≡ false)
-  pub whole : OnOk answer (IfSome input.old.bytes (λ body. WritesCode s form width height' body output.old.bytes output.new.bytes))
-  pub taken : OnOk answer ((given : List ℕ) × Consumes input.old.bytes input.new.bytes given × AreAllRows form width height' given)
-  pub short : (fault : PbmFault) → fault ≢ pbm.Read → IsErrOf answer (Pbm fault) → IfSome input.old.bytes (λ body. WritesCodeBegun s form width height' body fault output.old.bytes output.new.bytes)
+  pub low : IsErrOf answer AnnouncedLow → (is_low s layout.height ≡ true) × Keeps input.old.bytes input.new.bytes × Keeps output.old.bytes output.new.bytes
+  pub not_low : OnOk answer (is_low s layout.height ≡ false)
+  pub told_if_low : IfErr answer (λ f. f ≢ AnnouncedLow → is_low s layout.height ≡ false)
+  pub whole : OnOk answer (IfSome input.old.bytes (λ body. WritesCode s layout body output.old.bytes output.new.bytes))
+  pub taken : OnOk answer ((given : List ℕ) × Consumes input.old.bytes input.new.bytes given × AreAllRows layout.form layout.width layout.height given)
+  pub short : (fault : PbmFault) → fault ≢ pbm.Read → IsErrOf answer (Pbm fault) → IfSome input.old.bytes (λ body. WritesCodeBegun s layout body fault output.old.bytes output.new.bytes)
   -- a read failed, and what came up to there ends within the rows
-  pub unread : IsErrOf answer (Pbm pbm.Read) → (given : List ℕ) × Consumes input.old.bytes input.new.bytes given × WritesCodeBegun s form width height' given pbm.Truncated output.old.bytes output.new.bytes
+  pub unread : IsErrOf answer (Pbm pbm.Read) → (given : List ℕ) × Consumes input.old.bytes input.new.bytes given × WritesCodeBegun s layout given pbm.Truncated output.old.bytes output.new.bytes
   -- whatever the answer, of just the bytes that were taken: where a write failed, too, and a read before it
-  pub front : (given : List ℕ) × Consumes input.old.bytes input.new.bytes given × WritesCodeFront s form width height' given output.old.bytes output.new.bytes
+  pub front : (given : List ℕ) × Consumes input.old.bytes input.new.bytes given × WritesCodeFront s layout given output.old.bytes output.new.bytes
   pub among : IfErr answer (λ f. f ≢ AnnouncedLow → IsEncodeFault f)
   pub reads : CountsBoth input.old.failures input.new.failures answer
   pub writes : CountsWrite output.old.failures output.new.failures answer

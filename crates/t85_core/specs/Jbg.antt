@@ -18,6 +18,9 @@ pub record Settings : Type 0 where
   pub reset : Bool
   pub comment : Option (List ℕ)
 
+abbrev pub settings : ℕ → ℕ → ℕ → Option ℕ → Bool → Option (List ℕ) → Settings
+settings p s m announced reset comment = record { options = p; stripe_rows = s; most_offset = m; announced = announced; reset = reset; comment = comment }
+
 -- in their ranges
 pub record AreSettings (s : Settings) : Type 0 where
   pub options_to : s.options < 128

@@ -12,6 +12,7 @@ use Rattle.t85_core.specs.Denotes.{DenotesAt, Denotes}
 use Rattle.t85_core.specs.Fixed.{Fixes, AreDecided, begun_stripes}
 use Rattle.t85_core.specs.Outcome.{IsOutcome}
 use Rattle.t85_core.specs.Jbg.{Settings, AreSettings, IsAnnounced, jbg}
+use Rattle.t85_core.specs.Coding.{flagged}
 
 -- an accepted header, and a height in use
 pub record IsInUse (h : Fields) (height' : ℕ) : Type 0 where
@@ -75,7 +76,7 @@ abbrev pub DecidedStays : Type 0
 DecidedStays =
     (h : Fields) (height' : ℕ) (stripes : List Stripe) (segments : List Segment) (code more : List ℕ) (reset : Bool) (later : List Stripe)
     (flags : List Bool) (rows : List (List Bool)) (body : List ℕ) (raster : Raster) → IsInUse h height' → IsBytes code → IsBytes more →
-    AreDecided h height' (begun_stripes stripes segments code) (length stripes) code flags rows →
+    AreDecided h height' (begun_stripes stripes segments code) (length stripes) code (flagged rows flags) →
     (denotes : DenotesAt h height' body raster) →
     denotes.parts.stripes ≡ stripes ++ record { segments = segments; code = code ++ more; reset = reset } ∷ later →
     take (length rows) raster.rows ≡ rows

@@ -22,6 +22,7 @@ pub mod Pieces
 pub mod Feeds
 pub mod Numbers
 pub mod RowNumbers
+pub mod RowImage
 pub mod ToPbm
 pub mod Encode
 pub mod ToJbg

@@ -33,10 +33,9 @@ settings_of o = record {
   comment = option_map (λ c. c.now) o.comment;
 }
 
--- they are what was given
-abbrev pub Holds : ℕ → ℕ → ℕ → Option ℕ → Bool → Option (List ℕ) → Options → Type 0
-Holds p s m announced reset comment o =
-    settings_of o ≡ record { options = p; stripe_rows = s; most_offset = m; announced = announced; reset = reset; comment = comment }
+-- options say what was given
+abbrev pub Holds : Settings → Options → Type 0
+Holds s o = settings_of o ≡ s
 
 abbrev pub fields_of : Header → Fields
 fields_of h = record { xd = h.xd; yd = h.yd; l0 = h.l0; mx = h.mx; options = h.options }

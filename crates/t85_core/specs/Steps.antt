@@ -1,5 +1,6 @@
 -- How the code is proved: what each step leaves, from the bytes up to whole images.
 pub mod CoderLaws
+pub mod Passage
 pub mod Buffers
 pub mod Segments
 pub mod HeightWalk
@@ -11,6 +12,7 @@ pub mod Cut
 pub mod DecodeRows
 pub mod DecodeStripes
 pub mod PieceCode
+pub mod SizedImage
 pub mod Pieces
 pub mod Reading
 pub mod Behind

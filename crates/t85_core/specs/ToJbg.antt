@@ -2,7 +2,6 @@
 use Rattle.std.specs.Prelude.{ℕ, ◌≡◌, ◌≢◌, ◌⊎◌, Bool, true, List, [], Option, IfSome, Result, OnOk, IfErr, IsErrOf, false}
 use Rattle.std.specs.Io.KnownBytes.{Appends, Consumes, Keeps}
 use Rattle.t85_core.specs.Change.{Change, with_ahead}
-use Rattle.pbm_core.specs.declared.form.Form.{Form}
 use Rattle.pbm_core.specs.Image.{IsPbm}
 use Rattle.pbm_core.specs.Outcome.{HasHeader, HasFault}
 use Rattle.pbm_core.specs.Refusal.{HeaderFault}
@@ -14,7 +13,7 @@ use Rattle.t85_core.specs.declared.fault.Fault.TheVariants.{Write, OutOfMemory, 
 use Rattle.t85_core.specs.Denotes.{Denotes}
 use Rattle.t85_core.specs.Jbg.{Settings, is_low, jbg}
 use Rattle.t85_core.specs.Failures.{CountsBoth, CountsWrite}
-use Rattle.t85_core.specs.Encode.{WritesCodeBegun, WritesCodeFront}
+use Rattle.t85_core.specs.Encode.{Layout, WritesCodeBegun, WritesCodeFront}
 
 -- The code of the raster of a PBM was written, and it denotes that raster.
 pub record WritesStream (s : Settings) (bytes : List ℕ) (old new : Option (List ℕ)) : Type 0 where
@@ -27,23 +26,19 @@ pub record WritesStream (s : Settings) (bytes : List ℕ) (old new : Option (Lis
 
 -- A header that is accepted, and after it rows that have this fault.
 pub record WritesStreamBegun (s : Settings) (bytes : List ℕ) (fault : PbmFault) (old new : Option (List ℕ)) : Type 0 where
-  pub form : Form
-  pub width : ℕ
-  pub height' : ℕ
+  pub layout : Layout
   pub body : List ℕ
-  pub header : HasHeader bytes form width height' body
-  pub fits : is_low s height' ≡ false
-  pub writes : WritesCodeBegun s form width height' body fault old new
+  pub header : HasHeader bytes layout.form layout.width layout.height body
+  pub fits : is_low s layout.height ≡ false
+  pub writes : WritesCodeBegun s layout body fault old new
 
 -- A header that is accepted, and after it rows of which a beginning was written.
 pub record WritesStreamFront (s : Settings) (bytes : List ℕ) (old new : Option (List ℕ)) : Type 0 where
-  pub form : Form
-  pub width : ℕ
-  pub height' : ℕ
+  pub layout : Layout
   pub body : List ℕ
-  pub header : HasHeader bytes form width height' body
-  pub fits : is_low s height' ≡ false
-  pub writes : WritesCodeFront s form width height' body old new
+  pub header : HasHeader bytes layout.form layout.width layout.height body
+  pub fits : is_low s layout.height ≡ false
+  pub writes : WritesCodeFront s layout body old new
 
 -- the bytes are an image, and nothing after it
 pub record IsImage (bytes : List ℕ) : Type 0 where
@@ -53,11 +48,9 @@ pub record IsImage (bytes : List ℕ) : Type 0 where
 
 -- a header that is accepted, and nothing after it; whether the announced height is too low
 pub record HasSize (s : Settings) (low : Bool) (bytes : List ℕ) : Type 0 where
-  pub form : Form
-  pub width : ℕ
-  pub height' : ℕ
-  pub header : HasHeader bytes form width height' []
-  pub low_is : is_low s height' ≡ low
+  pub layout : Layout
+  pub header : HasHeader bytes layout.form layout.width layout.height []
+  pub low_is : is_low s layout.height ≡ low
 
 -- What was written where a PBM is refused: nothing for its header, and a beginning where rows are missing.
 abbrev pub RefusesPbm : Settings → List ℕ → PbmFault → Option (List ℕ) → Option (List ℕ) → Type 0

@@ -1,8 +1,8 @@
 -- What `to_pbm` leaves. A stream whose height may change is read twice, first for its height and then for its rows.
-use Rattle.std.specs.Prelude.{ℕ, ◌≡◌, ◌≢◌, ◌≤◌, ◌<◌, ◌⊎◌, Bool, true, false, ◌&&◌, ◌==◌, List, length, Option, Some, None, IfSome, Result, Ok, Err, OnOk, IfErr, IsErrOf}
+use Rattle.std.specs.Prelude.{ℕ, ◌≡◌, ◌≢◌, ◌≤◌, ◌<◌, ◌⊎◌, Bool, true, false, ◌&&◌, ◌==◌, List, length, Option, Some, None, is_some, IfSome, Result, Ok, Err, OnOk, IfErr, IsErrOf}
 use Rattle.std.specs.Io.KnownBytes.{Appends, Consumes, Keeps}
-use Rattle.pbm_core.specs.Device.{InputView}
-use Rattle.t85_core.specs.Change.{Change, between, known_from}
+use Rattle.pbm_core.specs.Device.{InputView, OutputView}
+use Rattle.t85_core.specs.Change.{Change, between, known_from, output_change}
 use Rattle.raster_core.specs.Raster.{Raster}
 use Rattle.t85_core.specs.declared.fault.Fault.{Fault}
 use Rattle.t85_core.specs.declared.fault.Fault.TheVariants.{ShortHeader, Truncated, Changed, Read, Write, OutOfMemory, TooManyRows, VariableHeight}
@@ -12,6 +12,26 @@ use Rattle.t85_core.specs.Outcome.{pbm_text}
 use Rattle.t85_core.specs.Info.{IsBodyFault}
 use Rattle.t85_core.specs.Decode.{WritesRaster, WritesRows, WritesImageFront, FindHeight}
 use Rattle.t85_core.specs.Failures.{CountsBoth, CountsWrite, Ends, reads_after}
+
+-- What a call leaves of an output, and whether it was flushed last.
+pub record Delivery : Type 0 where
+  pub change : Change
+  pub flushed : Bool
+
+abbrev pub delivery : Change → Bool → Delivery
+delivery change flushed = record { change = change; flushed = flushed }
+
+abbrev pub delivery_of : {W : Type 0} → (W → OutputView) → W → W → Delivery
+delivery_of view old new = delivery (output_change view old new) (view new).flushed
+
+-- A second reading of a stream: whether there is one, what it means that it is untouched, and what a call leaves of it.
+pub record SecondReading : Type 1 where
+  pub is_there : Bool
+  pub untouched : Type 0
+  pub change : Change
+
+abbrev pub second_reading : Bool → Type 0 → Change → SecondReading
+second_reading is_there untouched change = record { is_there = is_there; untouched = untouched; change = change }
 
 -- The twenty bytes of a header were taken, and no more.
 pub record TakesHeader (h : Fields) (old new : Option (List ℕ)) : Type 0 where
@@ -32,21 +52,21 @@ pub record Unwritten (output : Change) : Type 0 where
 
 -- What writing the image of a body leaves, at this height and within a limit of rows. An image above the limit and want
 -- of memory are reported before anything is read or written.
-pub record ToPbmAt (h : Fields) (height limit : ℕ) (input output : Change) (flushed : Bool) (answer : Result (Unit {0}) Fault) : Type 0 where
-  pub whole : OnOk answer (IfSome input.old.bytes (λ body. WritesRaster h height body output.old.bytes output.new.bytes))
-  pub flushed_last : OnOk answer (flushed ≡ true)
+pub record ToPbmAt (h : Fields) (height limit : ℕ) (input : Change) (out : Delivery) (answer : Result (Unit {0}) Fault) : Type 0 where
+  pub whole : OnOk answer (IfSome input.old.bytes (λ body. WritesRaster h height body out.change.old.bytes out.change.new.bytes))
+  pub flushed_last : OnOk answer (out.flushed ≡ true)
   pub within : OnOk answer (height ≤ limit)
   pub not_high : IfErr answer (λ f. f ≢ TooManyRows → height ≤ limit)
-  pub too_high : IsErrOf answer TooManyRows → (limit < height) × Keeps input.old.bytes input.new.bytes × Keeps output.old.bytes output.new.bytes
-  pub no_memory : IsErrOf answer OutOfMemory → Keeps input.old.bytes input.new.bytes × Keeps output.old.bytes output.new.bytes
-  pub broken : IfErr answer (λ f. f ≢ Read → f ≢ Write → f ≢ TooManyRows → f ≢ OutOfMemory → IfSome input.old.bytes (λ body. WritesRows h height body f output.old.bytes output.new.bytes))
+  pub too_high : IsErrOf answer TooManyRows → (limit < height) × Keeps input.old.bytes input.new.bytes × Keeps out.change.old.bytes out.change.new.bytes
+  pub no_memory : IsErrOf answer OutOfMemory → Keeps input.old.bytes input.new.bytes × Keeps out.change.old.bytes out.change.new.bytes
+  pub broken : IfErr answer (λ f. f ≢ Read → f ≢ Write → f ≢ TooManyRows → f ≢ OutOfMemory → IfSome input.old.bytes (λ body. WritesRows h height body f out.change.old.bytes out.change.new.bytes))
   -- a read failed, and what came up to there breaks at its end
-  pub unread : IsErrOf answer Read → (given : List ℕ) × Consumes input.old.bytes input.new.bytes given × WritesRows h height given Truncated output.old.bytes output.new.bytes
+  pub unread : IsErrOf answer Read → (given : List ℕ) × Consumes input.old.bytes input.new.bytes given × WritesRows h height given Truncated out.change.old.bytes out.change.new.bytes
   -- whatever the answer: where a write failed, too, and a read before it
-  pub front : WritesImageFront h height input.old.bytes input.new.bytes output.old.bytes output.new.bytes
+  pub front : WritesImageFront h height input.old.bytes input.new.bytes out.change.old.bytes out.change.new.bytes
   pub among : IfErr answer (λ f. f ≢ Write → f ≢ TooManyRows → f ≢ OutOfMemory → IsBodyFault f)
   pub reads : CountsBoth input.old.failures input.new.failures answer
-  pub writes : CountsWrite output.old.failures output.new.failures answer
+  pub writes : CountsWrite out.change.old.failures out.change.new.failures answer
 
 -- the bytes of a second reading, where there is one
 abbrev pub again_known : {R : Type 0} → (R → Option (List ℕ)) → Option R → Option (List ℕ)
@@ -63,6 +83,9 @@ abbrev pub again_change : {R : Type 0} → (R → InputView) → Option R → Op
 again_change view old new =
     between (again_known (λ r. (view r).remaining) old) (again_known (λ r. (view r).remaining) new) (again_failures (λ r. (view r).failures) old) (again_failures (λ r. (view r).failures) new)
 
+abbrev pub second_reading_of : {R : Type 0} → (R → InputView) → Option R → Option R → SecondReading
+second_reading_of view old new = second_reading (is_some old) (new ≡ old) (again_change view old new)
+
 -- The header is refused, or can't be read: this is reported, and nothing is written.
 pub record RefusesHeader (input output : Change) (answer : Result (Unit {0}) Fault) : Type 0 where
   pub fault : Fault
@@ -71,12 +94,12 @@ pub record RefusesHeader (input output : Change) (answer : Result (Unit {0}) Fau
   pub nothing : Unwritten output
 
 -- The height is fixed: the body after the header is decoded.
-pub record ToPbmOnce (limit : ℕ) (input output : Change) (flushed : Bool) (answer : Result (Unit {0}) Fault) : Type 0 where
+pub record ToPbmOnce (limit : ℕ) (input : Change) (out : Delivery) (answer : Result (Unit {0}) Fault) : Type 0 where
   pub header : Fields
   pub body : Option (List ℕ)
   pub taken : TakesHeader header input.old.bytes body
   pub fixed : is_variable header ≡ false
-  pub converts : ToPbmAt header header.yd limit (known_from body input) output flushed answer
+  pub converts : ToPbmAt header header.yd limit (known_from body input) out answer
 
 -- The height may change and there is no second reading: this is reported, with nothing read but the header.
 pub record WantsReading (input : Change) (twice : Bool) (output : Change) (answer : Result (Unit {0}) Fault) : Type 0 where
@@ -121,32 +144,32 @@ pub record AgainChanged (header : Fields) (again output : Change) (answer : Resu
   pub nothing : Unwritten output
 
 -- it has the same header, and its body is decoded at the first reading's height
-pub record AgainConverts (header : Fields) (height limit : ℕ) (again output : Change) (flushed : Bool) (answer : Result (Unit {0}) Fault) : Type 0 where
+pub record AgainConverts (header : Fields) (height limit : ℕ) (again : Change) (out : Delivery) (answer : Result (Unit {0}) Fault) : Type 0 where
   pub body : Option (List ℕ)
   pub taken : TakesHeader header again.old.bytes body
-  pub converts : ToPbmAt header height limit (known_from body again) output flushed answer
+  pub converts : ToPbmAt header height limit (known_from body again) out answer
 
 -- what becomes of the second reading
-abbrev pub ReadsAgain : Fields → ℕ → ℕ → Change → Change → Bool → Result (Unit {0}) Fault → Type 0
-ReadsAgain header height limit again output flushed answer =
-    AgainRefused again output answer
-    ⊎ AgainChanged header again output answer
-    ⊎ AgainConverts header height limit again output flushed answer
+abbrev pub ReadsAgain : Fields → ℕ → ℕ → Change → Delivery → Result (Unit {0}) Fault → Type 0
+ReadsAgain header height limit again out answer =
+    AgainRefused again out.change answer
+    ⊎ AgainChanged header again out.change answer
+    ⊎ AgainConverts header height limit again out answer
 
 -- The height is found in the first reading, which is just after this header, and the image is decoded from the second.
-abbrev pub ToPbmBehind : Fields → ℕ → Change → Type 0 → Change → Change → Bool → Result (Unit {0}) Fault → Type 0
-ToPbmBehind header limit input untouched again output flushed answer =
-    HeightUnread header input untouched output answer
-    ⊎ ((height : ℕ) × FindHeight header input (Ok height) × ReadsAgain header height limit again output flushed answer)
+abbrev pub ToPbmBehind : Fields → ℕ → Change → SecondReading → Delivery → Result (Unit {0}) Fault → Type 0
+ToPbmBehind header limit input again out answer =
+    HeightUnread header input again.untouched out.change answer
+    ⊎ ((height : ℕ) × FindHeight header input (Ok height) × ReadsAgain header height limit again.change out answer)
 
 -- so it is where the height may change and there is a second reading
-pub record ToPbmTwice (limit : ℕ) (input : Change) (twice : Bool) (untouched : Type 0) (again output : Change) (flushed : Bool) (answer : Result (Unit {0}) Fault) : Type 0 where
+pub record ToPbmTwice (limit : ℕ) (input : Change) (again : SecondReading) (out : Delivery) (answer : Result (Unit {0}) Fault) : Type 0 where
   pub header : Fields
   pub body : Option (List ℕ)
   pub taken : TakesHeader header input.old.bytes body
   pub variable : is_variable header ≡ true
-  pub second : twice ≡ true
-  pub went : ToPbmBehind header limit (known_from body input) untouched again output flushed answer
+  pub second : again.is_there ≡ true
+  pub went : ToPbmBehind header limit (known_from body input) again out answer
 
 -- The image of the one raster that a stream denotes was written.
 pub record WritesDenoted (bytes : List ℕ) (old new : Option (List ℕ)) : Type 0 where
@@ -161,12 +184,11 @@ pub record IsFixed (bytes : List ℕ) : Type 0 where
   pub header_of : HeaderOf bytes header
   pub height_is_fixed : is_variable header ≡ false
 
--- What `to_pbm` leaves. Of each reading are given the known bytes and the count of failures, before the call and after
--- it; of the second also whether there is one, and what it means that it is untouched. It goes one of four ways.
-pub record ToPbm (limit : ℕ) (input : Change) (twice : Bool) (untouched : Type 0) (again output : Change) (flushed : Bool) (answer : Result (Unit {0}) Fault) : Type 0 where
-  pub went : (RefusesHeader input output answer × untouched)
-      ⊎ (ToPbmOnce limit input output flushed answer × untouched)
-      ⊎ (WantsReading input twice output answer × untouched)
-      ⊎ ToPbmTwice limit input twice untouched again output flushed answer
+-- What `to_pbm` leaves, in one of four ways.
+pub record ToPbm (limit : ℕ) (input : Change) (again : SecondReading) (out : Delivery) (answer : Result (Unit {0}) Fault) : Type 0 where
+  pub went : (RefusesHeader input out.change answer × again.untouched)
+      ⊎ (ToPbmOnce limit input out answer × again.untouched)
+      ⊎ (WantsReading input again.is_there out.change answer × again.untouched)
+      ⊎ ToPbmTwice limit input again out answer
   -- of a stream of fixed height, or of two equal readings, it is the image of the raster that the stream denotes
-  pub denoted : OnOk answer (IfSome input.old.bytes (λ first. IsFixed first ⊎ (again.old.bytes ≡ Some first) → WritesDenoted first output.old.bytes output.new.bytes))
+  pub denoted : OnOk answer (IfSome input.old.bytes (λ first. IsFixed first ⊎ (again.change.old.bytes ≡ Some first) → WritesDenoted first out.change.old.bytes out.change.new.bytes))

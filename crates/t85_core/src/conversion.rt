@@ -1,12 +1,12 @@
 //! Whole files: the image of a stream, and the stream of an image.
 
-ghost use Rattle.std.specs.Prelude.{◌≡◌, is_some, true, if◌then◌else◌};
+ghost use Rattle.std.specs.Prelude.{◌≡◌, true, if◌then◌else◌};
 ghost use Rattle.t85_core.specs.Steps.HeightWalk.{MayBeHeight};
 ghost use Rattle.t85_core.specs.Change.{input_change, output_change};
 ghost use Rattle.t85_core.specs.Options.{fields_of, settings_of};
 ghost use Rattle.t85_core.specs.Header.{is_variable};
 ghost use Rattle.t85_core.specs.Failures.{FlushesOutput};
-ghost use Rattle.t85_core.specs.ToPbm.{ToPbmAt, ToPbmBehind, ToPbm, again_change, is_same_header};
+ghost use Rattle.t85_core.specs.ToPbm.{ToPbmAt, ToPbmBehind, ToPbm, is_same_header, second_reading, second_reading_of, delivery_of};
 ghost use Rattle.t85_core.specs.ToJbg.{ToJbg, ToJbgAhead};
 ghost use Rattle.pbm_core.specs.Device.{SameInput};
 ghost use Rattle.t85_core.specs.Jbg.{is_low};
@@ -36,9 +36,9 @@ pub fn to_pbm<R: Input, Second: Input, W: Output>(
     max_rows: u32,
     output: &mut W,
 ) -> Result<(), Fault>
-    ensures outcome { ToPbm max_rows (input_change R.view first.old first.new) (is_some again.old)
-        (again.new ≡ again.old) (again_change Second.view again.old again.new) (output_change W.view
-        output.old output.new) (W.view output.new).flushed result }
+    ensures outcome { ToPbm max_rows (input_change R.view first.old first.new)
+        (second_reading_of Second.view again.old again.new)
+        (delivery_of W.view output.old output.new) result }
     ensures flushes { FlushesOutput (W.view output.old) (W.view output.new) result }
 {
     // What the proof cites of the coder.
@@ -64,8 +64,9 @@ fn convert_again<R: Input, Second: Input, W: Output>(
 ) -> Result<(), Fault>
     requires variable { is_variable (fields_of header.now) ≡ true }
     ensures outcome { ToPbmBehind (fields_of header.now) max_rows (input_change R.view first.old
-        first.new) (again.new ≡ again.old) (input_change Second.view again.old again.new)
-        (output_change W.view output.old output.new) (W.view output.new).flushed result }
+        first.new) (second_reading true (again.new ≡ again.old)
+        (input_change Second.view again.old again.new))
+        (delivery_of W.view output.old output.new) result }
     ensures flushes { FlushesOutput (W.view output.old) (W.view output.new) result }
 {
     let height = find_height(header, first)?;
@@ -105,7 +106,7 @@ fn convert<R: Input, W: Output>(
 ) -> Result<(), Fault>
     requires height { MayBeHeight header.now.yd height }
     ensures outcome { ToPbmAt (fields_of header.now) height max_rows (input_change R.view input.old
-        input.new) (output_change W.view output.old output.new) (W.view output.new).flushed result }
+        input.new) (delivery_of W.view output.old output.new) result }
     ensures flushes { FlushesOutput (W.view output.old) (W.view output.new) result }
 {
     if height > max_rows {

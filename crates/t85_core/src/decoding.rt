@@ -7,10 +7,12 @@ ghost use Rattle.t85_core.specs.Options.{fields_of};
 ghost use Rattle.t85_core.specs.Change.{input_change, output_change};
 ghost use Rattle.t85_core.specs.Decode.{Decode};
 ghost use Rattle.t85_core.specs.Lent.{walk_over as over};
-ghost use Rattle.t85_core.specs.Steps.Buffers.{ReadsOn, WritesOn};
-ghost use Rattle.t85_core.specs.Steps.Views.{text_taken, WritesBehind};
+ghost use Rattle.t85_core.specs.Steps.Buffers.{ReadsOn, WritesOn, reading};
+ghost use Rattle.t85_core.specs.Steps.Views.{text_taken, passage_of, WritesBehind};
+ghost use Rattle.t85_core.specs.Steps.Passage.{passage};
 ghost use Rattle.t85_core.specs.Steps.DecodeStripes.{ImageRead, ImageCut, ImageUnwritten};
 ghost use Rattle.t85_core.specs.Steps.Pieces.{WalkStands};
+ghost use Rattle.t85_core.specs.Steps.SizedImage.{sized_by};
 ghost use Rattle.t85_core.specs.Steps.Reading.{HeldTurn, ReadTurn, RowsTurn, SameSource, still_left};
 ghost use Rattle.t85_core.specs.Failures.{CountsBoth, SameOutput};
 ghost use Rattle.t85_core.specs.declared.fault.Fault.{Fault};
@@ -125,16 +127,17 @@ fn decode_buffered<S: HeldSource, W: Output, const HELD: usize>(
     stream: &mut S,
     buffer: &mut OutputBuffer<'_, W, HELD>,
 ) -> Result<(), Fault>
-    requires stands { WalkStands (fields_of header.now) height
-        (over walk.old window.old learned.old) [] [] }
+    requires stands { WalkStands (sized_by header.now height) (over walk.old window.old learned.old)
+        [] [] }
     requires height { MayBeHeight header.now.yd height }
-    ensures ok { OnOk result (ImageRead (fields_of header.now) height (S.view stream.old).known
-        (S.view stream.new).known (text_taken buffer.old) (W.view buffer.new.output.now).contents) }
+    ensures ok { OnOk result (ImageRead (fields_of header.now) height
+        (passage (S.view stream.old).known (S.view stream.new).known
+        (text_taken buffer.old) (W.view buffer.new.output.now).contents)) }
     ensures err { IfErr result (λ f. f ≢ Write → ImageCut (fields_of header.now) height
-        (S.view stream.old).known (S.view stream.new).known (text_taken buffer.old)
-        (W.view buffer.new.output.now).contents f) }
-    ensures begun { ImageUnwritten (fields_of header.now) height (S.view stream.old).known
-        (S.view stream.new).known (text_taken buffer.old) (text_taken buffer.new) }
+        (passage (S.view stream.old).known (S.view stream.new).known
+        (text_taken buffer.old) (W.view buffer.new.output.now).contents) f) }
+    ensures begun { ImageUnwritten (fields_of header.now) height (passage (S.view stream.old).known
+        (S.view stream.new).known (text_taken buffer.old) (text_taken buffer.new)) }
     ensures drained { IsErrOf result Read → (S.view stream.new).known ≡ (S.view stream.new).beyond }
     ensures reads { CountsBoth (S.view stream.old).failures (S.view stream.new).failures result }
     ensures writes { WritesBehind buffer.old buffer.new result }
@@ -164,17 +167,15 @@ fn decode_image<S: HeldSource, P: ByteTarget>(
     stream: &mut S,
     target: &mut P,
 ) -> Result<(), Fault>
-    requires stands { WalkStands (fields_of header.now) height
-        (over walk.old window.old learned.old) [] [] }
+    requires stands { WalkStands (sized_by header.now height) (over walk.old window.old learned.old)
+        [] [] }
     requires height { MayBeHeight header.now.yd height }
-    ensures ok { OnOk result (ImageRead (fields_of header.now) height (S.view stream.old).known
-        (S.view stream.new).known (P.view target.old).text (P.view target.new).text) }
-    ensures err { IfErr result (λ f. f ≢ Write → ImageCut (fields_of header.now) height (S.view
-        stream.old).known (S.view stream.new).known (P.view target.old).text (P.view
-        target.new).text f) }
-    ensures unwritten { IfErr result (λ _. ImageUnwritten (fields_of header.now) height (S.view
-        stream.old).known (S.view stream.new).known (P.view target.old).text (P.view
-        target.new).text) }
+    ensures ok { OnOk result (ImageRead (fields_of header.now) height (passage_of
+        (S.view stream.old) (S.view stream.new) (P.view target.old) (P.view target.new))) }
+    ensures err { IfErr result (λ f. f ≢ Write → ImageCut (fields_of header.now) height (passage_of
+        (S.view stream.old) (S.view stream.new) (P.view target.old) (P.view target.new)) f) }
+    ensures unwritten { IfErr result (λ _. ImageUnwritten (fields_of header.now) height (passage_of
+        (S.view stream.old) (S.view stream.new) (P.view target.old) (P.view target.new))) }
     ensures reads { ReadsOn (S.view stream.old) (S.view stream.new) result }
     ensures writes { WritesOn (P.view target.old) (P.view target.new) result }
 {
@@ -203,7 +204,7 @@ fn next_rows<S: HeldSource>(
     stream: &mut S,
 ) -> Result<u32, Fault>
     requires height { MayBeHeight header.now.yd height }
-    ensures turn { RowsTurn (fields_of header.now) height (over walk.old window.old learned.old)
+    ensures turn { RowsTurn (sized_by header.now height) (over walk.old window.old learned.old)
         (over walk.new window.new learned.new) (S.view stream.old) (S.view stream.new) result }
 {
     let count = walk.repeat_rows(header, height, window, learned);
@@ -224,7 +225,7 @@ fn next_row<S: HeldSource>(
     stream: &mut S,
 ) -> Result<bool, Fault>
     requires height { MayBeHeight header.now.yd height }
-    ensures turn { ReadTurn (fields_of header.now) height (over walk.old window.old learned.old)
+    ensures turn { ReadTurn (sized_by header.now height) (over walk.old window.old learned.old)
         (over walk.new window.new learned.new) (S.view stream.old) (S.view stream.new) result }
     ensures code { result ≡ Ok true → walk.new.stage ≡ stage.Code }
 {
@@ -249,9 +250,9 @@ fn turn_held<S: HeldSource>(
     stream: &mut S,
 ) -> Result<bool, Fault>
     requires height { MayBeHeight header.now.yd height }
-    ensures turn { HeldTurn (fields_of header.now) height (over walk.old window.old
-        learned.old) (over walk.new window.new learned.new) (S.view stream.old).known (S.view
-        stream.new).known (S.bytes stream.new) result }
+    ensures turn { HeldTurn (sized_by header.now height) (over walk.old window.old learned.old)
+        (over walk.new window.new learned.new) (reading (S.view stream.old).known
+        (S.view stream.new).known) (S.bytes stream.new) result }
     ensures still { still_left (S.view stream.new) (S.bytes stream.new) ≡
         still_left (S.view stream.old) (S.bytes stream.old) }
     ensures same { SameSource (S.view stream.old) (S.view stream.new) }

@@ -5,7 +5,7 @@ ghost use Rattle.t85_core.specs.Change.{input_change, output_change};
 ghost use Rattle.pbm_core.specs.Device.{SameInput};
 ghost use Rattle.pbm_core.specs.declared.fault.PbmFault.{PbmFault};
 ghost use Rattle.raster_core.specs.Window.{held, width_of};
-ghost use Rattle.t85_core.specs.Encode.{Encode, IsEncodeFault};
+ghost use Rattle.t85_core.specs.Encode.{Encode, IsEncodeFault, layout_for};
 ghost use Rattle.t85_core.specs.Steps.EncodeRows.{EndsInRow, RowTaken};
 ghost use Rattle.t85_core.specs.Steps.EncodeStripes.{ImageRefused, ImageFront, ImageCoded, JbgShort};
 ghost use Rattle.t85_core.specs.Jbg.{jbg, is_low};
@@ -14,6 +14,7 @@ ghost use Rattle.t85_core.specs.Steps.Buffers.{WritesOn};
 ghost use Rattle.t85_core.specs.Steps.Views.{text_taken, WritesBehind};
 ghost use Rattle.t85_core.specs.Failures.{CountsBoth, CountsRead, IfMissing, SameOutput};
 ghost use Rattle.t85_core.specs.declared.fault.Fault.TheVariants.{Write, Pbm};
+ghost use Rattle.t85_core.specs.Steps.Passage.{passage_from};
 
 mod by_row;
 mod learning;
@@ -46,7 +47,7 @@ pub fn encode<R: Input, W: Output>(
     output: &mut W,
 ) -> Result<(), Fault>
     requires width { width_of window.old ≡ size.width }
-    ensures outcome { Encode (settings_of options.now) form size.width size.height (input_change
+    ensures outcome { Encode (settings_of options.now) (layout_for form size) (input_change
         R.view input.old input.new) (output_change W.view output.old output.new) result }
     ensures same_input { SameInput (R.view input.old) (R.view input.new) }
     ensures same_output { SameOutput (W.view output.old) (W.view output.new) }
@@ -64,7 +65,7 @@ pub fn encode_in_memory<R: Input, W: Output>(
     output: &mut W,
 ) -> Result<(), Fault>
     requires width { width_of window.old ≡ size.width }
-    ensures outcome { Encode (settings_of options.now) form size.width size.height (input_change
+    ensures outcome { Encode (settings_of options.now) (layout_for form size) (input_change
         R.view input.old input.new) (output_change W.view output.old output.new) result }
     ensures same_input { SameInput (R.view input.old) (R.view input.new) }
     ensures same_output { SameOutput (W.view output.old) (W.view output.new) }
@@ -84,7 +85,7 @@ fn encode_by<R: Input, W: Output, const HELD: usize>(
     requires width { width_of window.old ≡ size.width }
     requires held { 0 < HELD }
     requires few_held { HELD ≤ 4096 }
-    ensures outcome { Encode (settings_of options.now) form size.width size.height (input_change
+    ensures outcome { Encode (settings_of options.now) (layout_for form size) (input_change
         R.view input.old input.new) (output_change W.view output.old output.new) result }
     ensures same_input { SameInput (R.view input.old) (R.view input.new) }
     ensures same_output { SameOutput (W.view output.old) (W.view output.new) }
@@ -109,15 +110,15 @@ fn encode_buffered<R: Input, W: Output, const HELD: usize>(
 ) -> Result<(), Fault>
     requires width { width_of window.old ≡ size.width }
     requires low { is_low (settings_of options.now) size.height ≡ false }
-    ensures ok { OnOk result (ImageCoded form size.width size.height (jbg (settings_of options.now))
-        (R.view source.old).remaining (R.view source.new).remaining (text_taken buffer.old)
-        (W.view buffer.new.output.now).contents) }
-    ensures short { IfMissing result (JbgShort (settings_of options.now) form size.width size.height
-        (R.view source.old).remaining (R.view source.new).remaining (text_taken buffer.old)
-        (W.view buffer.new.output.now).contents) }
-    ensures begun { ImageFront form size.width size.height (jbg (settings_of options.now))
-        (R.view source.old).remaining (R.view source.new).remaining (text_taken buffer.old)
-        (text_taken buffer.new) }
+    ensures ok { OnOk result (ImageCoded (layout_for form size) (jbg (settings_of options.now))
+        (passage_from (R.view source.old) (R.view source.new)
+        (text_taken buffer.old) (W.view buffer.new.output.now).contents)) }
+    ensures short { IfMissing result (JbgShort (settings_of options.now) (layout_for form size)
+        (passage_from (R.view source.old) (R.view source.new)
+        (text_taken buffer.old) (W.view buffer.new.output.now).contents)) }
+    ensures begun { ImageFront (layout_for form size) (jbg (settings_of options.now))
+        (passage_from (R.view source.old) (R.view source.new)
+        (text_taken buffer.old) (text_taken buffer.new)) }
     ensures among { IfErr result IsEncodeFault }
     ensures reads { CountsBoth (R.view source.old).failures (R.view source.new).failures result }
     ensures same_input { SameInput (R.view source.old) (R.view source.new) }
@@ -146,15 +147,16 @@ fn encode_image<R: Input, P: ByteTarget>(
 ) -> Result<(), Fault>
     requires width { width_of window.old ≡ size.width }
     requires low { is_low (settings_of options.now) size.height ≡ false }
-    ensures ok { OnOk result (ImageCoded form size.width size.height (jbg (settings_of options.now))
-        (R.view source.old).remaining (R.view source.new).remaining (P.view target.old).text (P.view
-        target.new).text) }
-    ensures short { IfMissing result (JbgShort (settings_of options.now) form size.width size.height
-        (R.view source.old).remaining (R.view source.new).remaining (P.view target.old).text (P.view
-        target.new).text) }
-    ensures unwritten { IsErrOf result Write → ImageRefused form size.width size.height (jbg
-        (settings_of options.now)) (R.view source.old).remaining (R.view source.new).remaining
-        (P.view target.old).text (P.view target.new).text }
+    ensures ok { OnOk result (ImageCoded (layout_for form size) (jbg (settings_of options.now))
+        (passage_from (R.view source.old) (R.view source.new)
+        (P.view target.old).text (P.view target.new).text)) }
+    ensures short { IfMissing result (JbgShort (settings_of options.now) (layout_for form size)
+        (passage_from (R.view source.old) (R.view source.new)
+        (P.view target.old).text (P.view target.new).text)) }
+    ensures unwritten { IsErrOf result Write → ImageRefused (layout_for form size)
+        (jbg (settings_of options.now))
+        (passage_from (R.view source.old) (R.view source.new)
+        (P.view target.old).text (P.view target.new).text) }
     ensures among { IfErr result IsEncodeFault }
     ensures reads { CountsRead (R.view source.old).failures (R.view source.new).failures result }
     ensures same_input { SameInput (R.view source.old) (R.view source.new) }

@@ -6,12 +6,12 @@ ghost use Rattle.t85_core.specs.Change.{input_change};
 ghost use Rattle.t85_core.specs.declared.fault.Fault.TheVariants.{Truncated, Read};
 ghost use Rattle.t85_core.specs.Options.{fields_of};
 ghost use Rattle.t85_core.specs.Header.{is_variable};
-ghost use Rattle.t85_core.specs.Steps.Buffers.{ReadsOn};
+ghost use Rattle.t85_core.specs.Steps.Buffers.{ReadsOn, reading};
 ghost use Rattle.t85_core.specs.Failures.{Ends};
 ghost use Rattle.t85_core.specs.Grammar.{stripe_count};
 ghost use Rattle.t85_core.specs.Decode.{FindHeight};
 ghost use Rattle.t85_core.specs.Info.{IsWalkFault};
-ghost use Rattle.t85_core.specs.Steps.HeightWalk.{SkipsParts, SkipFault, Sought, SkipsFault, LooksTo, LookEnds, LookOpen, Finds, FindsOpen, PassesRest, RestBreaks};
+ghost use Rattle.t85_core.specs.Steps.HeightWalk.{SkipsParts, SkipFault, Sought, SkipsFault, LooksTo, LookEnds, LookOpen, Finds, FindsOpen, PassesRest, RestBreaks, search_place, search_end_of, segment_counts};
 ghost use Rattle.t85_core.specs.Steps.Segments.{IsByteOrMarker};
 
 use crate::fault::Fault;
@@ -70,13 +70,12 @@ pub fn find_height<R: Input>(header: &Header, input: &mut R) -> Result<u32, Faul
 /// Skips the stripes that the header's height makes, up to the first height that is given in them or, where the height
 /// may change, after them.
 pub fn find<S: ByteSource>(header: &Header, stream: &mut S) -> Result<Reached, Fault>
-    ensures ok { IfOk result (λ r. Finds (fields_of header.now) (S.view stream.old).known
-        (S.view stream.new).known r.entities r.passed.moves r.passed.comments r.part.moves
-        r.part.comments r.height) }
+    ensures ok { IfOk result (λ r. Finds (fields_of header.now) (reading (S.view
+        stream.old).known (S.view stream.new).known) (search_end_of r) r.height) }
     ensures few { IfOk result (λ r. (r.passed.moves ≤ r.entities) × (r.part.moves ≤ 1)) }
     ensures err { IfErr result (λ f. f ≢ Read → Ends Truncated (S.view stream.old).known
-        (S.view stream.new).known (SkipsFault (fields_of header.now) 0
-        (stripe_count header.now.yd header.now.l0) false false) f) }
+        (S.view stream.new).known (SkipsFault (fields_of header.now) (search_place 0 false false)
+        (stripe_count header.now.yd header.now.l0)) f) }
     ensures unread { IsErrOf result Read → (given : List ℕ) × Consumes (S.view stream.old).known
         (S.view stream.new).known given × FindsOpen (fields_of header.now) given }
     ensures among { IfErr result IsWalkFault }
@@ -150,12 +149,12 @@ pub fn skip_stripes<S: ByteSource>(
     stream: &mut S,
 ) -> Result<Reached, Fault>
     requires from { from ≤ count }
-    ensures ok { IfOk result (λ r. Sought (fields_of header.now) from count given moved_before
-        (S.view stream.old).known (S.view stream.new).known r.entities r.passed.moves
-        r.passed.comments r.part.moves r.part.comments r.height) }
+    ensures ok { IfOk result (λ r. Sought (fields_of header.now)
+        (search_place from given moved_before) count (reading (S.view stream.old).known
+        (S.view stream.new).known) (search_end_of r) r.height) }
     ensures few { IfOk result (λ r. (r.passed.moves ≤ r.entities - from) × (r.part.moves ≤ 1)) }
     ensures err { IfErr result (Ends Truncated (S.view stream.old).known (S.view stream.new).known
-        (SkipsFault (fields_of header.now) from count given moved_before)) }
+        (SkipsFault (fields_of header.now) (search_place from given moved_before) count)) }
     ensures reads { ReadsOn (S.view stream.old) (S.view stream.new) result }
 {
     let mut moved = moved_before;
@@ -202,12 +201,13 @@ fn skip_stripe<S: ByteSource>(
     moved_before: bool,
     stream: &mut S,
 ) -> Result<Skipped, Fault>
-    ensures ok { IfOk result (λ s. SkipsParts (fields_of header.now) entities given moved_before
-        (S.view stream.old).known (S.view stream.new).known s.passed.moves s.passed.comments
-        s.height) }
+    ensures ok { IfOk result (λ s. SkipsParts (fields_of header.now)
+        (search_place entities given moved_before)
+        (reading (S.view stream.old).known (S.view stream.new).known)
+        (segment_counts s.passed.moves s.passed.comments) s.height) }
     ensures few { IfOk result (λ s. s.passed.moves ≤ 1) }
     ensures err { IfErr result (Ends Truncated (S.view stream.old).known (S.view stream.new).known
-        (SkipFault (fields_of header.now) entities given moved_before)) }
+        (SkipFault (fields_of header.now) (search_place entities given moved_before))) }
     ensures reads { ReadsOn (S.view stream.old) (S.view stream.new) result }
 {
     // No height is in use where one is looked for, and none may come where one was given.

@@ -35,7 +35,7 @@ pub struct Options<'a> {
 impl<'a> Options<'a> {
     ghost use Rattle.std.specs.Prelude.{MatchResult, None, Some, IfOk, ◌&&◌, not, is_some};
     ghost use Rattle.t85_core.specs.Options.{refusal_of, settings_of, Holds, fields_of};
-    ghost use Rattle.t85_core.specs.Jbg.{header_of, is_low, written_options};
+    ghost use Rattle.t85_core.specs.Jbg.{header_of, is_low, settings, written_options};
     ghost use Rattle.t85_core.specs.Coding.{has_bit};
 
     /// Judges the options byte `p`, the rows of a stripe `s` and the greatest offset `m`, in this order, and then the
@@ -51,8 +51,8 @@ impl<'a> Options<'a> {
         ensures judged { MatchResult result
             (λ _. refusal_of p s m (option_map (λ c. c.now) comment.entry) ≡ None)
             (λ fault. refusal_of p s m (option_map (λ c. c.now) comment.entry) ≡ Some fault) }
-        ensures held { IfOk result (λ o. Holds p s m announced reset
-            (option_map (λ c. c.now) comment.entry) o) }
+        ensures held { IfOk result (Holds (settings p s m announced reset
+            (option_map (λ c. c.now) comment.entry))) }
     {
         if p >= 0x80 || p % 8 != 0 || p / 16 % 2 != 0 {
             return Err(Fault::OptionBits);

@@ -1,12 +1,12 @@
 //! What a stream says of itself.
 
-ghost use Rattle.std.specs.Prelude.{◌≡◌, ◌≢◌, ◌≤◌, ◌-◌, ◌∷◌, [], List, ℕ, Option, IfOk, IfErr, IfSome, IsErrOf, Some};
+ghost use Rattle.std.specs.Prelude.{◌≡◌, ◌≢◌, ◌≤◌, ◌-◌, ◌∷◌, [], List, ℕ, IfOk, IfErr, IfSome, IsErrOf, Some};
 ghost use Rattle.std.specs.Io.KnownBytes.{Consumes};
 ghost use Rattle.t85_core.specs.Change.{input_change, output_change};
 ghost use Rattle.t85_core.specs.declared.fault.Fault.TheVariants.{Read};
 ghost use Rattle.t85_core.specs.Options.{fields_of};
 ghost use Rattle.t85_core.specs.Info.{Info, IsWalkFault, Summarize, line_text, numbers_in};
-ghost use Rattle.t85_core.specs.Steps.HeightWalk.{FindsGiven, BodyNumbers, BodyRefused, BodyUnfinished};
+ghost use Rattle.t85_core.specs.Steps.HeightWalk.{WhereFound, BodyNumbers, BodyRefused, BodyUnfinished, search_end_of};
 ghost use Rattle.t85_core.specs.Steps.Buffers.{ReadsOn};
 ghost use Rattle.t85_core.specs.Failures.{FlushesOutput};
 
@@ -103,19 +103,16 @@ fn walk_on<S: ByteSource>(
 ) -> Result<Summary, Fault>
     requires few { reached.passed.moves ≤ reached.entities }
     requires part { reached.part.moves ≤ 1 }
-    ensures ok { IfOk result (λ found. (known : Option (List ℕ)) →
-        FindsGiven (fields_of header.now) known (S.view stream.old).known reached.entities
-        reached.passed.moves reached.passed.comments reached.part.moves reached.part.comments height
-        → IfSome known (BodyNumbers (fields_of header.now) (numbers_in found))) }
-    ensures err { IfErr result (λ f. f ≢ Read → (known : Option (List ℕ)) →
-        FindsGiven (fields_of header.now) known (S.view stream.old).known reached.entities
-        reached.passed.moves reached.passed.comments reached.part.moves reached.part.comments height
-        → IfSome known (BodyRefused (fields_of header.now) f)) }
-    ensures unread { IsErrOf result Read → (known : Option (List ℕ)) →
-        FindsGiven (fields_of header.now) known (S.view stream.old).known reached.entities
-        reached.passed.moves reached.passed.comments reached.part.moves reached.part.comments height
-        → (given : List ℕ) × Consumes known (S.view stream.new).known given ×
-        BodyUnfinished (fields_of header.now) given }
+    ensures ok { IfOk result (λ found. WhereFound (fields_of header.now) (S.view stream.old).known
+        (search_end_of reached) height (λ known. IfSome known (BodyNumbers (fields_of header.now)
+        (numbers_in found)))) }
+    ensures err { IfErr result (λ f. f ≢ Read → WhereFound (fields_of header.now)
+        (S.view stream.old).known (search_end_of reached) height (λ known. IfSome known
+        (BodyRefused (fields_of header.now) f))) }
+    ensures unread { IsErrOf result Read → WhereFound (fields_of header.now)
+        (S.view stream.old).known (search_end_of reached) height (λ known. (given : List ℕ) ×
+        Consumes known (S.view stream.new).known given × BodyUnfinished (fields_of header.now)
+        given) }
     ensures among { IfErr result IsWalkFault }
     ensures reads { ReadsOn (S.view stream.old) (S.view stream.new) result }
 {

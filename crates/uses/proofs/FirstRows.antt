@@ -20,7 +20,7 @@ use Rattle.t85_core.specs.Header.{Fields, HeaderOf, header_fault, is_variable}
 use Rattle.t85_core.specs.Height.{IsHeight}
 use Rattle.t85_core.specs.Outcome.{pbm_rows, pbm_text}
 use Rattle.t85_core.specs.Jbg.{jbg}
-use Rattle.t85_core.specs.ToPbm.{ToPbmAt, ToPbmOnce, ToPbm, HeaderEnds, IsFixed, WantsReading}
+use Rattle.t85_core.specs.ToPbm.{ToPbmAt, ToPbmOnce, ToPbm, HeaderEnds, IsFixed, WantsReading, delivery, second_reading}
 use Rattle.t85_core.specs.Failures.{counted_as}
 use Rattle.t85_core.specs.Laws.{CodeDenotes, HeaderLaws}
 use Rattle.uses.specs.Cut.{Begins, WritesFirst, WritesFirstRows}
@@ -160,7 +160,7 @@ module _ (law : CodeDenotes) (line_law : LineOrFault) (headers : HeaderLaws) (ra
 
       module _ (limit : ℕ) (large : h.yd ≤ limit) (in_new : Option (List ℕ)) (reads_old reads_new writes_old writes_new : ℕ) (flushed : Bool) where
         abbrev Converted : Result (Unit {0}) Fault → Type 0
-        Converted answer = ToPbmAt h h.yd limit (between (Some (drop 20 bytes)) in_new reads_old reads_new) (between out_old out_new writes_old writes_new) flushed answer
+        Converted answer = ToPbmAt h h.yd limit (between (Some (drop 20 bytes)) in_new reads_old reads_new) (delivery (between out_old out_new writes_old writes_new) flushed) answer
 
         rows_of : (f : Fault) → Converted (Err f) → AppendsBeginning out_old out_new (pbm_text raster) → f ≢ Write → f ≢ OutOfMemory → WritesFirstRows raster out_old out_new
         rows_of Write c begins write memory = absurd (write refl)
@@ -190,12 +190,12 @@ module _ (law : CodeDenotes) (line_law : LineOrFault) (headers : HeaderLaws) (ra
             })
 
     module _ (limit : ℕ) (large : 2 ^ 32 ≤ limit + 1) (in_new again_old again_new : Option (List ℕ)) (untouched : Type 0) (reads_old reads_new again_reads_old again_reads_new writes_old writes_new : ℕ) (flushed : Bool) (answer : Result (Unit {0}) Fault) where
-      once : ToPbmOnce limit (between (Some bytes) in_new reads_old reads_new) (between out_old out_new writes_old writes_new) flushed answer → WritesFirst raster bytes out_old out_new answer
+      once : ToPbmOnce limit (between (Some bytes) in_new reads_old reads_new) (delivery (between out_old out_new writes_old writes_new) flushed) answer → WritesFirst raster bytes out_old out_new answer
       once o =
           let split = splits headers bytes o.header o.body o.taken in
           let tall = split.header_of.accepted.height_to in
           at_body o.header (body_denotes o.header split.header_of o.fixed) limit (omega arith) in_new reads_old reads_new writes_old writes_new flushed answer
-          (subst (λ b. ToPbmAt o.header o.header.yd limit (between b in_new reads_old reads_new) (between out_old out_new writes_old writes_new) flushed answer) split.body_is o.converts)
+          (subst (λ b. ToPbmAt o.header o.header.yd limit (between b in_new reads_old reads_new) (delivery (between out_old out_new writes_old writes_new) flushed) answer) split.body_is o.converts)
 
       -- the height may change after all
       variable : (w : WantsReading (between (Some bytes) in_new reads_old reads_new) false (between out_old out_new writes_old writes_new) answer) → IsFixed bytes → VariableHeight ≢ Read → ⊥
@@ -204,7 +204,7 @@ module _ (law : CodeDenotes) (line_law : LineOrFault) (headers : HeaderLaws) (ra
           true≢false (sym w.variable ∙ ap (λ (k : Fields). is_variable k) same ∙ fixed.height_is_fixed)
 
       -- without a second reading
-      pub written : ToPbm limit (between (Some bytes) in_new reads_old reads_new) false untouched (between again_old again_new again_reads_old again_reads_new) (between out_old out_new writes_old writes_new) flushed answer →
+      pub written : ToPbm limit (between (Some bytes) in_new reads_old reads_new) (second_reading false untouched (between again_old again_new again_reads_old again_reads_new)) (delivery (between out_old out_new writes_old writes_new) flushed) answer →
           WritesFirst raster bytes out_old out_new answer
       written c = elim c.went [
         | inl refused ↦ unwritten answer refused.0.fault refused.0.answer_is (λ fixed other. stands in_new refused.0.fault reads_old reads_new fixed other refused.0.header) refused.0.nothing.kept

@@ -10,7 +10,7 @@ use Rattle.t85_core.specs.declared.pieces.Outcome.{Outcome}
 use Rattle.t85_core.specs.declared.pieces.Outcome.TheVariants as outcome
 use Rattle.t85_core.specs.Header.{Fields}
 use Rattle.t85_core.specs.Pieces.{stream_of, row_held, HasDecoded, HandsOut, HoldsImage, StreamGoesOn, Call, IsCall, bytes_taken, given_with, row_given, decoder_after}
-use Rattle.uses.specs.Pieces.{rows_told, rows_counted, WereMade, SaysOfRows, PieceRead, TextRead, SomeRead}
+use Rattle.uses.specs.Pieces.{rows_told, rows_counted, WereMade, SaysOfRows, PieceRead, TextRead, SomeRead, gathered}
 
 pub on_err : {T E : Type 0} (r : Result T E) {P : Type 0} → P → OnErr r P
 on_err (Ok x) p = tt
@@ -48,6 +48,10 @@ none_given outcome.More row other = refl
 none_given (outcome.Done height) row other = refl
 none_given (outcome.Broken fault) row other = refl
 
+-- a call with a piece, by what is told of it
+abbrev pub call_told : List ℕ → Bool → ℕ → Outcome → PieceView → Call
+call_told piece is_all taken answer new = record { piece = piece; is_all = is_all; taken = taken; answer = answer; new = new }
+
 -- Rows of a piece so far: this many, and so many bytes were taken.
 pub record RowsSoFar (old now : PieceView) (piece : List ℕ) (taken : ℕ) (held held' : List ℕ) (count : ℕ) : Type 0 where
   pub calls : List Call
@@ -72,11 +76,11 @@ none_so_far d piece held = record {
 }
 
 module _ (old now : PieceView) (piece : List ℕ) (taken : ℕ) (held held' : List ℕ) (count : ℕ) (so_far : RowsSoFar old now piece taken held held' count) where
-  pub some_came : SomeRead old held held'
+  pub some_came : SomeRead old (gathered held held')
   some_came = record { calls = so_far.calls; made = so_far.made; appended = so_far.appended }
 
   -- as many came as were asked for
-  pub all_came : (is_all : Bool) → PieceRead is_all old now piece count outcome.Row taken held held'
+  pub all_came : (is_all : Bool) → PieceRead old (call_told piece is_all taken outcome.Row now) count (gathered held held')
   all_came is_all = record {
     calls = so_far.calls;
     made = so_far.made;
@@ -142,7 +146,7 @@ module _ (old now : PieceView) (piece : List ℕ) (taken : ℕ) (held held' : Li
       rows : (front : List ℕ) → (front ++ flat_map row_given so_far.calls) ++ row_held call.new ≡ front ++ flat_map row_given longer
       rows = rows_with (row_held call.new) (ap (λ o. given_with o (row_held call.new)) e)
 
-    pub last_came : (limit : ℕ) → call.answer ≢ outcome.Row → (call.is_all ≡ true → call.answer ≢ outcome.More) → PieceRead call.is_all old call.new piece limit call.answer (taken + call.taken) held held'
+    pub last_came : (limit : ℕ) → call.answer ≢ outcome.Row → (call.is_all ≡ true → call.answer ≢ outcome.More) → PieceRead old (call_told piece call.is_all (taken + call.taken) call.answer call.new) limit (gathered held held')
     last_came limit other ends = record {
       calls = longer;
       made = made;
@@ -184,7 +188,7 @@ module _ (old mid : PieceView) (first second : List ℕ) (limit taken : ℕ) (he
   split = sym (append_assoc (take taken first) (drop taken first) second) ∙ ap (λ z. z ++ second) (take-append-drop taken first)
 
   -- the first piece told all
-  pub first_told : (answer : Outcome) → PieceRead false old mid first limit answer taken held held' → answer ≢ outcome.More → TextRead old mid (first ++ second) limit answer held held'
+  pub first_told : (answer : Outcome) → PieceRead old (call_told first false taken answer mid) limit (gathered held held') → answer ≢ outcome.More → TextRead old mid (first ++ second) limit answer (gathered held held')
   first_told answer p other = record {
     calls = p.calls;
     made = p.made;
@@ -197,10 +201,10 @@ module _ (old mid : PieceView) (first second : List ℕ) (limit taken : ℕ) (he
   }
 
   -- memory ran out after the first piece, or in the second
-  pub first_short : (answer : Outcome) → PieceRead false old mid first limit answer taken held held' → SomeRead old held held'
+  pub first_short : (answer : Outcome) → PieceRead old (call_told first false taken answer mid) limit (gathered held held') → SomeRead old (gathered held held')
   first_short answer p = record { calls = p.calls; made = p.made; appended = p.appended }
 
-  pub second_short : (answer : Outcome) → PieceRead false old mid first limit answer taken held held' → (held'' : List ℕ) → SomeRead mid held' held'' → SomeRead old held held''
+  pub second_short : (answer : Outcome) → PieceRead old (call_told first false taken answer mid) limit (gathered held held') → (held'' : List ℕ) → SomeRead mid (gathered held' held'') → SomeRead old (gathered held held'')
   second_short answer p held'' q = record {
     calls = p.calls ++ q.calls;
     made = made_append old p.calls q.calls p.made (subst (λ d. WereMade d q.calls) p.after q.made);
@@ -208,8 +212,8 @@ module _ (old mid : PieceView) (first second : List ℕ) (limit taken : ℕ) (he
   }
 
   -- the first wanted more, and the second told
-  pub second_told : (new : PieceView) (rest : List ℕ) (answer : Outcome) (more : ℕ) (held'' : List ℕ) → PieceRead false old mid first limit outcome.More taken held held' → stream_of mid ≡ stream_of old →
-      rest ≡ drop taken first ++ second → PieceRead true mid new rest limit answer more held' held'' → TextRead old new (first ++ second) limit answer held held''
+  pub second_told : (new : PieceView) (rest : List ℕ) (answer : Outcome) (more : ℕ) (held'' : List ℕ) → PieceRead old (call_told first false taken outcome.More mid) limit (gathered held held') → stream_of mid ≡ stream_of old →
+      rest ≡ drop taken first ++ second → PieceRead mid (call_told rest true more answer new) limit (gathered held' held'') → TextRead old new (first ++ second) limit answer (gathered held held'')
   second_told new rest answer more held'' p same rest_is q = record {
     calls = p.calls ++ q.calls;
     made = made_append old p.calls q.calls p.made (subst (λ d. WereMade d q.calls) p.after q.made);

@@ -7,15 +7,16 @@ use Rattle.qm_core.specs.declared.context.Context.{Context}
 use Rattle.qm_core.specs.declared.decoder.Decoder.{Decoder}
 use Rattle.qm_core.specs.declared.encoder.CoderFault.{CoderFault}
 use Rattle.qm_core.specs.declared.encoder.Encoder.{Encoder}
+use Rattle.qm_core.specs.declared.sink.CodeSink.{Ghosts}
 use Rattle.qm_core.specs.declared.source.Pulled.{Pulled}
 use Rattle.qm_core.specs.declared.source.Pulled.TheVariants.{Byte, End, Fault}
-use Rattle.qm_core.specs.Source.{bytes_of, IsClosed, Agrees, Pulls, Gives}
+use Rattle.qm_core.specs.Source.{bytes_of, IsClosed, Agrees, Pulls, Gives, source_at}
 use Rattle.qm_core.specs.Code.{IsBytes, IsCode, Lies, code_of, stuffed}
-use Rattle.qm_core.specs.Encoder.{EncoderIsAt, Put, Finish}
+use Rattle.qm_core.specs.Encoder.{EncoderIsAt, Put, Finish, encoder_state}
 use Rattle.qm_core.specs.Laws.{EventsKeepPlace, OneCode, CodeLiesInAll, OnlyPixel}
 use Rattle.qm_core.specs.Place.{Place, IsPlace, Estimate, State, Event, start, step, after}
-use Rattle.qm_core.specs.Decoder.{Next}
-use Rattle.qm_core.specs.Sink.{Took}
+use Rattle.qm_core.specs.Decoder.{Next, decoder_state}
+use Rattle.qm_core.specs.Sink.{Took, sink_at}
 use Rattle.uses.specs.declared.code.Code.{Code}
 use Rattle.uses.specs.declared.code.Stuffed.{Stuffed}
 use Rattle.uses.specs.Coder.{Unstuffs, events, end_of, code_for}
@@ -60,6 +61,9 @@ Refused1 old new = Unit {0}
 abbrev pub failures : Code → ℕ
 failures code = code.failures
 
+abbrev pub pushes : Ghosts Code
+pushes = record { took = Took1; refused = Refused1; failed = failures }
+
 pub took_all : (bytes : List ℕ) (from to : Code) → Took Took1 from bytes to → to.bytes.items ≡ from.bytes.items ++ bytes
 took_all [] from to same = ap (λ (c : Code). c.bytes.items) (sym same) ∙ sym (append-nil from.bytes.items)
 took_all (byte ∷ bytes) from to t = took_all bytes t.0 to t.2 ∙ ap (λ l. l ++ bytes) t.1 ∙ append_assoc from.bytes.items (byte ∷ []) bytes
@@ -67,7 +71,7 @@ took_all (byte ∷ bytes) from to t = took_all bytes t.0 to t.2 ∙ ap (λ l. l 
 -- a pixel more was put
 pub coded_on : (before : List Estimate) (contexts : List Context) (pixels : List Bool) (i : ℕ) (p : Place) (learned learned' : List Estimate) (cx : Context) (pixel : Bool) (from to : Code) (encoder : Encoder) (result : Result (Unit {0}) CoderFault)
     → i < length contexts → i < length pixels → cx ≡ get_or contexts i cx → pixel ≡ get_or pixels i false → is_err result ≡ false
-    → Put Took1 Refused1 failures (from) to (at_place p learned) from.bytes.items cx.number pixel encoder learned' result → LeadsOn before contexts pixels i p learned
+    → Put (sink_at pushes from from.bytes.items) (at_place p learned) cx.number pixel (encoder_state to encoder learned') result → LeadsOn before contexts pixels i p learned
     → (q : Place) × EncoderIsAt encoder q to.bytes.items × LeadsOn before contexts pixels (i + 1) q learned'
 coded_on before contexts pixels i p learned learned' cx pixel from to encoder (Err e) in_contexts in_pixels is_cx is_pixel went put leads = absurd (let bot : ⊥ = cc in bot)
 coded_on before contexts pixels i p learned learned' cx pixel from to encoder (Ok u) in_contexts in_pixels is_cx is_pixel went put leads = (
@@ -77,7 +81,7 @@ coded_on before contexts pixels i p learned learned' cx pixel from to encoder (O
 )
 
 -- the code was ended
-pub ended : (p : Place) (from to : Code) (result : Result (Unit {0}) CoderFault) → OneCode → IsPlace p → is_err result ≡ false → Finish Took1 Refused1 failures from to p from.bytes.items result → to.bytes.items ≡ stuffed (code_of p)
+pub ended : (p : Place) (from to : Code) (result : Result (Unit {0}) CoderFault) → OneCode → IsPlace p → is_err result ≡ false → Finish (sink_at pushes from from.bytes.items) p to result → to.bytes.items ≡ stuffed (code_of p)
 ended p from to (Err e) one_code place went finish = absurd (let bot : ⊥ = cc in bot)
 ended p from to (Ok u) one_code place went finish =
     let code = (one_code p place).only finish.code finish.is in
@@ -113,7 +117,7 @@ given_by (Fault ∷ answers) from to (x ∷ code) gives held closed bytes =
 -- a pixel more was decoded, and it is the one that was put
 module _ (start_is_place : IsPlace start) (keep : EventsKeepPlace) (one_code : OneCode) (inverse : CodeLiesInAll) (only_pixel : OnlyPixel) where
   pub decoded_on : (before : List Estimate) (contexts : List Context) (i : ℕ) (p : Place) (learned learned' : List Estimate) (cx : Context) (found : Bool) (first from to : Stuffed) (decoder : Decoder) (answers : List Pulled)
-      → i < length contexts → cx ≡ get_or contexts i cx → (n : Next Pull from to (at_place p learned) answers cx.number decoder learned' (Ok found)) → IsPlace p → Gives Pull first (answers ++ n.more) to
+      → i < length contexts → cx ≡ get_or contexts i cx → (n : Next (source_at Pull from answers) (at_place p learned) cx.number (decoder_state to decoder learned') (Ok found)) → IsPlace p → Gives Pull first (answers ++ n.more) to
       → (pixels : List Bool) → length pixels ≡ length contexts → first.rest.now ≡ code_for before contexts pixels → LeadsOn before contexts pixels i p learned
       → (found ≡ get_or pixels i false) × LeadsOn before contexts pixels (i + 1) (step (at_place p learned) cx.number found).place learned'
   decoded_on before contexts i p learned learned' cx found first from to decoder answers within is_cx n place gives pixels long held leads =

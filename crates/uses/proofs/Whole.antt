@@ -14,7 +14,7 @@ use Rattle.t85_core.specs.Header.{Fields, HeaderOf, header_fault}
 use Rattle.t85_core.specs.Height.{IsHeight, StreamFault}
 use Rattle.t85_core.specs.Laws.{HeaderLaws}
 use Rattle.t85_core.specs.Info.{HasLine, numbers_of, line_text}
-use Rattle.t85_core.specs.ToPbm.{TakesHeader, HeaderEnds, ToPbmAt, ToPbmOnce, ToPbmTwice, ToPbm, ReadsAgain}
+use Rattle.t85_core.specs.ToPbm.{TakesHeader, HeaderEnds, ToPbmAt, ToPbmOnce, ToPbmTwice, ToPbm, ReadsAgain, delivery, second_reading}
 use Rattle.t85_core.specs.Failures.{counted_as, reads_after}
 use Rattle.raster_core.specs.Raster.{Raster}
 use Rattle.uses.specs.Image.{IsOfImage}
@@ -75,7 +75,7 @@ module _ (law : LineOrFault) (headers : HeaderLaws) (bytes : List ℕ) (raster :
     body_stands : (f : Fault) → WritesRows h height (drop 20 bytes) f out_old out_new → ⊥
     body_stands f w = no_fault law bytes raster d f (inr (record { header = h; header_of = header_of; height = height; height_is = height_is; broken = w.fixes.broken }))
 
-    body_told : (f : Fault) → ToPbmAt h height limit (between (Some (drop 20 bytes)) in_new 0 0) (between out_old out_new writes_old writes_new) flushed (Err f) → IsOfImage f
+    body_told : (f : Fault) → ToPbmAt h height limit (between (Some (drop 20 bytes)) in_new 0 0) (delivery (between out_old out_new writes_old writes_new) flushed) (Err f) → IsOfImage f
     body_told Write c = tt
     body_told OutOfMemory c = tt
     body_told AnnouncedLow c = tt
@@ -86,24 +86,24 @@ module _ (law : LineOrFault) (headers : HeaderLaws) (bytes : List ℕ) (raster :
         absurd (body_stands f
         (c.broken (λ e. absurd (let bot : ⊥ = cc in bot)) (λ e. absurd (let bot : ⊥ = cc in bot)) (λ e. absurd (let bot : ⊥ = cc in bot)) (λ e. absurd (let bot : ⊥ = cc in bot))))
 
-    answer_told : (answer : Result (Unit {0}) Fault) → ToPbmAt h height limit (between (Some (drop 20 bytes)) in_new 0 0) (between out_old out_new writes_old writes_new) flushed answer → IfErr answer IsOfImage
+    answer_told : (answer : Result (Unit {0}) Fault) → ToPbmAt h height limit (between (Some (drop 20 bytes)) in_new 0 0) (delivery (between out_old out_new writes_old writes_new) flushed) answer → IfErr answer IsOfImage
     answer_told (Ok u) c = tt
     answer_told (Err f) c = body_told f c
 
   module _ (limit : ℕ) (large : 2 ^ 32 ≤ limit + 1) (in_new again_new out_old out_new : Option (List ℕ)) (untouched : Type 0) (writes_old writes_new : ℕ) (flushed : Bool) (answer : Result (Unit {0}) Fault) where
     at_body : (h : Fields) (height : ℕ) (body left : Option (List ℕ)) → TakesHeader h (Some bytes) body → IsHeight h (drop 20 bytes) height → height ≤ h.yd →
-        ToPbmAt h height limit (between body left 0 0) (between out_old out_new writes_old writes_new) flushed answer → IfErr answer IsOfImage
+        ToPbmAt h height limit (between body left 0 0) (delivery (between out_old out_new writes_old writes_new) flushed) answer → IfErr answer IsOfImage
     at_body h height body left takes height_is below converts =
         let stands = splits headers bytes h body takes in
         let tall = takes.header_of.accepted.height_to in
         answer_told h stands.header_of height limit height_is (omega arith) left out_old out_new writes_old writes_new flushed answer
-        (subst (λ b. ToPbmAt h height limit (between b left 0 0) (between out_old out_new writes_old writes_new) flushed answer) stands.body_is converts)
+        (subst (λ b. ToPbmAt h height limit (between b left 0 0) (delivery (between out_old out_new writes_old writes_new) flushed) answer) stands.body_is converts)
 
-    once_told : ToPbmOnce limit (between (Some bytes) in_new 0 0) (between out_old out_new writes_old writes_new) flushed answer → IfErr answer IsOfImage
+    once_told : ToPbmOnce limit (between (Some bytes) in_new 0 0) (delivery (between out_old out_new writes_old writes_new) flushed) answer → IfErr answer IsOfImage
     once_told o = at_body o.header o.header.yd o.body in_new o.taken (inr (refl, λ other gives. absurd (true≢false (sym gives.variable ∙ o.fixed)))) (omega arith) o.converts
 
     again_told : (h : Fields) (body : Option (List ℕ)) (height : ℕ) → TakesHeader h (Some bytes) body → FindHeight h (between body in_new 0 0) (Ok height) →
-        ReadsAgain h height limit (between (Some bytes) again_new 0 0) (between out_old out_new writes_old writes_new) flushed answer → IfErr answer IsOfImage
+        ReadsAgain h height limit (between (Some bytes) again_new 0 0) (delivery (between out_old out_new writes_old writes_new) flushed) answer → IfErr answer IsOfImage
     again_told h body height takes finds again = elim again [
       | inl refused ↦ absurd (header_stands again_new refused.fault refused.header)
       | inr (inl changed) ↦ absurd (changed.differs (headers.one bytes changed.other h (splits headers bytes changed.other again_new changed.taken).header_of (splits headers bytes h body takes).header_of))
@@ -111,14 +111,14 @@ module _ (law : LineOrFault) (headers : HeaderLaws) (bytes : List ℕ) (raster :
           at_body h height converts.body again_new converts.taken (subst (λ b. IfSome b (λ body. IsHeight h body height)) (splits headers bytes h body takes).body_is finds.found) finds.to converts.converts
     ]
 
-    twice_told : ToPbmTwice limit (between (Some bytes) in_new 0 0) true untouched (between (Some bytes) again_new 0 0) (between out_old out_new writes_old writes_new) flushed answer → IfErr answer IsOfImage
+    twice_told : ToPbmTwice limit (between (Some bytes) in_new 0 0) (second_reading true untouched (between (Some bytes) again_new 0 0)) (delivery (between out_old out_new writes_old writes_new) flushed) answer → IfErr answer IsOfImage
     twice_told t = elim t.went [
       | inl unread ↦ absurd (omega (arith, unread.finds.counts))
       | inr found ↦ again_told t.header t.body found.0 t.taken found.1 found.2
     ]
 
     -- nothing of the stream is reported, where no read fails and both readings have its bytes
-    pub told : ToPbm limit (between (Some bytes) in_new 0 0) true untouched (between (Some bytes) again_new 0 0) (between out_old out_new writes_old writes_new) flushed answer → IfErr answer IsOfImage
+    pub told : ToPbm limit (between (Some bytes) in_new 0 0) (second_reading true untouched (between (Some bytes) again_new 0 0)) (delivery (between out_old out_new writes_old writes_new) flushed) answer → IfErr answer IsOfImage
     told c = elim c.went [
       | inl refused ↦ absurd (header_stands in_new refused.0.fault refused.0.header)
       | inr (inl once) ↦ once_told once.0

@@ -30,42 +30,51 @@ SaysOfRows h is_all new outcome.More come out = new.waits ≡ false → HandsOut
 SaysOfRows h is_all new (outcome.Done height) come out = (rest : List ℕ) → MayFollow is_all rest → HoldsImage h (come ++ rest) height out
 SaysOfRows h is_all new (outcome.Broken fault) come out = (rest : List ℕ) → MayFollow is_all rest → HandsOut h (come ++ rest) new.height fault out
 
--- A piece was read by some calls, up to the first answer that is no row, or until it gave `limit` rows.
-pub record PieceRead (is_all : Bool) (old new : PieceView) (piece : List ℕ) (limit : ℕ) (answer : Outcome) (taken : ℕ) (held held' : List ℕ) : Type 0 where
+-- The rows that were gathered, before and after some calls.
+pub record Gathered : Type 0 where
+  pub old : List ℕ
+  pub new : List ℕ
+
+abbrev pub gathered : List ℕ → List ℕ → Gathered
+gathered old new = record { old = old; new = new }
+
+-- A piece was read by some calls, up to the first answer that is no row, or until it gave `limit` rows. Together they are
+-- told of as one call: of the whole piece, with the last answer.
+pub record PieceRead (old : PieceView) (whole : Call) (limit : ℕ) (rows : Gathered) : Type 0 where
   pub calls : List Call
   pub made : WereMade old calls
-  pub after : new ≡ decoder_after old calls
-  pub appended : held' ≡ held ++ flat_map row_given calls
-  pub full : answer ≡ outcome.Row → rows_counted calls ≡ limit
-  pub ends : is_all ≡ true → answer ≢ outcome.More
-  pub within : taken ≤ length piece
-  pub goes_on : StreamGoesOn answer → (text out : List ℕ) → HasDecoded old text out → HasDecoded new (text ++ take taken piece) (out ++ flat_map row_given calls)
-  pub tells : (text out : List ℕ) → HasDecoded old text out → SaysOfRows (stream_of old) is_all new answer (text ++ piece) (out ++ flat_map row_given calls)
+  pub after : whole.new ≡ decoder_after old calls
+  pub appended : rows.new ≡ rows.old ++ flat_map row_given calls
+  pub full : whole.answer ≡ outcome.Row → rows_counted calls ≡ limit
+  pub ends : whole.is_all ≡ true → whole.answer ≢ outcome.More
+  pub within : whole.taken ≤ length whole.piece
+  pub goes_on : StreamGoesOn whole.answer → (text out : List ℕ) → HasDecoded old text out → HasDecoded whole.new (text ++ take whole.taken whole.piece) (out ++ flat_map row_given calls)
+  pub tells : (text out : List ℕ) → HasDecoded old text out → SaysOfRows (stream_of old) whole.is_all whole.new whole.answer (text ++ whole.piece) (out ++ flat_map row_given calls)
 
 -- A text, which is all that comes, was read by some calls, of whatever pieces of it. The last answer tells of it.
-pub record TextRead (old new : PieceView) (come : List ℕ) (limit : ℕ) (answer : Outcome) (held held' : List ℕ) : Type 0 where
+pub record TextRead (old new : PieceView) (come : List ℕ) (limit : ℕ) (answer : Outcome) (rows : Gathered) : Type 0 where
   pub calls : List Call
   pub made : WereMade old calls
-  pub appended : held' ≡ held ++ flat_map row_given calls
+  pub appended : rows.new ≡ rows.old ++ flat_map row_given calls
   pub full : answer ≡ outcome.Row → limit ≤ rows_counted calls
   pub ends : answer ≢ outcome.More
   pub tells : (text out : List ℕ) → HasDecoded old text out → SaysOfRows (stream_of old) true new answer (text ++ come) (out ++ flat_map row_given calls)
 
 -- Memory ran out. The rows of some first calls were appended.
-pub record SomeRead (old : PieceView) (held held' : List ℕ) : Type 0 where
+pub record SomeRead (old : PieceView) (rows : Gathered) : Type 0 where
   pub calls : List Call
   pub made : WereMade old calls
-  pub appended : held' ≡ held ++ flat_map row_given calls
+  pub appended : rows.new ≡ rows.old ++ flat_map row_given calls
 
 -- A body was read by some calls of a fresh decoder, and their rows were appended. The answer tells what they are of all
 -- of it. It is a row only where more rows came than any image has.
-pub record BodyRead (h : Fields) (body : List ℕ) (answer : Outcome) (held held' : List ℕ) : Type 0 where
+pub record BodyRead (h : Fields) (body : List ℕ) (answer : Outcome) (rows : Gathered) : Type 0 where
   pub decoder : PieceView
   pub fresh : HasDecoded decoder [] []
   pub last : PieceView
   pub calls : List Call
   pub made : WereMade decoder calls
-  pub appended : held' ≡ held ++ flat_map row_given calls
+  pub appended : rows.new ≡ rows.old ++ flat_map row_given calls
   pub full : answer ≡ outcome.Row → 2 ^ 64 - 1 ≤ rows_counted calls
   pub ends : answer ≢ outcome.More
   pub says : SaysOfRows h true last answer body (flat_map row_given calls)

@@ -6,12 +6,13 @@ use Rattle.raster_core.specs.Window.{width_of}
 use Rattle.raster_core.specs.declared.window.Window.{Window}
 use Rattle.t85_core.specs.Jbg.{Settings, is_low}
 use Rattle.t85_core.specs.Steps.ByRow.{IsPlan, MayGoOn, plan_of}
+use Rattle.t85_core.specs.RowImage.{image_of}
 use Rattle.t85_core.specs.declared.encoding.by_row.RowEncoder.{RowEncoder}
 
 -- An encoder of this size and with these settings may take this row, whatever was learned.
 pub record MayTake (s : Settings) (size : Size) (e : RowEncoder) (window : Window) (row : List ℕ) : Type 0 where
   pub low : is_low s size.height ≡ false
-  pub plan : IsPlan s size.width size.height (plan_of e)
+  pub plan : IsPlan (image_of s size.width size.height) (plan_of e)
   pub width : width_of window ≡ size.width
   pub whole : length row ≡ bytes_of_row size.width
   pub left : e.rows < size.height

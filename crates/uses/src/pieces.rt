@@ -5,7 +5,7 @@ ghost use Rattle.raster_core.specs.Window.{memory_of, width_of};
 ghost use Rattle.t85_core.specs.Options.{fields_of};
 ghost use Rattle.t85_core.specs.Lent.{decoder_over};
 ghost use Rattle.t85_core.specs.Pieces.{IsCall, call_of, stream_of};
-ghost use Rattle.uses.specs.Pieces.{BodyRead, PieceRead, TextRead, SomeRead};
+ghost use Rattle.uses.specs.Pieces.{BodyRead, PieceRead, TextRead, SomeRead, gathered};
 
 use qm_core::Learned;
 use raster_core::Window;
@@ -22,8 +22,8 @@ pub fn rows_of_body(
     rows: &mut Vec<u8>,
 ) -> Result<Outcome, AllocError>
     requires { width_of window.old ≡ header.xd }
-    ensures { IfOk result (λ answer. BodyRead (fields_of header)
-        (first.now ++ second.now) answer rows.old.items rows.new.items) }
+    ensures { IfOk result (λ answer. BodyRead (fields_of header) (first.now ++ second.now) answer
+        (gathered rows.old.items rows.new.items)) }
 {
     let mut learned = Learned::new();
     let mut decoder = PieceDecoder::start(header, window, &mut learned);
@@ -54,10 +54,10 @@ pub fn rows_of_two(
     rows: &mut Vec<u8>,
 ) -> Result<Outcome, AllocError>
     ensures read { IfOk result (λ answer. TextRead (decoder_over decoder.old window.old learned.old)
-        (decoder_over decoder.new window.new learned.new)
-        (first.now ++ second.now) limit answer rows.old.items rows.new.items) }
+        (decoder_over decoder.new window.new learned.new) (first.now ++ second.now) limit answer
+        (gathered rows.old.items rows.new.items)) }
     ensures short { OnErr result (SomeRead (decoder_over decoder.old window.old learned.old)
-        rows.old.items rows.new.items) }
+        (gathered rows.old.items rows.new.items)) }
 {
     let begun = rows_of_piece(decoder, window, learned, first, false, limit, rows)?;
     match begun.outcome {
@@ -92,12 +92,12 @@ pub fn rows_of_piece(
 ) -> Result<Progress, AllocError>
     ensures same { stream_of (decoder_over decoder.new window.new learned.new) ≡
         stream_of (decoder_over decoder.old window.old learned.old) }
-    ensures read { IfOk result (λ progress. PieceRead is_all
-        (decoder_over decoder.old window.old learned.old)
-        (decoder_over decoder.new window.new learned.new) piece.now
-        limit progress.outcome progress.taken rows.old.items rows.new.items) }
+    ensures read { IfOk result (λ progress. PieceRead
+        (decoder_over decoder.old window.old learned.old) (call_of piece.now is_all progress
+        (decoder_over decoder.new window.new learned.new)) limit
+        (gathered rows.old.items rows.new.items)) }
     ensures short { OnErr result (SomeRead (decoder_over decoder.old window.old learned.old)
-        rows.old.items rows.new.items) }
+        (gathered rows.old.items rows.new.items)) }
 {
     let mut taken = 0;
     'calls: for _ in 0..limit {

@@ -3,7 +3,7 @@
 ghost use Rattle.std.specs.Prelude.{◌≡◌, ◌≤◌, ◌<◌, ◌+◌, Some, false, length, take, true};
 ghost use Rattle.pbm_core.specs.Pbm.{bytes_of_row};
 ghost use Rattle.raster_core.specs.Window.{held, width_of};
-ghost use Rattle.t85_core.specs.Steps.ByRow.{view_of, MayGoOn, TakesNextRow};
+ghost use Rattle.t85_core.specs.Steps.ByRow.{MayGoOn, TakesNextRow, lent_to};
 ghost use Rattle.t85_core.specs.Steps.MostBytes.{most_row_bytes};
 ghost use Rattle.t85_core.specs.Steps.RowSteps.{IsGoing, given_row};
 
@@ -98,9 +98,10 @@ pub fn put_where_room(
     requires going { IsGoing encoder.old }
     requires unfailed { room.old.failures ≡ 0 }
     ensures put { result ≡ true → TakesNextRow (given_row encoder.old row.now)
-        (view_of encoder.old learning.old) (view_of encoder.new learning.new) (held window.old)
-        (held window.new) (Some (take room.old.len room.old.bytes)) (Some
-        (take room.new.len room.new.bytes)) }
+        (lent_to encoder.old learning.old (held window.old)
+        (Some (take room.old.len room.old.bytes)))
+        (lent_to encoder.new learning.new (held window.new)
+        (Some (take room.new.len room.new.bytes))) }
     ensures kept { result ≡ false → (encoder.new ≡ encoder.old) × (learning.new ≡ learning.old) ×
         (room.new ≡ room.old) }
     ensures unfailed { room.new.failures ≡ 0 }

@@ -12,7 +12,7 @@ ghost use Rattle.t85_core.specs.Jbg.{jbg, is_low};
 ghost use Rattle.t85_core.specs.Failures.{OnlyWrites, writes_after};
 ghost use Rattle.t85_core.specs.Options.{settings_of};
 ghost use Rattle.t85_core.specs.RowNumbers.{row_numbers};
-ghost use Rattle.t85_core.specs.Steps.ByRow.{view_of, MayGoOn, TakesNextRow, EndsImage, CutsImage};
+ghost use Rattle.t85_core.specs.Steps.ByRow.{view_of, MayGoOn, TakesNextRow, EndsImage, CutsImage, lent_to};
 ghost use Rattle.t85_core.specs.Steps.RowSteps.{IsGoing};
 ghost use Rattle.uses.specs.Rows.{MayTake};
 ghost use Rattle.t85_core.specs.declared.encoding.by_row.RowEncoder.{RowEncoder};
@@ -102,9 +102,9 @@ pub fn put_by_numbers<W: Output>(
 ) -> Option<RowNumbers>
     requires { MayTake (settings_of options.now) size encoder.now window.old row.now }
     ensures put { IfSome result (λ n. (e : RowEncoder) × (n ≡ row_numbers e) ×
-        TakesNextRow (pixels_of size.width row.now) (view_of encoder.now learning.old)
-        (view_of e learning.new) (held window.old) (held window.new) (W.view output.old).contents
-        (W.view output.new).contents) }
+        TakesNextRow (pixels_of size.width row.now)
+        (lent_to encoder.now learning.old (held window.old) (W.view output.old).contents)
+        (lent_to e learning.new (held window.new) (W.view output.new).contents)) }
     ensures failed { result ≡ None →
         (W.view output.new).failures ≡ writes_after Write (W.view output.old).failures }
 {

@@ -10,6 +10,7 @@ use crate::sink::CodeSink;
 impl Encoder {
     ghost use Rattle.qm_core.specs.Counts.{one_more};
     ghost use Rattle.qm_core.specs.Encoder.{has_failed, EncoderIsAt, EndsOnce, FailsOnce, Goes, Finish};
+    ghost use Rattle.qm_core.specs.Sink.{sink_at};
 
     /// Pushes what is fixed, until fewer than 24 bits are left.
     fn shorten<W: CodeSink>(&mut self, out: &mut W) -> Result<(), CoderFault>
@@ -17,7 +18,7 @@ impl Encoder {
         ensures short { self.new.bits ≤ 23 }
         ensures fails { FailsOnce W.failed self.old self.new out.old out.new result }
         ensures goes { (p : Place) (pushed : List ℕ) → EncoderIsAt self.old p pushed →
-            Goes W.took W.refused W.failed out.old out.new p pushed self.new result }
+            Goes (sink_at W.CodeSink out.old pushed) p out.new self.new result }
     {
         if self.bits < 24 {
             return Ok(());
@@ -29,7 +30,7 @@ impl Encoder {
     pub fn finish<W: CodeSink>(mut self, out: &mut W) -> Result<(), CoderFault>
         ensures fails { EndsOnce W.failed self out.old out.new result }
         ensures code { (p : Place) (pushed : List ℕ) → has_failed self ≡ false → EncoderIsAt self p
-            pushed → Finish W.took W.refused W.failed out.old out.new p pushed result }
+            pushed → Finish (sink_at W.CodeSink out.old pushed) p out.new result }
     {
         if self.failed {
             return Err(CoderFault::Failed);
@@ -45,7 +46,7 @@ impl Encoder {
         ensures same { OnOk result (W.failed out.new ≡ W.failed out.old) }
         ensures counted { OnErr result (W.failed out.new ≡ one_more (W.failed out.old)) }
         ensures code { (p : Place) (pushed : List ℕ) → EncoderIsAt self p pushed →
-            Finish W.took W.refused W.failed out.old out.new p pushed result }
+            Finish (sink_at W.CodeSink out.old pushed) p out.new result }
     {
         let Encoder {
             low,

@@ -38,7 +38,8 @@ fn raise(low: u64, span: u32, bits: u32) -> Doubled
 }
 
 impl Encoder {
-    ghost use Rattle.qm_core.specs.Encoder.{RegistersAreAt, FailsOnce, Goes};
+    ghost use Rattle.qm_core.specs.Encoder.{RegistersAreAt, FailsOnce, Goes, held_by};
+    ghost use Rattle.qm_core.specs.Sink.{sink_at};
 
     /// Goes to a part that is too small, doubled until it is large enough.
     #[inline(always)]
@@ -55,9 +56,9 @@ impl Encoder {
         requires failed { self.old.failed ≡ false }
         ensures events { self.new.events ≡ self.old.events }
         ensures fails { FailsOnce W.failed self.old self.new out.old out.new result }
-        ensures goes { (p : Place) (pushed : List ℕ) → RegistersAreAt low span self.old.bits
-            self.old.tail.zeros self.old.tail.held self.old.tail.ones p pushed →
-            Goes W.took W.refused W.failed out.old out.new (renormalised p) pushed self.new result }
+        ensures goes { (p : Place) (pushed : List ℕ) →
+            RegistersAreAt low span self.old.bits (held_by self.old) p pushed →
+            Goes (sink_at W.CodeSink out.old pushed) (renormalised p) out.new self.new result }
     {
         let to = raise(low, span, self.bits);
         if to.bits < 40 {
@@ -87,9 +88,9 @@ impl Encoder {
         ensures events { self.new.events ≡ self.old.events }
         ensures short { bits ≤ 39 → self.new.bits ≤ 23 }
         ensures fails { FailsOnce W.failed self.old self.new out.old out.new result }
-        ensures goes { (p : Place) (pushed : List ℕ) → RegistersAreAt low span bits
-            self.old.tail.zeros self.old.tail.held self.old.tail.ones p pushed →
-            Goes W.took W.refused W.failed out.old out.new p pushed self.new result }
+        ensures goes { (p : Place) (pushed : List ℕ) →
+            RegistersAreAt low span bits (held_by self.old) p pushed →
+            Goes (sink_at W.CodeSink out.old pushed) p out.new self.new result }
     {
         self.span = span;
         let shifted = bytes_out(&mut self.tail, low, span, bits);

@@ -1,11 +1,11 @@
 -- What decoding the pixels of a row leaves, on the way.
-use Rattle.std.specs.Prelude.{ℕ, ◌+◌, ◌*◌, ◌≡◌, ◌≤◌, ◌<◌, Bool, true, false, List, ◌++◌, length, replicate, slice_index}
+use Rattle.std.specs.Prelude.{ℕ, ◌+◌, ◌*◌, ◌≡◌, ◌≤◌, ◌<◌, Bool, true, false, List, ◌++◌, length, replicate, slice_index, Result, IfOk, IfErr}
 use Rattle.std.specs.Int.{div_ceil}
 use Rattle.qm_core.specs.Place.{Place, State, Event, Estimate, after}
-use Rattle.qm_core.specs.Source.{bytes_of, heard_of}
+use Rattle.qm_core.specs.Source.{SourceAt, bytes_of, heard_of, source_at}
 use Rattle.qm_core.specs.Code.{wanted_bytes}
 use Rattle.qm_core.specs.Skipping.{IsRun}
-use Rattle.qm_core.specs.Decoder.{DecoderIsAt, has_stopped}
+use Rattle.qm_core.specs.Decoder.{DecoderIsAt, DecoderState, decoder_state, has_stopped}
 use Rattle.qm_core.specs.declared.source.Heard.TheVariants.{More}
 use Rattle.qm_core.specs.declared.source.Pulled.{Pulled}
 use Rattle.qm_core.specs.declared.decoder.Decoder.{Decoder}
@@ -22,99 +22,158 @@ use Rattle.raster_core.specs.Machine.Uniform.{uniform_event, StaysUniform, AreFi
 abbrev pub with_row : Lines → List Bool → Lines
 with_row lines row = record { row = row; above = lines.above; second = lines.second }
 
+-- A plain row that is decoded: its mode and its adaptive pixel, what is decoded before its pixels, the state before
+-- that, and the lines.
+pub record PlainRow : Type 0 where
+  pub mode : Mode
+  pub offset : ℕ
+  pub first : List Event
+  pub state : State
+  pub lines : Lines
+
+abbrev pub plain_row : Mode → ℕ → List Event → State → Lines → PlainRow
+plain_row mode offset first state lines = record { mode = mode; offset = offset; first = first; state = state; lines = lines }
+
+-- what is decoded up to these pixels of it
+abbrev pub events_up_to : PlainRow → List Bool → List Event
+events_up_to row done = row.first ++ pixel_events row.mode (with_row row.lines done) row.offset
+
 -- After the first events the pixels `done` of a row are decoded; `past` are the last of them.
-pub record PixelsSoFar {S : Type 0} (pull : S → Pulled → S → Type 0) (from to : S) (mode : Mode) (offset : ℕ) (first : List Event)
-    (s : State) (answers : List Pulled) (lines : Lines) (done : List Bool) (past : ℕ) (d : Decoder) (learned : List Estimate) : Type 0 where
-  pub past_is : past ≡ before done (length done) (past_bits offset)
+pub record PixelsSoFar {S : Type 0} (old : SourceAt S) (row : PlainRow) (done : List Bool) (past : ℕ) (new : DecoderState S) : Type 0 where
+  pub past_is : past ≡ before done (length done) (past_bits row.offset)
   pub more : List Pulled
-  pub decodes : Decodes pull from to s answers more (first ++ pixel_events mode (with_row lines done) offset) d learned
+  pub decodes : Decodes old row.state more (events_up_to row done) new
 
 -- the same for n pixels more
-pub record MorePixels {S : Type 0} (pull : S → Pulled → S → Type 0) (from to : S) (mode : Mode) (offset : ℕ) (first : List Event)
-    (s : State) (answers : List Pulled) (lines : Lines) (done : List Bool) (n past : ℕ) (d : Decoder) (learned : List Estimate) : Type 0 where
+pub record MorePixels {S : Type 0} (old : SourceAt S) (row : PlainRow) (done : List Bool) (n past : ℕ) (new : DecoderState S) : Type 0 where
   pub pixels : List Bool
   pub count : length pixels ≡ n
-  pub so_far : PixelsSoFar pull from to mode offset first s answers lines (done ++ pixels) past d learned
+  pub so_far : PixelsSoFar old row (done ++ pixels) past new
 
 -- The source stopped at one of the n pixels after these, behind so many of them.
-pub record PixelsStop {S : Type 0} (pull : S → Pulled → S → Type 0) (from to : S) (mode : Mode) (offset : ℕ) (first : List Event)
-    (s : State) (answers : List Pulled) (lines : Lines) (done : List Bool) (n : ℕ) (pause : Pause) (d : Decoder) (learned : List Estimate) : Type 0 where
+pub record PixelsStop {S : Type 0} (old : SourceAt S) (row : PlainRow) (done : List Bool) (n : ℕ) (pause : Pause) (new : DecoderState S) : Type 0 where
   pub few : pause.count < n
   pub pixels : List Bool
   pub many : length pixels ≡ pause.count
-  pub past_is : pause.past ≡ before (done ++ pixels) (length (done ++ pixels)) (past_bits offset)
+  pub past_is : pause.past ≡ before (done ++ pixels) (length (done ++ pixels)) (past_bits row.offset)
   pub more : List Pulled
-  pub stops : Stops pull from to s answers more (first ++ pixel_events mode (with_row lines (done ++ pixels)) offset) d learned
+  pub stops : Stops old row.state more (events_up_to row (done ++ pixels)) new
 
--- n pixels more were decoded of a byte, for which the registers of the rows above are these
-abbrev pub Along : {S : Type 0} (pull : S → Pulled → S → Type 0) (old new : S) (mode : Mode) (offset second above past : ℕ) (d : Decoder) (learned : List Estimate)
-    (n past' : ℕ) (d' : Decoder) (learned' : List Estimate) → Type 0
-Along {S} pull old new mode offset second above past d learned n past' d' learned' =
+-- What the pixels of a byte are decoded with: the mode, the adaptive pixel, the registers of the two rows above, and
+-- the last pixels of the row.
+pub record ByteAround : Type 0 where
+  pub mode : Mode
+  pub offset : ℕ
+  pub second : ℕ
+  pub above : ℕ
+  pub past : ℕ
+
+abbrev pub byte_around : Mode → (offset second above past : ℕ) → ByteAround
+byte_around mode offset second above past = record { mode = mode; offset = offset; second = second; above = above; past = past }
+
+-- n pixels more were decoded of a byte, and these are then the last of the row
+abbrev pub Along : {S : Type 0} (pull : S → Pulled → S → Type 0) (b : ByteAround) (old : DecoderState S) (n past' : ℕ) (new : DecoderState S) → Type 0
+Along {S} pull b old n past' new =
     (from : S) (first : List Event) (s : State) (answers : List Pulled) (lines : Lines) (done : List Bool) →
-    PixelsSoFar pull from old mode offset first s answers lines done past d learned →
-    second ≡ before lines.second (length done + 16) 24 → above ≡ before lines.above (length done + 16) 24 →
-    MorePixels pull from new mode offset first s answers lines done n past' d' learned'
+    PixelsSoFar (source_at pull from answers) (plain_row b.mode b.offset first s lines) done b.past old →
+    b.second ≡ before lines.second (length done + 16) 24 → b.above ≡ before lines.above (length done + 16) 24 →
+    MorePixels (source_at pull from answers) (plain_row b.mode b.offset first s lines) done n past' new
 
 -- the source stopped at one of n pixels
-abbrev pub StopsAlong : {S : Type 0} (pull : S → Pulled → S → Type 0) (old new : S) (mode : Mode) (offset second above past : ℕ) (d : Decoder) (learned : List Estimate)
-    (n : ℕ) (pause : Pause) (d' : Decoder) (learned' : List Estimate) → Type 0
-StopsAlong {S} pull old new mode offset second above past d learned n pause d' learned' =
+abbrev pub StopsAlong : {S : Type 0} (pull : S → Pulled → S → Type 0) (b : ByteAround) (old : DecoderState S) (n : ℕ) (pause : Pause) (new : DecoderState S) → Type 0
+StopsAlong {S} pull b old n pause new =
     (from : S) (first : List Event) (s : State) (answers : List Pulled) (lines : Lines) (done : List Bool) →
-    PixelsSoFar pull from old mode offset first s answers lines done past d learned →
-    second ≡ before lines.second (length done + 16) 24 → above ≡ before lines.above (length done + 16) 24 →
-    PixelsStop pull from new mode offset first s answers lines done n pause d' learned'
+    PixelsSoFar (source_at pull from answers) (plain_row b.mode b.offset first s lines) done b.past old →
+    b.second ≡ before lines.second (length done + 16) 24 → b.above ≡ before lines.above (length done + 16) 24 →
+    PixelsStop (source_at pull from answers) (plain_row b.mode b.offset first s lines) done n pause new
+
+-- What decoding n pixels of a byte leaves: they were decoded, or the source stopped at one of them.
+abbrev pub DecodesPixels : {S : Type 0} (pull : S → Pulled → S → Type 0) (b : ByteAround) (old : DecoderState S) (n : ℕ) (new : DecoderState S) (result : Result ℕ Pause) → Type 0
+DecodesPixels pull b old n new result = IfOk result (λ past. Along pull b old n past new) × IfErr result (λ pause. StopsAlong pull b old n pause new)
 
 -- the same, counted from n pixels before
 abbrev pub later : ℕ → Pause → Pause
 later n pause = record { count = n + pause.count; past = pause.past }
 
--- Pixels more were decoded of a byte, to whose contexts the rows above give these lanes: with three lines, and the
--- adaptive pixel in its nominal place.
-abbrev pub AlongMore : {S : Type 0} (pull : S → Pulled → S → Type 0) (mid new : S) (lanes past : ℕ) (d : Decoder) (learned : List Estimate)
-    (count past' : ℕ) (d' : Decoder) (learned' : List Estimate) → Type 0
-AlongMore {S} pull mid new lanes past d learned count past' d' learned' =
-    (typical : Bool) (old : S) (second above past₀ : ℕ) (d₀ : Decoder) (learned₀ : List Estimate) (n : ℕ) → n + count ≤ 8 → HasAround lanes second above n count →
-    Along pull old mid (record { two_line = false; typical = typical }) 0 second above past₀ d₀ learned₀ n past d learned →
-    Along pull old new (record { two_line = false; typical = typical }) 0 second above past₀ d₀ learned₀ (n + count) past' d' learned'
+-- What pixels with three lines and the adaptive pixel in its nominal place are decoded with: the lanes that the rows
+-- above give to their contexts, and the last pixels of the row.
+pub record LanesAround : Type 0 where
+  pub lanes : ℕ
+  pub past : ℕ
+
+abbrev pub lanes_around : (lanes past : ℕ) → LanesAround
+lanes_around lanes past = record { lanes = lanes; past = past }
+
+-- Pixels more were decoded of a byte, with these lanes.
+abbrev pub AlongMore : {S : Type 0} (pull : S → Pulled → S → Type 0) (a : LanesAround) (mid : DecoderState S) (count past' : ℕ) (new : DecoderState S) → Type 0
+AlongMore {S} pull a mid count past' new =
+    (typical : Bool) (old : S) (second above past₀ : ℕ) (d₀ : Decoder) (learned₀ : List Estimate) (n : ℕ) → n + count ≤ 8 → HasAround a.lanes second above n count →
+    Along pull (byte_around (record { two_line = false; typical = typical }) 0 second above past₀) (decoder_state old d₀ learned₀) n a.past mid →
+    Along pull (byte_around (record { two_line = false; typical = typical }) 0 second above past₀) (decoder_state old d₀ learned₀) (n + count) past' new
 
 -- the source stopped at one of them
-abbrev pub StopsMore : {S : Type 0} (pull : S → Pulled → S → Type 0) (mid new : S) (lanes past : ℕ) (d : Decoder) (learned : List Estimate) (count : ℕ) (pause : Pause) (d' : Decoder) (learned' : List Estimate) → Type 0
-StopsMore {S} pull mid new lanes past d learned count pause d' learned' =
-    (typical : Bool) (old : S) (second above past₀ : ℕ) (d₀ : Decoder) (learned₀ : List Estimate) (n : ℕ) → n + count ≤ 8 → HasAround lanes second above n count →
-    Along pull old mid (record { two_line = false; typical = typical }) 0 second above past₀ d₀ learned₀ n past d learned →
-    StopsAlong pull old new (record { two_line = false; typical = typical }) 0 second above past₀ d₀ learned₀ 8 (later n pause) d' learned'
+abbrev pub StopsMore : {S : Type 0} (pull : S → Pulled → S → Type 0) (a : LanesAround) (mid : DecoderState S) (count : ℕ) (pause : Pause) (new : DecoderState S) → Type 0
+StopsMore {S} pull a mid count pause new =
+    (typical : Bool) (old : S) (second above past₀ : ℕ) (d₀ : Decoder) (learned₀ : List Estimate) (n : ℕ) → n + count ≤ 8 → HasAround a.lanes second above n count →
+    Along pull (byte_around (record { two_line = false; typical = typical }) 0 second above past₀) (decoder_state old d₀ learned₀) n a.past mid →
+    StopsAlong pull (byte_around (record { two_line = false; typical = typical }) 0 second above past₀) (decoder_state old d₀ learned₀) 8 (later n pause) new
+
+-- What decoding pixels with these lanes leaves.
+abbrev pub DecodesLanes : {S : Type 0} (pull : S → Pulled → S → Type 0) (a : LanesAround) (old : DecoderState S) (count : ℕ) (new : DecoderState S) (result : Result ℕ Pause) → Type 0
+DecodesLanes pull a old count new result = IfOk result (λ past. AlongMore pull a old count past new) × IfErr result (λ pause. StopsMore pull a old count pause new)
 
 -- A byte of one colour was decoded in one step, with no byte asked for: each of its pixels is in the context of that colour.
-pub record SkipsAlong (mode : Mode) (offset second above byte past : ℕ) (d : Decoder) (learned : List Estimate) (d' : Decoder) : Type 0 where
+pub record SkipsAlong (b : ByteAround) (byte : ℕ) (d : Decoder) (learned : List Estimate) (d' : Decoder) : Type 0 where
   pub colour : Bool
   pub byte_is : byte ≡ bit colour * 255
   pub going : has_stopped d ≡ false
-  pub uniform : (lines : Lines) (x : ℕ) → second ≡ before lines.second (x + 16) 24 → above ≡ before lines.above (x + 16) 24 → past ≡ before lines.row x (past_bits offset) →
-      StaysUniform mode lines offset colour x 8
+  pub uniform : (lines : Lines) (x : ℕ) → b.second ≡ before lines.second (x + 16) 24 → b.above ≡ before lines.above (x + 16) 24 → b.past ≡ before lines.row x (past_bits b.offset) →
+      StaysUniform b.mode lines b.offset colour x 8
   pub decoded : (p : Place) (answers : List Pulled) → DecoderIsAt d p answers →
       IsRun (record { place = p; learned = learned }) (uniform_event colour) 8
       × DecoderIsAt d' (after (record { place = p; learned = learned }) (replicate 8 (uniform_event colour))).place answers
       × (heard_of answers ≡ More → wanted_bytes p.doublings ≤ length (bytes_of answers))
 
--- `count` bytes of a colour from byte i on, below bytes of it up to the one after them, were decoded in one step, with no byte asked for.
-pub record SkipsFilledAlong (colour : Bool) (above second : List ℕ) (i count : ℕ) (d : Decoder) (learned : List Estimate) (d' : Decoder) : Type 0 where
-  pub above_filled : AreFilled colour above (i + 1) count
-  pub second_filled : AreFilled colour second (i + 1) count
-  pub none : count ≡ 0 → d' ≡ d
-  pub decoded : (p : Place) (answers : List Pulled) → DecoderIsAt d p answers →
-      IsRun (record { place = p; learned = learned }) (uniform_event colour) (8 * count)
-      × DecoderIsAt d' (after (record { place = p; learned = learned }) (replicate (8 * count) (uniform_event colour))).place answers
-      × (1 ≤ count → heard_of answers ≡ More → wanted_bytes p.doublings ≤ length (bytes_of answers))
+-- so many bytes of a colour, from a first one on
+pub record FilledRun : Type 0 where
+  pub colour : Bool
+  pub first : ℕ
+  pub count : ℕ
 
--- The bytes of a row have been decoded up to byte i.
-pub record BytesSoFar {S : Type 0} (pull : S → Pulled → S → Type 0) (from to : S) (mode : Mode) (offset : ℕ) (first : List Event)
-    (s : State) (answers : List Pulled) (lines : Lines) (width left i second above past : ℕ) (current : List ℕ) (d : Decoder) (learned : List Estimate) : Type 0 where
+abbrev pub filled_run : Bool → (first count : ℕ) → FilledRun
+filled_run colour first count = record { colour = colour; first = first; count = count }
+
+-- A run of bytes of a colour, below bytes of it up to the one after them, was decoded in one step, with no byte asked for.
+pub record SkipsFilledAlong (run : FilledRun) (above second : List ℕ) (d : Decoder) (learned : List Estimate) (d' : Decoder) : Type 0 where
+  pub above_filled : AreFilled run.colour above (run.first + 1) run.count
+  pub second_filled : AreFilled run.colour second (run.first + 1) run.count
+  pub none : run.count ≡ 0 → d' ≡ d
+  pub decoded : (p : Place) (answers : List Pulled) → DecoderIsAt d p answers →
+      IsRun (record { place = p; learned = learned }) (uniform_event run.colour) (8 * run.count)
+      × DecoderIsAt d' (after (record { place = p; learned = learned }) (replicate (8 * run.count) (uniform_event run.colour))).place answers
+      × (1 ≤ run.count → heard_of answers ≡ More → wanted_bytes p.doublings ≤ length (bytes_of answers))
+
+-- Where the decoding of a row's bytes is: how many pixels are left, the next byte, the registers of the two rows above,
+-- the last pixels of the row, and its bytes.
+pub record BytesAt : Type 0 where
+  pub left : ℕ
+  pub i : ℕ
+  pub second : ℕ
+  pub above : ℕ
+  pub past : ℕ
+  pub current : List ℕ
+
+abbrev pub bytes_at : (left i second above past : ℕ) → List ℕ → BytesAt
+bytes_at left i second above past current = record { left = left; i = i; second = second; above = above; past = past; current = current }
+
+-- The bytes of a row have been decoded up to the next one.
+pub record BytesSoFar {S : Type 0} (old : SourceAt S) (row : PlainRow) (width : ℕ) (b : BytesAt) (new : DecoderState S) : Type 0 where
   pub done : List Bool
-  pub rest : length done + left ≡ width
-  pub so_far : PixelsSoFar pull from to mode offset first s answers lines done past d learned
-  pub bytes : (k : ℕ) → k < i → slice_index current k ≡ before done (8 * k + 8) 8
-  pub second_is : second ≡ before lines.second (8 * i + 8) 24
-  pub above_is : above ≡ before lines.above (8 * i + 8) 24
+  pub rest : length done + b.left ≡ width
+  pub so_far : PixelsSoFar old row done b.past new
+  pub bytes : (k : ℕ) → k < b.i → slice_index b.current k ≡ before done (8 * k + 8) 8
+  pub second_is : b.second ≡ before row.lines.second (8 * b.i + 8) 24
+  pub above_is : b.above ≡ before row.lines.above (8 * b.i + 8) 24
 
 -- Pixels of a row that are decoded, as its place says, and written as far as they fill bytes.
 pub record PixelsHeld (offset : ℕ) (place : RowPlace) (current : List ℕ) (done : List Bool) : Type 0 where
@@ -122,58 +181,69 @@ pub record PixelsHeld (offset : ℕ) (place : RowPlace) (current : List ℕ) (do
   pub past_is : place.past ≡ before done (length done) (past_bits offset)
   pub bytes : (k : ℕ) → 8 * k + 8 ≤ length done → slice_index current k ≡ before done (8 * k + 8) 8
 
--- What a step leaves of a row, whichever pixels of it were decoded before.
-abbrev pub FromPixels : {S : Type 0} (pull : S → Pulled → S → Type 0) (old : S) (mode : Mode) (offset : ℕ) (above second : List ℕ) (place : RowPlace) (current : List ℕ) (d : Decoder) (learned : List Estimate)
-    (Leaves : S → List Event → State → List Pulled → Lines → List Bool → Type 0) → Type 0
-FromPixels {S} pull old mode offset above second place current d learned Leaves =
-    (from : S) (first : List Event) (s : State) (answers : List Pulled) (lines : Lines) (done : List Bool) → PixelsHeld offset place current done →
-    PixelsSoFar pull from old mode offset first s answers lines done place.past d learned → above ≡ packed_row lines.above → second ≡ packed_row lines.second →
-    Leaves from first s answers lines done
+-- What the pixels of a row are decoded with: the mode, the adaptive pixel, and the bytes of the two rows above.
+pub record RowAround : Type 0 where
+  pub mode : Mode
+  pub offset : ℕ
+  pub above : List ℕ
+  pub second : List ℕ
 
-abbrev pub BytesAlong : {S : Type 0} (pull : S → Pulled → S → Type 0) (old new : S) (mode : Mode) (offset : ℕ) (above second : List ℕ) (place : RowPlace) (current : List ℕ) (d : Decoder) (learned : List Estimate)
-    (width left i second' above' past : ℕ) (current' : List ℕ) (d' : Decoder) (learned' : List Estimate) → Type 0
-BytesAlong {S} pull old new mode offset above second place current d learned width left i second' above' past current' d' learned' =
-    FromPixels pull old mode offset above second place current d learned
-    (λ from first s answers lines done. BytesSoFar pull from new mode offset first s answers lines width left i second' above' past current' d' learned')
+abbrev pub row_around : Mode → ℕ → (above second : List ℕ) → RowAround
+row_around mode offset above second = record { mode = mode; offset = offset; above = above; second = second }
+
+-- How far a row is decoded: its place, its bytes, and the decoder.
+pub record RowPart (S : Type 0) : Type 0 where
+  pub place : RowPlace
+  pub current : List ℕ
+  pub state : DecoderState S
+
+abbrev pub row_part : {S : Type 0} → RowPlace → List ℕ → S → Decoder → List Estimate → RowPart S
+row_part place current source decoder learned = record { place = place; current = current; state = decoder_state source decoder learned }
+
+-- What a step leaves of a row, whichever pixels of it were decoded before.
+abbrev pub FromPixels : {S : Type 0} (pull : S → Pulled → S → Type 0) (a : RowAround) (part : RowPart S) (Leaves : SourceAt S → PlainRow → Type 0) → Type 0
+FromPixels {S} pull a part Leaves =
+    (from : S) (first : List Event) (s : State) (answers : List Pulled) (lines : Lines) (done : List Bool) → PixelsHeld a.offset part.place part.current done →
+    PixelsSoFar (source_at pull from answers) (plain_row a.mode a.offset first s lines) done part.place.past part.state →
+    a.above ≡ packed_row lines.above → a.second ≡ packed_row lines.second →
+    Leaves (source_at pull from answers) (plain_row a.mode a.offset first s lines)
+
+-- bytes of it were decoded
+abbrev pub BytesAlong : {S : Type 0} (pull : S → Pulled → S → Type 0) (a : RowAround) (part : RowPart S) (width : ℕ) (b : BytesAt) (new : DecoderState S) → Type 0
+BytesAlong pull a part width b new = FromPixels pull a part (λ old row. BytesSoFar old row width b new)
 
 -- a row was decoded
-pub record RowPixels {S : Type 0} (pull : S → Pulled → S → Type 0) (from to : S) (mode : Mode) (offset : ℕ) (first : List Event)
-    (s : State) (answers : List Pulled) (lines : Lines) (width : ℕ) (current : List ℕ) (d : Decoder) (learned : List Estimate) : Type 0 where
+pub record RowPixels {S : Type 0} (old : SourceAt S) (task : PlainRow) (width : ℕ) (current : List ℕ) (new : DecoderState S) : Type 0 where
   pub row : List Bool
   pub wide : length row ≡ width
   pub packed : current ≡ packed_row row
   pub more : List Pulled
-  pub decodes : Decodes pull from to s answers more (first ++ pixel_events mode (with_row lines row) offset) d learned
+  pub decodes : Decodes old task.state more (events_up_to task row) new
 
-abbrev pub RowAlong : {S : Type 0} (pull : S → Pulled → S → Type 0) (old new : S) (mode : Mode) (offset : ℕ) (above second : List ℕ) (place : RowPlace) (current : List ℕ) (d : Decoder) (learned : List Estimate)
-    (width : ℕ) (current' : List ℕ) (d' : Decoder) (learned' : List Estimate) → Type 0
-RowAlong {S} pull old new mode offset above second place current d learned width current' d' learned' =
-    FromPixels pull old mode offset above second place current d learned (λ from first s answers lines done. RowPixels pull from new mode offset first s answers lines width current' d' learned')
+-- the rest of it was decoded
+abbrev pub RowAlong : {S : Type 0} (pull : S → Pulled → S → Type 0) (a : RowAround) (part : RowPart S) (width : ℕ) (current' : List ℕ) (new : DecoderState S) → Type 0
+RowAlong pull a part width current' new = FromPixels pull a part (λ old row. RowPixels old row width current' new)
 
 -- The source stopped in a row, at this place.
-pub record RowPaused {S : Type 0} (pull : S → Pulled → S → Type 0) (from to : S) (mode : Mode) (offset : ℕ) (first : List Event)
-    (s : State) (answers : List Pulled) (lines : Lines) (width : ℕ) (place : RowPlace) (current : List ℕ) (d : Decoder) (learned : List Estimate) : Type 0 where
-  pub begun : place.is_begun ≡ true
+pub record RowPaused {S : Type 0} (old : SourceAt S) (row : PlainRow) (width : ℕ) (part : RowPart S) : Type 0 where
+  pub begun : part.place.is_begun ≡ true
   pub done : List Bool
   pub few : length done < width
-  pub held : PixelsHeld offset place current done
+  pub held : PixelsHeld row.offset part.place part.current done
   pub more : List Pulled
-  pub stops : Stops pull from to s answers more (first ++ pixel_events mode (with_row lines done) offset) d learned
+  pub stops : Stops old row.state more (events_up_to row done) part.state
 
-abbrev pub RowStops : {S : Type 0} (pull : S → Pulled → S → Type 0) (old new : S) (mode : Mode) (offset : ℕ) (above second : List ℕ) (place : RowPlace) (current : List ℕ) (d : Decoder) (learned : List Estimate)
-    (width : ℕ) (place' : RowPlace) (current' : List ℕ) (d' : Decoder) (learned' : List Estimate) → Type 0
-RowStops {S} pull old new mode offset above second place current d learned width place' current' d' learned' =
-    FromPixels pull old mode offset above second place current d learned (λ from first s answers lines done. RowPaused pull from new mode offset first s answers lines width place' current' d' learned')
+-- the source stopped in the rest of it
+abbrev pub RowStops : {S : Type 0} (pull : S → Pulled → S → Type 0) (a : RowAround) (part : RowPart S) (width : ℕ) (part' : RowPart S) → Type 0
+RowStops pull a part width part' = FromPixels pull a part (λ old row. RowPaused old row width part')
 
 -- What is left of a byte was decoded and written, up to its last pixel or the row's.
-pub record ByteEnded {S : Type 0} (pull : S → Pulled → S → Type 0) (from to : S) (mode : Mode) (offset : ℕ) (first : List Event)
-    (s : State) (answers : List Pulled) (lines : Lines) (place : RowPlace) (current : List ℕ) (d : Decoder) (learned : List Estimate) : Type 0 where
+pub record ByteEnded {S : Type 0} (old : SourceAt S) (row : PlainRow) (part : RowPart S) : Type 0 where
   pub done : List Bool
-  pub count : place.done ≡ length done
-  pub bytes : (k : ℕ) → k < div_ceil (length done) 8 → slice_index current k ≡ before done (8 * k + 8) 8
-  pub so_far : PixelsSoFar pull from to mode offset first s answers lines done place.past d learned
+  pub count : part.place.done ≡ length done
+  pub bytes : (k : ℕ) → k < div_ceil (length done) 8 → slice_index part.current k ≡ before done (8 * k + 8) 8
+  pub so_far : PixelsSoFar old row done part.place.past part.state
 
-abbrev pub ByteEnds : {S : Type 0} (pull : S → Pulled → S → Type 0) (old new : S) (mode : Mode) (offset : ℕ) (above second : List ℕ) (place : RowPlace) (current : List ℕ) (d : Decoder) (learned : List Estimate)
-    (place' : RowPlace) (current' : List ℕ) (d' : Decoder) (learned' : List Estimate) → Type 0
-ByteEnds {S} pull old new mode offset above second place current d learned place' current' d' learned' =
-    FromPixels pull old mode offset above second place current d learned (λ from first s answers lines done. ByteEnded pull from new mode offset first s answers lines place' current' d' learned')
+-- the rest of a byte was decoded
+abbrev pub ByteEnds : {S : Type 0} (pull : S → Pulled → S → Type 0) (a : RowAround) (part part' : RowPart S) → Type 0
+ByteEnds pull a part part' = FromPixels pull a part (λ old row. ByteEnded old row part')

@@ -76,20 +76,29 @@ pub record RemembersOnly (colour : Bool) (a : Around) : Type 0 where
   pub above_is : a.above ≡ filled colour 24
   pub past_is : a.past ≡ filled colour (past_bits a.template.offset)
 
--- a coder has put these bytes, which are of a colour, and no more of them, and the row goes on
-pub record PutsRun {S : Type 0} (sink : Ghosts S) (colour : Bool) (rows : Rows) (i count : ℕ) (c c' : Coder S) : Type 0 where
-  pub inside : 8 * (i + count) < rows.width
-  pub uniform : AreUniform colour rows i count
-  pub puts : Puts sink (run_of colour (8 * count)) c c' (Ok tt)
-  pub stops : StopsAt colour rows (i + count) c'
+-- so many bytes of rows, from a first one on
+pub record ByteRange : Type 0 where
+  pub rows : Rows
+  pub first : ℕ
+  pub count : ℕ
 
--- a coder has put so many bytes from byte i on, and as many as it can if what is remembered is of a colour alone;
+abbrev pub byte_range : Rows → (first count : ℕ) → ByteRange
+byte_range rows first count = record { rows = rows; first = first; count = count }
+
+-- a coder has put these bytes, which are of a colour, and no more of them, and the row goes on
+pub record PutsRun {S : Type 0} (sink : Ghosts S) (colour : Bool) (bytes : ByteRange) (c c' : Coder S) : Type 0 where
+  pub inside : 8 * (bytes.first + bytes.count) < bytes.rows.width
+  pub uniform : AreUniform colour bytes.rows bytes.first bytes.count
+  pub puts : Puts sink (run_of colour (8 * bytes.count)) c c' (Ok tt)
+  pub stops : StopsAt colour bytes.rows (bytes.first + bytes.count) c'
+
+-- a coder has put these bytes, and as many as it can if what is remembered is of a colour alone;
 -- what is remembered stays as it is, and the row goes on
-pub record PassesRun {S : Type 0} (sink : Ghosts S) (a : Around) (rows : Rows) (i count : ℕ) (c c' : Coder S) : Type 0 where
-  pub inside : 8 * (i + count) < rows.width
-  pub stands : StandsAt a a.template (lines_in rows) (i + count)
-  pub puts : Puts sink (bytes_events a.template rows i count) c c' (Ok tt)
-  pub stops : (colour : Bool) → RemembersOnly colour a → StopsAt colour rows (i + count) c'
+pub record PassesRun {S : Type 0} (sink : Ghosts S) (a : Around) (bytes : ByteRange) (c c' : Coder S) : Type 0 where
+  pub inside : 8 * (bytes.first + bytes.count) < bytes.rows.width
+  pub stands : StandsAt a a.template (lines_in bytes.rows) (bytes.first + bytes.count)
+  pub puts : Puts sink (bytes_events a.template bytes.rows bytes.first bytes.count) c c' (Ok tt)
+  pub stops : (colour : Bool) → RemembersOnly colour a → StopsAt colour bytes.rows (bytes.first + bytes.count) c'
 
 -- the pixels of a row, each in its context
 abbrev pub plain_events : Template → Rows → List Event

@@ -20,9 +20,17 @@ led row i = if nat_lt i 128 then false else pixel_at row (i - 128)
 abbrev pub is_within : ℕ → ℕ → Bool
 is_within width x = nat_lt x width
 
+-- the pixels of a row, counted from a place of it
+pub record PixelsFrom : Type 0 where
+  pub pixels : ℕ → Bool
+  pub first : ℕ
+
+abbrev pub pixels_from : (ℕ → Bool) → ℕ → PixelsFrom
+pixels_from pixels first = record { pixels = pixels; first = first }
+
 -- at how many of n places, each counted from its own, p and q have the same pixel where m holds
-unfoldable pub agreed_from : (p q m : ℕ → Bool) → (a b c n : ℕ) → ℕ
-agreed_from p q m a b c n = count_by (λ i. m (c + i) && same (p (a + i)) (q (b + i))) (numbers_from 0 n)
+unfoldable pub agreed_from : (p q m : PixelsFrom) → (n : ℕ) → ℕ
+agreed_from p q m n = count_by (λ i. m.pixels (m.first + i) && same (p.pixels (p.first + i)) (q.pixels (q.first + i))) (numbers_from 0 n)
 
 -- at how many of n places from `first` on, left of `width`, the row has the pixel of the adaptive pixel
 unfoldable pub part_agreement : Lines → (width offset first n : ℕ) → ℕ

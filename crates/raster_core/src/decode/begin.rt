@@ -3,13 +3,11 @@
 ghost use Rattle.std.specs.Prelude.{◌≡◌, ◌<◌, List, IsTrue, IsErr, OnOk, OnErr, IfOk, false, true};
 ghost use Rattle.qm_core.specs.Counts.{one_more};
 ghost use Rattle.qm_core.specs.Source.{Pulls};
-ghost use Rattle.qm_core.specs.Place.{Place, State};
-ghost use Rattle.qm_core.specs.Decoder.{StopsOnce, DecoderIsAt, has_stopped};
+ghost use Rattle.qm_core.specs.Place.{Place, state_of};
+ghost use Rattle.qm_core.specs.Decoder.{StopsOnce, DecoderIsAt, has_stopped, decoder_state, source_of};
 ghost use Rattle.qm_core.specs.declared.source.Pulled.{Pulled};
-ghost use Rattle.raster_core.specs.Lines.{Lines};
 ghost use Rattle.raster_core.specs.Window.{shape_mode};
-ghost use Rattle.raster_core.specs.Packed.{Held};
-ghost use Rattle.raster_core.specs.Row.{FirstDecoded, FirstStopped, IsRowStart, StandsInRow, RowBegins};
+ghost use Rattle.raster_core.specs.Row.{FirstDecoded, FirstStopped, IsRowStart, FromRowPlace, RowBegins};
 
 use crate::context::flag_context;
 use crate::place::RowPlace;
@@ -35,14 +33,13 @@ pub(super) fn begin_row<S: CodeBytes>(
     ensures counted { has_stopped decoder.old ≡ false →
         OnErr result (S.failed source.new ≡ one_more (S.failed source.old)) }
     ensures typical { IfOk result (λ flag. IsTrue (has_stopped decoder.old) → flag ≡ false) }
-    ensures ok { IfOk result (λ flag. (s : State) (answers : List Pulled) (lines : Lines)
-        (window : Held) → StandsInRow shape kept place s answers lines window learned.old
-        decoder.old → RowBegins (Pulls S.gives S.failed) source.old source.new shape kept place s
-        answers lines window flag learned.new decoder.new) }
-    ensures err { OnErr result ((s : State) (answers : List Pulled) (lines : Lines)
-        (window : Held) → StandsInRow shape kept place s answers lines window learned.old
-        decoder.old → IsRowStart place × FirstStopped (Pulls S.gives S.failed) source.old source.new
-        (shape_mode shape) s.place s.learned answers decoder.new learned.new) }
+    ensures ok { IfOk result (λ flag. FromRowPlace (Pulls S.gives S.failed) shape kept place
+        (decoder_state source.old decoder.old learned.old) (λ from task window. RowBegins from task
+        place window flag (decoder_state source.new decoder.new learned.new))) }
+    ensures err { OnErr result (FromRowPlace (Pulls S.gives S.failed) shape kept place
+        (decoder_state source.old decoder.old learned.old)
+        (λ from task window. IsRowStart place × FirstStopped from (shape_mode shape) task.state
+        (decoder_state source.new decoder.new learned.new))) }
 {
     if shape.typical && !place.is_begun {
         decode_flag(shape, kept.previous_typical, learned, decoder, source)
@@ -62,13 +59,13 @@ fn decode_flag<S: CodeBytes>(
     requires typical { shape.typical ≡ true }
     ensures stop { StopsOnce S.failed decoder.old decoder.new source.old source.new result }
     ensures ok { IfOk result (λ flag. (p : Place) (answers : List Pulled) →
-        DecoderIsAt decoder.old p answers →
-        FirstDecoded (Pulls S.gives S.failed) source.old source.new (shape_mode shape) previous flag
-        p learned.old answers decoder.new learned.new) }
+        DecoderIsAt decoder.old p answers → FirstDecoded (source_of S.CodeBytes source.old answers)
+        (shape_mode shape) previous flag (state_of p learned.old)
+        (decoder_state source.new decoder.new learned.new)) }
     ensures err { OnErr result ((p : Place) (answers : List Pulled) →
-        DecoderIsAt decoder.old p answers →
-        FirstStopped (Pulls S.gives S.failed) source.old source.new (shape_mode shape) p learned.old
-        answers decoder.new learned.new) }
+        DecoderIsAt decoder.old p answers → FirstStopped (source_of S.CodeBytes source.old answers)
+        (shape_mode shape) (state_of p learned.old) (decoder_state source.new decoder.new
+        learned.new)) }
 {
     let pixel = decoder.next(learned, flag_context(shape.two_line), source)?;
     Ok(pixel == previous)

@@ -1,9 +1,9 @@
 //! Decoding the pixels of a byte.
 
-ghost use Rattle.std.specs.Prelude.{◌≡◌, ◌+◌, ◌-◌, ◌*◌, ◌%◌, ◌<◌, IfOk, IfErr, false};
+ghost use Rattle.std.specs.Prelude.{◌≡◌, ◌+◌, ◌-◌, ◌*◌, ◌%◌, ◌<◌, IfErr, false};
 ghost use Rattle.qm_core.specs.Source.{Pulls};
-ghost use Rattle.qm_core.specs.Decoder.{StopsOnce};
-ghost use Rattle.raster_core.specs.Machine.Decoded.{Along, StopsAlong, AlongMore, StopsMore};
+ghost use Rattle.qm_core.specs.Decoder.{StopsOnce, decoder_state};
+ghost use Rattle.raster_core.specs.Machine.Decoded.{DecodesPixels, DecodesLanes, byte_around, lanes_around};
 ghost use Rattle.raster_core.specs.Window.{shape_mode};
 ghost use Rattle.raster_core.specs.Machine.Registers.{AreFew, IsTemplate};
 
@@ -33,13 +33,11 @@ pub(crate) fn decode_byte<S: CodeBytes, const TWO_LINE: bool, const MOVED: bool>
     requires template { IsTemplate TWO_LINE MOVED shape offset }
     requires few { AreFew second_bytes above_bytes n }
     ensures stop { StopsOnce S.failed decoder.old decoder.new source.old source.new result }
-    ensures ok { IfOk result (λ past. Along (Pulls S.gives S.failed) source.old source.new
-        (shape_mode shape) offset second_bytes above_bytes before
-        decoder.old learned.old n past decoder.new learned.new) }
+    ensures pixels { DecodesPixels (Pulls S.gives S.failed)
+        (byte_around (shape_mode shape) offset second_bytes above_bytes before)
+        (decoder_state source.old decoder.old learned.old) n
+        (decoder_state source.new decoder.new learned.new) result }
     ensures few { IfErr result (λ pause. pause.count < n) }
-    ensures err { IfErr result (λ pause. StopsAlong (Pulls S.gives S.failed) source.old source.new
-        (shape_mode shape) offset second_bytes above_bytes before
-        decoder.old learned.old n pause decoder.new learned.new) }
 {
     let mut second = second_bytes >> 7;
     let mut above = above_bytes >> 6;
@@ -67,11 +65,10 @@ fn decode_one<S: CodeBytes>(
     source: &mut S,
 ) -> Result<u128, Pause>
     ensures stop { StopsOnce S.failed decoder.old decoder.new source.old source.new result }
-    ensures ok { IfOk result (λ past. AlongMore (Pulls S.gives S.failed) source.old source.new
-        lanes before decoder.old learned.old 1 past decoder.new learned.new) }
+    ensures pixels { DecodesLanes (Pulls S.gives S.failed) (lanes_around lanes before)
+        (decoder_state source.old decoder.old learned.old) 1
+        (decoder_state source.new decoder.new learned.new) result }
     ensures few { IfErr result (λ pause. pause.count < 1) }
-    ensures err { IfErr result (λ pause. StopsMore (Pulls S.gives S.failed) source.old source.new
-        lanes before decoder.old learned.old 1 pause decoder.new learned.new) }
 {
     let around = (lanes % 0x400) as u16 / 4 * 4;
     let cx = Context::of(around + (before % 4) as u16);
@@ -94,11 +91,10 @@ fn decode_two<S: CodeBytes>(
     source: &mut S,
 ) -> Result<u128, Pause>
     ensures stop { StopsOnce S.failed decoder.old decoder.new source.old source.new result }
-    ensures ok { IfOk result (λ past. AlongMore (Pulls S.gives S.failed) source.old source.new
-        lanes before decoder.old learned.old 2 past decoder.new learned.new) }
+    ensures pixels { DecodesLanes (Pulls S.gives S.failed) (lanes_around lanes before)
+        (decoder_state source.old decoder.old learned.old) 2
+        (decoder_state source.new decoder.new learned.new) result }
     ensures few { IfErr result (λ pause. pause.count < 2) }
-    ensures err { IfErr result (λ pause. StopsMore (Pulls S.gives S.failed) source.old source.new
-        lanes before decoder.old learned.old 2 pause decoder.new learned.new) }
 {
     let past = decode_one(lanes, before, learned, decoder, source)?;
     match decode_one(lanes >> 16, past, learned, decoder, source) {
@@ -117,11 +113,10 @@ fn decode_four<S: CodeBytes>(
     source: &mut S,
 ) -> Result<u128, Pause>
     ensures stop { StopsOnce S.failed decoder.old decoder.new source.old source.new result }
-    ensures ok { IfOk result (λ past. AlongMore (Pulls S.gives S.failed) source.old source.new
-        lanes before decoder.old learned.old 4 past decoder.new learned.new) }
+    ensures pixels { DecodesLanes (Pulls S.gives S.failed) (lanes_around lanes before)
+        (decoder_state source.old decoder.old learned.old) 4
+        (decoder_state source.new decoder.new learned.new) result }
     ensures few { IfErr result (λ pause. pause.count < 4) }
-    ensures err { IfErr result (λ pause. StopsMore (Pulls S.gives S.failed) source.old source.new
-        lanes before decoder.old learned.old 4 pause decoder.new learned.new) }
 {
     let past = decode_two(lanes, before, learned, decoder, source)?;
     match decode_two(lanes >> 32, past, learned, decoder, source) {
@@ -143,13 +138,11 @@ fn decode_eight<S: CodeBytes>(
 ) -> Result<u128, Pause>
     requires template { shape.two_line ≡ false }
     ensures stop { StopsOnce S.failed decoder.old decoder.new source.old source.new result }
-    ensures ok { IfOk result (λ past. Along (Pulls S.gives S.failed) source.old source.new
-        (shape_mode shape) 0 second_bytes above_bytes before
-        decoder.old learned.old 8 past decoder.new learned.new) }
+    ensures pixels { DecodesPixels (Pulls S.gives S.failed)
+        (byte_around (shape_mode shape) 0 second_bytes above_bytes before)
+        (decoder_state source.old decoder.old learned.old) 8
+        (decoder_state source.new decoder.new learned.new) result }
     ensures few { IfErr result (λ pause. pause.count < 8) }
-    ensures err { IfErr result (λ pause. StopsAlong (Pulls S.gives S.failed) source.old source.new
-        (shape_mode shape) 0 second_bytes above_bytes before
-        decoder.old learned.old 8 pause decoder.new learned.new) }
 {
     let first = first_around(second_bytes, above_bytes);
     let half = decode_four(first, before, learned, decoder, source)?;
@@ -176,13 +169,11 @@ fn decode_plain<S: CodeBytes, const TWO_LINE: bool, const MOVED: bool>(
     requires template { IsTemplate TWO_LINE MOVED shape offset }
     requires few { AreFew second_bytes above_bytes n }
     ensures stop { StopsOnce S.failed decoder.old decoder.new source.old source.new result }
-    ensures ok { IfOk result (λ past. Along (Pulls S.gives S.failed) source.old source.new
-        (shape_mode shape) offset second_bytes above_bytes before
-        decoder.old learned.old n past decoder.new learned.new) }
+    ensures pixels { DecodesPixels (Pulls S.gives S.failed)
+        (byte_around (shape_mode shape) offset second_bytes above_bytes before)
+        (decoder_state source.old decoder.old learned.old) n
+        (decoder_state source.new decoder.new learned.new) result }
     ensures few { IfErr result (λ pause. pause.count < n) }
-    ensures err { IfErr result (λ pause. StopsAlong (Pulls S.gives S.failed) source.old source.new
-        (shape_mode shape) offset second_bytes above_bytes before
-        decoder.old learned.old n pause decoder.new learned.new) }
 {
     if has_lanes::<TWO_LINE, MOVED>(shape, offset, n) {
         decode_eight(
@@ -226,13 +217,11 @@ pub(crate) fn decode_step<S: CodeBytes, const TWO_LINE: bool, const MOVED: bool>
     requires template { IsTemplate TWO_LINE MOVED shape offset }
     requires few { AreFew second_bytes above_bytes n }
     ensures stop { StopsOnce S.failed decoder.old decoder.new source.old source.new result }
-    ensures ok { IfOk result (λ past. Along (Pulls S.gives S.failed) source.old source.new
-        (shape_mode shape) offset second_bytes above_bytes before
-        decoder.old learned.old n past decoder.new learned.new) }
+    ensures pixels { DecodesPixels (Pulls S.gives S.failed)
+        (byte_around (shape_mode shape) offset second_bytes above_bytes before)
+        (decoder_state source.old decoder.old learned.old) n
+        (decoder_state source.new decoder.new learned.new) result }
     ensures few { IfErr result (λ pause. pause.count < n) }
-    ensures err { IfErr result (λ pause. StopsAlong (Pulls S.gives S.failed) source.old source.new
-        (shape_mode shape) offset second_bytes above_bytes before
-        decoder.old learned.old n pause decoder.new learned.new) }
 {
     let byte = ((above_bytes >> 8) % 256) as u8;
     if skip_byte::<MOVED>(

@@ -2,9 +2,9 @@
 
 ghost use Rattle.std.specs.Prelude.{◌≡◌, ◌+◌, ◌-◌, ◌*◌, ◌%◌, ◌<◌, ◌≤◌, OnOk, IfOk, IfErr};
 ghost use Rattle.qm_core.specs.Source.{Pulls};
-ghost use Rattle.qm_core.specs.Decoder.{StopsOnce};
+ghost use Rattle.qm_core.specs.Decoder.{StopsOnce, decoder_state};
 ghost use Rattle.raster_core.specs.Machine.Places.{IsPartOf};
-ghost use Rattle.raster_core.specs.Machine.Decoded.{ByteEnds, RowAlong, RowStops};
+ghost use Rattle.raster_core.specs.Machine.Decoded.{ByteEnds, RowAlong, RowStops, row_around, row_part};
 ghost use Rattle.raster_core.specs.Window.{shape_mode};
 ghost use Rattle.raster_core.specs.Machine.Registers.{IsTemplate};
 
@@ -36,12 +36,14 @@ fn end_byte<S: CodeBytes, const TWO_LINE: bool, const MOVED: bool>(
     ensures whole { IfOk result (λ to. to.done < shape.width → to.done % 8 ≡ 0) }
     ensures within { IfOk result (λ to. to.done ≤ shape.width) }
     ensures inside { IfErr result (λ at. at.done < shape.width) }
-    ensures ok { IfOk result (λ to. ByteEnds (Pulls S.gives S.failed) source.old source.new
-        (shape_mode shape) offset above.now second.now place current.old
-        decoder.old learned.old to current.new decoder.new learned.new) }
-    ensures err { IfErr result (λ at. RowStops (Pulls S.gives S.failed) source.old source.new
-        (shape_mode shape) offset above.now second.now place current.old
-        decoder.old learned.old shape.width at current.new decoder.new learned.new) }
+    ensures ok { IfOk result (λ to. ByteEnds (Pulls S.gives S.failed)
+        (row_around (shape_mode shape) offset above.now second.now)
+        (row_part place current.old source.old decoder.old learned.old)
+        (row_part to current.new source.new decoder.new learned.new)) }
+    ensures err { IfErr result (λ at. RowStops (Pulls S.gives S.failed)
+        (row_around (shape_mode shape) offset above.now second.now)
+        (row_part place current.old source.old decoder.old learned.old) shape.width
+        (row_part at current.new source.new decoder.new learned.new)) }
 {
     let begun = place.done % 8;
     let i = (place.done / 8) as usize;
@@ -84,12 +86,14 @@ fn decode_bytes<S: CodeBytes, const TWO_LINE: bool, const MOVED: bool>(
     requires part { IsPartOf shape place current.old }
     ensures stop { StopsOnce S.failed decoder.old decoder.new source.old source.new result }
     ensures inside { IfErr result (λ at. at.done < shape.width) }
-    ensures ok { OnOk result (RowAlong (Pulls S.gives S.failed) source.old source.new
-        (shape_mode shape) offset above.now second.now place current.old
-        decoder.old learned.old shape.width current.new decoder.new learned.new) }
-    ensures err { IfErr result (λ at. RowStops (Pulls S.gives S.failed) source.old source.new
-        (shape_mode shape) offset above.now second.now place current.old
-        decoder.old learned.old shape.width at current.new decoder.new learned.new) }
+    ensures ok { OnOk result (RowAlong (Pulls S.gives S.failed)
+        (row_around (shape_mode shape) offset above.now second.now)
+        (row_part place current.old source.old decoder.old learned.old) shape.width current.new
+        (decoder_state source.new decoder.new learned.new)) }
+    ensures err { IfErr result (λ at. RowStops (Pulls S.gives S.failed)
+        (row_around (shape_mode shape) offset above.now second.now)
+        (row_part place current.old source.old decoder.old learned.old) shape.width
+        (row_part at current.new source.new decoder.new learned.new)) }
 {
     let mut i = (place.done / 8) as usize;
     let mut above_bytes = register_at(above, i);
@@ -174,12 +178,14 @@ fn decode_rest<S: CodeBytes, const TWO_LINE: bool, const MOVED: bool>(
     requires part { IsPartOf shape place current.old }
     ensures stop { StopsOnce S.failed decoder.old decoder.new source.old source.new result }
     ensures inside { IfErr result (λ at. at.done < shape.width) }
-    ensures ok { OnOk result (RowAlong (Pulls S.gives S.failed) source.old source.new
-        (shape_mode shape) offset above.now second.now place current.old
-        decoder.old learned.old shape.width current.new decoder.new learned.new) }
-    ensures err { IfErr result (λ at. RowStops (Pulls S.gives S.failed) source.old source.new
-        (shape_mode shape) offset above.now second.now place current.old
-        decoder.old learned.old shape.width at current.new decoder.new learned.new) }
+    ensures ok { OnOk result (RowAlong (Pulls S.gives S.failed)
+        (row_around (shape_mode shape) offset above.now second.now)
+        (row_part place current.old source.old decoder.old learned.old) shape.width current.new
+        (decoder_state source.new decoder.new learned.new)) }
+    ensures err { IfErr result (λ at. RowStops (Pulls S.gives S.failed)
+        (row_around (shape_mode shape) offset above.now second.now)
+        (row_part place current.old source.old decoder.old learned.old) shape.width
+        (row_part at current.new source.new decoder.new learned.new)) }
 {
     if place.done % 8 == 0 {
         return decode_bytes::<_, TWO_LINE, MOVED>(
@@ -214,12 +220,14 @@ pub(crate) fn decode_pixels<S: CodeBytes>(
     requires part { IsPartOf shape place current.old }
     ensures stop { StopsOnce S.failed decoder.old decoder.new source.old source.new result }
     ensures inside { IfErr result (λ at. at.done < shape.width) }
-    ensures ok { OnOk result (RowAlong (Pulls S.gives S.failed) source.old source.new
-        (shape_mode shape) offset above.now second.now place current.old
-        decoder.old learned.old shape.width current.new decoder.new learned.new) }
-    ensures err { IfErr result (λ at. RowStops (Pulls S.gives S.failed) source.old source.new
-        (shape_mode shape) offset above.now second.now place current.old
-        decoder.old learned.old shape.width at current.new decoder.new learned.new) }
+    ensures ok { OnOk result (RowAlong (Pulls S.gives S.failed)
+        (row_around (shape_mode shape) offset above.now second.now)
+        (row_part place current.old source.old decoder.old learned.old) shape.width current.new
+        (decoder_state source.new decoder.new learned.new)) }
+    ensures err { IfErr result (λ at. RowStops (Pulls S.gives S.failed)
+        (row_around (shape_mode shape) offset above.now second.now)
+        (row_part place current.old source.old decoder.old learned.old) shape.width
+        (row_part at current.new source.new decoder.new learned.new)) }
 {
     by_template!(
         decode_rest,

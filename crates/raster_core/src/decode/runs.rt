@@ -7,7 +7,7 @@ ghost use Rattle.qm_core.specs.Skipping.{CanSkip};
 ghost use Rattle.qm_core.specs.Decoder.{DecoderIsAt, SkipsOrStays};
 ghost use Rattle.qm_core.specs.declared.source.Pulled.{Pulled};
 ghost use Rattle.raster_core.specs.Machine.Places.{SkipsSoMany};
-ghost use Rattle.raster_core.specs.Machine.Decoded.{SkipsFilledAlong, SkipsAlong};
+ghost use Rattle.raster_core.specs.Machine.Decoded.{SkipsFilledAlong, SkipsAlong, byte_around, filled_run};
 ghost use Rattle.raster_core.specs.Machine.Registers.{bit, is_moved, past_bits};
 ghost use Rattle.raster_core.specs.Machine.Uniform.{uniform_event, colour_of, filled, AreFilled, AreAllOf};
 ghost use Rattle.raster_core.specs.Window.{shape_mode};
@@ -34,8 +34,8 @@ pub(super) fn skip_byte<const MOVED: bool>(
     requires moved { MOVED ≡ is_moved offset }
     ensures skips { SkipsOrStays result decoder.old decoder.new }
     ensures eight { result ≡ true → n ≡ 8 }
-    ensures skipped { result ≡ true → SkipsAlong (shape_mode shape) offset second_bytes above_bytes
-        byte before decoder.old learned.now decoder.new }
+    ensures skipped { result ≡ true → SkipsAlong (byte_around (shape_mode shape) offset second_bytes
+        above_bytes before) byte decoder.old learned.now decoder.new }
     ensures taken { (p : Place) (answers : List Pulled) → DecoderIsAt decoder.old p answers →
         n ≡ 8 → byte ≡ bit (nat_eq byte 255) * 255 →
         AreAllOf second_bytes above_bytes before offset (nat_eq byte 255) →
@@ -65,7 +65,7 @@ fn skip_word(
     requires place { i < 2 ^ 32 }
     ensures skips { SkipsOrStays result decoder.old decoder.new }
     ensures inside { result ≡ true → 64 < left }
-    ensures skipped { result ≡ true → SkipsFilledAlong colour above.now second.now i 8
+    ensures skipped { result ≡ true → SkipsFilledAlong (filled_run colour i 8) above.now second.now
         decoder.old learned.now decoder.new }
     ensures taken { (p : Place) (answers : List Pulled) → DecoderIsAt decoder.old p answers →
         64 < left → i + 9 ≤ length above.now → i + 9 ≤ length second.now →
@@ -95,8 +95,8 @@ fn skip_words(
     requires place { 8 * i + left < 2 ^ 32 }
     ensures skips { SkipsSoMany result decoder.old decoder.new }
     ensures inside { 64 * result < left }
-    ensures skipped { SkipsFilledAlong colour above.now second.now i (8 * result) decoder.old
-        learned.now decoder.new }
+    ensures skipped { SkipsFilledAlong (filled_run colour i (8 * result)) above.now second.now
+        decoder.old learned.now decoder.new }
 {
     let mut words = 0u32;
     let mut at = i;
@@ -135,8 +135,8 @@ pub(crate) fn skip_filled<const MOVED: bool>(
     ensures filled { (k : ℕ) → i ≤ k → k < i + 8 * result →
         slice_index current.new k ≡ bit (colour_of above_bytes) * 255 }
     ensures kept { (k : ℕ) → k < i → slice_index current.new k ≡ slice_index current.old k }
-    ensures skipped { SkipsFilledAlong (colour_of above_bytes) above.now second.now i (8 * result)
-        decoder.old learned.now decoder.new }
+    ensures skipped { SkipsFilledAlong (filled_run (colour_of above_bytes) i (8 * result)) above.now
+        second.now decoder.old learned.now decoder.new }
 {
     // Most bytes that are in no run end here.
     if second_bytes != above_bytes {

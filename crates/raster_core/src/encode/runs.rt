@@ -4,7 +4,7 @@ ghost use Rattle.std.specs.Prelude.{◌≡◌, ◌≤◌};
 ghost use Rattle.qm_core.specs.Puts.{HasRoom, Skips};
 ghost use Rattle.raster_core.specs.Machine.Uniform.{uniform_event};
 ghost use Rattle.raster_core.specs.Machine.Registers.{is_moved};
-ghost use Rattle.raster_core.specs.Machine.Rows.{lines_in, HasRest, PassesRun, PutsRun, StandsAt};
+ghost use Rattle.raster_core.specs.Machine.Rows.{lines_in, HasRest, PassesRun, PutsRun, StandsAt, byte_range};
 
 use crate::row_byte::Around;
 use crate::rows::Rows;
@@ -32,7 +32,7 @@ fn skip_bytes<W: CodeSink>(
     coder: &mut Coder<'_, W>,
 ) -> usize
     requires rest { HasRest W.CodeSink rows i coder.old }
-    ensures { PutsRun W.CodeSink colour rows.entry i result coder.old coder.new }
+    ensures { PutsRun W.CodeSink colour (byte_range rows.entry i result) coder.old coder.new }
 {
     let mut at = i;
     let mut left = rows.width - 8 * i as u32;
@@ -57,7 +57,7 @@ pub(crate) fn skip_run<W: CodeSink, const MOVED: bool>(
     requires moved { MOVED ≡ is_moved around.template.offset }
     requires stands { StandsAt around around.template (lines_in rows) i }
     requires rest { HasRest W.CodeSink rows i coder.old }
-    ensures { PassesRun W.CodeSink around rows.entry i result coder.old coder.new }
+    ensures { PassesRun W.CodeSink around (byte_range rows.entry i result) coder.old coder.new }
 {
     // Most bytes that are in no run end here.
     if around.second != around.above {

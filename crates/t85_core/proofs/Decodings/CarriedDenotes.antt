@@ -10,9 +10,9 @@ use Rattle.raster_core.specs.Raster.{white_row}
 use Rattle.raster_core.specs.Lines.{numbers_from, IsLegalFlag}
 use Rattle.t85_core.specs.Header.{Fields, IsAccepted}
 use Rattle.t85_core.specs.Grammar.{Stripe, stripe_bytes, stripe_count, AreStripes, all_segments, GiveOnly}
-use Rattle.t85_core.specs.Coding.{Coding, lines_of, flag_of, moved_at, last_or, place_of, mode_of, move_of}
+use Rattle.t85_core.specs.Coding.{Coding, lines_of, flag_of, moved_at, last_or, place_of, mode_of, move_of, flagged}
 use Rattle.t85_core.specs.Denotes.{coding_in, DenotesAt}
-use Rattle.t85_core.specs.Steps.State.{StripeStart, first_row_start, image_start, StripesRun}
+use Rattle.t85_core.specs.Steps.State.{StripeStart, first_row_start, image_start, StripesRun, stripe_coding}
 use Rattle.t85_core.proofs.Theorems.Joined.{row_above_top}
 use Rattle.t85_core.proofs.Bytes.Lists.{All-append}
 use Rattle.t85_core.proofs.Bytes.Elements.{Continues, continues_all}
@@ -20,20 +20,20 @@ use Rattle.t85_core.specs.Steps.Looked.{CarryAt}
 use Rattle.t85_core.proofs.Decodings.StripesCarried.{run_wide, AllFollowed, stripes_follow}
 
 -- as many rows as the stripes have room for
-pub run_many : (h : Fields) (left : ℕ) (b : StripeStart) (todo : List Stripe) (rows : List (List Bool)) (flags : List Bool) (next : StripeStart) → StripesRun h left b todo rows flags next → length rows ≡ min left (length todo * h.l0)
+pub run_many : (h : Fields) (left : ℕ) (b : StripeStart) (todo : List Stripe) (rows : List (List Bool)) (flags : List Bool) (next : StripeStart) → StripesRun h left b todo (flagged rows flags) next → length rows ≡ min left (length todo * h.l0)
 run_many h left b [] rows flags next run = let none : length rows ≡ 0 = ap length run.0 in omega (arith, none)
 run_many h left b (s ∷ todo) rows flags next run =
     let others = run_many h (left - h.l0) run.4 todo run.1 run.3 next run.8 in
     let lengths : length rows ≡ length run.0 + length run.1 = ap length run.5 ∙ length-append run.0 run.1 in
     omega (arith, lengths, others, run.7.many)
 
-pub stripes_wide : (h : Fields) (left : ℕ) (b : StripeStart) (todo : List Stripe) (rows : List (List Bool)) (flags : List Bool) (next : StripeStart) → StripesRun h left b todo rows flags next → AllByRecursion (λ row. length row ≡ h.xd) rows
+pub stripes_wide : (h : Fields) (left : ℕ) (b : StripeStart) (todo : List Stripe) (rows : List (List Bool)) (flags : List Bool) (next : StripeStart) → StripesRun h left b todo (flagged rows flags) next → AllByRecursion (λ row. length row ≡ h.xd) rows
 stripes_wide h left b [] rows flags next run = subst (AllByRecursion (λ row. length row ≡ h.xd)) (sym run.0) tt
 stripes_wide h left b (s ∷ todo) rows flags next run =
     subst (AllByRecursion (λ row. length row ≡ h.xd)) (sym run.5)
-    (All-append (λ row. length row ≡ h.xd) run.0 run.1 (run_wide h.xd (mode_of h.options) (move_of s.segments) 0 (first_row_start b) run.0 run.2 run.7.last run.7.run) (stripes_wide h (left - h.l0) run.4 todo run.1 run.3 next run.8))
+    (All-append (λ row. length row ≡ h.xd) run.0 run.1 (run_wide (stripe_coding h s.segments) 0 (first_row_start b) run.0 run.2 run.7.last run.7.run) (stripes_wide h (left - h.l0) run.4 todo run.1 run.3 next run.8))
 
-pub stripes_whole : (h : Fields) (left : ℕ) (b : StripeStart) (todo : List Stripe) (rows : List (List Bool)) (flags : List Bool) (next : StripeStart) → StripesRun h left b todo rows flags next → AreStripes h todo
+pub stripes_whole : (h : Fields) (left : ℕ) (b : StripeStart) (todo : List Stripe) (rows : List (List Bool)) (flags : List Bool) (next : StripeStart) → StripesRun h left b todo (flagged rows flags) next → AreStripes h todo
 stripes_whole h left b [] rows flags next run = tt
 stripes_whole h left b (s ∷ todo) rows flags next run = (run.7.whole, stripes_whole h (left - h.l0) run.4 todo run.1 run.3 next run.8)
 
@@ -55,7 +55,7 @@ module _ (h : Fields) (stripes : List Stripe) (flags : List Bool) (rows : List (
 -- The stripes of a body, run through to the image's height, denote the raster of their rows.
 pub carried_denotes : (h : Fields) (height : ℕ) (body rest : List ℕ) (stripes : List Stripe) (rows : List (List Bool)) (flags : List Bool) (next : StripeStart) →
     IsAccepted h → 1 ≤ height → height ≤ h.yd → body ≡ flat_map stripe_bytes stripes ++ rest → length stripes ≡ stripe_count height h.l0 → GiveOnly height 0 (all_segments stripes) →
-    StripesRun h height (image_start h.xd) stripes rows flags next → DenotesAt h height body (record { width = h.xd; rows = rows })
+    StripesRun h height (image_start h.xd) stripes (flagged rows flags) next → DenotesAt h height body (record { width = h.xd; rows = rows })
 carried_denotes h height body rest stripes rows flags next ok from to body_is count gives run =
     record {
       parts = record { stripes = stripes; rest = rest; body_is = body_is; count = count; each = stripes_whole h height (image_start h.xd) stripes rows flags next run; gives = gives };

@@ -16,11 +16,11 @@ use Rattle.t85_core.specs.declared.fault.Fault.{Fault}
 use Rattle.t85_core.specs.Header.{Fields, IsAccepted}
 use Rattle.t85_core.specs.Grammar.{Segment, Stripe, stripe_bytes, stripe_count, all_segments, GiveOnly}
 use Rattle.t85_core.specs.Refusal.{StripeFault, spot_after}
-use Rattle.t85_core.specs.Coding.{Coding, fresh_stripe, lines_of, flag_of, events_of_row, learned_at, place_of, begun, mode_of, move_of}
+use Rattle.t85_core.specs.Coding.{Coding, fresh_stripe, lines_of, flag_of, events_of_row, learned_at, place_of, begun, mode_of, move_of, flagged}
 use Rattle.t85_core.specs.Denotes.{coding_in}
 use Rattle.t85_core.specs.Fixed.{AreDecided, IsLongest, Fixes, begun_stripes}
-use Rattle.t85_core.specs.Steps.State.{RowStart, StripeStart, first_row_start, image_start, after_row, lines_with, Run, StripesRun}
-use Rattle.t85_core.specs.Steps.Cut.{events_with, RunEnough, NoneDecided, BegunRun, FrontRun}
+use Rattle.t85_core.specs.Steps.State.{RowStart, StripeStart, first_row_start, image_start, after_row, lines_with, Run, StripesRun, row_coding, stripe_coding}
+use Rattle.t85_core.specs.Steps.Cut.{events_with, RunEnough, NoneDecided, BegunRun, FrontRun, open_stripe}
 use Rattle.t85_core.specs.Steps.CoderLaws.{CoderLaws}
 use Rattle.t85_core.proofs.Bytes.Lists.{All-append}
 use Rattle.t85_core.proofs.Theorems.Alike.{coding}
@@ -59,7 +59,7 @@ module _ (c : Coding) (i count : ℕ) (move : Option (ℕ × ℕ)) (move_is : sl
   pub rows_enough : (rows : List (List Bool)) (flags : List Bool) (r y : ℕ) (b last : RowStart) →
       r + length rows ≤ c.stripe_rows → y ≡ i * c.stripe_rows + r → CarriedAt c i r y b →
       Continues (white_row c.raster.width) c.raster.rows y rows → Continues false c.flags y flags →
-      Run c.raster.width c.mode move r b rows flags last → RunEnough count c.mode move r b rows flags →
+      Run (row_coding c.raster.width c.mode move) r b rows flags last → RunEnough count (row_coding c.raster.width c.mode move) r b rows flags →
       AreEnough count (begun (learned_at c i)) (to_row r) → AreEnough count (begun (learned_at c i)) (to_row (r + length rows))
   rows_enough [] [] r y b last few y_is h rows_at flags_at run enough so_far = let r0 : r ≡ r + 0 = omega arith in subst (λ z. AreEnough count (begun (learned_at c i)) (to_row z)) r0 so_far
   rows_enough [] (flag ∷ flags) r y b last few y_is h rows_at flags_at run enough so_far = absurd run
@@ -113,8 +113,8 @@ module _ (w : ℕ) (mode : Mode) (l : ℕ) (some : 0 < l) (moves : List (Option 
 
 -- whole stripes that were run through, and then a stripe of which first rows were
 module _ (h : Fields) (height : ℕ) (ok : IsAccepted h) (stripes : List Stripe) (segments : List Segment) (code : List ℕ) (first more : List (List Bool)) (first_flags more_flags : List Bool) (mid : StripeStart)
-    (fewer : length stripes < stripe_count height h.l0) (run : StripesRun h height (image_start h.xd) stripes first first_flags mid)
-    (begins : FrontRun h (min (height - length stripes * h.l0) h.l0) mid segments code more more_flags) where
+    (fewer : length stripes < stripe_count height h.l0) (run : StripesRun h height (image_start h.xd) stripes (flagged first first_flags) mid)
+    (begins : FrontRun (open_stripe h mid segments) (min (height - length stripes * h.l0) h.l0) code more more_flags) where
   abbrev all : List Stripe
   all = begun_stripes stripes segments code
 
@@ -148,11 +148,11 @@ module _ (h : Fields) (height : ℕ) (ok : IsAccepted h) (stripes : List Stripe)
 
   flags_many : length first_flags ≡ length stripes * h.l0
   flags_many = ap (λ x. x) (stripes_flags h height (image_start h.xd) stripes first first_flags mid run) ∙ first_many where
-    stripes_flags : (h : Fields) (left : ℕ) (b : StripeStart) (todo : List Stripe) (rows : List (List Bool)) (flags : List Bool) (next : StripeStart) → StripesRun h left b todo rows flags next → length flags ≡ length rows
+    stripes_flags : (h : Fields) (left : ℕ) (b : StripeStart) (todo : List Stripe) (rows : List (List Bool)) (flags : List Bool) (next : StripeStart) → StripesRun h left b todo (flagged rows flags) next → length flags ≡ length rows
     stripes_flags h left b [] rows flags next r = ap length r.1 ∙ sym (ap length r.0)
     stripes_flags h left b (s ∷ todo) rows flags next r =
         let others = stripes_flags h (left - h.l0) r.4 todo r.1 r.3 next r.8 in
-        let here = run_flags h.xd (mode_of h.options) (move_of s.segments) 0 (first_row_start b) r.0 r.2 r.7.last r.7.run in
+        let here = run_flags (stripe_coding h s.segments) 0 (first_row_start b) r.0 r.2 r.7.last r.7.run in
         let e = ap length r.5 ∙ length-append r.0 r.1 in
         let f = ap length r.6 ∙ length-append r.2 r.3 in
         omega (arith, others, here, e, f)
@@ -245,7 +245,7 @@ module _ (h : Fields) (height : ℕ) (ok : IsAccepted h) (stripes : List Stripe)
   pub carried_lying : AreLying h all (length stripes) flags rows
   carried_lying = record {
     wide = All-append (λ row. length row ≡ h.xd) first more (stripes_wide h height (image_start h.xd) stripes first first_flags mid run)
-        (run_wide h.xd mode move 0 (first_row_start mid) more more_flags begins.last begins.run);
+        (run_wide (row_coding h.xd mode move) 0 (first_row_start mid) more more_flags begins.last begins.run);
     from = omega (arith, all_many);
     to = omega (arith, all_many, few);
     legal = λ y lt. legal_at y lt (cases_lt y (length first));
@@ -273,7 +273,7 @@ module _ (h : Fields) (height : ℕ) (ok : IsAccepted h) (stripes : List Stripe)
         (subst (λ m. Lies code (after (begun (learned_at whole (length stripes))) (flat_map (events_of_row whole) (numbers_from (length stripes * h.l0) m))).place) in_stripe
         (subst (λ s. Lies code s.place) ran.carried.state begins.lies)))
 
-  pub carried_decided : RunEnough (length code) mode move 0 (first_row_start mid) more more_flags → AreDecided h height all (length stripes) code flags rows
+  pub carried_decided : RunEnough (length code) (row_coding h.xd mode move) 0 (first_row_start mid) more more_flags → AreDecided h height all (length stripes) code (flagged rows flags)
   carried_decided so = record {
     wide = carried_lying.wide;
     from = carried_lying.from;
@@ -285,8 +285,8 @@ module _ (h : Fields) (height : ℕ) (ok : IsAccepted h) (stripes : List Stripe)
         (rows_enough whole (length stripes) (length code) move move_is more more_flags 0 (length stripes * h.l0) (first_row_start mid) begins.last few y_is begins_at_row more_at more_flags_at begins.run so tt);
   }
 
-  pub carried_longest : CoderLaws → RunEnough (length code) mode move 0 (first_row_start mid) more more_flags →
-      (length more ≡ min (height - length stripes * h.l0) h.l0) ⊎ NoneDecided h.xd mode move (length more) begins.last code → IsLongest h height all (length stripes) code rows
+  pub carried_longest : CoderLaws → RunEnough (length code) (row_coding h.xd mode move) 0 (first_row_start mid) more more_flags →
+      (length more ≡ min (height - length stripes * h.l0) h.l0) ⊎ NoneDecided (row_coding h.xd mode move) (length more) begins.last code → IsLongest h height all (length stripes) code rows
   carried_longest q so ends other row d = went ends where
     longer : length ((first ++ more) ++ row ∷ []) ≡ suc (length (first ++ more))
     longer = length-push (first ++ more) row
@@ -300,7 +300,7 @@ module _ (h : Fields) (height : ℕ) (ok : IsAccepted h) (stripes : List Stripe)
     with_row : Coding
     with_row = coding_in h all other ((first ++ more) ++ row ∷ [])
 
-    went : (length more ≡ min (height - length stripes * h.l0) h.l0) ⊎ NoneDecided h.xd mode move (length more) begins.last code → ⊥
+    went : (length more ≡ min (height - length stripes * h.l0) h.l0) ⊎ NoneDecided (row_coding h.xd mode move) (length more) begins.last code → ⊥
     went (inl full) = omega (arith, d.to, longer, all_many, full, room)
     went (inr none) = none row flag wide legal lies enough where
       flag : Bool
@@ -358,15 +358,15 @@ module _ (h : Fields) (height : ℕ) (ok : IsAccepted h) (stripes : List Stripe)
           (subst (AreEnough (length code) (begun (learned_at with_row (length stripes)))) (rows_more with_row (length stripes * h.l0) (length more))
           (subst (λ m. AreEnough (length code) (begun (learned_at with_row (length stripes))) (flat_map (events_of_row with_row) (numbers_from (length stripes * h.l0) m))) one_more d.enough))))
 
-abbrev pub front_of : {h : Fields} {count : ℕ} {c : StripeStart} {segments : List Segment} {code : List ℕ} {rows : List (List Bool)} {flags : List Bool} → BegunRun h count c segments code rows flags → FrontRun h count c segments code rows flags
+abbrev pub front_of : {h : Fields} {count : ℕ} {c : StripeStart} {segments : List Segment} {code : List ℕ} {rows : List (List Bool)} {flags : List Bool} → BegunRun (open_stripe h c segments) count code rows flags → FrontRun (open_stripe h c segments) count code rows flags
 front_of b = record { last = b.last; run = b.run; few = b.few; lies = b.lies }
 
 -- A body that breaks after whole stripes fixes their rows, and the rows that were run through of the stripe that breaks.
 pub carried_fixes : CoderLaws → (h : Fields) (height : ℕ) (body tail : List ℕ) (fault : Fault) (stripes : List Stripe) (broken : StripeFault h (spot_after height stripes) tail fault)
     (first more : List (List Bool)) (first_flags more_flags : List Bool) (mid : StripeStart) → IsAccepted h →
     body ≡ flat_map stripe_bytes stripes ++ tail → length stripes < stripe_count height h.l0 → GiveOnly height 0 (all_segments stripes) →
-    StripesRun h height (image_start h.xd) stripes first first_flags mid →
-    BegunRun h (min (height - length stripes * h.l0) h.l0) mid broken.segments broken.code more more_flags →
+    StripesRun h height (image_start h.xd) stripes (flagged first first_flags) mid →
+    BegunRun (open_stripe h mid broken.segments) (min (height - length stripes * h.l0) h.l0) broken.code more more_flags →
     Fixes h height body fault (first ++ more)
 carried_fixes q h height body tail fault stripes broken first more first_flags more_flags mid ok body_is fewer gives run begins = record {
   broken = record { stripes = stripes; tail = tail; bytes_are = body_is; fewer = fewer; each = stripes_whole h height (image_start h.xd) stripes first first_flags mid run; gives = gives; tail_has = broken };

@@ -13,7 +13,7 @@ use Rattle.t85_core.specs.Outcome.{pbm_text}
 use Rattle.t85_core.specs.Denotes.{Denotes, DenotesAt}
 use Rattle.t85_core.specs.Info.{IsBodyFault}
 use Rattle.t85_core.specs.Decode.{WritesRaster, WritesImageFront, Decode, FindHeight}
-use Rattle.t85_core.specs.ToPbm.{TakesHeader, ToPbmAt, ToPbmOnce, ToPbmBehind, ToPbm, again_known, again_failures, is_same_header, AgainConverts, WritesDenoted, IsFixed}
+use Rattle.t85_core.specs.ToPbm.{TakesHeader, ToPbmAt, ToPbmOnce, ToPbmBehind, ToPbm, again_known, again_failures, is_same_header, AgainConverts, WritesDenoted, IsFixed, delivery, second_reading}
 use Rattle.t85_core.specs.Steps.CoderLaws.{CoderLaws}
 use Rattle.t85_core.proofs.Bytes.Held.{Keeps-same}
 use Rattle.t85_core.proofs.Bytes.Known.{HeaderOf-append, behind}
@@ -34,7 +34,7 @@ module _ (h : Fields) (height limit : ℕ) (known : Option (List ℕ)) (reads : 
   front_none = record { given = []; taken = Consumes-none known; appends = λ rest fault text o. record { front = []; rest = text; text_is = refl; appends = appends_nothing out } }
 
   -- the image has too many rows
-  pub at_high : limit < height → ToPbmAt h height limit (between known known reads reads) (between out out writes writes) flushed (Err TooManyRows)
+  pub at_high : limit < height → ToPbmAt h height limit (between known known reads reads) (delivery (between out out writes writes) flushed) (Err TooManyRows)
   at_high high = record {
     whole = tt;
     flushed_last = tt;
@@ -52,7 +52,7 @@ module _ (h : Fields) (height limit : ℕ) (known : Option (List ℕ)) (reads : 
 
 module _ (h : Fields) (height limit : ℕ) (in_old in_new : Option (List ℕ)) (reads_old reads_new : ℕ) (out_old out_new : Option (List ℕ)) (writes_old writes_new : ℕ) (flushed : Bool) (fits : height ≤ limit) where
   -- the body breaks, or a device fails
-  pub at_broken : (f : Fault) → Decode h height (between in_old in_new reads_old reads_new) (between out_old out_new writes_old writes_new) (Err f) → ToPbmAt h height limit (between in_old in_new reads_old reads_new) (between out_old out_new writes_old writes_new) flushed (Err f)
+  pub at_broken : (f : Fault) → Decode h height (between in_old in_new reads_old reads_new) (between out_old out_new writes_old writes_new) (Err f) → ToPbmAt h height limit (between in_old in_new reads_old reads_new) (delivery (between out_old out_new writes_old writes_new) flushed) (Err f)
   at_broken f d = record {
     whole = tt;
     flushed_last = tt;
@@ -77,7 +77,7 @@ module _ (h : Fields) (height limit : ℕ) (in_old in_new : Option (List ℕ)) (
 
   -- the flush failed after all that was written
   pub at_unflushed : (out_last : Option (List ℕ)) (writes_last : ℕ) → Decode h height (between in_old in_new reads_old reads_new) (between out_old out_new writes_old writes_new) (Ok tt) → Keeps out_new out_last → writes_last ≡ one_more writes_new →
-      ToPbmAt h height limit (between in_old in_new reads_old reads_new) (between out_old out_last writes_old writes_last) flushed (Err Write)
+      ToPbmAt h height limit (between in_old in_new reads_old reads_new) (delivery (between out_old out_last writes_old writes_last) flushed) (Err Write)
   at_unflushed out_last writes_last d keeps more = record {
     whole = tt;
     flushed_last = tt;
@@ -95,7 +95,7 @@ module _ (h : Fields) (height limit : ℕ) (in_old in_new : Option (List ℕ)) (
 
   -- the image was written, and flushed
   pub at_whole : (out_last : Option (List ℕ)) (writes_last : ℕ) → Decode h height (between in_old in_new reads_old reads_new) (between out_old out_new writes_old writes_new) (Ok tt) → Keeps out_new out_last → flushed ≡ true → writes_last ≡ writes_new →
-      ToPbmAt h height limit (between in_old in_new reads_old reads_new) (between out_old out_last writes_old writes_last) flushed (Ok tt)
+      ToPbmAt h height limit (between in_old in_new reads_old reads_new) (delivery (between out_old out_last writes_old writes_last) flushed) (Ok tt)
   at_whole out_last writes_last d keeps last same = record {
     whole = whole in_old d.whole;
     flushed_last = last;
@@ -169,7 +169,7 @@ none_on P (Ok u) is = absurd (let bot : ⊥ = cc in bot)
 none_on P (Err f) is = tt
 
 module _ (q : CoderLaws) (in_old : Option (List ℕ)) (again_old : Option (List ℕ)) (out_old out_new : Option (List ℕ)) where
-  pub denoted_once : (limit : ℕ) (in_new : Option (List ℕ)) (reads_old reads_new writes_old writes_new : ℕ) (flushed : Bool) (r : Result (Unit {0}) Fault) → ToPbmOnce limit (between in_old in_new reads_old reads_new) (between out_old out_new writes_old writes_new) flushed r →
+  pub denoted_once : (limit : ℕ) (in_new : Option (List ℕ)) (reads_old reads_new writes_old writes_new : ℕ) (flushed : Bool) (r : Result (Unit {0}) Fault) → ToPbmOnce limit (between in_old in_new reads_old reads_new) (delivery (between out_old out_new writes_old writes_new) flushed) r →
       OnOk r (IfSome in_old (λ first. IsFixed first ⊎ (again_old ≡ Some first) → WritesDenoted first out_old out_new))
   denoted_once limit in_new reads_old reads_new writes_old writes_new flushed (Err f) p = tt
   denoted_once limit in_new reads_old reads_new writes_old writes_new flushed (Ok u) p = went in_old p.body p.taken.taken p.converts.whole where
@@ -181,7 +181,7 @@ module _ (q : CoderLaws) (in_old : Option (List ℕ)) (again_old : Option (List 
 
   -- after the same bytes
   pub denoted_twice : (h : Fields) (height limit : ℕ) (mid in_new again_new : Option (List ℕ)) (first_old first_new reads_old reads_new writes_old writes_new : ℕ) (flushed : Bool) (r : Result (Unit {0}) Fault) → is_variable h ≡ true → TakesHeader h in_old mid →
-      FindHeight h (between mid in_new first_old first_new) (Ok height) → AgainConverts h height limit (between again_old again_new reads_old reads_new) (between out_old out_new writes_old writes_new) flushed r →
+      FindHeight h (between mid in_new first_old first_new) (Ok height) → AgainConverts h height limit (between again_old again_new reads_old reads_new) (delivery (between out_old out_new writes_old writes_new) flushed) r →
       OnOk r (IfSome in_old (λ first. IsFixed first ⊎ (again_old ≡ Some first) → WritesDenoted first out_old out_new))
   denoted_twice h height limit mid in_new again_new first_old first_new reads_old reads_new writes_old writes_new flushed (Err f) variable t found p = tt
   denoted_twice h height limit mid in_new again_new first_old first_new reads_old reads_new writes_old writes_new flushed (Ok u) variable t found p = went in_old mid t.taken found.found where
@@ -205,7 +205,7 @@ module _ (q : CoderLaws) (in_old : Option (List ℕ)) (again_old : Option (List 
 
   -- whichever way the second reading goes
   pub denoted_behind : (h : Fields) (limit : ℕ) (mid in_new again_new : Option (List ℕ)) (first_old first_new reads_old reads_new writes_old writes_new : ℕ) (untouched : Type 0) (flushed : Bool) (r : Result (Unit {0}) Fault) → is_variable h ≡ true → TakesHeader h in_old mid →
-      ToPbmBehind h limit (between mid in_new first_old first_new) untouched (between again_old again_new reads_old reads_new) (between out_old out_new writes_old writes_new) flushed r →
+      ToPbmBehind h limit (between mid in_new first_old first_new) (second_reading true untouched (between again_old again_new reads_old reads_new)) (delivery (between out_old out_new writes_old writes_new) flushed) r →
       OnOk r (IfSome in_old (λ first. IsFixed first ⊎ (again_old ≡ Some first) → WritesDenoted first out_old out_new))
   denoted_behind h limit mid in_new again_new first_old first_new reads_old reads_new writes_old writes_new untouched flushed r variable t (inl p) = none_on _ r p.answer_is
   denoted_behind h limit mid in_new again_new first_old first_new reads_old reads_new writes_old writes_new untouched flushed r variable t (inr (height, found, inl p)) = none_on _ r p.answer_is
@@ -216,29 +216,29 @@ module _ (q : CoderLaws) (in_old : Option (List ℕ)) (again_old : Option (List 
 -- ---- the height is fixed
 
 pub goes_once : CoderLaws → (h : Fields) (limit : ℕ) (in_old mid in_new : Option (List ℕ)) (first_old first_new : ℕ) (twice : Bool) (untouched : Type 0) (again_old : Option (List ℕ)) (again_reads : ℕ) (out_old out_new : Option (List ℕ)) (writes_old writes_new : ℕ) (flushed : Bool) (r : Result (Unit {0}) Fault) →
-    TakesHeader h in_old mid → is_variable h ≡ false → ToPbmAt h h.yd limit (between mid in_new first_old first_new) (between out_old out_new writes_old writes_new) flushed r → untouched →
-    ToPbm limit (between in_old in_new first_old first_new) twice untouched (between again_old again_old again_reads again_reads) (between out_old out_new writes_old writes_new) flushed r
+    TakesHeader h in_old mid → is_variable h ≡ false → ToPbmAt h h.yd limit (between mid in_new first_old first_new) (delivery (between out_old out_new writes_old writes_new) flushed) r → untouched →
+    ToPbm limit (between in_old in_new first_old first_new) (second_reading twice untouched (between again_old again_old again_reads again_reads)) (delivery (between out_old out_new writes_old writes_new) flushed) r
 goes_once q h limit in_old mid in_new first_old first_new twice untouched again_old again_reads out_old out_new writes_old writes_new flushed r taken fixed converts same = record {
   went = inr (inl (once, same));
   denoted = denoted_once q in_old again_old out_old out_new limit in_new first_old first_new writes_old writes_new flushed r once;
 } where
-  once : ToPbmOnce limit (between in_old in_new first_old first_new) (between out_old out_new writes_old writes_new) flushed r
+  once : ToPbmOnce limit (between in_old in_new first_old first_new) (delivery (between out_old out_new writes_old writes_new) flushed) r
   once = record { header = h; body = mid; taken = taken; fixed = fixed; converts = converts }
 
 -- ---- the second reading is there
 
 untouched_some : {T : Type 0} (h : Fields) (limit : ℕ) (mid in_new : Option (List ℕ)) (first_old first_new : ℕ) (old new : T) (again_old again_new : Option (List ℕ)) (reads_old reads_new : ℕ) (out_old out_new : Option (List ℕ)) (writes_old writes_new : ℕ) (flushed : Bool) (r : Result (Unit {0}) Fault) →
-    ToPbmBehind h limit (between mid in_new first_old first_new) (new ≡ old) (between again_old again_new reads_old reads_new) (between out_old out_new writes_old writes_new) flushed r →
-    ToPbmBehind h limit (between mid in_new first_old first_new) (Some new ≡ Some old) (between again_old again_new reads_old reads_new) (between out_old out_new writes_old writes_new) flushed r
+    ToPbmBehind h limit (between mid in_new first_old first_new) (second_reading true (new ≡ old) (between again_old again_new reads_old reads_new)) (delivery (between out_old out_new writes_old writes_new) flushed) r →
+    ToPbmBehind h limit (between mid in_new first_old first_new) (second_reading true (Some new ≡ Some old) (between again_old again_new reads_old reads_new)) (delivery (between out_old out_new writes_old writes_new) flushed) r
 untouched_some h limit mid in_new first_old first_new old new again_old again_new reads_old reads_new out_old out_new writes_old writes_new flushed r (inl p) = inl (record { finds = p.finds; answer_is = p.answer_is; again = ap Some p.again; nothing = p.nothing })
 untouched_some h limit mid in_new first_old first_new old new again_old again_new reads_old reads_new out_old out_new writes_old writes_new flushed r (inr p) = inr p
 
 pub goes_twice : {T : Type 0} (q : CoderLaws) (remaining : T → Option (List ℕ)) (failures : T → ℕ) (h : Fields) (limit : ℕ) (in_old mid in_new : Option (List ℕ)) (first_old first_new : ℕ) (old new : T) (out_old out_new : Option (List ℕ)) (writes_old writes_new : ℕ) (flushed : Bool) (r : Result (Unit {0}) Fault) →
     TakesHeader h in_old mid → is_variable h ≡ true →
-    ToPbmBehind h limit (between mid in_new first_old first_new) (new ≡ old) (between (remaining old) (remaining new) (failures old) (failures new)) (between out_old out_new writes_old writes_new) flushed r → (o : Option T) → o ≡ Some old →
-    ToPbm limit (between in_old in_new first_old first_new) (is_some o) (Some new ≡ o) (between (again_known remaining o) (remaining new) (again_failures failures o) (failures new)) (between out_old out_new writes_old writes_new) flushed r
+    ToPbmBehind h limit (between mid in_new first_old first_new) (second_reading true (new ≡ old) (between (remaining old) (remaining new) (failures old) (failures new))) (delivery (between out_old out_new writes_old writes_new) flushed) r → (o : Option T) → o ≡ Some old →
+    ToPbm limit (between in_old in_new first_old first_new) (second_reading (is_some o) (Some new ≡ o) (between (again_known remaining o) (remaining new) (again_failures failures o) (failures new))) (delivery (between out_old out_new writes_old writes_new) flushed) r
 goes_twice {T} q remaining failures h limit in_old mid in_new first_old first_new old new out_old out_new writes_old writes_new flushed r taken variable went o is =
-    subst (λ (z : Option T). ToPbm limit (between in_old in_new first_old first_new) (is_some z) (Some new ≡ z) (between (again_known remaining z) (remaining new) (again_failures failures z) (failures new)) (between out_old out_new writes_old writes_new) flushed r) (sym is)
+    subst (λ (z : Option T). ToPbm limit (between in_old in_new first_old first_new) (second_reading (is_some z) (Some new ≡ z) (between (again_known remaining z) (remaining new) (again_failures failures z) (failures new))) (delivery (between out_old out_new writes_old writes_new) flushed) r) (sym is)
     (record {
       went = inr (inr (inr (record {
         header = h;

@@ -24,6 +24,7 @@ use Rattle.t85_core.specs.Failures.{CountsBoth, CountsWrite, counted_as}
 use Rattle.t85_core.specs.Laws.{IsInUse}
 use Rattle.t85_core.specs.Decode.{WritesRaster, WritesRows, WritesImageFront, Decode}
 use Rattle.t85_core.specs.Steps.CoderLaws.{CoderLaws}
+use Rattle.t85_core.specs.Steps.Passage.{passage}
 use Rattle.t85_core.proofs.Grammar.Faults.{body_faults, uncounted_body}
 use Rattle.t85_core.proofs.Theorems.FixedRows.{one_fixed_at}
 use Rattle.t85_core.proofs.Bytes.Known.{stable_rest, counted-other}
@@ -75,7 +76,7 @@ module _ (q : CoderLaws) (h : Fields) (height : ℕ) (use_ : IsInUse h height) (
     appends = written rows out;
   }
 
-  raster_known : (bytes known : Option (List ℕ)) → ImageRead h height bytes known out_mid out_new → IfSome bytes (λ body. WritesRaster h height body out_old out_new)
+  raster_known : (bytes known : Option (List ℕ)) → ImageRead h height (passage bytes known out_mid out_new) → IfSome bytes (λ body. WritesRaster h height body out_old out_new)
   raster_known None known i = tt
   raster_known (Some body) None i = absurd i.taken
   raster_known (Some body) (Some rest) i = record {
@@ -90,7 +91,7 @@ module _ (q : CoderLaws) (h : Fields) (height : ℕ) (use_ : IsInUse h height) (
     denotes : DenotesAt h height body raster
     denotes = subst (λ z. DenotesAt h height z raster) (sym i.taken) (i.denotes rest)
 
-  rows_known : (bytes known : Option (List ℕ)) (fault : Fault) → ImageCut h height bytes known out_mid out_new fault → fault ≢ Read → IfSome bytes (λ body. WritesRows h height body fault out_old out_new)
+  rows_known : (bytes known : Option (List ℕ)) (fault : Fault) → ImageCut h height (passage bytes known out_mid out_new) fault → fault ≢ Read → IfSome bytes (λ body. WritesRows h height body fault out_old out_new)
   rows_known None known fault i other = tt
   rows_known (Some body) None fault i other = absurd i.ends.taken
   rows_known (Some body) (Some rest) fault i other = rows_written body fault i.rows (subst (λ z. Fixes h height z fault i.rows) (sym i.ends.taken) (went (fixes_more h height i.ends.given rest fault i.rows has))) i.appended where
@@ -101,7 +102,7 @@ module _ (q : CoderLaws) (h : Fields) (height : ℕ) (use_ : IsInUse h height) (
     went (inl ended) = subst (λ z. Fixes h height z fault i.rows) (sym (ap (λ z. i.ends.given ++ z) (i.ends.at_end ended) ∙ append-nil i.ends.given)) has
     went (inr f) = f
 
-  rows_unread : (bytes known in_new : Option (List ℕ)) (fault : Fault) → ImageCut h height bytes known out_mid out_new fault → fault ≡ Read → known ≡ in_new →
+  rows_unread : (bytes known in_new : Option (List ℕ)) (fault : Fault) → ImageCut h height (passage bytes known out_mid out_new) fault → fault ≡ Read → known ≡ in_new →
       (given : List ℕ) × Consumes bytes in_new given × WritesRows h height given Truncated out_old out_new
   rows_unread bytes known in_new fault i read drained = (
     i.ends.given,
@@ -109,11 +110,11 @@ module _ (q : CoderLaws) (h : Fields) (height : ℕ) (use_ : IsInUse h height) (
     rows_written i.ends.given Truncated i.rows (subst (λ f. Fixes h height i.ends.given (counted_as Truncated f) i.rows) read i.ends.has_fault) i.appended,
   )
 
-  cut_among : (bytes known : Option (List ℕ)) (fault : Fault) → ImageCut h height bytes known out_mid out_new fault → IsBodyFault fault
+  cut_among : (bytes known : Option (List ℕ)) (fault : Fault) → ImageCut h height (passage bytes known out_mid out_new) fault → IsBodyFault fault
   cut_among bytes known fault i = uncounted_body Truncated fault (body_faults h height (stripe_count height h.l0) i.ends.given (counted_as Truncated fault) i.ends.has_fault.broken)
 
   -- what is written is a beginning of what was written
-  front_written : (in_new : Option (List ℕ)) (in_held out_held : List ℕ) → known_length out_mid ≤ known_length out_new → ImageUnwritten h height in_old (prepend_known in_held in_new) out_mid (append_known out_new out_held) →
+  front_written : (in_new : Option (List ℕ)) (in_held out_held : List ℕ) → known_length out_mid ≤ known_length out_new → ImageUnwritten h height (passage in_old (prepend_known in_held in_new) out_mid (append_known out_new out_held)) →
       WritesImageFront h height in_old in_new out_old out_new
   front_written in_new in_held out_held grows i = record {
     given = (i.given ++ i.ahead) ++ in_held;
@@ -126,9 +127,9 @@ module _ (q : CoderLaws) (h : Fields) (height : ℕ) (use_ : IsInUse h height) (
   }
 
   pub decoded : (in_held out_held : List ℕ) (known in_new : Option (List ℕ)) (reads_old reads_new writes_old writes_new : ℕ) (r : Result (Unit {0}) Fault) →
-      OnOk r (ImageRead h height in_old known out_mid out_new) → IfErr r (λ f. f ≢ Write → ImageCut h height in_old known out_mid out_new f) → (IsErrOf r Read → known ≡ in_new) →
+      OnOk r (ImageRead h height (passage in_old known out_mid out_new)) → IfErr r (λ f. f ≢ Write → ImageCut h height (passage in_old known out_mid out_new) f) → (IsErrOf r Read → known ≡ in_new) →
       CountsBoth reads_old reads_new r → CountsWrite writes_old writes_new r →
-      known_length out_mid ≤ known_length out_new → ImageUnwritten h height in_old (prepend_known in_held in_new) out_mid (append_known out_new out_held) →
+      known_length out_mid ≤ known_length out_new → ImageUnwritten h height (passage in_old (prepend_known in_held in_new) out_mid (append_known out_new out_held)) →
       Decode h height (between in_old in_new reads_old reads_new) (between out_old out_new writes_old writes_new) r
   decoded in_held out_held known in_new reads_old reads_new writes_old writes_new (Ok u) ok err drained reads writes grows begun = record {
     whole = raster_known in_old known ok;

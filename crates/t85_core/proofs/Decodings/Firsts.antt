@@ -1,5 +1,5 @@
 -- What came decides the first rows of whatever the body comes to denote or to fix.
-use Rattle.std.proofs.Common.{◌≡◌, ◌<◌, ◌≤◌, ◌-◌, ◌*◌, ◌⊎◌, inl, inr, ℕ, Bool, List, [], ◌∷◌, ◌++◌, length, min, take, drop, Option, None, Some, refl, sym, ap, ◌∙◌, subst, append_assoc, append-nil, take-append-drop, arith}
+use Rattle.std.proofs.Common.{◌≡◌, ◌<◌, ◌≤◌, ◌-◌, ◌*◌, ◌⊎◌, inl, inr, ℕ, Bool, List, [], ◌∷◌, ◌++◌, length, min, take, drop, None, Some, refl, sym, ap, ◌∙◌, subst, append_assoc, append-nil, take-append-drop, arith}
 use Rattle.std.specs.Prelude.{flat_map}
 use Rattle.std.proofs.lemmas.Grind.{flat_map-append}
 use Rattle.pbm_core.specs.Pbm.{header_text}
@@ -10,16 +10,15 @@ use Rattle.t85_core.specs.declared.fault.Fault.{Fault}
 use Rattle.t85_core.specs.Header.{Fields}
 use Rattle.t85_core.specs.Grammar.{Segment, Stripe, segment_bytes, lengths, all_segments, stripe_bytes, stripe_count, IsBegun, AreStripes, GiveOnly}
 use Rattle.t85_core.specs.Refusal.{spot_after}
-use Rattle.t85_core.specs.Coding.{mode_of, move_of}
+use Rattle.t85_core.specs.Coding.{flagged}
 use Rattle.t85_core.specs.Denotes.{DenotesAt}
 use Rattle.t85_core.specs.Fixed.{Fixes, AreDecided, begun_stripes}
 use Rattle.t85_core.specs.Outcome.{pbm_rows, pbm_text}
-use Rattle.raster_core.specs.Lines.{Mode}
-use Rattle.t85_core.specs.Steps.State.{RowStart, StripeStart, first_row_start, image_start, lines_with, offset_at, Run, StripesRun}
-use Rattle.t85_core.specs.Steps.Cut.{FrontRun, RunEnough}
+use Rattle.t85_core.specs.Steps.State.{RowStart, StripeStart, first_row_start, image_start, lines_with, offset_at, Run, StripesRun, stripe_coding, RowCoding}
+use Rattle.t85_core.specs.Steps.Cut.{FrontRun, RunEnough, open_stripe}
 use Rattle.t85_core.specs.Laws.{IsInUse}
 use Rattle.t85_core.specs.Steps.CoderLaws.{CoderLaws}
-use Rattle.t85_core.specs.Steps.DecodeStripes.{StripeDecides, AreFirst}
+use Rattle.t85_core.specs.Steps.DecodeStripes.{StripeDecides, AreFirst, stripe_place}
 use Rattle.t85_core.proofs.Theorems.Built.{bytes_in_start}
 use Rattle.t85_core.proofs.Bytes.Elements.{all_right}
 use Rattle.t85_core.proofs.Grammar.Cut.{first_parts, begun_in_stripe, begun_in_fault, stripe_in_fault, one_stripe}
@@ -45,28 +44,28 @@ abbrev made : List Segment → List ℕ → Bool → Stripe
 made segments code reset = record { segments = segments; code = code; reset = reset }
 
 -- no byte decides no row
-none_enough : (w : ℕ) (mode : Mode) (move : Option (ℕ × ℕ)) (r : ℕ) (b : RowStart) (rows : List (List Bool)) (flags : List Bool) (last : RowStart) → 1 ≤ w → Run w mode move r b rows flags last → RunEnough 0 mode move r b rows flags → rows ≡ []
-none_enough w mode move r b [] flags last some run enough = refl
-none_enough w mode move r b (row ∷ rows) [] last some run enough = absurd run
-none_enough w mode move r b (row ∷ rows) (flag ∷ flags) last some run enough =
-    absurd (short_code mode.two_line mode.typical (lines_with b row) (offset_at move r b.offset) b.previous flag b.state 0 (let wide = run.0.wide in omega (arith, some, wide)) (omega arith) run.0.legal enough.0)
+none_enough : (coding : RowCoding) (r : ℕ) (b : RowStart) (rows : List (List Bool)) (flags : List Bool) (last : RowStart) → 1 ≤ coding.width → Run coding r b rows flags last → RunEnough 0 coding r b rows flags → rows ≡ []
+none_enough coding r b [] flags last some run enough = refl
+none_enough coding r b (row ∷ rows) [] last some run enough = absurd run
+none_enough coding r b (row ∷ rows) (flag ∷ flags) last some run enough =
+    absurd (short_code coding.mode.two_line coding.mode.typical (lines_with b row) (offset_at coding.move r b.offset) b.previous flag b.state 0 (let wide = run.0.wide in omega (arith, some, wide)) (omega arith) run.0.legal enough.0)
 
 -- the image of a raster of this width and height
 pub pbm_of : (h : Fields) (height : ℕ) (raster : Raster) (body : List ℕ) → DenotesAt h height body raster → pbm_text raster ≡ pbm_rows h.xd height raster.rows
 pbm_of h height raster body p = ap (λ w. pbm_rows w (length raster.rows) raster.rows) p.width ∙ ap (λ n. pbm_rows h.xd n raster.rows) p.height
 
 module _ (q : CoderLaws) (h : Fields) (height : ℕ) (u : IsInUse h height) (stripes : List Stripe) (first : List (List Bool)) (first_flags : List Bool) (mid : StripeStart)
-    (fewer : length stripes < stripe_count height h.l0) (gives : GiveOnly height 0 (all_segments stripes)) (run : StripesRun h height (image_start h.xd) stripes first first_flags mid) where
+    (fewer : length stripes < stripe_count height h.l0) (gives : GiveOnly height 0 (all_segments stripes)) (run : StripesRun h height (image_start h.xd) stripes (flagged first first_flags) mid) where
   each : AreStripes h stripes
   each = stripes_whole h height (image_start h.xd) stripes first first_flags mid run
 
   -- a stripe after them, of which such segments and code came, whatever decides its rows
   module _ (segments : List Segment) (code more : List ℕ) (rows : List (List Bool)) (flags : List Bool) (bytes : IsBytes code) (others : IsBytes more)
-      (front : FrontRun h (min (height - length stripes * h.l0) h.l0) mid segments code rows flags)
-      (decides : (RunEnough (length code) (mode_of h.options) (move_of segments) 0 (first_row_start mid) rows flags) ⊎ (more ≡ [])) where
+      (front : FrontRun (open_stripe h mid segments) (min (height - length stripes * h.l0) h.l0) code rows flags)
+      (decides : (RunEnough (length code) (stripe_coding h segments) 0 (first_row_start mid) rows flags) ⊎ (more ≡ [])) where
     lying : AreLying h (begun_stripes stripes segments (code ++ more)) (length stripes) (first_flags ++ flags) (first ++ rows)
     lying = went decides where
-      went : (RunEnough (length code) (mode_of h.options) (move_of segments) 0 (first_row_start mid) rows flags) ⊎ (more ≡ []) → AreLying h (begun_stripes stripes segments (code ++ more)) (length stripes) (first_flags ++ flags) (first ++ rows)
+      went : (RunEnough (length code) (stripe_coding h segments) 0 (first_row_start mid) rows flags) ⊎ (more ≡ []) → AreLying h (begun_stripes stripes segments (code ++ more)) (length stripes) (first_flags ++ flags) (first ++ rows)
       went (inl enough) =
           long_lying q h height u.accepted stripes segments code more bytes others (first_flags ++ flags) (first ++ rows)
           (carried_decided h height u.accepted stripes segments code first rows first_flags flags mid fewer run front enough)
@@ -89,15 +88,15 @@ module _ (q : CoderLaws) (h : Fields) (height : ℕ) (u : IsInUse h height) (str
 
   -- the stripe is the one that isn't whole
   in_broken : (segments : List Segment) (code more : List ℕ) (rows : List (List Bool)) (flags : List Bool) → IsBytes code → IsBytes more →
-      FrontRun h (min (height - length stripes * h.l0) h.l0) mid segments code rows flags → RunEnough (length code) (mode_of h.options) (move_of segments) 0 (first_row_start mid) rows flags →
+      FrontRun (open_stripe h mid segments) (min (height - length stripes * h.l0) h.l0) code rows flags → RunEnough (length code) (stripe_coding h segments) 0 (first_row_start mid) rows flags →
       (body : List ℕ) (fault : Fault) (all : List (List Bool)) (x : Fixes h height body fault all) → x.broken.stripes ≡ stripes → segments ≡ x.broken.tail_has.segments → x.broken.tail_has.code ≡ code ++ more →
       take (length (first ++ rows)) all ≡ first ++ rows
   in_broken segments code more rows flags bytes others front enough body fault all x s_is segments_is code_is =
       let d = carried_decided h height u.accepted stripes segments code first rows first_flags flags mid fewer run front enough in
       let l = decided_longer q h height stripes segments code more (first_flags ++ flags) (first ++ rows) u.accepted bytes others d in
-      let l1 = subst (λ z. AreDecided h height (begun_stripes stripes segments z) (length stripes) z (first_flags ++ flags) (first ++ rows)) (sym code_is) l in
-      let l2 = subst (λ z. AreDecided h height (begun_stripes stripes z x.broken.tail_has.code) (length stripes) x.broken.tail_has.code (first_flags ++ flags) (first ++ rows)) segments_is l1 in
-      let l3 = subst (λ z. AreDecided h height (begun_stripes z x.broken.tail_has.segments x.broken.tail_has.code) (length z) x.broken.tail_has.code (first_flags ++ flags) (first ++ rows)) (sym s_is) l2 in
+      let l1 = subst (λ z. AreDecided h height (begun_stripes stripes segments z) (length stripes) z (flagged (first ++ rows) (first_flags ++ flags))) (sym code_is) l in
+      let l2 = subst (λ z. AreDecided h height (begun_stripes stripes z x.broken.tail_has.code) (length stripes) x.broken.tail_has.code (flagged (first ++ rows) (first_flags ++ flags))) segments_is l1 in
+      let l3 = subst (λ z. AreDecided h height (begun_stripes z x.broken.tail_has.segments x.broken.tail_has.code) (length z) x.broken.tail_has.code (flagged (first ++ rows) (first_flags ++ flags))) (sym s_is) l2 in
       decided_in_longest q h height u.accepted (begun_stripes x.broken.stripes x.broken.tail_has.segments x.broken.tail_has.code) (length x.broken.stripes) x.broken.tail_has.code
       (begun_length x.broken.stripes x.broken.tail_has.segments x.broken.tail_has.code) (first ++ rows) all (first_flags ++ flags) x.fixed.flags l3 x.fixed.decided x.fixed.longest
 
@@ -109,26 +108,26 @@ module _ (q : CoderLaws) (h : Fields) (height : ℕ) (u : IsInUse h height) (str
     pub flags : List Bool
     pub bytes : IsBytes code
     pub others : IsBytes more
-    pub front : FrontRun h (min (height - length stripes * h.l0) h.l0) mid segments code rows flags
-    pub decides : (RunEnough (length code) (mode_of h.options) (move_of segments) 0 (first_row_start mid) rows flags) ⊎ (more ≡ [])
+    pub front : FrontRun (open_stripe h mid segments) (min (height - length stripes * h.l0) h.l0) code rows flags
+    pub decides : (RunEnough (length code) (stripe_coding h segments) 0 (first_row_start mid) rows flags) ⊎ (more ≡ [])
     pub is : t ≡ record { segments = segments; code = code ++ more; reset = t.reset }
 
   -- before the code no row is decided
-  no_rows : (segments : List Segment) (rows : List (List Bool)) (flags : List Bool) → FrontRun h (min (height - length stripes * h.l0) h.l0) mid segments [] rows flags →
-      RunEnough 0 (mode_of h.options) (move_of segments) 0 (first_row_start mid) rows flags → rows ≡ []
-  no_rows segments rows flags f enough = none_enough h.xd (mode_of h.options) (move_of segments) 0 (first_row_start mid) rows flags f.last u.accepted.width_from f.run enough
+  no_rows : (segments : List Segment) (rows : List (List Bool)) (flags : List Bool) → FrontRun (open_stripe h mid segments) (min (height - length stripes * h.l0) h.l0) [] rows flags →
+      RunEnough 0 (stripe_coding h segments) 0 (first_row_start mid) rows flags → rows ≡ []
+  no_rows segments rows flags f enough = none_enough (stripe_coding h segments) 0 (first_row_start mid) rows flags f.last u.accepted.width_from f.run enough
 
-  no_front : (segments : List Segment) (rows : List (List Bool)) → rows ≡ [] → FrontRun h (min (height - length stripes * h.l0) h.l0) mid segments [] rows []
-  no_front segments rows none = subst (λ z. FrontRun h (min (height - length stripes * h.l0) h.l0) mid segments [] z []) (sym none) (record { last = first_row_start mid; run = refl; few = omega arith; lies = bytes_in_start [] tt })
+  no_front : (segments : List Segment) (rows : List (List Bool)) → rows ≡ [] → FrontRun (open_stripe h mid segments) (min (height - length stripes * h.l0) h.l0) [] rows []
+  no_front segments rows none = subst (λ z. FrontRun (open_stripe h mid segments) (min (height - length stripes * h.l0) h.l0) [] z []) (sym none) (record { last = first_row_start mid; run = refl; few = omega arith; lies = bytes_in_start [] tt })
 
-  nothing_enough : (segments : List Segment) (rows : List (List Bool)) → rows ≡ [] → RunEnough 0 (mode_of h.options) (move_of segments) 0 (first_row_start mid) rows []
-  nothing_enough segments rows none = subst (λ z. RunEnough 0 (mode_of h.options) (move_of segments) 0 (first_row_start mid) z []) (sym none) tt
+  nothing_enough : (segments : List Segment) (rows : List (List Bool)) → rows ≡ [] → RunEnough 0 (stripe_coding h segments) 0 (first_row_start mid) rows []
+  nothing_enough segments rows none = subst (λ z. RunEnough 0 (stripe_coding h segments) 0 (first_row_start mid) z []) (sym none) tt
 
-  module _ (given rest : List ℕ) (rows : List (List Bool)) (flags : List Bool) (d : StripeDecides h (spot_after height stripes) mid (min (height - length stripes * h.l0) h.l0) given rows flags) where
+  module _ (given rest : List ℕ) (rows : List (List Bool)) (flags : List Bool) (d : StripeDecides h (stripe_place (spot_after height stripes) mid (min (height - length stripes * h.l0) h.l0)) given (flagged rows flags)) where
     matched : (t : Stripe) (y : List ℕ) → IsBegun h t.segments t.code → given ++ rest ≡ stripe_bytes t ++ y → Matched rows t
     matched t y legal e = went d.code refl d.decides where
       went : (code : List ℕ) → d.code ≡ code →
-          ((given ≡ flat_map segment_bytes d.segments ++ stuffed d.code) × RunEnough (length d.code) (mode_of h.options) (move_of d.segments) 0 (first_row_start mid) rows flags)
+          ((given ≡ flat_map segment_bytes d.segments ++ stuffed d.code) × RunEnough (length d.code) (stripe_coding h d.segments) 0 (first_row_start mid) rows flags)
           ⊎ ((reset : Bool) × (given ≡ stripe_bytes (record { segments = d.segments; code = d.code; reset = reset }))) → Matched rows t
       went code is (inr whole) =
           let same = one_stripe h u.accepted (record { segments = d.segments; code = d.code; reset = whole.0 }) t rest y d.begun legal (ap (λ z. z ++ rest) (sym whole.1) ∙ e) in
@@ -144,7 +143,7 @@ module _ (q : CoderLaws) (h : Fields) (height : ℕ) (u : IsInUse h height) (str
             is = sym same.0 ∙ ap (λ (z : List ℕ). made d.segments z whole.0) (sym (append-nil d.code)) ∙ ap (made d.segments (d.code ++ [])) (ap (λ (s : Stripe). s.reset) same.0);
           }
       went [] is (inl part) =
-          let none : rows ≡ [] = no_rows d.segments rows flags (subst (λ z. FrontRun h (min (height - length stripes * h.l0) h.l0) mid d.segments z rows flags) is d.front) (subst (λ z. RunEnough (length z) (mode_of h.options) (move_of d.segments) 0 (first_row_start mid) rows flags) is part.1) in
+          let none : rows ≡ [] = no_rows d.segments rows flags (subst (λ z. FrontRun (open_stripe h mid d.segments) (min (height - length stripes * h.l0) h.l0) z rows flags) is d.front) (subst (λ z. RunEnough (length z) (stripe_coding h d.segments) 0 (first_row_start mid) rows flags) is part.1) in
           record {
             segments = t.segments;
             code = [];
@@ -168,8 +167,8 @@ module _ (q : CoderLaws) (h : Fields) (height : ℕ) (u : IsInUse h height) (str
             flags = flags;
             bytes = begun.bytes;
             others = all_right (λ x. x < 256) (b ∷ code) cut.1 (subst IsBytes cut.2 legal.bytes);
-            front = subst (λ z. FrontRun h (min (height - length stripes * h.l0) h.l0) mid d.segments z rows flags) is d.front;
-            decides = inl (subst (λ z. RunEnough (length z) (mode_of h.options) (move_of d.segments) 0 (first_row_start mid) rows flags) is part.1);
+            front = subst (λ z. FrontRun (open_stripe h mid d.segments) (min (height - length stripes * h.l0) h.l0) z rows flags) is d.front;
+            decides = inl (subst (λ z. RunEnough (length z) (stripe_coding h d.segments) 0 (first_row_start mid) rows flags) is part.1);
             is = ap (λ (z : List ℕ). made t.segments z t.reset) cut.2 ∙ ap (λ (z : List Segment). made z ((b ∷ code) ++ cut.1) t.reset) (sym cut.0);
           }
 
@@ -180,13 +179,13 @@ module _ (q : CoderLaws) (h : Fields) (height : ℕ) (u : IsInUse h height) (str
     matched_fault : (body tail : List ℕ) (fault : Fault) (all : List (List Bool)) (x : Fixes h height body fault all) → x.broken.stripes ≡ stripes → given ++ rest ≡ x.broken.tail → take (length (first ++ rows)) all ≡ first ++ rows
     matched_fault body tail fault all x s_is e = went d.code refl d.decides where
       went : (code : List ℕ) → d.code ≡ code →
-          ((given ≡ flat_map segment_bytes d.segments ++ stuffed d.code) × RunEnough (length d.code) (mode_of h.options) (move_of d.segments) 0 (first_row_start mid) rows flags)
+          ((given ≡ flat_map segment_bytes d.segments ++ stuffed d.code) × RunEnough (length d.code) (stripe_coding h d.segments) 0 (first_row_start mid) rows flags)
           ⊎ ((reset : Bool) × (given ≡ stripe_bytes (record { segments = d.segments; code = d.code; reset = reset }))) → take (length (first ++ rows)) all ≡ first ++ rows
       went code is (inr whole) =
           absurd (stripe_in_fault h u.accepted height (length x.broken.stripes) (length (lengths (all_segments x.broken.stripes))) (suits_in_use h height u (length x.broken.stripes) (omega (arith, x.broken.fewer)))
           (record { segments = d.segments; code = d.code; reset = whole.0 }) rest x.broken.tail fault d.begun (gives_there x.broken.stripes s_is) x.broken.tail_has (ap (λ z. z ++ rest) (sym whole.1) ∙ e))
       went [] is (inl part) =
-          let none : rows ≡ [] = no_rows d.segments rows flags (subst (λ z. FrontRun h (min (height - length stripes * h.l0) h.l0) mid d.segments z rows flags) is d.front) (subst (λ z. RunEnough (length z) (mode_of h.options) (move_of d.segments) 0 (first_row_start mid) rows flags) is part.1) in
+          let none : rows ≡ [] = no_rows d.segments rows flags (subst (λ z. FrontRun (open_stripe h mid d.segments) (min (height - length stripes * h.l0) h.l0) z rows flags) is d.front) (subst (λ z. RunEnough (length z) (stripe_coding h d.segments) 0 (first_row_start mid) rows flags) is part.1) in
           in_broken x.broken.tail_has.segments [] x.broken.tail_has.code rows [] tt x.broken.tail_has.begun.bytes (no_front x.broken.tail_has.segments rows none) (nothing_enough x.broken.tail_has.segments rows none) body fault all x s_is refl refl
       went (b ∷ code) is (inl part) =
           let begun : IsBegun h d.segments (b ∷ code) = subst (IsBegun h d.segments) is d.begun in
@@ -195,8 +194,8 @@ module _ (q : CoderLaws) (h : Fields) (height : ℕ) (u : IsInUse h height) (str
           let cut = begun_in_fault h u.accepted height (length x.broken.stripes) (length (lengths (all_segments x.broken.stripes))) (suits_in_use h height u (length x.broken.stripes) (omega (arith, x.broken.fewer)))
           d.segments b code rest x.broken.tail fault begun (gives_there x.broken.stripes s_is) x.broken.tail_has at in
           in_broken d.segments (b ∷ code) cut.1 rows flags begun.bytes (all_right (λ z. z < 256) (b ∷ code) cut.1 (subst IsBytes cut.2 x.broken.tail_has.begun.bytes))
-          (subst (λ z. FrontRun h (min (height - length stripes * h.l0) h.l0) mid d.segments z rows flags) is d.front)
-          (subst (λ z. RunEnough (length z) (mode_of h.options) (move_of d.segments) 0 (first_row_start mid) rows flags) is part.1) body fault all x s_is cut.0 cut.2
+          (subst (λ z. FrontRun (open_stripe h mid d.segments) (min (height - length stripes * h.l0) h.l0) z rows flags) is d.front)
+          (subst (λ z. RunEnough (length z) (stripe_coding h d.segments) 0 (first_row_start mid) rows flags) is part.1) body fault all x s_is cut.0 cut.2
 
     abbrev body : List ℕ
     body = (flat_map stripe_bytes stripes ++ given) ++ rest
@@ -230,7 +229,7 @@ module _ (q : CoderLaws) (h : Fields) (height : ℕ) (u : IsInUse h height) (str
           in_rows m.segments m.code m.more rows m.flags m.bytes m.others m.front m.decides t.reset later body fault all x (stripe_at t later m x.broken.stripes e)
 
   -- What came of the stripe after them decides the first rows of what the body comes to.
-  pub are_first : (given : List ℕ) (rows : List (List Bool)) (flags : List Bool) → StripeDecides h (spot_after height stripes) mid (min (height - length stripes * h.l0) h.l0) given rows flags → AreFirst h height (flat_map stripe_bytes stripes ++ given) (first ++ rows)
+  pub are_first : (given : List ℕ) (rows : List (List Bool)) (flags : List Bool) → StripeDecides h (stripe_place (spot_after height stripes) mid (min (height - length stripes * h.l0) h.l0)) given (flagged rows flags) → AreFirst h height (flat_map stripe_bytes stripes ++ given) (first ++ rows)
   are_first given rows flags d rest None text o =
       let t = text_first h.xd height (first ++ rows) o.0.rows (raster_first given rest rows flags d o.0 o.1) in
       (t.0, o.2 ∙ pbm_of h height o.0 _ o.1 ∙ t.1)

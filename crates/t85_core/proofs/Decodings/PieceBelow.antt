@@ -22,11 +22,12 @@ use Rattle.t85_core.specs.Grammar.{NewLength, Stripe, ESC, COMMENT, segment_byte
 use Rattle.t85_core.specs.Refusal.{StripeFault, rest_fault}
 use Rattle.t85_core.specs.Height.{GivesHeight, IsHeight}
 use Rattle.t85_core.specs.Pieces.{MayFollow, row_held, rows_given}
-use Rattle.t85_core.specs.Steps.Segments.{HasPassed, PieceFault, IsByteOrMarker, code_bytes}
+use Rattle.t85_core.specs.Steps.Segments.{HasPassed, PieceFault, IsByteOrMarker, code_bytes, segments_so_far}
 use Rattle.t85_core.specs.Steps.HeightWalk.{LookEnds}
-use Rattle.t85_core.specs.Steps.Behind.{BehindStands, BreaksBehind, StopsBehind}
+use Rattle.t85_core.specs.Steps.Behind.{BehindStands, BreaksBehind, StopsBehind, behind_at}
 use Rattle.t85_core.specs.Steps.PieceCode.{HasNoMarker}
-use Rattle.t85_core.specs.Steps.Pieces.{WalkStands, StepsOn, KeepsPlace, IsInCode, HasMarker, CodeStands, InRowStands}
+use Rattle.t85_core.specs.Steps.Pieces.{WalkStands, StepsOn, KeepsPlace, IsInCode, HasMarker, CodeStands, InRowStands, head_place, code_place}
+use Rattle.t85_core.specs.Steps.SizedImage.{sized}
 use Rattle.t85_core.specs.Steps.PieceStands.{DecoderStands, CodeWalks, WalkWaits, place_behind, last_behind}
 use Rattle.t85_core.specs.Steps.PieceSteps.{DecoderOn, StepLeaves, GivesBelow, HeightComes, LookIsOver}
 use Rattle.t85_core.proofs.Bytes.Known.{stable_rest}
@@ -45,7 +46,7 @@ use Rattle.t85_core.proofs.Decodings.PieceStood.{own_height, code_of, waits_of, 
 
 -- ---- after whole stripes
 
-module _ {h : Fields} {count : ℕ} {text : List ℕ} (ok : IsAccepted h) (s : StripesCame h count text) {at : Option move.Move} {moved last : Bool} {front : List ℕ} {comments : ℕ} (p : HasPassed h (record { height = h.yd; entities = count; given = false }) last (Some front) (Some []) at moved false comments) where
+module _ {h : Fields} {count : ℕ} {text : List ℕ} (ok : IsAccepted h) (s : StripesCame h count text) {at : Option move.Move} {moved last : Bool} {front : List ℕ} {comments : ℕ} (p : HasPassed h (record { height = h.yd; entities = count; given = false }) last (Some front) (Some []) (segments_so_far at moved false comments)) where
   none_passed : lengths p.segments ≡ []
   none_passed = nil_of (lengths p.segments) (let e = p.given_is in omega (arith, e))
 
@@ -126,12 +127,12 @@ module _ (d d' : PieceView) (late : d.is_open ≡ true) (waits : d.waits ≡ tru
 
       by : IsInCode d.walk.stage → StripesCame H (d.walk.entities + 1) w.done
       by (inl e) =
-          let k : CodeStands H d.header.yd d.walk.entities false d.walk.at d.walk.row d.walk.first d.walk.marker d.walk.carried d.walk.decoder w.done out =
-          subst (λ g. CodeStands H d.header.yd d.walk.entities g d.walk.at d.walk.row d.walk.first d.walk.marker d.walk.carried d.walk.decoder w.done out) w.ungiven (at_stage e w.walk) in
+          let k : CodeStands (sized H d.header.yd) (head_place d.walk.entities false d.walk.at d.walk.carried) (code_place d.walk.row d.walk.first d.walk.marker d.walk.decoder) w.done out =
+          subst (λ g. CodeStands (sized H d.header.yd) (head_place d.walk.entities g d.walk.at d.walk.carried) (code_place d.walk.row d.walk.first d.walk.marker d.walk.decoder) w.done out) w.ungiven (at_stage e w.walk) in
           whole k.before k.code (code_begins k.head) (entity_closed d.walk.first d.walk.marker k.read.answers k.extra k.code k.code_is marked) k.text_is
       by (inr e) =
-          let k : InRowStands H d.header.yd d.walk.entities false d.walk.at d.walk.row d.walk.first d.walk.marker d.walk.carried d.walk.decoder d.walk.place w.done out =
-          subst (λ g. InRowStands H d.header.yd d.walk.entities g d.walk.at d.walk.row d.walk.first d.walk.marker d.walk.carried d.walk.decoder d.walk.place w.done out) w.ungiven (at_stage e w.walk) in
+          let k : InRowStands (sized H d.header.yd) (head_place d.walk.entities false d.walk.at d.walk.carried) (code_place d.walk.row d.walk.first d.walk.marker d.walk.decoder) d.walk.place w.done out =
+          subst (λ g. InRowStands (sized H d.header.yd) (head_place d.walk.entities g d.walk.at d.walk.carried) (code_place d.walk.row d.walk.first d.walk.marker d.walk.decoder) d.walk.place w.done out) w.ungiven (at_stage e w.walk) in
           whole k.before k.code (code_begins k.head) (entity_closed d.walk.first d.walk.marker (k.begun.read.answers ++ k.begun.since) [] k.code k.code_is marked) k.text_is
 
     place_is : place_behind H d.walk.stage d.walk.entities ≡ record { height = d.header.yd; entities = d.walk.entities + 1; given = false }
@@ -139,8 +140,8 @@ module _ (d d' : PieceView) (late : d.is_open ≡ true) (waits : d.waits ≡ tru
       place_of : ℕ → Place
       place_of n = record { height = d.header.yd; entities = n; given = false }
 
-    there : BehindStands H (record { height = d.header.yd; entities = d.walk.entities + 1; given = false }) (last_behind H d.walk.stage d.walk.left) d.behind w.back
-    there = subst (λ p. BehindStands H p (last_behind H d.walk.stage d.walk.left) d.behind w.back) place_is w.behind
+    there : BehindStands H (behind_at (record { height = d.header.yd; entities = d.walk.entities + 1; given = false }) (last_behind H d.walk.stage d.walk.left)) d.behind w.back
+    there = subst (λ p. BehindStands H (behind_at p (last_behind H d.walk.stage d.walk.left)) d.behind w.back) place_is w.behind
 
     all_text : (p more : List ℕ) → (text ++ p) ++ more ≡ w.done ++ (w.back ++ (p ++ more))
     all_text p more = append_assoc text p more ∙ ap (λ z. z ++ (p ++ more)) w.text_is ∙ append_assoc w.done w.back (p ++ more)
@@ -192,7 +193,7 @@ module _ (d d' : PieceView) (late : d.is_open ≡ true) (waits : d.waits ≡ tru
       some = let k = some_row d.header.yd d.header.l0 d.walk.entities ok.stripe_from (omega (arith, few)) in omega (arith, k)
 
     -- a fault comes, or the end
-    fault_in_time : (f : Fault) (p : List ℕ) → last_behind H d.walk.stage d.walk.left ≡ false → StopsBehind H (place_behind H d.walk.stage d.walk.entities) false d.behind p f → limit ≤ d.walk.left → limit ≤ d.header.l0 → (more : List ℕ) → (f ≡ Truncated → more ≡ []) → (m : ℕ) → IsHeight H ((text ++ p) ++ more) m → rows_given d' ≤ m
+    fault_in_time : (f : Fault) (p : List ℕ) → last_behind H d.walk.stage d.walk.left ≡ false → StopsBehind H (behind_at (place_behind H d.walk.stage d.walk.entities) false) d.behind p f → limit ≤ d.walk.left → limit ≤ d.header.l0 → (more : List ℕ) → (f ≡ Truncated → more ≡ []) → (m : ℕ) → IsHeight H ((text ++ p) ++ more) m → rows_given d' ≤ m
     fault_in_time f p not_last stops below within more nothing m (inr own) = own_in_time below m own.0
     fault_in_time f p not_last stops below within more nothing m (inl g) =
         let above = by d.behind.comment refl stops.breaks in
@@ -200,13 +201,13 @@ module _ (d d' : PieceView) (late : d.is_open ≡ true) (waits : d.waits ≡ tru
         let times : (d.walk.entities + 1) * d.header.l0 ≡ d.walk.entities * d.header.l0 + d.header.l0 = omega arith in
         omega (arith, above, to, times, within)
       where
-        here : BehindStands H (record { height = d.header.yd; entities = d.walk.entities + 1; given = false }) false d.behind w.back
-        here = subst (λ l. BehindStands H (record { height = d.header.yd; entities = d.walk.entities + 1; given = false }) l d.behind w.back) not_last there
+        here : BehindStands H (behind_at (record { height = d.header.yd; entities = d.walk.entities + 1; given = false }) false) d.behind w.back
+        here = subst (λ l. BehindStands H (behind_at (record { height = d.header.yd; entities = d.walk.entities + 1; given = false }) l) d.behind w.back) not_last there
 
         moves : cond {A = ℕ} (is_some d.behind.at) 1 0 ≡ count_by is_move here.passed.segments
         moves = here.passed.found
 
-        by : (o : Option ℕ) → d.behind.comment ≡ o → BreaksBehind H (place_behind H d.walk.stage d.walk.entities) false d.behind o p f → (d.walk.entities + 1) * d.header.l0 < m
+        by : (o : Option ℕ) → d.behind.comment ≡ o → BreaksBehind H (behind_at (place_behind H d.walk.stage d.walk.entities) false) d.behind o p f → (d.walk.entities + 1) * d.header.l0 < m
         by None between (unread, ends) =
             fault_above ok came here.passed (p ++ more) f other (subst (λ k. rest_fault H (spot_of 0 (d.walk.entities + 1) 0) k false (p ++ more) ≡ Some f) moves
             (subst (λ z. rest_fault H (spot_of 0 (d.walk.entities + 1) 0) (cond (is_some d.behind.at) 1 0) false z ≡ Some f) (sym all) (longer (stable_rest H (spot_of 0 (d.walk.entities + 1) 0) (cond (is_some d.behind.at) 1 0) false ends.given (unread ++ more) f told)))) m
@@ -256,7 +257,7 @@ module _ (d d' : PieceView) (late : d.is_open ≡ true) (waits : d.waits ≡ tru
       many = last_stripe d.header.yd d.header.l0 d.walk.entities d.header.some_rows (let few = came.within in omega (arith, few)) all
 
       look : LookEnds H (place_behind H d.walk.stage d.walk.entities).entities ((w.back ++ p) ++ more)
-      look = over w.back more (subst (λ l. BehindStands H (place_behind H d.walk.stage d.walk.entities) l d.behind w.back) last w.behind) follows
+      look = over w.back more (subst (λ l. BehindStands H (behind_at (place_behind H d.walk.stage d.walk.entities) l) d.behind w.back) last w.behind) follows
 
       same : length came.stripes ≡ (place_behind H d.walk.stage d.walk.entities).entities
       same = came.many ∙ sym (in_code_entities d.walk.stage d.walk.entities gave.code)
@@ -279,7 +280,7 @@ module _ (d d' : PieceView) (late : d.is_open ≡ true) (waits : d.waits ≡ tru
   pub leaves_code : (c : code_type.Code) (p rest : List ℕ) → d.behind.comment ≡ None → last_behind H d.walk.stage d.walk.left ≡ false → IsByteOrMarker c → p ≡ code_bytes c ++ rest → limit ≤ d.header.l0 → (is_all : Bool) → StepLeaves is_all d d' p p (Some outcome.Row)
   leaves_code c p rest between more is p_is within is_all = leaves is_all p (λ text out s after _ m i. code_in_time text out s c p rest between more is p_is within after m i)
 
-  pub leaves_fault : (f : Fault) (p : List ℕ) → last_behind H d.walk.stage d.walk.left ≡ false → StopsBehind H (place_behind H d.walk.stage d.walk.entities) false d.behind p f → limit ≤ d.walk.left → limit ≤ d.header.l0 → (is_all : Bool) → (f ≡ Truncated → is_all ≡ true) → StepLeaves is_all d d' p p (Some outcome.Row)
+  pub leaves_fault : (f : Fault) (p : List ℕ) → last_behind H d.walk.stage d.walk.left ≡ false → StopsBehind H (behind_at (place_behind H d.walk.stage d.walk.entities) false) d.behind p f → limit ≤ d.walk.left → limit ≤ d.header.l0 → (is_all : Bool) → (f ≡ Truncated → is_all ≡ true) → StepLeaves is_all d d' p p (Some outcome.Row)
   leaves_fault f p more stops below within is_all ends = leaves is_all p (λ text out s after follows m i. fault_in_time text out s f p more stops below within after (λ e. follows (ends e)) m i)
 
   pub leaves_look : (p : List ℕ) (is_all : Bool) → last_behind H d.walk.stage d.walk.left ≡ true → LookIsOver is_all d p → limit ≤ d.walk.left → StepLeaves is_all d d' p p (Some outcome.Row)
@@ -324,19 +325,19 @@ in_open_code : (h : Fields) (w : WalkView) (text out : List ℕ) → CodeWalks h
 in_open_code h w text out c ahead = by c.in_code where
   by : IsInCode w.stage → InCode h w.entities text IsOpenCode
   by (inl e) =
-      let s : CodeStands h h.yd w.entities false w.at w.row w.first w.marker w.carried w.decoder text out = subst (λ g. CodeStands h h.yd w.entities g w.at w.row w.first w.marker w.carried w.decoder text out) c.ungiven (at_stage e c.walk) in
+      let s : CodeStands (sized h h.yd) (head_place w.entities false w.at w.carried) (code_place w.row w.first w.marker w.decoder) text out = subst (λ g. CodeStands (sized h h.yd) (head_place w.entities g w.at w.carried) (code_place w.row w.first w.marker w.decoder) text out) c.ungiven (at_stage e c.walk) in
       record { before = s.before; begins = code_begins s.head; code = s.code; code_is = entity_opened w.first w.marker s.read.answers s.extra s.code s.code_is ahead; text_is = s.text_is }
   by (inr e) =
-      let s : InRowStands h h.yd w.entities false w.at w.row w.first w.marker w.carried w.decoder w.place text out = subst (λ g. InRowStands h h.yd w.entities g w.at w.row w.first w.marker w.carried w.decoder w.place text out) c.ungiven (at_stage e c.walk) in
+      let s : InRowStands (sized h h.yd) (head_place w.entities false w.at w.carried) (code_place w.row w.first w.marker w.decoder) w.place text out = subst (λ g. InRowStands (sized h h.yd) (head_place w.entities g w.at w.carried) (code_place w.row w.first w.marker w.decoder) w.place text out) c.ungiven (at_stage e c.walk) in
       record { before = s.before; begins = code_begins s.head; code = s.code; code_is = entity_opened w.first w.marker (s.begun.read.answers ++ s.begun.since) [] s.code s.code_is ahead; text_is = s.text_is }
 
-in_whole_code : (h : Fields) (w : WalkView) (text out : List ℕ) → WalkStands h h.yd w text out → w.stage ≡ stage.Code → w.given ≡ false → HasMarker w → InCode h w.entities text IsWholeCode
+in_whole_code : (h : Fields) (w : WalkView) (text out : List ℕ) → WalkStands (sized h h.yd) w text out → w.stage ≡ stage.Code → w.given ≡ false → HasMarker w → InCode h w.entities text IsWholeCode
 in_whole_code h w text out walk is ungiven marked =
-    let s : CodeStands h h.yd w.entities false w.at w.row w.first w.marker w.carried w.decoder text out = subst (λ g. CodeStands h h.yd w.entities g w.at w.row w.first w.marker w.carried w.decoder text out) ungiven (at_stage is walk) in
+    let s : CodeStands (sized h h.yd) (head_place w.entities false w.at w.carried) (code_place w.row w.first w.marker w.decoder) text out = subst (λ g. CodeStands (sized h h.yd) (head_place w.entities g w.at w.carried) (code_place w.row w.first w.marker w.decoder) text out) ungiven (at_stage is walk) in
     record { before = s.before; begins = code_begins s.head; code = s.code; code_is = entity_closed w.first w.marker s.read.answers s.extra s.code s.code_is marked; text_is = s.text_is }
 
 -- its end marker was not read where none was among the bytes
-pub row_unmarked : (d : PieceView) (w : WalkView) (front part row : List ℕ) → d.is_open ≡ true → d.waits ≡ false → (HasMarker d.walk → ⊥) → HasNoMarker front → w.stage ≡ stage.Code → KeepsPlace d.walk w → StepsOn (fields_of d.header) d.header.yd d.walk w front part row →
+pub row_unmarked : (d : PieceView) (w : WalkView) (front part row : List ℕ) → d.is_open ≡ true → d.waits ≡ false → (HasMarker d.walk → ⊥) → HasNoMarker front → w.stage ≡ stage.Code → KeepsPlace d.walk w → StepsOn (sized (fields_of d.header) d.header.yd) d.walk w front part row →
     (text out : List ℕ) → DecoderStands d text out → HasMarker w → ⊥
 row_unmarked d w front part row late going ahead none is keeps on text out s marked = by was.code_is now.code_is where
   h : Fields
@@ -345,7 +346,7 @@ row_unmarked d w front part row late going ahead none is keeps on text out s mar
   c : CodeWalks (fields_of d.header) d.walk text out
   c = code_of d text out late going s
 
-  step : (given : List ℕ) × (front ≡ given ++ part) × WalkStands (fields_of d.header) d.header.yd w (text ++ given) (out ++ row)
+  step : (given : List ℕ) × (front ≡ given ++ part) × WalkStands (sized (fields_of d.header) d.header.yd) w (text ++ given) (out ++ row)
   step = on text out c.walk
 
   was : InCode (fields_of d.header) d.walk.entities text IsOpenCode

@@ -24,11 +24,12 @@ use Rattle.t85_core.specs.Grammar.{Segment, NewLength, Stripe, segment_bytes, st
 use Rattle.t85_core.specs.Height.{GivesHeight, IsHeight}
 use Rattle.t85_core.specs.Pieces.{IsLeastHeight}
 use Rattle.t85_core.specs.Steps.State.{image_start}
-use Rattle.t85_core.specs.Steps.Segments.{HasPassed}
+use Rattle.t85_core.specs.Steps.Segments.{HasPassed, segments_so_far}
 use Rattle.t85_core.specs.Steps.PieceCode.{CodeText}
-use Rattle.t85_core.specs.Steps.Pieces.{HeadStands, WalkStands, IsInCode, HasMarker, CodeStands, InRowStands}
+use Rattle.t85_core.specs.Steps.Pieces.{HeadStands, WalkStands, IsInCode, HasMarker, CodeStands, InRowStands, head_place, code_place}
+use Rattle.t85_core.specs.Steps.SizedImage.{sized}
 use Rattle.t85_core.specs.Steps.PieceStands.{DecoderStands, HeightKnown, CodeWalks, WalkWaits, IsAtMarker, entities_behind, is_last, place_behind, last_behind}
-use Rattle.t85_core.specs.Steps.Behind.{BehindStands}
+use Rattle.t85_core.specs.Steps.Behind.{BehindStands, behind_at}
 use Rattle.t85_core.proofs.Bytes.Lengths.{lengths_append, gives_none, valid_in_use}
 use Rattle.t85_core.proofs.Bytes.Lists.{All-append, flat_map_push}
 use Rattle.t85_core.proofs.Bytes.Stuffing.{stuffed_append}
@@ -110,7 +111,7 @@ pub record StripesCame (h : Fields) (count : ℕ) (text : List ℕ) : Type 0 whe
   pub none : lengths (all_segments stripes) ≡ []
   pub within : count ≤ stripe_count h.yd h.l0
 
-pub code_begins : {h : Fields} {entities : ℕ} {at : Option move.Move} {carried : Carried} {text out : List ℕ} → HeadStands h h.yd entities false at carried text out → CodeBegins h entities text
+pub code_begins : {h : Fields} {entities : ℕ} {at : Option move.Move} {carried : Carried} {text out : List ℕ} → HeadStands (sized h h.yd) (head_place entities false at carried) text out → CodeBegins h entities text
 code_begins {h} {entities} {at} {carried} {text} {out} s = record {
   stripes = s.stripes.stripes;
   segments = s.passed.segments;
@@ -150,7 +151,7 @@ module _ {h : Fields} {count : ℕ} {text : List ℕ} (ok : IsAccepted h) (s : S
   same_tail rest n g same = (one_front h ok s.stripes g.stripes rest (tail_of n g) s.each g.each (s.many ∙ same) (ap (λ z. z ++ rest) (sym s.text_is) ∙ g.body_is)).1
 
   -- a height behind these segments
-  pub came_gives : IsTrue (is_variable h) → {at : Option move.Move} {moved last : Bool} {front : List ℕ} {comments : ℕ} (p : HasPassed h (record { height = h.yd; entities = count; given = false }) last (Some front) (Some []) at moved false comments) →
+  pub came_gives : IsTrue (is_variable h) → {at : Option move.Move} {moved last : Bool} {front : List ℕ} {comments : ℕ} (p : HasPassed h (record { height = h.yd; entities = count; given = false }) last (Some front) (Some []) (segments_so_far at moved false comments)) →
       (count ≡ stripe_count h.yd h.l0 → AllByRecursion (λ s. IsTrue (is_comment s)) p.segments) → (n : ℕ) → is_valid_length h count n ≡ true → (rest : List ℕ) → GivesHeight h (text ++ (front ++ (segment_bytes (NewLength n) ++ rest))) n
   came_gives variable {front = front} p comments n valid rest = record {
     variable = variable;
@@ -240,7 +241,7 @@ module _ {h : Fields} {entities : ℕ} {text : List ℕ} (ok : IsAccepted h) (s 
 
   -- the least one, after what came behind the end marker
   module _ (variable : IsTrue (is_variable h)) where
-    least_behind : (code back more : List ℕ) → IsWholeCode code → {at : Option move.Move} {moved last : Bool} {front : List ℕ} {comments : ℕ} (p : HasPassed h (record { height = h.yd; entities = entities + 1; given = false }) last (Some front) (Some []) at moved false comments) →
+    least_behind : (code back more : List ℕ) → IsWholeCode code → {at : Option move.Move} {moved last : Bool} {front : List ℕ} {comments : ℕ} (p : HasPassed h (record { height = h.yd; entities = entities + 1; given = false }) last (Some front) (Some []) (segments_so_far at moved false comments)) →
         back ++ more ≡ front → (entities + 1 ≡ stripe_count h.yd h.l0 → AllByRecursion (λ s. IsTrue (is_comment s)) p.segments) → IsLeastHeight h ((text ++ code) ++ back) (entities * h.l0 + 1)
     least_behind code back more (bytes, reset, small, is) {front = front} p whole comments = record {
       below = λ rest n i. least_below code (inr (bytes, reset, small, is)) (back ++ rest) n (subst (λ z. IsHeight h z n) (append_assoc (text ++ code) back rest) i);
@@ -260,7 +261,7 @@ module _ {h : Fields} {entities : ℕ} {text : List ℕ} (ok : IsAccepted h) (s 
     -- in the code
     least_within : (code : List ℕ) → EntityBegun code → IsLeastHeight h (text ++ code) (entities * h.l0 + 1)
     least_within code e = record { below = least_below code e; reached = by (closes code e) } where
-      none : HasPassed h (record { height = h.yd; entities = entities + 1; given = false }) false (Some []) (Some []) None false false 0
+      none : HasPassed h (record { height = h.yd; entities = entities + 1; given = false }) false (Some []) (Some []) (segments_so_far None false false 0)
       none = passed_none h (record { height = h.yd; entities = entities + 1; given = false }) false (Some [])
 
       by : (more : List ℕ) × IsWholeCode (code ++ more) → (rest : List ℕ) × IsHeight h ((text ++ code) ++ rest) (entities * h.l0 + 1)
@@ -272,10 +273,10 @@ module _ {h : Fields} {entities : ℕ} {text : List ℕ} (ok : IsAccepted h) (s 
 -- ---- a decoder
 
 -- what is left of a comment
-comment_ends : {h : Fields} {place : Place} {last : Bool} (b : Behind) (back : List ℕ) → BehindStands h place last b back → (more : List ℕ) × (ends : Behind) × (ends.comment ≡ None) × BehindStands h place last ends (back ++ more)
+comment_ends : {h : Fields} {place : Place} {last : Bool} (b : Behind) (back : List ℕ) → BehindStands h (behind_at place last) b back → (more : List ℕ) × (ends : Behind) × (ends.comment ≡ None) × BehindStands h (behind_at place last) ends (back ++ more)
 comment_ends {h} {place} {last} b back s = by b.comment refl where
-  by : (o : Option ℕ) → b.comment ≡ o → (more : List ℕ) × (ends : Behind) × (ends.comment ≡ None) × BehindStands h place last ends (back ++ more)
-  by None between = ([], b, between, subst (BehindStands h place last b) (sym (append-nil back)) s)
+  by : (o : Option ℕ) → b.comment ≡ o → (more : List ℕ) × (ends : Behind) × (ends.comment ≡ None) × BehindStands h (behind_at place last) ends (back ++ more)
+  by None between = ([], b, between, subst (BehindStands h (behind_at place last) b) (sym (append-nil back)) s)
   by (Some left) inside = (replicate left 0, record { at = b.at; comment = None }, refl, behind_ends s left inside (replicate left 0) (length-replicate left 0))
 
 module _ (h : Fields) (ok : IsAccepted h) (variable : IsTrue (is_variable h)) (w : WalkView) where
@@ -284,14 +285,14 @@ module _ (h : Fields) (ok : IsAccepted h) (variable : IsTrue (is_variable h)) (w
   in_code text out c = by c.in_code where
     by : IsInCode w.stage → IsLeastHeight h text (w.entities * h.l0 + 1)
     by (inl e) =
-        let s : CodeStands h h.yd w.entities false w.at w.row w.first w.marker w.carried w.decoder text out = subst (λ g. CodeStands h h.yd w.entities g w.at w.row w.first w.marker w.carried w.decoder text out) c.ungiven (at_stage e c.walk) in
+        let s : CodeStands (sized h h.yd) (head_place w.entities false w.at w.carried) (code_place w.row w.first w.marker w.decoder) text out = subst (λ g. CodeStands (sized h h.yd) (head_place w.entities g w.at w.carried) (code_place w.row w.first w.marker w.decoder) text out) c.ungiven (at_stage e c.walk) in
         subst (λ z. IsLeastHeight h z (w.entities * h.l0 + 1)) (sym s.text_is) (least_within ok (code_begins s.head) variable s.code (entity_begun w.first w.marker s.read.answers s.extra s.code s.code_is))
     by (inr e) =
-        let s : InRowStands h h.yd w.entities false w.at w.row w.first w.marker w.carried w.decoder w.place text out = subst (λ g. InRowStands h h.yd w.entities g w.at w.row w.first w.marker w.carried w.decoder w.place text out) c.ungiven (at_stage e c.walk) in
+        let s : InRowStands (sized h h.yd) (head_place w.entities false w.at w.carried) (code_place w.row w.first w.marker w.decoder) w.place text out = subst (λ g. InRowStands (sized h h.yd) (head_place w.entities g w.at w.carried) (code_place w.row w.first w.marker w.decoder) w.place text out) c.ungiven (at_stage e c.walk) in
         subst (λ z. IsLeastHeight h z (w.entities * h.l0 + 1)) (sym s.text_is) (least_within ok (code_begins s.head) variable s.code (entity_begun w.first w.marker (s.begun.read.answers ++ s.begun.since) [] s.code s.code_is))
 
   module _ (b : Behind) (text out : List ℕ) (s : WalkWaits h w b text out) where
-    ends : (more : List ℕ) × (ends : Behind) × (ends.comment ≡ None) × BehindStands h (place_behind h w.stage w.entities) (last_behind h w.stage w.left) ends (s.back ++ more)
+    ends : (more : List ℕ) × (ends : Behind) × (ends.comment ≡ None) × BehindStands h (behind_at (place_behind h w.stage w.entities) (last_behind h w.stage w.left)) ends (s.back ++ more)
     ends = comment_ends b s.back s.behind
 
     whole : IsLeastHeight h (s.done ++ s.back) (w.entities * h.l0 + 1) → IsLeastHeight h text (w.entities * h.l0 + 1)
@@ -314,14 +315,14 @@ module _ (h : Fields) (ok : IsAccepted h) (variable : IsTrue (is_variable h)) (w
         place_of : ℕ → Place
         place_of n = record { height = h.yd; entities = n; given = false }
 
-      there : BehindStands h (place_behind h w.stage w.entities) false ends.1 (s.back ++ ends.0)
-      there = subst (λ l. BehindStands h (place_behind h w.stage w.entities) l ends.1 (s.back ++ ends.0)) (ap (λ k. is_last k (nat_le w.left h.l0)) is) ends.3
+      there : BehindStands h (behind_at (place_behind h w.stage w.entities) false) ends.1 (s.back ++ ends.0)
+      there = subst (λ l. BehindStands h (behind_at (place_behind h w.stage w.entities) l) ends.1 (s.back ++ ends.0)) (ap (λ k. is_last k (nat_le w.left h.l0)) is) ends.3
 
-      walk : WalkStands h h.yd (record w { at = ends.1.at }) (s.done ++ (s.back ++ ends.0)) out
+      walk : WalkStands (sized h h.yd) (record w { at = ends.1.at }) (s.done ++ (s.back ++ ends.0)) out
       walk = head_walk h w ends.1 (place_behind h w.stage w.entities) s.done (s.back ++ ends.0) out s.walk is none s.ungiven place_is there ends.2
 
-      head : HeadStands h h.yd w.entities false ends.1.at w.carried (s.done ++ (s.back ++ ends.0)) out
-      head = subst (λ g. HeadStands h h.yd w.entities g ends.1.at w.carried (s.done ++ (s.back ++ ends.0)) out) s.ungiven (at_stage is walk)
+      head : HeadStands (sized h h.yd) (head_place w.entities false ends.1.at w.carried) (s.done ++ (s.back ++ ends.0)) out
+      head = subst (λ g. HeadStands (sized h h.yd) (head_place w.entities g ends.1.at w.carried) (s.done ++ (s.back ++ ends.0)) out) s.ungiven (at_stage is walk)
 
       valid : is_valid_length h w.entities (w.entities * h.l0 + 1) ≡ true
       valid = valid_in_use h (w.entities * h.l0 + 1) w.entities ok.stripe_from (omega arith) (let y = ok.height_from in omega (arith, zero, y)) (omega (arith, first))
@@ -339,8 +340,8 @@ module _ (h : Fields) (ok : IsAccepted h) (variable : IsTrue (is_variable h)) (w
         place_of : ℕ → Place
         place_of n = record { height = h.yd; entities = n; given = false }
 
-      there : BehindStands h (record { height = h.yd; entities = w.entities + 1; given = false }) (last_behind h w.stage w.left) ends.1 (s.back ++ ends.0)
-      there = subst (λ p. BehindStands h p (last_behind h w.stage w.left) ends.1 (s.back ++ ends.0)) place_is ends.3
+      there : BehindStands h (behind_at (record { height = h.yd; entities = w.entities + 1; given = false }) (last_behind h w.stage w.left)) ends.1 (s.back ++ ends.0)
+      there = subst (λ p. BehindStands h (behind_at p (last_behind h w.stage w.left)) ends.1 (s.back ++ ends.0)) place_is ends.3
 
       behind : (before code : List ℕ) → CodeBegins h w.entities before → IsWholeCode code → s.done ≡ before ++ code → IsLeastHeight h (s.done ++ s.back) (w.entities * h.l0 + 1)
       behind before code begins is_closed is =
@@ -349,10 +350,10 @@ module _ (h : Fields) (ok : IsAccepted h) (variable : IsTrue (is_variable h)) (w
 
       by : IsInCode w.stage → IsLeastHeight h (s.done ++ s.back) (w.entities * h.l0 + 1)
       by (inl e) =
-          let k : CodeStands h h.yd w.entities false w.at w.row w.first w.marker w.carried w.decoder s.done out = subst (λ g. CodeStands h h.yd w.entities g w.at w.row w.first w.marker w.carried w.decoder s.done out) s.ungiven (at_stage e s.walk) in
+          let k : CodeStands (sized h h.yd) (head_place w.entities false w.at w.carried) (code_place w.row w.first w.marker w.decoder) s.done out = subst (λ g. CodeStands (sized h h.yd) (head_place w.entities g w.at w.carried) (code_place w.row w.first w.marker w.decoder) s.done out) s.ungiven (at_stage e s.walk) in
           behind k.before k.code (code_begins k.head) (entity_closed w.first w.marker k.read.answers k.extra k.code k.code_is marked) k.text_is
       by (inr e) =
-          let k : InRowStands h h.yd w.entities false w.at w.row w.first w.marker w.carried w.decoder w.place s.done out = subst (λ g. InRowStands h h.yd w.entities g w.at w.row w.first w.marker w.carried w.decoder w.place s.done out) s.ungiven (at_stage e s.walk) in
+          let k : InRowStands (sized h h.yd) (head_place w.entities false w.at w.carried) (code_place w.row w.first w.marker w.decoder) w.place s.done out = subst (λ g. InRowStands (sized h h.yd) (head_place w.entities g w.at w.carried) (code_place w.row w.first w.marker w.decoder) w.place s.done out) s.ungiven (at_stage e s.walk) in
           behind k.before k.code (code_begins k.head) (entity_closed w.first w.marker (k.begun.read.answers ++ k.begun.since) [] k.code k.code_is marked) k.text_is
 
     waiting : IsLeastHeight h text (w.entities * h.l0 + 1)

@@ -18,7 +18,9 @@ use Rattle.t85_core.specs.declared.segments.Place.{Place}
 use Rattle.t85_core.specs.Steps.Segments.{PieceFault}
 use Rattle.t85_core.specs.Steps.DecodeStripes.{ImageRead}
 use Rattle.t85_core.specs.Steps.Pieces.{CutOff}
+use Rattle.t85_core.specs.Steps.SizedImage.{sized}
 use Rattle.t85_core.specs.Steps.PieceStands.{HeightKnown}
+use Rattle.t85_core.specs.Steps.Passage.{passage}
 use Rattle.t85_core.proofs.Bytes.Lengths.{gives_none, valid_parts}
 use Rattle.t85_core.proofs.Grammar.Cut.{one_broken}
 use Rattle.t85_core.proofs.Grammar.Heights.{one_height_of, suits_in_use, none_left, none_right}
@@ -121,7 +123,7 @@ module _ (h : Fields) (place : Place) (moved : Bool) (fresh : place.given ≡ fa
 -- ---- the ends
 
 -- what bytes fix that are broken or end too early, whatever follows
-pub cut_fixes : (h : Fields) (height : ℕ) (text out rest : List ℕ) (f : Fault) → (c : CutOff h height text out f) → (f ≡ Truncated → rest ≡ []) → Fixes h height (text ++ rest) f c.cut.rows
+pub cut_fixes : (h : Fields) (height : ℕ) (text out rest : List ℕ) (f : Fault) → (c : CutOff (sized h height) text out f) → (f ≡ Truncated → rest ≡ []) → Fixes h height (text ++ rest) f c.cut.rows
 cut_fixes h height text out rest f c nothing = went (fixes_more h height c.cut.ends.given (c.unread ++ rest) f c.cut.rows has) where
   has : Fixes h height c.cut.ends.given f c.cut.rows
   has = subst (λ z. Fixes h height c.cut.ends.given z c.cut.rows) c.counted c.cut.ends.has_fault
@@ -133,15 +135,15 @@ cut_fixes h height text out rest f c nothing = went (fixes_more h height c.cut.e
   went (inl ended) = subst (λ z. Fixes h height z f c.cut.rows) (sym (all ∙ ap (λ z. c.cut.ends.given ++ z) (ap (λ z. z ++ rest) (c.cut.ends.at_end ended) ∙ nothing ended) ∙ append-nil c.cut.ends.given)) has
   went (inr more) = subst (λ z. Fixes h height z f c.cut.rows) (sym all) more
 
-pub cut_hands : (h : Fields) (height : ℕ) (text out rest : List ℕ) (f : Fault) → HasHeight h (text ++ rest) height → (f ≡ Truncated → rest ≡ []) → CutOff h height text out f → HandsOut h (text ++ rest) height f out
+pub cut_hands : (h : Fields) (height : ℕ) (text out rest : List ℕ) (f : Fault) → HasHeight h (text ++ rest) height → (f ≡ Truncated → rest ≡ []) → CutOff (sized h height) text out f → HandsOut h (text ++ rest) height f out
 cut_hands h height text out rest f is nothing c = record { height_is = is; rows = c.cut.rows; fixes = cut_fixes h height text out rest f c nothing; out_is = c.cut.appended }
 
 -- where no height came before it
-pub cut_hands_first : (h : Fields) (text out rest : List ℕ) (f : Fault) → IsInUse h h.yd → f ≢ Changed → (f ≡ Truncated → rest ≡ []) → CutOff h h.yd text out f → HandsOut h (text ++ rest) h.yd f out
+pub cut_hands_first : (h : Fields) (text out rest : List ℕ) (f : Fault) → IsInUse h h.yd → f ≢ Changed → (f ≡ Truncated → rest ≡ []) → CutOff (sized h h.yd) text out f → HandsOut h (text ++ rest) h.yd f out
 cut_hands_first h text out rest f use_ other nothing c = cut_hands h h.yd text out rest f (height_broken h (text ++ rest) f use_ (cut_fixes h h.yd text out rest f c nothing).broken other) nothing c
 
 -- what a whole body holds
-pub read_holds : (h : Fields) (height : ℕ) (text out rest : List ℕ) → HasHeight h (text ++ rest) height → ImageRead h height (Some text) (Some []) (Some []) (Some out) → HoldsImage h (text ++ rest) height out
+pub read_holds : (h : Fields) (height : ℕ) (text out rest : List ℕ) → HasHeight h (text ++ rest) height → ImageRead h height (passage (Some text) (Some []) (Some []) (Some out)) → HoldsImage h (text ++ rest) height out
 read_holds h height text out rest is i = record {
   height_is = is;
   rows = i.rows;

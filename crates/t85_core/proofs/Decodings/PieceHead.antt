@@ -23,11 +23,13 @@ use Rattle.t85_core.specs.Refusal.{Spot, rest_fault}
 use Rattle.t85_core.specs.Failures.{Ends, counted_as, reads_after}
 use Rattle.t85_core.specs.Laws.{IsInUse}
 use Rattle.t85_core.specs.Steps.CoderLaws.{CoderLaws}
-use Rattle.t85_core.specs.Steps.Segments.{HasPassed, PassesSegment, PieceFault, HeadFault, IsByteOrMarker, spot_at, code_bytes}
+use Rattle.t85_core.specs.Steps.Segments.{HasPassed, PassesSegment, PieceFault, HeadFault, IsByteOrMarker, spot_at, code_bytes, segments_so_far}
 use Rattle.t85_core.specs.Steps.DecodeRows.{IsShapeOf}
-use Rattle.t85_core.specs.Steps.DecodeStripes.{StripeCut, StripesRead, ImageCut}
+use Rattle.t85_core.specs.Steps.DecodeStripes.{StripeCut, StripesRead, ImageCut, stripe_place}
 use Rattle.t85_core.specs.Steps.PieceCode.{Anything}
-use Rattle.t85_core.specs.Steps.Pieces.{CutOff, HeadStands, CommentStands, CodeStands, rows_in}
+use Rattle.t85_core.specs.Steps.Pieces.{CutOff, HeadStands, CommentStands, CodeStands, rows_in, head_place, code_place}
+use Rattle.t85_core.specs.Steps.SizedImage.{sized}
+use Rattle.t85_core.specs.Steps.Passage.{passage}
 use Rattle.t85_core.proofs.Bytes.Ends.{Ends-after}
 use Rattle.t85_core.proofs.Bytes.Known.{counted-other}
 use Rattle.t85_core.proofs.Walks.Passed.{passed_length, passed_move, passed_comment, segments_passed, cut_segments, cut_head, head_changed}
@@ -38,8 +40,8 @@ use Rattle.t85_core.proofs.Decodings.StripePut.{stripe_head}
 
 -- ---- with what comes after them
 
-abbrev pub stripes_ext : {h : Fields} {height : ℕ} {front : List ℕ} {count heights : ℕ} {carried : Carried} {text text' : Option (List ℕ)} → StripesRead h height (Some front) (Some []) count heights carried text text' → (p : List ℕ) →
-    StripesRead h height (Some (front ++ p)) (Some p) count heights carried text text'
+abbrev pub stripes_ext : {h : Fields} {height : ℕ} {front : List ℕ} {count heights : ℕ} {carried : Carried} {text text' : Option (List ℕ)} → StripesRead h height (passage (Some front) (Some []) text text') count heights carried → (p : List ℕ) →
+    StripesRead h height (passage (Some (front ++ p)) (Some p) text text') count heights carried
 stripes_ext r p = record {
   stripes = r.stripes;
   many = r.many;
@@ -53,8 +55,8 @@ stripes_ext r p = record {
   appended = r.appended;
 }
 
-abbrev pub passed_ext : {h : Fields} {place : Place} {before : Bool} {back : List ℕ} {at : Option move.Move} {moved given : Bool} {comments : ℕ} → HasPassed h place before (Some back) (Some []) at moved given comments → (p : List ℕ) →
-    HasPassed h place before (Some (back ++ p)) (Some p) at moved given comments
+abbrev pub passed_ext : {h : Fields} {place : Place} {before : Bool} {back : List ℕ} {at : Option move.Move} {moved given : Bool} {comments : ℕ} → HasPassed h place before (Some back) (Some []) (segments_so_far at moved given comments) → (p : List ℕ) →
+    HasPassed h place before (Some (back ++ p)) (Some p) (segments_so_far at moved given comments)
 passed_ext r p = record {
   segments = r.segments;
   begun = r.begun;
@@ -81,7 +83,7 @@ shape_is h shape is = ap (λ w. made w (shape_mode shape)) is.width_is ∙ ap (m
 abbrev pub whole_segment : {h : Fields} (s : _) → IsLegal h s → PassesSegment h (Some (segment_bytes s)) (Some []) s
 whole_segment s legal = record { legal = legal; taken = sym (append-nil (segment_bytes s)) }
 
-module _ {h : Fields} {height entities : ℕ} {given : Bool} {at : Option move.Move} {carried : Carried} {text out : List ℕ} (s : HeadStands h height entities given at carried text out) where
+module _ {h : Fields} {height entities : ℕ} {given : Bool} {at : Option move.Move} {carried : Carried} {text out : List ℕ} (s : HeadStands (sized h height) (head_place entities given at carried) text out) where
   abbrev pub place : Place
   place = record { height = height; entities = entities; given = s.before }
 
@@ -90,7 +92,7 @@ module _ {h : Fields} {height entities : ℕ} {given : Bool} {at : Option move.M
 
   -- ---- segments
 
-  pub head_length : (n : ℕ) → given ≡ false → n ≡ height → IsLegal h (NewLength n) → HeadStands h height entities true at carried (text ++ segment_bytes (NewLength n)) out
+  pub head_length : (n : ℕ) → given ≡ false → n ≡ height → IsLegal h (NewLength n) → HeadStands (sized h height) (head_place entities true at carried) (text ++ segment_bytes (NewLength n)) out
   head_length n none same legal = record {
     before = s.before;
     front = s.front;
@@ -102,7 +104,7 @@ module _ {h : Fields} {height entities : ℕ} {given : Bool} {at : Option move.M
     fewer = s.fewer;
   }
 
-  pub head_move : (to : move.Move) → is_some at ≡ false → IsLegal h (Move to.row to.offset) → HeadStands h height entities given (Some to) carried (text ++ segment_bytes (Move to.row to.offset)) out
+  pub head_move : (to : move.Move) → is_some at ≡ false → IsLegal h (Move to.row to.offset) → HeadStands (sized h height) (head_place entities given (Some to) carried) (text ++ segment_bytes (Move to.row to.offset)) out
   head_move to none legal = record {
     before = s.before;
     front = s.front;
@@ -114,7 +116,7 @@ module _ {h : Fields} {height entities : ℕ} {given : Bool} {at : Option move.M
     fewer = s.fewer;
   }
 
-  pub head_comment : (x : List ℕ) → length x < 2 ^ 32 → HeadStands h height entities given at carried (text ++ segment_bytes (Comment x)) out
+  pub head_comment : (x : List ℕ) → length x < 2 ^ 32 → HeadStands (sized h height) (head_place entities given at carried) (text ++ segment_bytes (Comment x)) out
   head_comment x legal = record {
     before = s.before;
     front = s.front;
@@ -127,7 +129,7 @@ module _ {h : Fields} {height entities : ℕ} {given : Bool} {at : Option move.M
   }
 
   -- the length of a comment was read
-  pub head_enters : (n : ℕ) → n < 2 ^ 32 → CommentStands h height entities given at carried n (text ++ (ESC ∷ COMMENT ∷ big_bytes 4 n)) out
+  pub head_enters : (n : ℕ) → n < 2 ^ 32 → CommentStands (sized h height) (head_place entities given at carried) n (text ++ (ESC ∷ COMMENT ∷ big_bytes 4 n)) out
   head_enters n small = record {
     before = text;
     head = s;
@@ -138,7 +140,7 @@ module _ {h : Fields} {height entities : ℕ} {given : Bool} {at : Option move.M
 
   -- the code begins
   pub head_code : (c : code_type.Code) → IsByteOrMarker c → (d : Decoder) → DecoderIsAt d start [] →
-      CodeStands h height entities given at 0 (Some c) None carried d (text ++ code_bytes c) out
+      CodeStands (sized h height) (head_place entities given at carried) (code_place 0 (Some c) None d) (text ++ code_bytes c) out
   head_code c is d stands = record {
     before = text;
     began = out;
@@ -157,32 +159,32 @@ module _ {h : Fields} {height entities : ℕ} {given : Bool} {at : Option move.M
   -- ---- faults
 
   module _ (q : CoderLaws) (use_ : IsInUse h height) where
-    pub head_breaks : (out' p p' : List ℕ) (f : Fault) → counted_as Truncated f ≡ f → StripeCut h (spot_at place) s.stripes.next (Some (s.back ++ p)) (Some p') (rows_in h height entities) (Some out) (Some out') f →
-        CutOff h height (text ++ p) out' f
+    pub head_breaks : (out' p p' : List ℕ) (f : Fault) → counted_as Truncated f ≡ f → StripeCut h (stripe_place (spot_at place) s.stripes.next (rows_in h height entities)) (passage (Some (s.back ++ p)) (Some p') (Some out) (Some out')) f →
+        CutOff (sized h height) (text ++ p) out' f
     head_breaks out' p p' f counted cut = record {
       counted = counted;
       unread = p';
-      cut = subst (λ z. ImageCut h height (Some z) (Some p') (Some []) (Some out') f) (all_text p)
+      cut = subst (λ z. ImageCut h height (passage (Some z) (Some p') (Some []) (Some out')) f) (all_text p)
           (image_cut h height (Some (s.front ++ (s.back ++ p))) (Some (s.back ++ p)) (Some p') entities (cond s.before 1 0) (rows_in h height entities) carried carried (Some []) (Some out) (Some out') (stripes_ext s.stripes (s.back ++ p)) refl q use_ s.fewer f cut);
     }
 
-    head_fault : (p p' : List ℕ) (f : Fault) → counted_as Truncated f ≡ f → Ends Truncated (Some (s.back ++ p)) (Some p') (HeadFault h (spot_at place)) f → CutOff h height (text ++ p) out f
+    head_fault : (p p' : List ℕ) (f : Fault) → counted_as Truncated f ≡ f → Ends Truncated (Some (s.back ++ p)) (Some p') (HeadFault h (spot_at place)) f → CutOff (sized h height) (text ++ p) out f
     head_fault p p' f counted ends = head_breaks out p p' f counted (stripe_head h (spot_at place) s.stripes.next (Some (s.back ++ p)) (Some p') (rows_in h height entities) (Some out) f use_.accepted.width_from ends)
 
     -- a segment breaks
     pub head_cut : (p p' : List ℕ) (f : Fault) → counted_as Truncated f ≡ f → Ends Truncated (Some p) (Some p') (PieceFault h (record { height = height; entities = entities; given = given }) (is_some at)) f →
-        CutOff h height (text ++ p) out f
+        CutOff (sized h height) (text ++ p) out f
     head_cut p p' f counted ends = head_fault p p' f counted (cut_head (cut_segments (passed_ext s.passed p) ends))
 
     -- a height isn't the one in use
     pub head_other : (p p' : List ℕ) (n : ℕ) → given ≡ false → is_valid_length h entities n ≡ true → IsLegal h (NewLength n) → n ≢ height → p ≡ segment_bytes (NewLength n) ++ p' →
-        CutOff h height (text ++ p) out Changed
+        CutOff (sized h height) (text ++ p) out Changed
     head_other p p' n none valid legal other taken =
         head_fault p p' Changed refl (head_changed n use_.accepted.height_to refl (segments_passed (passed_ext s.passed p) (next.Height n) (none, valid, legal, other) taken))
 
     -- the piece ends in a comment
     pub comment_breaks : (n : ℕ) (part : List ℕ) → n < 2 ^ 32 → length part < n →
-        CutOff h height (text ++ (ESC ∷ COMMENT ∷ (big_bytes 4 n ++ part))) out Truncated
+        CutOff (sized h height) (text ++ (ESC ∷ COMMENT ∷ (big_bytes 4 n ++ part))) out Truncated
     comment_breaks n part small short = head_cut (ESC ∷ COMMENT ∷ (big_bytes 4 n ++ part)) [] Truncated refl (record {
       given = ESC ∷ COMMENT ∷ (big_bytes 4 n ++ part);
       taken = sym (append-nil (ESC ∷ COMMENT ∷ (big_bytes 4 n ++ part)));
@@ -207,7 +209,7 @@ pub length_breaks : (h : Fields) (place : Place) (moved : Bool) (p rest p' : Lis
 length_breaks h place moved p rest p' f is ends =
     Ends-after (255 ∷ 7 ∷ []) is (λ given fault k other. short_comment h (record { height = other; entities = place.entities; heights = cond place.given 1 0 }) (cond moved 1 0) given k.0 ∙ ap Some (sym k.1)) ends
 
-module _ {h : Fields} {height entities : ℕ} {given : Bool} {at : Option move.Move} {carried : Carried} {left : ℕ} {text out : List ℕ} (s : CommentStands h height entities given at carried left text out) where
+module _ {h : Fields} {height entities : ℕ} {given : Bool} {at : Option move.Move} {carried : Carried} {left : ℕ} {text out : List ℕ} (s : CommentStands (sized h height) (head_place entities given at carried) left text out) where
   comment_text : (more : List ℕ) → text ++ more ≡ s.before ++ (ESC ∷ COMMENT ∷ (big_bytes 4 (length s.part + left) ++ (s.part ++ more)))
   comment_text more =
       ap (λ z. z ++ more) s.text_is
@@ -215,7 +217,7 @@ module _ {h : Fields} {height entities : ℕ} {given : Bool} {at : Option move.M
       ∙ ap (λ z. s.before ++ (ESC ∷ COMMENT ∷ z)) (append_assoc (big_bytes 4 (length s.part + left)) s.part more)
 
   -- more of it came
-  pub comment_more : (more : List ℕ) (left' : ℕ) → length more + left' ≡ left → CommentStands h height entities given at carried left' (text ++ more) out
+  pub comment_more : (more : List ℕ) (left' : ℕ) → length more + left' ≡ left → CommentStands (sized h height) (head_place entities given at carried) left' (text ++ more) out
   comment_more more left' e =
       let long = length-append s.part more in
       let same : length s.part + left ≡ length (s.part ++ more) + left' = omega (arith, e, long) in
@@ -228,16 +230,16 @@ module _ {h : Fields} {height entities : ℕ} {given : Bool} {at : Option move.M
       }
 
   -- its rest came
-  pub comment_ends : (more : List ℕ) → length more ≡ left → HeadStands h height entities given at carried (text ++ more) out
+  pub comment_ends : (more : List ℕ) → length more ≡ left → HeadStands (sized h height) (head_place entities given at carried) (text ++ more) out
   comment_ends more e =
       let long = length-append s.part more in
       let same : length s.part + left ≡ length (s.part ++ more) = omega (arith, e, long) in
-      subst (λ z. HeadStands h height entities given at carried z out) (ap (λ n. s.before ++ (ESC ∷ COMMENT ∷ (big_bytes 4 n ++ (s.part ++ more)))) (sym same) ∙ sym (comment_text more))
+      subst (λ z. HeadStands (sized h height) (head_place entities given at carried) z out) (ap (λ n. s.before ++ (ESC ∷ COMMENT ∷ (big_bytes 4 n ++ (s.part ++ more)))) (sym same) ∙ sym (comment_text more))
       (head_comment s.head (s.part ++ more) (let small = s.small in omega (arith, small, same)))
 
   -- the piece ends in it
-  pub comment_off : CoderLaws → IsInUse h height → (p : List ℕ) → length p < left → CutOff h height (text ++ p) out Truncated
+  pub comment_off : CoderLaws → IsInUse h height → (p : List ℕ) → length p < left → CutOff (sized h height) (text ++ p) out Truncated
   comment_off q use_ p short =
       let long = length-append s.part p in
       let cut = comment_breaks s.head q use_ (length s.part + left) (s.part ++ p) s.small (omega (arith, short, long)) in
-      subst (λ z. CutOff h height z out Truncated) (sym (comment_text p)) cut
+      subst (λ z. CutOff (sized h height) z out Truncated) (sym (comment_text p)) cut

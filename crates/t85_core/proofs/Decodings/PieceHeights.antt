@@ -12,12 +12,14 @@ use Rattle.t85_core.specs.declared.segments.Place.{Place}
 use Rattle.t85_core.specs.Lent.{Carried}
 use Rattle.t85_core.specs.Header.{Fields, is_variable}
 use Rattle.t85_core.specs.Grammar.{Segment, Move, NewLength, Comment, Stripe, segment_bytes, stripe_bytes, stripe_count, all_segments, lengths, is_move, is_comment, is_valid_length, IsLegal}
-use Rattle.t85_core.specs.Coding.{move_of}
+use Rattle.t85_core.specs.Coding.{move_of, flagged}
 use Rattle.t85_core.specs.Height.{GivesHeight}
-use Rattle.t85_core.specs.Steps.Segments.{HasPassed}
+use Rattle.t85_core.specs.Steps.Segments.{HasPassed, segments_so_far}
 use Rattle.t85_core.specs.Steps.State.{StripeStart, image_start, StripeRun, StripesRun}
 use Rattle.t85_core.specs.Steps.DecodeStripes.{StripesRead}
-use Rattle.t85_core.specs.Steps.Pieces.{HeadStands}
+use Rattle.t85_core.specs.Steps.Pieces.{HeadStands, head_place}
+use Rattle.t85_core.specs.Steps.SizedImage.{sized}
+use Rattle.t85_core.specs.Steps.Passage.{passage}
 use Rattle.t85_core.proofs.Bytes.Lists.{All-append}
 use Rattle.t85_core.proofs.Bytes.Lengths.{lengths_append, gives_none}
 use Rattle.t85_core.proofs.Decodings.CarriedDenotes.{stripes_whole}
@@ -56,7 +58,7 @@ stripes_of n l e one over all = went (cases_lt (e + 1) (div_ceil n l)) where
 
 -- stripes that have all their rows have the same at each height that has all of these
 pub other_run : (h : Fields) (left n : ℕ) (c : StripeStart) (stripes : List Stripe) (rows : List (List Bool)) (flags : List Bool) (next : StripeStart) → length stripes * h.l0 ≤ n → length stripes * h.l0 ≤ left →
-    StripesRun h left c stripes rows flags next → StripesRun h n c stripes rows flags next
+    StripesRun h left c stripes (flagged rows flags) next → StripesRun h n c stripes (flagged rows flags) next
 other_run h left n c [] rows flags next all all' run = run
 other_run h left n c (s ∷ stripes) rows flags next all all' run =
     let times : length (s ∷ stripes) * h.l0 ≡ h.l0 + length stripes * h.l0 = omega arith in
@@ -68,12 +70,12 @@ other_run h left n c (s ∷ stripes) rows flags next all all' run =
       run.4,
       run.5,
       run.6,
-      subst (λ m. StripeRun h m c s run.0 run.2 run.4) same run.7,
+      subst (λ m. StripeRun h m c s (flagged run.0 run.2) run.4) same run.7,
       other_run h (left - h.l0) (n - h.l0) run.4 stripes run.1 run.3 next (omega (arith, times, all)) (omega (arith, times, all')) run.8,
     )
 
 pub other_read : (h : Fields) (height n : ℕ) (known known' : Option (List ℕ)) (count : ℕ) (carried : Carried) (text text' : Option (List ℕ)) → count * h.l0 ≤ n → count * h.l0 ≤ height →
-    StripesRead h height known known' count 0 carried text text' → StripesRead h n known known' count 0 carried text text'
+    StripesRead h height (passage known known' text text') count 0 carried → StripesRead h n (passage known known' text text') count 0 carried
 other_read h height n known known' count carried text text' all all' r = record {
   stripes = r.stripes;
   many = r.many;
@@ -98,8 +100,8 @@ moves_none (Move row offset ∷ segments) more none = absurd (let e = sum_by-app
 moves_none (Comment text ∷ segments) more none = moves_none segments more (let e = sum_by-append (λ y. cond (is_move y) 1 0) (Comment text ∷ []) segments in omega (arith, none, e))
 
 -- segments without a height and a move, and more without a height
-module _ {h : Fields} {place : Place} {front back : List ℕ} {at : Option move.Move} {comments comments' : ℕ} (fresh : place.given ≡ false) (p : HasPassed h place false (Some front) (Some []) None false false comments)
-    (q : HasPassed h place false (Some back) (Some []) at (is_some at) false comments') where
+module _ {h : Fields} {place : Place} {front back : List ℕ} {at : Option move.Move} {comments comments' : ℕ} (fresh : place.given ≡ false) (p : HasPassed h place false (Some front) (Some []) (segments_so_far None false false comments))
+    (q : HasPassed h place false (Some back) (Some []) (segments_so_far at (is_some at) false comments')) where
   both : List Segment
   both = p.segments ++ q.segments
 
@@ -121,7 +123,7 @@ module _ {h : Fields} {place : Place} {front back : List ℕ} {at : Option move.
   moves : count_by is_move (p.segments ++ q.segments) ≡ count_by is_move q.segments
   moves = let e = sum_by-append (λ y. cond (is_move y) 1 0) p.segments q.segments in omega (arith, e, unmoved)
 
-  pub passed_more : HasPassed h place false (Some (front ++ back)) (Some []) at (is_some at) false (min (count_by is_comment (p.segments ++ q.segments)) (2 ^ 64 - 1))
+  pub passed_more : HasPassed h place false (Some (front ++ back)) (Some []) (segments_so_far at (is_some at) false (min (count_by is_comment (p.segments ++ q.segments)) (2 ^ 64 - 1)))
   passed_more = record {
     segments = p.segments ++ q.segments;
     begun = record { legal = All-append (IsLegal h) p.segments q.segments p.begun.legal q.begun.legal; one_move = (let few = q.begun.one_move in omega (arith, few, moves)); bytes = tt };
@@ -137,29 +139,29 @@ module _ {h : Fields} {place : Place} {front back : List ℕ} {at : Option move.
 
 -- the head of a stripe, and what came of it behind the marker before it
 pub head_behind : {h : Fields} {height entities : ℕ} {carried : Carried} {done back out : List ℕ} {at : Option move.Move} {place : Place} {comments : ℕ} → place ≡ record { height = height; entities = entities; given = false } →
-    HeadStands h height entities false None carried done out → HasPassed h place false (Some back) (Some []) at (is_some at) false comments → HeadStands h height entities false at carried (done ++ back) out
+    HeadStands (sized h height) (head_place entities false None carried) done out → HasPassed h place false (Some back) (Some []) (segments_so_far at (is_some at) false comments) → HeadStands (sized h height) (head_place entities false at carried) (done ++ back) out
 head_behind {h} {height} {entities} {carried} {done} {back} {out} {at} {place} {comments} place_is s q = went s.before refl where
-  went : (b : Bool) → s.before ≡ b → HeadStands h height entities false at carried (done ++ back) out
+  went : (b : Bool) → s.before ≡ b → HeadStands (sized h height) (head_place entities false at carried) (done ++ back) out
   went true e = absurd (let k = s.passed.given_is in let z : cond {A = ℕ} s.before 1 0 ≡ 1 = ap (λ (t : Bool). cond {A = ℕ} t 1 0) e in omega (arith, k, z))
   went false e = record {
     before = false;
     front = s.front;
     back = s.back ++ back;
     text_is = ap (λ z. z ++ back) s.text_is ∙ append_assoc s.front s.back back;
-    stripes = subst (λ t. StripesRead h height (Some s.front) (Some []) entities (cond t 1 0) carried (Some []) (Some out)) e s.stripes;
+    stripes = subst (λ t. StripesRead h height (passage (Some s.front) (Some []) (Some []) (Some out)) entities (cond t 1 0) carried) e s.stripes;
     comments = min (count_by is_comment (here.segments ++ there.segments)) (2 ^ 64 - 1);
     passed = passed_more refl here there;
     fewer = s.fewer;
   } where
-    here : HasPassed h (record { height = height; entities = entities; given = false }) false (Some s.back) (Some []) None false false s.comments
-    here = subst (λ t. HasPassed h (record { height = height; entities = entities; given = t }) false (Some s.back) (Some []) None false false s.comments) e s.passed
+    here : HasPassed h (record { height = height; entities = entities; given = false }) false (Some s.back) (Some []) (segments_so_far None false false s.comments)
+    here = subst (λ t. HasPassed h (record { height = height; entities = entities; given = t }) false (Some s.back) (Some []) (segments_so_far None false false s.comments)) e s.passed
 
-    there : HasPassed h (record { height = height; entities = entities; given = false }) false (Some back) (Some []) at (is_some at) false comments
-    there = subst (λ p. HasPassed h p false (Some back) (Some []) at (is_some at) false comments) place_is q
+    there : HasPassed h (record { height = height; entities = entities; given = false }) false (Some back) (Some []) (segments_so_far at (is_some at) false comments)
+    there = subst (λ p. HasPassed h p false (Some back) (Some []) (segments_so_far at (is_some at) false comments)) place_is q
 
 -- ---- a height comes in the head of a stripe
 
-module _ {h : Fields} {entities : ℕ} {at : Option move.Move} {carried : Carried} {text out : List ℕ} (s : HeadStands h h.yd entities false at carried text out) (n : ℕ) (variable : IsTrue (is_variable h)) (valid : is_valid_length h entities n ≡ true) where
+module _ {h : Fields} {entities : ℕ} {at : Option move.Move} {carried : Carried} {text out : List ℕ} (s : HeadStands (sized h h.yd) (head_place entities false at carried) text out) (n : ℕ) (variable : IsTrue (is_variable h)) (valid : is_valid_length h entities n ≡ true) where
   given_before : s.before ≡ false
   given_before = went s.before refl where
     went : (b : Bool) → s.before ≡ b → s.before ≡ false
@@ -195,27 +197,27 @@ module _ {h : Fields} {entities : ℕ} {at : Option move.Move} {carried : Carrie
   }
 
   -- it is in use, where it has a row of the stripe
-  pub head_raised : 1 ≤ h.l0 → IsLegal h (NewLength n) → entities * h.l0 < n → HeadStands h n entities true at carried (text ++ segment_bytes (NewLength n)) out
+  pub head_raised : 1 ≤ h.l0 → IsLegal h (NewLength n) → entities * h.l0 < n → HeadStands (sized h n) (head_place entities true at carried) (text ++ segment_bytes (NewLength n)) out
   head_raised one legal over = head_length at_height n refl refl legal where
     parts : (1 ≤ n) × (n ≤ h.yd)
     parts = (legal.1, legal.2)
 
-    at_height : HeadStands h n entities false at carried text out
+    at_height : HeadStands (sized h n) (head_place entities false at carried) text out
     at_height = record {
       before = false;
       front = s.front;
       back = s.back;
       text_is = s.text_is;
       stripes = other_read h h.yd n (Some s.front) (Some []) entities carried (Some []) (Some out) (omega (arith, over)) (omega (arith, over, parts.1))
-          (subst (λ t. StripesRead h h.yd (Some s.front) (Some []) entities (cond t 1 0) carried (Some []) (Some out)) given_before s.stripes);
+          (subst (λ t. StripesRead h h.yd (passage (Some s.front) (Some []) (Some []) (Some out)) entities (cond t 1 0) carried) given_before s.stripes);
       comments = s.comments;
       passed = passed_at;
       fewer = more_stripes n h.l0 entities one over;
     } where
-      was : HasPassed h (record { height = h.yd; entities = entities; given = false }) false (Some s.back) (Some []) at (is_some at) false s.comments
-      was = subst (λ t. HasPassed h (record { height = h.yd; entities = entities; given = t }) false (Some s.back) (Some []) at (is_some at) false s.comments) given_before s.passed
+      was : HasPassed h (record { height = h.yd; entities = entities; given = false }) false (Some s.back) (Some []) (segments_so_far at (is_some at) false s.comments)
+      was = subst (λ t. HasPassed h (record { height = h.yd; entities = entities; given = t }) false (Some s.back) (Some []) (segments_so_far at (is_some at) false s.comments)) given_before s.passed
 
-      passed_at : HasPassed h (record { height = n; entities = entities; given = false }) false (Some s.back) (Some []) at (is_some at) false s.comments
+      passed_at : HasPassed h (record { height = n; entities = entities; given = false }) false (Some s.back) (Some []) (segments_so_far at (is_some at) false s.comments)
       passed_at = record {
         segments = was.segments;
         begun = was.begun;

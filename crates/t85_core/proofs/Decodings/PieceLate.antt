@@ -19,13 +19,14 @@ use Rattle.t85_core.specs.Lent.{Carried}
 use Rattle.t85_core.specs.Header.{Fields, IsAccepted, is_variable}
 use Rattle.t85_core.specs.Grammar.{NewLength, Stripe, segment_bytes, stripe_bytes, marker_bytes, stripe_count, all_segments, lengths, is_comment, is_valid_length}
 use Rattle.t85_core.specs.Height.{GivesHeight}
-use Rattle.t85_core.specs.Steps.Segments.{HasPassed}
-use Rattle.t85_core.specs.Coding.{mode_of, move_of}
+use Rattle.t85_core.specs.Steps.Segments.{HasPassed, segments_so_far}
+use Rattle.t85_core.specs.Coding.{mode_of, move_of, flagged}
 use Rattle.t85_core.specs.Denotes.{DenotesAt}
 use Rattle.t85_core.specs.Steps.CoderLaws.{CoderLaws}
-use Rattle.t85_core.specs.Steps.State.{RowStart, first_row_start, image_start, next_stripe_start, Run, StripeRun, StripesRun}
+use Rattle.t85_core.specs.Steps.State.{RowStart, first_row_start, image_start, next_stripe_start, Run, StripeRun, StripesRun, stripe_coding}
 use Rattle.t85_core.specs.Steps.PieceCode.{CodeText, MarkerFound}
-use Rattle.t85_core.specs.Steps.Pieces.{HeadStands, CodeStands, InRowStands}
+use Rattle.t85_core.specs.Steps.Pieces.{HeadStands, CodeStands, InRowStands, head_place, code_place}
+use Rattle.t85_core.specs.Steps.SizedImage.{sized}
 use Rattle.t85_core.proofs.Bytes.Lists.{flat_map_push}
 use Rattle.t85_core.proofs.Bytes.Lengths.{lengths_append, gives_none}
 use Rattle.t85_core.proofs.Walks.Passed.{segments_push}
@@ -46,14 +47,14 @@ pub record RowsHeld (h : Fields) (entities row : ℕ) (text out : List ℕ) : Ty
   pub start : Carried
   pub before : List ℕ
   pub began : List ℕ
-  pub head : HeadStands h h.yd entities false at start before began
+  pub head : HeadStands (sized h h.yd) (head_place entities false at start) before began
   pub code : List ℕ
   pub small : AllByRecursion (λ b. b < 256) code
   pub reset : Bool
   pub rows : List (List Bool)
   pub flags : List Bool
   pub last : RowStart
-  pub run : Run h.xd (mode_of h.options) (move_of head.passed.segments) 0 (first_row_start head.stripes.next) rows flags last
+  pub run : Run (stripe_coding h head.passed.segments) 0 (first_row_start head.stripes.next) rows flags last
   pub many : length rows ≡ row
   pub lies : Lies code last.state.place
   pub text_is : text ≡ before ++ (stuffed code ++ marker_bytes reset)
@@ -72,7 +73,7 @@ whole_of {answers} {text} {reset} m = sym (append-nil text) ∙ ap (λ z. text +
 
 -- between two rows
 pub code_held : CoderLaws → {h : Fields} {entities : ℕ} {at : Option move.Move} {row : ℕ} {first : Option code_type.Code} {marker : Option Bool} {carried : Carried} {d : Decoder} {text out : List ℕ} →
-    CodeStands h h.yd entities false at row first marker carried d text out → Marked first marker → RowsHeld h entities row text out
+    CodeStands (sized h h.yd) (head_place entities false at carried) (code_place row first marker d) text out → Marked first marker → RowsHeld h entities row text out
 code_held q {h} {entities} {at} {row} {first} {marker} {carried} {d} {text} {out} s marked =
     let m = marker_found first marker s.read.answers s.extra s.code s.code_is marked in
     record {
@@ -119,7 +120,7 @@ first_answers xs ys c closed small a = record {
 
 -- in a row
 pub in_row_held : CoderLaws → {h : Fields} {entities : ℕ} {at : Option move.Move} {row : ℕ} {first : Option code_type.Code} {marker : Option Bool} {carried : Carried} {d : Decoder} {in_row : RowPlace} {text out : List ℕ} →
-    InRowStands h h.yd entities false at row first marker carried d in_row text out → Marked first marker → RowsHeld h entities row text out
+    InRowStands (sized h h.yd) (head_place entities false at carried) (code_place row first marker d) in_row text out → Marked first marker → RowsHeld h entities row text out
 in_row_held q {h} {entities} {at} {row} {first} {marker} {carried} {d} {in_row} {text} {out} s marked =
     let m = marker_found first marker (s.begun.read.answers ++ s.begun.since) [] s.code s.code_is marked in
     record {
@@ -168,7 +169,7 @@ module _ {h : Fields} {entities row : ℕ} {text out : List ℕ} (q : CoderLaws)
   none_here : lengths r.head.passed.segments ≡ []
   none_here = nil_of (lengths r.head.passed.segments) (let b = r.head.passed.given_is in omega (arith, b))
 
-  before_run : StripesRun h n (image_start h.xd) S R r.head.stripes.flags r.head.stripes.next
+  before_run : StripesRun h n (image_start h.xd) S (flagged R r.head.stripes.flags) r.head.stripes.next
   before_run = other_run h h.yd n (image_start h.xd) S R r.head.stripes.flags r.head.stripes.next (omega (arith, counted, n_is)) (omega (arith, counted, n_is, within)) r.head.stripes.run
 
   before_many : length R ≡ entities * h.l0
@@ -177,7 +178,7 @@ module _ {h : Fields} {entities row : ℕ} {text out : List ℕ} (q : CoderLaws)
   abbrev front : Front h.xd (mode_of h.options) (move_of r.head.passed.segments) 0 (first_row_start r.head.stripes.next) r.rows r.code k
   front = run_front q h.xd (mode_of h.options) (move_of r.head.passed.segments) 0 (first_row_start r.head.stripes.next) r.rows r.flags r.last r.code k start_IsPlace r.run r.lies
 
-  stripe_run : StripeRun h k r.head.stripes.next stripe (take k r.rows) front.flags (next_stripe_start h.xd r.reset front.last)
+  stripe_run : StripeRun h k r.head.stripes.next stripe (flagged (take k r.rows) front.flags) (next_stripe_start h.xd r.reset front.last)
   stripe_run = record {
     whole = record { legal = r.head.passed.begun.legal; one_move = r.head.passed.begun.one_move; bytes = r.small };
     last = front.last;
@@ -187,9 +188,9 @@ module _ {h : Fields} {entities row : ℕ} {text out : List ℕ} (q : CoderLaws)
     next_is = refl;
   }
 
-  all_run : StripesRun h n (image_start h.xd) (S ++ stripe ∷ []) (R ++ take k r.rows) (r.head.stripes.flags ++ front.flags) (next_stripe_start h.xd r.reset front.last)
+  all_run : StripesRun h n (image_start h.xd) (S ++ stripe ∷ []) (flagged (R ++ take k r.rows) (r.head.stripes.flags ++ front.flags)) (next_stripe_start h.xd r.reset front.last)
   all_run = stripes_push h n (image_start h.xd) S R r.head.stripes.flags r.head.stripes.next stripe (take k r.rows) front.flags (next_stripe_start h.xd r.reset front.last) before_run
-      (subst (λ m. StripeRun h m r.head.stripes.next stripe (take k r.rows) front.flags (next_stripe_start h.xd r.reset front.last)) (let e : k ≡ min (n - length S * h.l0) h.l0 = omega (arith, counted, n_is, fits) in e) stripe_run)
+      (subst (λ m. StripeRun h m r.head.stripes.next stripe (flagged (take k r.rows) front.flags) (next_stripe_start h.xd r.reset front.last)) (let e : k ≡ min (n - length S * h.l0) h.l0 = omega (arith, counted, n_is, fits) in e) stripe_run)
 
   text_is : text ≡ flat_map stripe_bytes (S ++ stripe ∷ [])
   text_is =
@@ -212,7 +213,7 @@ module _ {h : Fields} {entities row : ℕ} {text out : List ℕ} (q : CoderLaws)
   late_out = r.out_is ∙ ap (λ z. z ++ flat_map packed_row r.rows) r.head.stripes.appended ∙ sym (flat_map-append packed_row R r.rows)
 
   -- it is the body's height
-  pub late_gives : IsTrue (is_variable h) → is_valid_length h (entities + 1) n ≡ true → {at : Option move.Move} {moved : Bool} {last : Bool} {back : List ℕ} {comments : ℕ} (p : HasPassed h (record { height = h.yd; entities = entities + 1; given = false }) last (Some back) (Some []) at moved false comments) →
+  pub late_gives : IsTrue (is_variable h) → is_valid_length h (entities + 1) n ≡ true → {at : Option move.Move} {moved : Bool} {last : Bool} {back : List ℕ} {comments : ℕ} (p : HasPassed h (record { height = h.yd; entities = entities + 1; given = false }) last (Some back) (Some []) (segments_so_far at moved false comments)) →
       (entities + 1 ≡ stripe_count h.yd h.l0 → AllByRecursion (λ s. IsTrue (is_comment s)) p.segments) → (rest : List ℕ) → GivesHeight h (text ++ (back ++ (segment_bytes (NewLength n) ++ rest))) n
   late_gives variable valid {back = back} p comments rest = record {
     variable = variable;

@@ -24,13 +24,15 @@ use Rattle.t85_core.specs.Denotes.{DenotesAt}
 use Rattle.t85_core.specs.Steps.State.{image_start}
 use Rattle.t85_core.specs.Pieces.{HoldsImage}
 use Rattle.t85_core.specs.Steps.CoderLaws.{CoderLaws}
-use Rattle.t85_core.specs.Steps.Segments.{HasPassed, PieceFault, code_bytes}
+use Rattle.t85_core.specs.Steps.Segments.{HasPassed, PieceFault, code_bytes, segments_so_far}
 use Rattle.t85_core.specs.Steps.HeightWalk.{LookEnds}
 use Rattle.t85_core.specs.Steps.DecodeStripes.{StripesRead}
-use Rattle.t85_core.specs.Steps.Behind.{BehindStands, BehindOn, BreaksBehind, StopsBehind, move_came}
-use Rattle.t85_core.specs.Steps.Pieces.{HeadStands, WalkStands, IsInCode, CodeStands, InRowStands}
+use Rattle.t85_core.specs.Steps.Behind.{BehindStands, BehindOn, BreaksBehind, StopsBehind, move_came, behind_at}
+use Rattle.t85_core.specs.Steps.Pieces.{HeadStands, WalkStands, IsInCode, CodeStands, InRowStands, head_place, code_place}
+use Rattle.t85_core.specs.Steps.SizedImage.{sized}
 use Rattle.t85_core.specs.Steps.PieceStands.{HeightKnown, WalkWaits, IsAtMarker, place_behind, last_behind, entities_behind, is_last}
 use Rattle.t85_core.specs.Steps.PieceSteps.{SomeStand, DecoderOn, EndsWhole, StripeLeft, HeadEntered, HeightComes, LookIsOver, head_stage}
+use Rattle.t85_core.specs.Steps.Passage.{passage}
 use Rattle.t85_core.proofs.Bytes.Lengths.{gives_none}
 use Rattle.t85_core.proofs.Grammar.Heights.{one_height_of}
 use Rattle.t85_core.proofs.Grammar.SomeHeight.{height_of_ended}
@@ -53,7 +55,7 @@ only_comments (NewLength n ∷ segments) none empty = absurd (let bot : ⊥ = cc
 only_comments (Move row offset ∷ segments) none empty = absurd (let e = sum_by-append (λ y. cond (is_move y) 1 0) (Move row offset ∷ []) segments in omega (arith, none, e))
 only_comments (Comment text ∷ segments) none empty = (refl, only_comments segments (let e = sum_by-append (λ y. cond (is_move y) 1 0) (Comment text ∷ []) segments in omega (arith, none, e)) empty)
 
-module _ {h : Fields} {place : Place} {b : Behind} {back : List ℕ} (fresh : place.given ≡ false) (s : BehindStands h place true b back) where
+module _ {h : Fields} {place : Place} {b : Behind} {back : List ℕ} (fresh : place.given ≡ false) (s : BehindStands h (behind_at place true) b back) where
   pub are_comments : AllByRecursion (λ s. IsTrue (is_comment s)) s.passed.segments
   are_comments = only_comments s.passed.segments (let e = s.passed.counted in omega (arith, e)) (nil_of (lengths s.passed.segments) (let e = s.passed.given_is in let z : cond {A = ℕ} place.given 1 0 ≡ 0 = ap (λ (t : Bool). cond {A = ℕ} t 1 0) fresh in omega (arith, e, z)))
 
@@ -81,12 +83,12 @@ module _ {h : Fields} {place : Place} {b : Behind} {back : List ℕ} (fresh : pl
       ∙ ap (λ z. z ++ p) (sym is) ∙ sym (append-nil (back ++ p)) ∙ ap (λ z. (back ++ p) ++ z) (sym nothing)
 
   -- a fault, or the end
-  pub look_fault : (p more : List ℕ) (f : Fault) → h.yd < 2 ^ 32 → is_variable h ≡ true → StopsBehind h place true b p f → (f ≡ Truncated → more ≡ []) → LookEnds h place.entities ((back ++ p) ++ more)
+  pub look_fault : (p more : List ℕ) (f : Fault) → h.yd < 2 ^ 32 → is_variable h ≡ true → StopsBehind h (behind_at place true) b p f → (f ≡ Truncated → more ≡ []) → LookEnds h place.entities ((back ++ p) ++ more)
   look_fault p more f small variable stops nothing = by b.comment refl stops.breaks where
     readable : f ≢ Read
     readable e = let k : counted_as Truncated Read ≡ Read = ap (counted_as Truncated) (sym e) ∙ stops.counted ∙ e in let z : Truncated ≡ Read = k in cc
 
-    by : (o : Option ℕ) → b.comment ≡ o → BreaksBehind h place true b o p f → LookEnds h place.entities ((back ++ p) ++ more)
+    by : (o : Option ℕ) → b.comment ≡ o → BreaksBehind h (behind_at place true) b o p f → LookEnds h place.entities ((back ++ p) ++ more)
     by None between (unread, ends) =
         subst (LookEnds h place.entities) (ap (λ z. z ++ (p ++ more)) (sym (front_is s between)) ∙ sym (append_assoc back p more))
         (looked_fault (has_looked (p ++ more)) place.entities f small variable readable (longer p more f nothing unread ends))
@@ -113,8 +115,8 @@ module _ (h : Fields) (w : WalkView) (b : Behind) (text out : List ℕ) (q : Cod
   pub rows_held : RowsHeld h w.entities w.row s.done out
   rows_held = by in_code where
     by : IsInCode w.stage → RowsHeld h w.entities w.row s.done out
-    by (inl e) = code_held q (subst (λ g. CodeStands h h.yd w.entities g w.at w.row w.first w.marker w.carried w.decoder s.done out) s.ungiven (at_stage e s.walk)) (marker_of w s.at in_code)
-    by (inr e) = in_row_held q (subst (λ g. InRowStands h h.yd w.entities g w.at w.row w.first w.marker w.carried w.decoder w.place s.done out) s.ungiven (at_stage e s.walk)) (marker_of w s.at in_code)
+    by (inl e) = code_held q (subst (λ g. CodeStands (sized h h.yd) (head_place w.entities g w.at w.carried) (code_place w.row w.first w.marker w.decoder) s.done out) s.ungiven (at_stage e s.walk)) (marker_of w s.at in_code)
+    by (inr e) = in_row_held q (subst (λ g. InRowStands (sized h h.yd) (head_place w.entities g w.at w.carried) (code_place w.row w.first w.marker w.decoder) w.place s.done out) s.ungiven (at_stage e s.walk)) (marker_of w s.at in_code)
 
   pub fewer_here : w.entities < stripe_count h.yd h.l0
   fewer_here = rows_held.head.fewer
@@ -126,7 +128,7 @@ module _ (h : Fields) (w : WalkView) (b : Behind) (text out : List ℕ) (q : Cod
 
 -- behind the last stripe only comments came
 pub comments_behind : (h : Fields) (w : WalkView) → 1 ≤ h.l0 → IsInCode w.stage → w.left ≡ h.yd - w.entities * h.l0 → {place : Place} {front : List ℕ} {at : Option move.Move} {comments : ℕ}
-    (p : HasPassed h place (last_behind h w.stage w.left) (Some front) (Some []) at (move_came (last_behind h w.stage w.left) at) false comments) → w.entities + 1 ≡ stripe_count h.yd h.l0 → AllByRecursion (λ s. IsTrue (is_comment s)) p.segments
+    (p : HasPassed h place (last_behind h w.stage w.left) (Some front) (Some []) (segments_so_far at (move_came (last_behind h w.stage w.left) at) false comments)) → w.entities + 1 ≡ stripe_count h.yd h.l0 → AllByRecursion (λ s. IsTrue (is_comment s)) p.segments
 comments_behind h w some in_code left {at = at} p last = only_comments p.segments (zero_moves (last_behind h w.stage w.left) is_last_here p.counted) (nil_of (lengths p.segments) (let e = p.given_is in omega (arith, e))) where
   all : h.yd ≤ (w.entities + 1) * h.l0
   all = let t = div_ceil_times h.yd h.l0 some in let e = ap (λ (m : ℕ). m * h.l0) last in omega (arith, t.0, e)
@@ -176,8 +178,8 @@ late_whole d q n p rest late waits between in_code comes fits few is_all text ou
   variable : IsTrue (is_variable (fields_of d.header))
   variable = s.height.variable late
 
-  passed : HasPassed (fields_of d.header) (record { height = d.header.yd; entities = d.walk.entities + 1; given = false }) (last_behind (fields_of d.header) d.walk.stage d.walk.left) (Some w.behind.front) (Some []) d.behind.at (move_came (last_behind (fields_of d.header) d.walk.stage d.walk.left) d.behind.at) false w.behind.comments
-  passed = subst (λ z. HasPassed (fields_of d.header) z (last_behind (fields_of d.header) d.walk.stage d.walk.left) (Some w.behind.front) (Some []) d.behind.at (move_came (last_behind (fields_of d.header) d.walk.stage d.walk.left) d.behind.at) false w.behind.comments) (place_here (fields_of d.header) d.walk d.behind text out q w in_code) w.behind.passed
+  passed : HasPassed (fields_of d.header) (record { height = d.header.yd; entities = d.walk.entities + 1; given = false }) (last_behind (fields_of d.header) d.walk.stage d.walk.left) (Some w.behind.front) (Some []) (segments_so_far d.behind.at (move_came (last_behind (fields_of d.header) d.walk.stage d.walk.left) d.behind.at) false w.behind.comments)
+  passed = subst (λ z. HasPassed (fields_of d.header) z (last_behind (fields_of d.header) d.walk.stage d.walk.left) (Some w.behind.front) (Some []) (segments_so_far d.behind.at (move_came (last_behind (fields_of d.header) d.walk.stage d.walk.left) d.behind.at) false w.behind.comments)) (place_here (fields_of d.header) d.walk d.behind text out q w in_code) w.behind.passed
 
   comments : d.walk.entities + 1 ≡ stripe_count d.header.yd d.header.l0 → AllByRecursion (λ s. IsTrue (is_comment s)) passed.segments
   comments = comments_behind (fields_of d.header) d.walk d.header.some_rows in_code w.walk.left_is passed
@@ -202,8 +204,8 @@ look_whole d d' p is_all q late waits last over ended text out more s follows =
     in_code : IsInCode d.walk.stage
     in_code = in_last (fields_of d.header) d.walk w.at last
 
-    read : StripesRead (fields_of d.header) d.header.yd (Some w.done) (Some []) (d.walk.entities + 1) 0 d'.walk.carried (Some []) (Some out)
-    read = subst (λ g. StripesRead (fields_of d.header) d.header.yd (Some w.done) (Some []) (d.walk.entities + 1) (cond {A = ℕ} g 1 0) d'.walk.carried (Some []) (Some out)) w.ungiven (ended.read w.done out w.walk)
+    read : StripesRead (fields_of d.header) d.header.yd (passage (Some w.done) (Some []) (Some []) (Some out)) (d.walk.entities + 1) 0 d'.walk.carried
+    read = subst (λ g. StripesRead (fields_of d.header) d.header.yd (passage (Some w.done) (Some []) (Some []) (Some out)) (d.walk.entities + 1) (cond {A = ℕ} g 1 0) d'.walk.carried) w.ungiven (ended.read w.done out w.walk)
 
     all : d.header.yd ≤ (d.walk.entities + 1) * d.header.l0
     all =
@@ -217,7 +219,7 @@ look_whole d d' p is_all q late waits last over ended text out more s follows =
     many = last_stripe d.header.yd d.header.l0 d.walk.entities d.header.some_rows (fewer_here (fields_of d.header) d.walk d.behind text out q w in_code) all
 
     look : LookEnds (fields_of d.header) (place_behind (fields_of d.header) d.walk.stage d.walk.entities).entities ((w.back ++ p) ++ more)
-    look = over w.back more (subst (λ l. BehindStands (fields_of d.header) (place_behind (fields_of d.header) d.walk.stage d.walk.entities) l d.behind w.back) last w.behind) follows
+    look = over w.back more (subst (λ l. BehindStands (fields_of d.header) (behind_at (place_behind (fields_of d.header) d.walk.stage d.walk.entities) l) d.behind w.back) last w.behind) follows
 
     same : length read.stripes ≡ (place_behind (fields_of d.header) d.walk.stage d.walk.entities).entities
     same = read.many ∙ sym (in_code_entities d.walk.stage d.walk.entities in_code)
@@ -264,17 +266,17 @@ raised_on d e d' n p rest late waits head between comes over header height close
   put_walks d' (text ++ segment_bytes (NewLength n)) (out ++ []) closed
       (subst (λ z. HeightKnown (fields_of z) d'.height d'.is_open (text ++ segment_bytes (NewLength n))) (sym (header ∙ head.keeps.header)) (subst (λ m. HeightKnown (fields_of d.header) m d'.is_open (text ++ segment_bytes (NewLength n))) (sym height)
       (subst (λ b. HeightKnown (fields_of d.header) n b (text ++ segment_bytes (NewLength n))) (sym closed) known)))
-      (subst (λ z. WalkStands (fields_of z) d'.height d'.walk (text ++ segment_bytes (NewLength n)) (out ++ [])) (sym (header ∙ head.keeps.header)) (subst (λ m. WalkStands (fields_of d.header) m d'.walk (text ++ segment_bytes (NewLength n)) (out ++ [])) (sym height)
-      (subst (λ z. WalkStands (fields_of d.header) n z (text ++ segment_bytes (NewLength n)) (out ++ [])) (sym walk) (subst (WalkStands (fields_of d.header) n (record e.walk { left = e.walk.left - (d.header.yd - n); given = true }) (text ++ segment_bytes (NewLength n))) (sym (append-nil out)) now)))),
+      (subst (λ z. WalkStands (sized (fields_of z) d'.height) d'.walk (text ++ segment_bytes (NewLength n)) (out ++ [])) (sym (header ∙ head.keeps.header)) (subst (λ m. WalkStands (sized (fields_of d.header) m) d'.walk (text ++ segment_bytes (NewLength n)) (out ++ [])) (sym height)
+      (subst (λ z. WalkStands (sized (fields_of d.header) n) z (text ++ segment_bytes (NewLength n)) (out ++ [])) (sym walk) (subst (WalkStands (sized (fields_of d.header) n) (record e.walk { left = e.walk.left - (d.header.yd - n); given = true }) (text ++ segment_bytes (NewLength n))) (sym (append-nil out)) now)))),
 ) where
-  there : WalkStands (fields_of d.header) d.header.yd e.walk text out
+  there : WalkStands (sized (fields_of d.header) d.header.yd) e.walk text out
   there = head.stands text out (waits_of d text out late waits s)
 
   is_head : e.walk.stage ≡ stage.Head
   is_head = head.stage ∙ ap head_stage between
 
-  in_head : HeadStands (fields_of d.header) d.header.yd e.walk.entities false e.walk.at e.walk.carried text out
-  in_head = subst (λ g. HeadStands (fields_of d.header) d.header.yd e.walk.entities g e.walk.at e.walk.carried text out) head.given (at_stage is_head there)
+  in_head : HeadStands (sized (fields_of d.header) d.header.yd) (head_place e.walk.entities false e.walk.at e.walk.carried) text out
+  in_head = subst (λ g. HeadStands (sized (fields_of d.header) d.header.yd) (head_place e.walk.entities g e.walk.at e.walk.carried) text out) head.given (at_stage is_head there)
 
   variable : IsTrue (is_variable (fields_of d.header))
   variable = s.height.variable late
@@ -290,7 +292,7 @@ raised_on d e d' n p rest late waits head between comes over header height close
     fixed = λ _ v. absurd (true≢false (sym variable ∙ v));
   }
 
-  now : WalkStands (fields_of d.header) n (record e.walk { left = e.walk.left - (d.header.yd - n); given = true }) (text ++ segment_bytes (NewLength n)) out
+  now : WalkStands (sized (fields_of d.header) n) (record e.walk { left = e.walk.left - (d.header.yd - n); given = true }) (text ++ segment_bytes (NewLength n)) out
   now = record {
     left_is = (let left = there.left_is in omega (arith, left, over, comes.legal.2));
     width_is = there.width_is;
@@ -305,7 +307,7 @@ raised_on d e d' n p rest late waits head between comes over header height close
 -- ---- what came behind the marker
 
 pub passed_on : (d d1 : PieceView) (b : Behind) (p p1 : List ℕ) → d.is_open ≡ true → d.waits ≡ true → d1.header ≡ d.header → d1.height ≡ d.height → d1.is_open ≡ d.is_open → d1.waits ≡ d.waits → d1.walk ≡ d.walk → d1.behind ≡ b →
-    BehindOn (fields_of d.header) (place_behind (fields_of d.header) d.walk.stage d.walk.entities) (last_behind (fields_of d.header) d.walk.stage d.walk.left) d.behind b p p1 → DecoderOn d d1 p p1 []
+    BehindOn (fields_of d.header) (behind_at (place_behind (fields_of d.header) d.walk.stage d.walk.entities) (last_behind (fields_of d.header) d.walk.stage d.walk.left)) d.behind b p p1 → DecoderOn d d1 p p1 []
 passed_on d d1 b p p1 late waits header height is_open same_waits walk behind on text out s =
     let w = waits_of d text out late waits s in
     let k = on w.back w.behind in (
@@ -319,7 +321,7 @@ passed_on d d1 b p p1 late waits header height is_open same_waits walk behind on
             done = w.done;
             back = w.back ++ k.0;
             text_is = ap (λ z. z ++ k.0) w.text_is ∙ append_assoc w.done w.back k.0;
-            walk = subst (WalkStands (fields_of d.header) d.header.yd d.walk w.done) (sym (append-nil out)) w.walk;
+            walk = subst (WalkStands (sized (fields_of d.header) d.header.yd) d.walk w.done) (sym (append-nil out)) w.walk;
             at = w.at;
             ungiven = w.ungiven;
             behind = k.2;

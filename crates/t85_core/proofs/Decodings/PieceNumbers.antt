@@ -22,7 +22,8 @@ use Rattle.t85_core.specs.Header.{Fields}
 use Rattle.t85_core.specs.Options.{fields_of}
 use Rattle.t85_core.specs.Numbers.{code_number, IsWalkAs}
 use Rattle.t85_core.specs.Steps.Segments.{IsByteOrMarker}
-use Rattle.t85_core.specs.Steps.Pieces.{CodeStands, InRowStands, StageStands, WalkStands}
+use Rattle.t85_core.specs.Steps.Pieces.{CodeStands, InRowStands, StageStands, WalkStands, head_place, code_place}
+use Rattle.t85_core.specs.Steps.SizedImage.{sized}
 use Rattle.t85_core.specs.Steps.PieceStands.{DecoderStands, HeightKnown, CodeWalks, WalkWaits}
 use Rattle.t85_core.proofs.Decodings.PieceWalk.{in_row_going}
 use Rattle.t85_core.proofs.Decodings.PieceStood.{walks_of, code_of, waits_of, put_walks, put_code, put_waits}
@@ -66,7 +67,7 @@ module _ {w w' : Walk} (k : IsWalkAs w w') (rows : Held) (learned : List Estimat
   there = walk_view (record w { decoder = w'.decoder }) rows learned
 
   code_as : {h : Fields} {height entities : ℕ} {given : Bool} {at : Option move.Move} {row : ℕ} {first : Option code_type.Code} {marker : Option Bool} {text out : List ℕ} →
-      CodeStands h height entities given at row first marker before.carried w.decoder text out → CodeStands h height entities given at row first marker before.carried w'.decoder text out
+      CodeStands (sized h height) (head_place entities given at before.carried) (code_place row first marker w.decoder) text out → CodeStands (sized h height) (head_place entities given at before.carried) (code_place row first marker w'.decoder) text out
   code_as s = record {
     before = s.before;
     began = s.began;
@@ -96,18 +97,18 @@ module _ {w w' : Walk} (k : IsWalkAs w w') (rows : Held) (learned : List Estimat
   }
 
   in_row_as : {h : Fields} {height entities : ℕ} {given : Bool} {at : Option move.Move} {row : ℕ} {first : Option code_type.Code} {marker : Option Bool} {place : RowPlace} {text out : List ℕ} →
-      InRowStands h height entities given at row first marker before.carried w.decoder place text out → InRowStands h height entities given at row first marker before.carried w'.decoder place text out
+      InRowStands (sized h height) (head_place entities given at before.carried) (code_place row first marker w.decoder) place text out → InRowStands (sized h height) (head_place entities given at before.carried) (code_place row first marker w'.decoder) place text out
   in_row_as {h} {height} {entities} {given} {at} {row} {first} {marker} {place} {text} {out} s =
-      subst (λ z. InRowStands h height entities given at row first marker before.carried z place text out) (sym (k.decoder_is (in_row_going s))) s
+      subst (λ z. InRowStands (sized h height) (head_place entities given at before.carried) (code_place row first marker z) place text out) (sym (k.decoder_is (in_row_going s))) s
 
-  stage_as : (h : Fields) (height : ℕ) (text out : List ℕ) (s : Stage) → StageStands s h height before text out → StageStands s h height there text out
+  stage_as : (h : Fields) (height : ℕ) (text out : List ℕ) (s : Stage) → StageStands s (sized h height) before text out → StageStands s (sized h height) there text out
   stage_as h height text out stage.Head s = s
   stage_as h height text out stage.Comment s = s
   stage_as h height text out stage.Code s = code_as s
   stage_as h height text out stage.Row s = in_row_as s
   stage_as h height text out stage.Done s = s
 
-  walk_there : {h : Fields} {height : ℕ} {text out : List ℕ} → WalkStands h height before text out → WalkStands h height there text out
+  walk_there : {h : Fields} {height : ℕ} {text out : List ℕ} → WalkStands (sized h height) before text out → WalkStands (sized h height) there text out
   walk_there {h} {height} {text} {out} s = record {
     left_is = s.left_is;
     width_is = s.width_is;
@@ -119,8 +120,8 @@ module _ {w w' : Walk} (k : IsWalkAs w w') (rows : Held) (learned : List Estimat
     stands = stage_as h height text out w.stage s.stands;
   }
 
-  walk_as : {h : Fields} {height : ℕ} {text out : List ℕ} → WalkStands h height before text out → WalkStands h height (walk_view w' rows learned) text out
-  walk_as {h} {height} {text} {out} s = subst (λ z. WalkStands h height (walk_view z rows learned) text out) (sym k.same) (walk_there s)
+  walk_as : {h : Fields} {height : ℕ} {text out : List ℕ} → WalkStands (sized h height) before text out → WalkStands (sized h height) (walk_view w' rows learned) text out
+  walk_as {h} {height} {text} {out} s = subst (λ z. WalkStands (sized h height) (walk_view z rows learned) text out) (sym k.same) (walk_there s)
 
   code_walk_as : {h : Fields} {text out : List ℕ} → CodeWalks h before text out → CodeWalks h (walk_view w' rows learned) text out
   code_walk_as {h} {text} {out} s =
@@ -143,9 +144,9 @@ stands_as d d' w' rows learned text out walk header height is_open waits behind 
 
   by : (a b : Bool) → d.is_open ≡ a → d.waits ≡ b → DecoderStands d' text out
   by false b e f = put_walks d' text out (is_open ∙ e) known
-      (subst (λ h. WalkStands h d'.height d'.walk text out) (sym header)
-      (subst (λ n. WalkStands (fields_of d.header) n d'.walk text out) (sym height)
-      (subst (λ z. WalkStands (fields_of d.header) d.height z text out) (sym walk) (walk_as k rows learned (walks_of (decoder_view d rows learned) text out e s)))))
+      (subst (λ h. WalkStands (sized h d'.height) d'.walk text out) (sym header)
+      (subst (λ n. WalkStands (sized (fields_of d.header) n) d'.walk text out) (sym height)
+      (subst (λ z. WalkStands (sized (fields_of d.header) d.height) z text out) (sym walk) (walk_as k rows learned (walks_of (decoder_view d rows learned) text out e s)))))
   by true false e f = put_code d' text out (is_open ∙ e) (waits ∙ f) known
       (subst (λ h. CodeWalks h d'.walk text out) (sym header) (subst (λ z. CodeWalks (fields_of d.header) z text out) (sym walk) (code_walk_as k rows learned (code_of (decoder_view d rows learned) text out e f s))))
   by true true e f =

@@ -17,46 +17,47 @@ use Rattle.t85_core.specs.Steps.State.{RowStart, image_start, first_row_start, n
 use Rattle.t85_core.specs.Steps.DecodeRows.{IsCarried}
 use Rattle.t85_core.specs.declared.segments.Code.TheVariants as code
 use Rattle.t85_core.specs.Steps.PieceCode.{EndsInNoEscape}
-use Rattle.t85_core.specs.Steps.Pieces.{CutOff, HeadStands, WalkStands, StageStands, StepsOn, StepsOff, StepsToEnd, Step, RowStep, RowLeaves, KeepsPlace, HasMarker, Turn, IsOver, CodeStands, IsInCode, rows_in}
+use Rattle.t85_core.specs.Steps.Pieces.{CutOff, HeadStands, WalkStands, StageStands, StepsOn, StepsOff, StepsToEnd, Step, RowStep, RowLeaves, KeepsPlace, HasMarker, Turn, IsOver, CodeStands, IsInCode, rows_in, head_place, code_place}
+use Rattle.t85_core.specs.Steps.SizedImage.{sized}
 use Rattle.t85_core.proofs.Walks.Passed.{passed_none}
 use Rattle.t85_core.proofs.Decodings.ImagePut.{stripes_start}
 
 -- bytes were taken, and nothing was handed out
-pub on_same : (h : Fields) (height : ℕ) (w' : WalkView) (text out p p' given : List ℕ) → p ≡ given ++ p' → WalkStands h height w' (text ++ given) out →
-    (g : List ℕ) × (p ≡ g ++ p') × WalkStands h height w' (text ++ g) (out ++ [])
-on_same h height w' text out p p' given taken s = (given, taken, subst (WalkStands h height w' (text ++ given)) (sym (append-nil out)) s)
+pub on_same : (h : Fields) (height : ℕ) (w' : WalkView) (text out p p' given : List ℕ) → p ≡ given ++ p' → WalkStands (sized h height) w' (text ++ given) out →
+    (g : List ℕ) × (p ≡ g ++ p') × WalkStands (sized h height) w' (text ++ g) (out ++ [])
+on_same h height w' text out p p' given taken s = (given, taken, subst (WalkStands (sized h height) w' (text ++ given)) (sym (append-nil out)) s)
 
 -- nothing was taken
-pub stays : (h : Fields) (height : ℕ) (w : WalkView) (p : List ℕ) → StepsOn h height w w p p []
-stays h height w p text out s = on_same h height w text out p p [] refl (subst (λ z. WalkStands h height w z out) (sym (append-nil text)) s)
+pub stays : (h : Fields) (height : ℕ) (w : WalkView) (p : List ℕ) → StepsOn (sized h height) w w p p []
+stays h height w p text out s = on_same h height w text out p p [] refl (subst (λ z. WalkStands (sized h height) w z out) (sym (append-nil text)) s)
 
 -- the stage is this
-pub at_stage : {h : Fields} {height : ℕ} {w : WalkView} {text out : List ℕ} {k : Stage} → w.stage ≡ k → WalkStands h height w text out → StageStands k h height w text out
-at_stage {h} {height} {w} {text} {out} e s = subst (λ z. StageStands z h height w text out) e s.stands
+pub at_stage : {h : Fields} {height : ℕ} {w : WalkView} {text out : List ℕ} {k : Stage} → w.stage ≡ k → WalkStands (sized h height) w text out → StageStands k (sized h height) w text out
+at_stage {h} {height} {w} {text} {out} e s = subst (λ z. StageStands z (sized h height) w text out) e s.stands
 
 -- it is that of the walk
-pub put_stage : (h : Fields) (height : ℕ) (w : WalkView) (text out : List ℕ) (k : Stage) → w.stage ≡ k → StageStands k h height w text out → StageStands w.stage h height w text out
-put_stage h height w text out k e s = subst (λ z. StageStands z h height w text out) (sym e) s
+pub put_stage : (h : Fields) (height : ℕ) (w : WalkView) (text out : List ℕ) (k : Stage) → w.stage ≡ k → StageStands k (sized h height) w text out → StageStands w.stage (sized h height) w text out
+put_stage h height w text out k e s = subst (λ z. StageStands z (sized h height) w text out) (sym e) s
 
 pub nil_of : (xs : List ℕ) → length xs ≡ 0 → xs ≡ []
 nil_of [] e = refl
 nil_of (x ∷ xs) e = absurd (omega (arith, e))
 
-module _ (h : Fields) (height : ℕ) (w w1 : WalkView) (p p1 : List ℕ) (on : StepsOn h height w w1 p p1 []) where
-  pub on_then : (w2 : WalkView) (p2 row : List ℕ) → StepsOn h height w1 w2 p1 p2 row → StepsOn h height w w2 p p2 row
+module _ (h : Fields) (height : ℕ) (w w1 : WalkView) (p p1 : List ℕ) (on : StepsOn (sized h height) w w1 p p1 []) where
+  pub on_then : (w2 : WalkView) (p2 row : List ℕ) → StepsOn (sized h height) w1 w2 p1 p2 row → StepsOn (sized h height) w w2 p p2 row
   on_then w2 p2 row next text out s =
       let a = on text out s in
       let b = next (text ++ a.0) (out ++ []) a.2 in (
         a.0 ++ b.0,
         a.1 ∙ ap (λ z. a.0 ++ z) b.1 ∙ sym (append_assoc a.0 b.0 p2),
-        subst (λ z. WalkStands h height w2 z (out ++ row)) (append_assoc text a.0 b.0) (subst (λ z. WalkStands h height w2 ((text ++ a.0) ++ b.0) (z ++ row)) (append-nil out) b.2),
+        subst (λ z. WalkStands (sized h height) w2 z (out ++ row)) (append_assoc text a.0 b.0) (subst (λ z. WalkStands (sized h height) w2 ((text ++ a.0) ++ b.0) (z ++ row)) (append-nil out) b.2),
       )
 
-  pub off_then : (f : Fault) → StepsOff h height w1 p1 f → StepsOff h height w p f
+  pub off_then : (f : Fault) → StepsOff (sized h height) w1 p1 f → StepsOff (sized h height) w p f
   off_then f off text out s =
       let a = on text out s in
-      subst (λ z. CutOff h height z out f) (append_assoc text a.0 p1 ∙ ap (λ z. text ++ z) (sym a.1))
-      (subst (λ z. CutOff h height ((text ++ a.0) ++ p1) z f) (append-nil out) (off (text ++ a.0) (out ++ []) a.2))
+      subst (λ z. CutOff (sized h height) z out f) (append_assoc text a.0 p1 ∙ ap (λ z. text ++ z) (sym a.1))
+      (subst (λ z. CutOff (sized h height) ((text ++ a.0) ++ p1) z f) (append-nil out) (off (text ++ a.0) (out ++ []) a.2))
 
 -- ---- stripes
 
@@ -108,7 +109,7 @@ next_stripe height l e some lt = went (cases_lt (e + 1) (div_ceil height l)) whe
 
 -- before the first byte
 pub head_first : (h : Fields) (height width : ℕ) (carried : Carried) → 1 ≤ height → 1 ≤ h.l0 → width ≡ h.xd → IsCarried (first_row_start (image_start width)) carried →
-    HeadStands h height 0 false None carried [] []
+    HeadStands (sized h height) (head_place 0 false None carried) [] []
 head_first h height width carried one some wide first = record {
   before = false;
   front = [];
@@ -122,13 +123,13 @@ head_first h height width carried one some wide first = record {
 
 -- ---- exits
 
-pub step_exit : (h : Fields) (height : ℕ) (w w' : WalkView) (p p' : List ℕ) (r : Result (Unit {0}) Fault) (e : Fault) → IsErrAnd r (λ y. y ≡ e) → StepsOff h height w p e → (e ≡ Truncated → StepsToEnd h height w w' p p') → Step h height w w' p p' r
+pub step_exit : (h : Fields) (height : ℕ) (w w' : WalkView) (p p' : List ℕ) (r : Result (Unit {0}) Fault) (e : Fault) → IsErrAnd r (λ y. y ≡ e) → StepsOff (sized h height) w p e → (e ≡ Truncated → StepsToEnd (sized h height) w w' p p') → Step (sized h height) w w' p p' r
 step_exit h height w w' p p' (Ok x) e a off on = absurd a
-step_exit h height w w' p p' (Err y) e a off on = record { ok = tt; err = subst (StepsOff h height w p) (sym a) off; more = λ is. on (sym a ∙ (let same : y ≡ Truncated = cc in same)) }
+step_exit h height w w' p p' (Err y) e a off on = record { ok = tt; err = subst (StepsOff (sized h height) w p) (sym a) off; more = λ is. on (sym a ∙ (let same : y ≡ Truncated = cc in same)) }
 
-pub row_exit : (h : Fields) (height : ℕ) (w w' : WalkView) (p p' : List ℕ) (r : Result (Unit {0}) Fault) (e : Fault) → IsErrAnd r (λ y. y ≡ e) → StepsOff h height w p e → (e ≡ Truncated → StepsToEnd h height w w' p p') → RowStep h height w w' p p' r
+pub row_exit : (h : Fields) (height : ℕ) (w w' : WalkView) (p p' : List ℕ) (r : Result (Unit {0}) Fault) (e : Fault) → IsErrAnd r (λ y. y ≡ e) → StepsOff (sized h height) w p e → (e ≡ Truncated → StepsToEnd (sized h height) w w' p p') → RowStep (sized h height) w w' p p' r
 row_exit h height w w' p p' (Ok x) e a off on = absurd a
-row_exit h height w w' p p' (Err y) e a off on = record { ok = tt; err = subst (StepsOff h height w p) (sym a) off; more = λ is. on (sym a ∙ (let same : y ≡ Truncated = cc in same)) }
+row_exit h height w w' p p' (Err y) e a off on = record { ok = tt; err = subst (StepsOff (sized h height) w p) (sym a) off; more = λ is. on (sym a ∙ (let same : y ≡ Truncated = cc in same)) }
 
 -- a fault that is another
 pub other_exit : (r : Result (Unit {0}) Fault) (e : Fault) → IsErrAnd r (λ y. y ≡ e) → e ≢ Changed → IfErr r (λ f. f ≢ Changed)
@@ -181,29 +182,29 @@ offset_low true old new low e = omega (arith, e)
 offset_low false old new low e = omega (arith, e, low)
 
 -- a step, and then a row
-pub row_then : (h : Fields) (height : ℕ) (w w1 w2 : WalkView) (p p1 p2 : List ℕ) → StepsOn h height w w1 p p1 [] → (r : Result (Unit {0}) Fault) → RowStep h height w1 w2 p1 p2 r → RowStep h height w w2 p p2 r
+pub row_then : (h : Fields) (height : ℕ) (w w1 w2 : WalkView) (p p1 p2 : List ℕ) → StepsOn (sized h height) w w1 p p1 [] → (r : Result (Unit {0}) Fault) → RowStep (sized h height) w1 w2 p1 p2 r → RowStep (sized h height) w w2 p p2 r
 row_then h height w w1 w2 p p1 p2 on (Ok x) s = record { ok = on_then h height w w1 p p1 on w2 p2 w2.carried.held.current s.ok; err = tt; more = λ e. absurd (let bot : ⊥ = cc in bot) }
 row_then h height w w1 w2 p p1 p2 on (Err f) s = record { ok = tt; err = off_then h height w w1 p p1 on f s.err; more = λ e. (on_then h height w w1 p p1 on w2 p2 [] (s.more e).0, (s.more e).1) }
 
 -- a row, as a turn
-pub turn_row : (h : Fields) (height : ℕ) (w w' : WalkView) (p p' : List ℕ) → StepsOn h height w w' p p' w'.carried.held.current → Turn h height w w' p p' (Ok true)
+pub turn_row : (h : Fields) (height : ℕ) (w w' : WalkView) (p p' : List ℕ) → StepsOn (sized h height) w w' p p' w'.carried.held.current → Turn (sized h height) w w' p p' (Ok true)
 turn_row h height w w' p p' on = record { row = λ _. on; done = λ e. absurd (let bot : ⊥ = cc in bot); err = tt; more = λ e. absurd (let bot : ⊥ = cc in bot) }
 
 -- the image is whole
-pub turn_done : (h : Fields) (height : ℕ) (w w' : WalkView) (p p' : List ℕ) → StepsOn h height w w' p p' [] → IsOver w'.stage → Turn h height w w' p p' (Ok false)
+pub turn_done : (h : Fields) (height : ℕ) (w w' : WalkView) (p p' : List ℕ) → StepsOn (sized h height) w w' p p' [] → IsOver w'.stage → Turn (sized h height) w w' p p' (Ok false)
 turn_done h height w w' p p' on is = record { row = λ e. absurd (let bot : ⊥ = cc in bot); done = λ _. (on, is); err = tt; more = λ e. absurd (let bot : ⊥ = cc in bot) }
 
-pub turn_exit : (h : Fields) (height : ℕ) (w w' : WalkView) (p p' : List ℕ) (r : Result Bool Fault) (e : Fault) → IsErrAnd r (λ y. y ≡ e) → StepsOff h height w p e → (e ≡ Truncated → StepsToEnd h height w w' p p') → Turn h height w w' p p' r
+pub turn_exit : (h : Fields) (height : ℕ) (w w' : WalkView) (p p' : List ℕ) (r : Result Bool Fault) (e : Fault) → IsErrAnd r (λ y. y ≡ e) → StepsOff (sized h height) w p e → (e ≡ Truncated → StepsToEnd (sized h height) w w' p p') → Turn (sized h height) w w' p p' r
 turn_exit h height w w' p p' (Ok x) e a off on = absurd a
 turn_exit h height w w' p p' (Err y) e a off on = record {
   row = λ is. absurd (let bot : ⊥ = cc in bot);
   done = λ is. absurd (let bot : ⊥ = cc in bot);
-  err = subst (StepsOff h height w p) (sym a) off;
+  err = subst (StepsOff (sized h height) w p) (sym a) off;
   more = λ is. on (sym a ∙ (let same : y ≡ Truncated = cc in same));
 }
 
 -- a step, and then a turn
-pub turn_then : (h : Fields) (height : ℕ) (w w1 w2 : WalkView) (p p1 p2 : List ℕ) → StepsOn h height w w1 p p1 [] → (r : Result Bool Fault) → Turn h height w1 w2 p1 p2 r → Turn h height w w2 p p2 r
+pub turn_then : (h : Fields) (height : ℕ) (w w1 w2 : WalkView) (p p1 p2 : List ℕ) → StepsOn (sized h height) w w1 p p1 [] → (r : Result Bool Fault) → Turn (sized h height) w1 w2 p1 p2 r → Turn (sized h height) w w2 p p2 r
 turn_then h height w w1 w2 p p1 p2 on (Ok x) t = record {
   row = λ e. on_then h height w w1 p p1 on w2 p2 w2.carried.held.current (t.row e);
   done = λ e. (on_then h height w w1 p p1 on w2 p2 [] (t.done e).0, (t.done e).1);
@@ -243,14 +244,14 @@ first_two (inr (inr (inl c))) m n = absurd (m c)
 first_two (inr (inr (inr d))) m n = absurd (n d)
 
 -- a stripe's first row is to come
-pub first_row : {h : Fields} {height : ℕ} {w : WalkView} {text out : List ℕ} → 1 ≤ h.l0 → w.stage ≡ stage.Code → w.row ≡ 0 → WalkStands h height w text out → w.row < rows_in h height w.entities
+pub first_row : {h : Fields} {height : ℕ} {w : WalkView} {text out : List ℕ} → 1 ≤ h.l0 → w.stage ≡ stage.Code → w.row ≡ 0 → WalkStands (sized h height) w text out → w.row < rows_in h height w.entities
 first_row {h} {height} {w} {text} {out} some is zero s =
-    let k : CodeStands h height w.entities w.given w.at w.row w.first w.marker w.carried w.decoder text out = at_stage is s in
+    let k : CodeStands (sized h height) (head_place w.entities w.given w.at w.carried) (code_place w.row w.first w.marker w.decoder) text out = at_stage is s in
     let r = some_row height h.l0 w.entities some k.head.fewer in
     omega (arith, zero, r)
 
 -- a walk in the code of a stripe has fewer stripes behind it than rows
-pub walk_few : (h : Fields) (height : ℕ) (w : WalkView) (text out : List ℕ) → 1 ≤ h.l0 → IsInCode w.stage → WalkStands h height w text out → w.entities < height
+pub walk_few : (h : Fields) (height : ℕ) (w : WalkView) (text out : List ℕ) → 1 ≤ h.l0 → IsInCode w.stage → WalkStands (sized h height) w text out → w.entities < height
 walk_few h height w text out some (inl code) s = few_before height h.l0 w.entities some (at_stage code s).head.fewer
 walk_few h height w text out some (inr row) s = few_before height h.l0 w.entities some (at_stage row s).head.fewer
 

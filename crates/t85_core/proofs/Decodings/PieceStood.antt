@@ -36,10 +36,12 @@ use Rattle.t85_core.specs.Options.{fields_of}
 use Rattle.t85_core.specs.Height.{GivesHeight, IsHeight}
 use Rattle.t85_core.specs.Laws.{IsInUse}
 use Rattle.t85_core.specs.Pieces.{HasDecoded, HasHeight, HandsOut, HoldsImage, row_held}
-use Rattle.t85_core.specs.Steps.Behind.{BehindStands, BreaksBehind, StopsBehind}
-use Rattle.t85_core.specs.Steps.Pieces.{HeadStands, CommentStands, InRowStands, IsFirstWalk, WalkStands, CutOff, SomeStands, StepsOn, StepsOff, Step, RowStep, RowLeaves, StripesOn, StageStands, KeepsPlace, HasMarker, IsInCode}
+use Rattle.t85_core.specs.Steps.Behind.{BehindStands, BreaksBehind, StopsBehind, behind_at}
+use Rattle.t85_core.specs.Steps.Pieces.{HeadStands, CommentStands, InRowStands, IsFirstWalk, WalkStands, CutOff, SomeStands, StepsOn, StepsOff, Step, RowStep, RowLeaves, StripesOn, StageStands, KeepsPlace, HasMarker, IsInCode, head_place, code_place}
+use Rattle.t85_core.specs.Steps.SizedImage.{sized}
 use Rattle.t85_core.specs.Steps.PieceStands.{DecoderStands, HeightKnown, StandsAs, CodeWalks, WalkWaits, IsAtMarker, entities_behind, is_last, place_behind, last_behind}
 use Rattle.t85_core.specs.Steps.PieceSteps.{SomeStand, DecoderOn, EndsWhole, EndsBroken, NoHeightBelow, StepLeaves, KeepsDecoder, StripeLeft, StripeClosed, HeadEntered, RowsAreGiven, head_stage, steps_left}
+use Rattle.t85_core.specs.Steps.Passage.{passage}
 use Rattle.t85_core.proofs.Decodings.ImagePut.{in_use}
 use Rattle.t85_core.proofs.Decodings.PieceBehind.{behind_first, front_is, part_of}
 use Rattle.t85_core.proofs.Decodings.PieceGiven.{cut_hands, cut_hands_first, piece_other, height_known, read_holds}
@@ -60,7 +62,7 @@ pub own_height : (header : Header) → IsInUse (fields_of header) header.yd
 own_height header = in_use header header.yd header.some_height (omega arith)
 
 module _ (d : PieceView) (text out : List ℕ) where
-  pub walks_of : d.is_open ≡ false → DecoderStands d text out → WalkStands (fields_of d.header) d.height d.walk text out
+  pub walks_of : d.is_open ≡ false → DecoderStands d text out → WalkStands (sized (fields_of d.header) d.height) d.walk text out
   walks_of known s = subst (λ b. StandsAs b d.waits d text out) known s.stands
 
   pub code_of : d.is_open ≡ true → d.waits ≡ false → DecoderStands d text out → CodeWalks (fields_of d.header) d.walk text out
@@ -69,7 +71,7 @@ module _ (d : PieceView) (text out : List ℕ) where
   pub waits_of : d.is_open ≡ true → d.waits ≡ true → DecoderStands d text out → WalkWaits (fields_of d.header) d.walk d.behind text out
   waits_of late waits s = subst (λ b. StandsAs true b d text out) waits (subst (λ b. StandsAs b d.waits d text out) late s.stands)
 
-  pub put_walks : d.is_open ≡ false → HeightKnown (fields_of d.header) d.height d.is_open text → WalkStands (fields_of d.header) d.height d.walk text out → DecoderStands d text out
+  pub put_walks : d.is_open ≡ false → HeightKnown (fields_of d.header) d.height d.is_open text → WalkStands (sized (fields_of d.header) d.height) d.walk text out → DecoderStands d text out
   put_walks known k s = record { height = k; stands = subst (λ b. StandsAs b d.waits d text out) (sym known) s }
 
   pub put_code : d.is_open ≡ true → d.waits ≡ false → HeightKnown (fields_of d.header) d.height d.is_open text → CodeWalks (fields_of d.header) d.walk text out → DecoderStands d text out
@@ -79,7 +81,7 @@ module _ (d : PieceView) (text out : List ℕ) where
   put_waits late waits k s = record { height = k; stands = subst (λ b. StandsAs b d.waits d text out) (sym late) (subst (λ b. StandsAs true b d text out) (sym waits) s) }
 
 -- a walk begins to wait
-pub waits_first : (h : Fields) (w : WalkView) (b : Behind) (text out : List ℕ) → WalkStands h h.yd w text out → IsAtMarker w → w.given ≡ false → b.at ≡ None → b.comment ≡ None → WalkWaits h w b text out
+pub waits_first : (h : Fields) (w : WalkView) (b : Behind) (text out : List ℕ) → WalkStands (sized h h.yd) w text out → IsAtMarker w → w.given ≡ false → b.at ≡ None → b.comment ≡ None → WalkWaits h w b text out
 waits_first h w b text out s at ungiven none empty = record {
   done = text;
   back = [];
@@ -163,7 +165,7 @@ leaves_stop is_all d d' p p' fault r c header going on broken = record {
 }
 
 -- a fault in the code, where no height came
-pub code_broken : (d : PieceView) (p : List ℕ) (fault : Fault) → d.is_open ≡ true → d.waits ≡ false → StepsOff (fields_of d.header) d.header.yd d.walk p fault → (SomeStand d → fault ≢ Changed) → (is_all : Bool) → (fault ≡ Truncated → is_all ≡ true) → EndsBroken is_all d p d.height fault
+pub code_broken : (d : PieceView) (p : List ℕ) (fault : Fault) → d.is_open ≡ true → d.waits ≡ false → StepsOff (sized (fields_of d.header) d.header.yd) d.walk p fault → (SomeStand d → fault ≢ Changed) → (is_all : Bool) → (fault ≡ Truncated → is_all ≡ true) → EndsBroken is_all d p d.height fault
 code_broken d p fault late going off other is_all all text out rest s follows =
     subst (λ n. HandsOut (fields_of d.header) ((text ++ p) ++ rest) n fault out) (sym (s.height.first late))
     (cut_hands_first (fields_of d.header) (text ++ p) out rest fault (own_height d.header) (other (text, out, s)) (λ t. follows (all t)) (off text out (code_of d text out late going s).walk))
@@ -191,9 +193,9 @@ head_of w (inl head) outside = head
 head_of w (inr k) outside = absurd (outside k.0)
 
 -- what came stays behind the same marker
-pub behind_same : (h : Fields) (w w' : WalkView) (b : Behind) (back : List ℕ) → IsInCode w.stage → IsInCode w'.stage → KeepsPlace w w' → BehindStands h (place_behind h w.stage w.entities) (last_behind h w.stage w.left) b back → BehindStands h (place_behind h w'.stage w'.entities) (last_behind h w'.stage w'.left) b back
+pub behind_same : (h : Fields) (w w' : WalkView) (b : Behind) (back : List ℕ) → IsInCode w.stage → IsInCode w'.stage → KeepsPlace w w' → BehindStands h (behind_at (place_behind h w.stage w.entities) (last_behind h w.stage w.left)) b back → BehindStands h (behind_at (place_behind h w'.stage w'.entities) (last_behind h w'.stage w'.left)) b back
 behind_same h w w' b back code code' keeps s =
-    subst (λ p. BehindStands h p (last_behind h w'.stage w'.left) b back) (ap (λ e. place_at e) entities) (subst (λ l. BehindStands h (place_behind h w.stage w.entities) l b back) last s)
+    subst (λ p. BehindStands h (behind_at p (last_behind h w'.stage w'.left)) b back) (ap (λ e. place_at e) entities) (subst (λ l. BehindStands h (behind_at (place_behind h w.stage w.entities) l) b back) last s)
   where
     place_at : ℕ → Place
     place_at e = record { height = h.yd; entities = e; given = false }
@@ -213,8 +215,8 @@ no_bytes [] p' e = refl
 no_bytes (x ∷ g) p' e = absurd (let bot : ⊥ = cc in bot)
 
 -- a step that has no bytes
-pub step_none : (h : Fields) (height : ℕ) (w w' : WalkView) (p' row : List ℕ) → StepsOn h height w w' [] p' row → (text out : List ℕ) → WalkStands h height w text out → WalkStands h height w' text (out ++ row)
-step_none h height w w' p' row on text out s = let k = on text out s in subst (λ z. WalkStands h height w' z (out ++ row)) (ap (λ z. text ++ z) (no_bytes k.0 p' k.1) ∙ append-nil text) k.2
+pub step_none : (h : Fields) (height : ℕ) (w w' : WalkView) (p' row : List ℕ) → StepsOn (sized h height) w w' [] p' row → (text out : List ℕ) → WalkStands (sized h height) w text out → WalkStands (sized h height) w' text (out ++ row)
+step_none h height w w' p' row on text out s = let k = on text out s in subst (λ z. WalkStands (sized h height) w' z (out ++ row)) (ap (λ z. text ++ z) (no_bytes k.0 p' k.1) ∙ append-nil text) k.2
 
 -- the same is known of the height
 pub keep_known : (d d' : PieceView) (text : List ℕ) → KeepsDecoder d d' → HeightKnown (fields_of d.header) d.height d.is_open text → HeightKnown (fields_of d'.header) d'.height d'.is_open text
@@ -223,7 +225,7 @@ keep_known d d' text keeps k =
     (subst (λ b. HeightKnown (fields_of d.header) d.height b text) (sym keeps.is_open) k))
 
 -- a row that waited
-pub row_given : (d d' : PieceView) → d.is_open ≡ true → d.waits ≡ true → IsInCode d.walk.stage → KeepsDecoder d d' → (p' : List ℕ) (r : Result (Unit {0}) Fault) → RowStep (fields_of d.header) d.header.yd d.walk d'.walk [] p' r → RowLeaves d.walk d'.walk [] p' r →
+pub row_given : (d d' : PieceView) → d.is_open ≡ true → d.waits ≡ true → IsInCode d.walk.stage → KeepsDecoder d d' → (p' : List ℕ) (r : Result (Unit {0}) Fault) → RowStep (sized (fields_of d.header) d.header.yd) d.walk d'.walk [] p' r → RowLeaves d.walk d'.walk [] p' r →
     DecoderOn d d' [] [] (row_held d')
 row_given d d' late waits code keeps p' r step leaves text out s = (
   [],
@@ -260,19 +262,19 @@ pub row_after : (d : PieceView) (w : WalkView) → d.is_open ≡ true → d.wait
 row_after d w late waits some code p' r leaves = (on_ok r _ (leaves.whole (marker_of d.walk (waits_of d some.0 some.1 late waits some.2).at code)).0 leaves.row).0
 
 -- a stripe ended
-pub stripe_ended : (d d' : PieceView) → d.is_open ≡ true → d.waits ≡ true → SomeStand d → IsInCode d.walk.stage → KeepsDecoder d d' → (p' : List ℕ) (r : Result (Unit {0}) Fault) → Step (fields_of d.header) d.header.yd d.walk d'.walk [] p' r → (HasMarker d.walk → IsOk r) →
-    OnOk r (StripesOn (fields_of d.header) d.header.yd d.walk d'.walk [] p') → OnOk r (d.header.l0 < d.walk.left → d'.walk.stage ≡ stage.Head) →
-    OnOk r ((d'.walk.left ≡ d.walk.left - d.header.l0) × (d'.walk.given ≡ d.walk.given) × (d'.walk.at ≡ None)) → (SomeStands (fields_of d.header) d.header.yd d.walk → OnOk r (d'.walk.entities ≡ d.walk.entities + 1)) → StripeLeft d d'
+pub stripe_ended : (d d' : PieceView) → d.is_open ≡ true → d.waits ≡ true → SomeStand d → IsInCode d.walk.stage → KeepsDecoder d d' → (p' : List ℕ) (r : Result (Unit {0}) Fault) → Step (sized (fields_of d.header) d.header.yd) d.walk d'.walk [] p' r → (HasMarker d.walk → IsOk r) →
+    OnOk r (StripesOn (sized (fields_of d.header) d.header.yd) d.walk d'.walk [] p') → OnOk r (d.header.l0 < d.walk.left → d'.walk.stage ≡ stage.Head) →
+    OnOk r ((d'.walk.left ≡ d.walk.left - d.header.l0) × (d'.walk.given ≡ d.walk.given) × (d'.walk.at ≡ None)) → (SomeStands (sized (fields_of d.header) d.header.yd) d.walk → OnOk r (d'.walk.entities ≡ d.walk.entities + 1)) → StripeLeft d d'
 stripe_ended d d' late waits some code keeps p' r step whole read left next entities = record {
   keeps = keeps;
   entities = on_ok r _ ok (entities (here.done, some.1, here.walk));
   given = there.1;
   at = there.2;
   stage = on_ok r _ ok left;
-  stands = λ text out s. subst (WalkStands (fields_of d.header) d.header.yd d'.walk text) (append-nil out) (step_none (fields_of d.header) d.header.yd d.walk d'.walk p' [] (on_ok r _ ok step.ok) text out s);
+  stands = λ text out s. subst (WalkStands (sized (fields_of d.header) d.header.yd) d'.walk text) (append-nil out) (step_none (fields_of d.header) d.header.yd d.walk d'.walk p' [] (on_ok r _ ok step.ok) text out s);
   read = λ text out s.
       let k = on_ok r _ ok read text out s in
-      subst (λ z. StripesRead (fields_of d.header) d.header.yd (Some z) (Some []) (d.walk.entities + 1) (cond d.walk.given 1 0) d'.walk.carried (Some []) (Some out)) (ap (λ z. text ++ z) (no_bytes k.0 p' k.1) ∙ append-nil text) k.2;
+      subst (λ z. StripesRead (fields_of d.header) d.header.yd (passage (Some z) (Some []) (Some []) (Some out)) (d.walk.entities + 1) (cond d.walk.given 1 0) d'.walk.carried) (ap (λ z. text ++ z) (no_bytes k.0 p' k.1) ∙ append-nil text) k.2;
 } where
   here : WalkWaits (fields_of d.header) d.walk d.behind some.0 some.1
   here = waits_of d some.0 some.1 late waits some.2
@@ -359,7 +361,7 @@ leaves_done is_all d d' p p' n header going height whole = record {
 
 -- a part of a piece was taken
 pub code_on : (d d' : PieceView) (p front behind part' p' row : List ℕ) → d.is_open ≡ true → d.waits ≡ false → KeepsDecoder d d' → p ≡ front ++ behind → (SomeStand d → (g : List ℕ) → front ≡ g ++ part' → p' ≡ part' ++ behind) →
-    StepsOn (fields_of d.header) d.header.yd d.walk d'.walk front part' row → (SomeStand d → IsInCode d'.walk.stage × (d'.walk.given ≡ d.walk.given)) → DecoderOn d d' p p' row
+    StepsOn (sized (fields_of d.header) d.header.yd) d.walk d'.walk front part' row → (SomeStand d → IsInCode d'.walk.stage × (d'.walk.given ≡ d.walk.given)) → DecoderOn d d' p p' row
 code_on d d' p front behind part' p' row late going keeps p_is rest on code text out s =
     let w = code_of d text out late going s in
     let c = code (text, out, s) in
@@ -371,15 +373,15 @@ code_on d d' p front behind part' p' row late going keeps p_is rest on code text
     )
 
 -- a fault in a part of the piece
-pub part_broken : (d : PieceView) (p front behind : List ℕ) (fault : Fault) → d.is_open ≡ true → d.waits ≡ false → p ≡ front ++ behind → StepsOff (fields_of d.header) d.header.yd d.walk front fault → (SomeStand d → fault ≢ Changed) → fault ≢ Truncated → (is_all : Bool) →
+pub part_broken : (d : PieceView) (p front behind : List ℕ) (fault : Fault) → d.is_open ≡ true → d.waits ≡ false → p ≡ front ++ behind → StepsOff (sized (fields_of d.header) d.header.yd) d.walk front fault → (SomeStand d → fault ≢ Changed) → fault ≢ Truncated → (is_all : Bool) →
     EndsBroken is_all d p d.height fault
 part_broken d p front behind fault late going p_is off other not_end is_all text out rest s follows =
     subst (λ z. HandsOut (fields_of d.header) z d.height fault out) (sym (append_assoc (text ++ front) behind rest) ∙ ap (λ z. z ++ rest) (append_assoc text front behind ∙ ap (λ z. text ++ z) (sym p_is)))
     (code_broken d front fault late going off other false (λ t. absurd (not_end t)) text out (behind ++ rest) s (λ e. absurd (true≢false (sym e))))
 
 -- an end marker is read ahead
-pub walk_ahead : (h : Fields) (height : ℕ) (w : WalkView) (text out : List ℕ) (reset : Bool) → IsInCode w.stage → w.first ≡ None → w.marker ≡ None → WalkStands h height w text out →
-    WalkStands h height (record w { first = Some (code.Marker reset) }) (text ++ marker_bytes reset) out
+pub walk_ahead : (h : Fields) (height : ℕ) (w : WalkView) (text out : List ℕ) (reset : Bool) → IsInCode w.stage → w.first ≡ None → w.marker ≡ None → WalkStands (sized h height) w text out →
+    WalkStands (sized h height) (record w { first = Some (code.Marker reset) }) (text ++ marker_bytes reset) out
 walk_ahead h height w text out reset in_code none unmarked s = record {
   left_is = s.left_is;
   width_is = s.width_is;
@@ -390,7 +392,7 @@ walk_ahead h height w text out reset in_code none unmarked s = record {
   within = s.within;
   stands = by in_code;
 } where
-  by : IsInCode w.stage → StageStands w.stage h height (record w { first = Some (code.Marker reset) }) (text ++ marker_bytes reset) out
+  by : IsInCode w.stage → StageStands w.stage (sized h height) (record w { first = Some (code.Marker reset) }) (text ++ marker_bytes reset) out
   by (inl e) = put_stage h height (record w { first = Some (code.Marker reset) }) (text ++ marker_bytes reset) out stage.Code e (code_ahead reset none unmarked (at_stage e s))
   by (inr e) = put_stage h height (record w { first = Some (code.Marker reset) }) (text ++ marker_bytes reset) out stage.Row e (row_ahead reset none unmarked (at_stage e s))
 
@@ -403,7 +405,7 @@ closed_none d d' late waits some outside keeps same = record {
   entities = ap (λ w. w.entities) same ∙ sym (ap (λ z. entities_behind z d.walk.entities) head.0);
   given = ap (λ w. w.given) same ∙ here.ungiven;
   at = ap (λ w. w.at) same ∙ head.1;
-  stands = λ text out w. subst (λ z. WalkStands (fields_of d.header) d.header.yd z w.done out) (sym same) w.walk;
+  stands = λ text out w. subst (λ z. WalkStands (sized (fields_of d.header) d.header.yd) z w.done out) (sym same) w.walk;
 } where
   here : WalkWaits (fields_of d.header) d.walk d.behind some.0 some.1
   here = waits_of d some.0 some.1 late waits some.2
@@ -461,15 +463,15 @@ same_left e = cc
 
 -- ---- the head of the next stripe
 
-module _ (h : Fields) (w : WalkView) (b : Behind) (place : Place) (done back out : List ℕ) (s : WalkStands h h.yd w done out) (is : w.stage ≡ stage.Head) (none : w.at ≡ None) (ungiven : w.given ≡ false) (entities : place ≡ record { height = h.yd; entities = w.entities; given = false })
-    (bs : BehindStands h place false b back) where
-  bare : HeadStands h h.yd w.entities false None w.carried done out
-  bare = subst (λ a. HeadStands h h.yd w.entities false a w.carried done out) none (subst (λ g. HeadStands h h.yd w.entities g w.at w.carried done out) ungiven (at_stage is s))
+module _ (h : Fields) (w : WalkView) (b : Behind) (place : Place) (done back out : List ℕ) (s : WalkStands (sized h h.yd) w done out) (is : w.stage ≡ stage.Head) (none : w.at ≡ None) (ungiven : w.given ≡ false) (entities : place ≡ record { height = h.yd; entities = w.entities; given = false })
+    (bs : BehindStands h (behind_at place false) b back) where
+  bare : HeadStands (sized h h.yd) (head_place w.entities false None w.carried) done out
+  bare = subst (λ a. HeadStands (sized h h.yd) (head_place w.entities false a w.carried) done out) none (subst (λ g. HeadStands (sized h h.yd) (head_place w.entities g w.at w.carried) done out) ungiven (at_stage is s))
 
-  full : HeadStands h h.yd w.entities w.given b.at w.carried (done ++ bs.front) out
-  full = subst (λ g. HeadStands h h.yd w.entities g b.at w.carried (done ++ bs.front) out) (sym ungiven) (head_behind entities bare bs.passed)
+  full : HeadStands (sized h h.yd) (head_place w.entities w.given b.at w.carried) (done ++ bs.front) out
+  full = subst (λ g. HeadStands (sized h h.yd) (head_place w.entities g b.at w.carried) (done ++ bs.front) out) (sym ungiven) (head_behind entities bare bs.passed)
 
-  pub head_walk : b.comment ≡ None → WalkStands h h.yd (record w { at = b.at }) (done ++ back) out
+  pub head_walk : b.comment ≡ None → WalkStands (sized h h.yd) (record w { at = b.at }) (done ++ back) out
   head_walk between = record {
     left_is = s.left_is;
     width_is = s.width_is;
@@ -478,10 +480,10 @@ module _ (h : Fields) (w : WalkView) (b : Behind) (place : Place) (done back out
     code_is = s.code_is;
     behind = s.behind;
     within = s.within;
-    stands = put_stage h h.yd (record w { at = b.at }) (done ++ back) out stage.Head is (subst (λ z. HeadStands h h.yd w.entities w.given b.at w.carried (done ++ z) out) (sym (front_is bs between)) full);
+    stands = put_stage h h.yd (record w { at = b.at }) (done ++ back) out stage.Head is (subst (λ z. HeadStands (sized h h.yd) (head_place w.entities w.given b.at w.carried) (done ++ z) out) (sym (front_is bs between)) full);
   }
 
-  pub comment_walk : (left : ℕ) → b.comment ≡ Some left → WalkStands h h.yd (record w { at = b.at; comment = left; stage = stage.Comment }) (done ++ back) out
+  pub comment_walk : (left : ℕ) → b.comment ≡ Some left → WalkStands (sized h h.yd) (record w { at = b.at; comment = left; stage = stage.Comment }) (done ++ back) out
   comment_walk left inside =
       let k = part_of bs left inside in
       record {
@@ -517,8 +519,8 @@ module _ (d e d' : PieceView) (closed : StripeClosed d e) (keeps : KeepsDecoder 
     at_entities : ℕ → Place
     at_entities n = record { height = d.header.yd; entities = n; given = false }
 
-  there : {text out : List ℕ} (w : WalkWaits (fields_of d.header) d.walk d.behind text out) → BehindStands (fields_of d.header) (place_behind (fields_of d.header) d.walk.stage d.walk.entities) false d.behind w.back
-  there w = subst (λ l. BehindStands (fields_of d.header) (place_behind (fields_of d.header) d.walk.stage d.walk.entities) l d.behind w.back) more w.behind
+  there : {text out : List ℕ} (w : WalkWaits (fields_of d.header) d.walk d.behind text out) → BehindStands (fields_of d.header) (behind_at (place_behind (fields_of d.header) d.walk.stage d.walk.entities) false) d.behind w.back
+  there w = subst (λ l. BehindStands (fields_of d.header) (behind_at (place_behind (fields_of d.header) d.walk.stage d.walk.entities) l) d.behind w.back) more w.behind
 
   pub entered_none : d.behind.comment ≡ None → d'.walk ≡ record e.walk { at = d.behind.at } → HeadEntered d d'
   entered_none between walk = record {
@@ -528,7 +530,7 @@ module _ (d e d' : PieceView) (closed : StripeClosed d e) (keeps : KeepsDecoder 
     entities = ap (λ w. w.entities) walk ∙ closed.entities;
     given = ap (λ w. w.given) walk ∙ closed.given;
     at = ap (λ w. w.at) walk;
-    stands = λ text out w. subst (λ z. WalkStands (fields_of d.header) d.header.yd z text out) (sym walk) (subst (λ z. WalkStands (fields_of d.header) d.header.yd (record e.walk { at = d.behind.at }) z out) (sym w.text_is)
+    stands = λ text out w. subst (λ z. WalkStands (sized (fields_of d.header) d.header.yd) z text out) (sym walk) (subst (λ z. WalkStands (sized (fields_of d.header) d.header.yd) (record e.walk { at = d.behind.at }) z out) (sym w.text_is)
         (head_walk (fields_of d.header) e.walk d.behind (place_behind (fields_of d.header) d.walk.stage d.walk.entities) w.done w.back out (closed.stands text out w) closed.stage closed.at closed.given place_is (there w) between));
   }
 
@@ -540,7 +542,7 @@ module _ (d e d' : PieceView) (closed : StripeClosed d e) (keeps : KeepsDecoder 
     entities = ap (λ w. w.entities) walk ∙ closed.entities;
     given = ap (λ w. w.given) walk ∙ closed.given;
     at = ap (λ w. w.at) walk;
-    stands = λ text out w. subst (λ z. WalkStands (fields_of d.header) d.header.yd z text out) (sym walk) (subst (λ z. WalkStands (fields_of d.header) d.header.yd (record e.walk { at = d.behind.at; comment = left; stage = stage.Comment }) z out) (sym w.text_is)
+    stands = λ text out w. subst (λ z. WalkStands (sized (fields_of d.header) d.header.yd) z text out) (sym walk) (subst (λ z. WalkStands (sized (fields_of d.header) d.header.yd) (record e.walk { at = d.behind.at; comment = left; stage = stage.Comment }) z out) (sym w.text_is)
         (comment_walk (fields_of d.header) e.walk d.behind (place_behind (fields_of d.header) d.walk.stage d.walk.entities) w.done w.back out (closed.stands text out w) closed.stage closed.at closed.given place_is (there w) left inside));
   }
 
@@ -557,15 +559,15 @@ code_entered d e d' c dec p rest late waits head between is at p_is header heigh
       (subst (λ b. HeightKnown (fields_of d.header) d.height b (text ++ code_bytes c)) (sym (is_open ∙ head.keeps.is_open)) (known_more (fields_of d.header) d.height d.is_open text (code_bytes c) s.height))))
       (subst (λ z. CodeWalks (fields_of z) d'.walk (text ++ code_bytes c) (out ++ [])) (sym (header ∙ head.keeps.header)) (subst (λ w. CodeWalks (fields_of d.header) w (text ++ code_bytes c) (out ++ [])) (sym walk) now)),
 ) where
-  there : WalkStands (fields_of d.header) d.header.yd e.walk text out
+  there : WalkStands (sized (fields_of d.header) d.header.yd) e.walk text out
   there = head.stands text out (waits_of d text out late waits s)
 
-  in_head : HeadStands (fields_of d.header) d.header.yd e.walk.entities e.walk.given e.walk.at e.walk.carried text out
+  in_head : HeadStands (sized (fields_of d.header) d.header.yd) (head_place e.walk.entities e.walk.given e.walk.at e.walk.carried) text out
   in_head = at_stage (head.stage ∙ ap head_stage between) there
 
   now : CodeWalks (fields_of d.header) (record e.walk { decoder = dec; stage = stage.Code; row = 0; first = Some c; marker = None }) (text ++ code_bytes c) (out ++ [])
   now = record {
-    walk = subst (WalkStands (fields_of d.header) d.header.yd (record e.walk { decoder = dec; stage = stage.Code; row = 0; first = Some c; marker = None }) (text ++ code_bytes c)) (sym (append-nil out)) (record {
+    walk = subst (WalkStands (sized (fields_of d.header) d.header.yd) (record e.walk { decoder = dec; stage = stage.Code; row = 0; first = Some c; marker = None }) (text ++ code_bytes c)) (sym (append-nil out)) (record {
       left_is = there.left_is;
       width_is = there.width_is;
       offset_is = there.offset_is;
@@ -588,15 +590,15 @@ code_some (code.Marker true) p rest e = let z : length p ≡ length (255 ∷ 3 �
 code_some (code.Marker false) p rest e = let z : length p ≡ length (255 ∷ 2 ∷ rest) = ap length e in omega (arith, z)
 
 -- a fault comes next
-module _ (d e : PieceView) (q : CoderLaws) (late : d.is_open ≡ true) (waits : d.waits ≡ true) (head : HeadEntered d e) (p : List ℕ) (f : Fault) (stops : StopsBehind (fields_of d.header) (place_behind (fields_of d.header) d.walk.stage d.walk.entities) false d.behind p f) where
-  behind_off : (text out : List ℕ) → DecoderStands d text out → CutOff (fields_of d.header) d.header.yd (text ++ p) out f × (f ≢ Changed)
+module _ (d e : PieceView) (q : CoderLaws) (late : d.is_open ≡ true) (waits : d.waits ≡ true) (head : HeadEntered d e) (p : List ℕ) (f : Fault) (stops : StopsBehind (fields_of d.header) (behind_at (place_behind (fields_of d.header) d.walk.stage d.walk.entities) false) d.behind p f) where
+  behind_off : (text out : List ℕ) → DecoderStands d text out → CutOff (sized (fields_of d.header) d.header.yd) (text ++ p) out f × (f ≢ Changed)
   behind_off text out s = by d.behind.comment refl stops.breaks where
-    there : WalkStands (fields_of d.header) d.header.yd e.walk text out
+    there : WalkStands (sized (fields_of d.header) d.header.yd) e.walk text out
     there = head.stands text out (waits_of d text out late waits s)
 
-    by : (o : Option ℕ) → d.behind.comment ≡ o → BreaksBehind (fields_of d.header) (place_behind (fields_of d.header) d.walk.stage d.walk.entities) false d.behind o p f → CutOff (fields_of d.header) d.header.yd (text ++ p) out f × (f ≢ Changed)
+    by : (o : Option ℕ) → d.behind.comment ≡ o → BreaksBehind (fields_of d.header) (behind_at (place_behind (fields_of d.header) d.walk.stage d.walk.entities) false) d.behind o p f → CutOff (sized (fields_of d.header) d.header.yd) (text ++ p) out f × (f ≢ Changed)
     by None is (unread, ends) =
-        let k : HeadStands (fields_of d.header) d.header.yd e.walk.entities e.walk.given e.walk.at e.walk.carried text out = at_stage (head.stage ∙ ap head_stage is) there in (
+        let k : HeadStands (sized (fields_of d.header) d.header.yd) (head_place e.walk.entities e.walk.given e.walk.at e.walk.carried) text out = at_stage (head.stage ∙ ap head_stage is) there in (
           head_cut k q (own_height d.header) p unread f stops.counted
               (subst (λ a. Ends Truncated (Some p) (Some unread) (PieceFault (fields_of d.header) (record { height = d.header.yd; entities = e.walk.entities; given = e.walk.given }) (is_some a)) f) (sym head.at)
               (subst (λ g. Ends Truncated (Some p) (Some unread) (PieceFault (fields_of d.header) (record { height = d.header.yd; entities = e.walk.entities; given = g }) (is_some d.behind.at)) f) (sym head.given)
@@ -604,8 +606,8 @@ module _ (d e : PieceView) (q : CoderLaws) (late : d.is_open ≡ true) (waits : 
           piece_other (fields_of d.header) (place_behind (fields_of d.header) d.walk.stage d.walk.entities) (is_some d.behind.at) refl ends.given f (subst (PieceFault (fields_of d.header) (place_behind (fields_of d.header) d.walk.stage d.walk.entities) (is_some d.behind.at) ends.given) stops.counted ends.has_fault),
         )
     by (Some left) is (short, ended) =
-        let k : CommentStands (fields_of d.header) d.header.yd e.walk.entities e.walk.given e.walk.at e.walk.carried e.walk.comment text out = at_stage (head.stage ∙ ap head_stage is) there in (
-          subst (CutOff (fields_of d.header) d.header.yd (text ++ p) out) (sym ended) (comment_off k q (own_height d.header) p (subst (λ n. length p < n) (sym (head.comment left is)) short)),
+        let k : CommentStands (sized (fields_of d.header) d.header.yd) (head_place e.walk.entities e.walk.given e.walk.at e.walk.carried) e.walk.comment text out = at_stage (head.stage ∙ ap head_stage is) there in (
+          subst (CutOff (sized (fields_of d.header) d.header.yd) (text ++ p) out) (sym ended) (comment_off k q (own_height d.header) p (subst (λ n. length p < n) (sym (head.comment left is)) short)),
           (λ t. let z : Truncated ≡ Changed = sym ended ∙ t in cc),
         )
 
@@ -624,24 +626,24 @@ module _ (d : PieceView) (known : d.is_open ≡ false) where
   known_of : (text more : List ℕ) → HeightKnown (fields_of d.header) d.height d.is_open text → HasHeight (fields_of d.header) (text ++ more) d.height
   known_of text more k = height_known (fields_of d.header) d.height text more (own_height d.header).accepted (subst (λ b. HeightKnown (fields_of d.header) d.height b text) known k)
 
-  pub turn_on : (d' : PieceView) (p p' row : List ℕ) → KeepsDecoder d d' → StepsOn (fields_of d.header) d.height d.walk d'.walk p p' row → DecoderOn d d' p p' row
+  pub turn_on : (d' : PieceView) (p p' row : List ℕ) → KeepsDecoder d d' → StepsOn (sized (fields_of d.header) d.height) d.walk d'.walk p p' row → DecoderOn d d' p p' row
   turn_on d' p p' row keeps on text out s =
       let k = on text out (walks_of d text out known s) in (
         k.0,
         k.1,
         put_walks d' (text ++ k.0) (out ++ row) (keeps.is_open ∙ known) (keep_known d d' (text ++ k.0) keeps (known_more (fields_of d.header) d.height d.is_open text k.0 s.height))
-            (subst (λ z. WalkStands (fields_of z) d'.height d'.walk (text ++ k.0) (out ++ row)) (sym keeps.header) (subst (λ n. WalkStands (fields_of d.header) n d'.walk (text ++ k.0) (out ++ row)) (sym keeps.height) k.2)),
+            (subst (λ z. WalkStands (sized (fields_of z) d'.height) d'.walk (text ++ k.0) (out ++ row)) (sym keeps.header) (subst (λ n. WalkStands (sized (fields_of d.header) n) d'.walk (text ++ k.0) (out ++ row)) (sym keeps.height) k.2)),
       )
 
-  pub turn_whole : (w : WalkView) (p p' : List ℕ) → StepsOn (fields_of d.header) d.height d.walk w p p' [] → w.stage ≡ stage.Done → (is_all : Bool) → EndsWhole is_all d p d.height
+  pub turn_whole : (w : WalkView) (p p' : List ℕ) → StepsOn (sized (fields_of d.header) d.height) d.walk w p p' [] → w.stage ≡ stage.Done → (is_all : Bool) → EndsWhole is_all d p d.height
   turn_whole w p p' on done is_all text out rest s follows =
       let k = on text out (walks_of d text out known s) in
       let body : (text ++ k.0) ++ (p' ++ rest) ≡ (text ++ p) ++ rest = append_assoc text k.0 (p' ++ rest) ∙ ap (λ z. text ++ z) (sym (append_assoc k.0 p' rest) ∙ ap (λ z. z ++ rest) (sym k.1)) ∙ sym (append_assoc text p rest) in
       subst (λ z. HoldsImage (fields_of d.header) z d.height out) body
       (read_holds (fields_of d.header) d.height (text ++ k.0) out (p' ++ rest) (subst (λ z. HasHeight (fields_of d.header) z d.height) (sym (append_assoc text k.0 (p' ++ rest))) (known_of text (k.0 ++ (p' ++ rest)) s.height))
-      (at_stage done (subst (WalkStands (fields_of d.header) d.height w (text ++ k.0)) (append-nil out) k.2)))
+      (at_stage done (subst (WalkStands (sized (fields_of d.header) d.height) w (text ++ k.0)) (append-nil out) k.2)))
 
-  pub turn_broken : (p : List ℕ) (f : Fault) → StepsOff (fields_of d.header) d.height d.walk p f → (is_all : Bool) → (f ≡ Truncated → is_all ≡ true) → EndsBroken is_all d p d.height f
+  pub turn_broken : (p : List ℕ) (f : Fault) → StepsOff (sized (fields_of d.header) d.height) d.walk p f → (is_all : Bool) → (f ≡ Truncated → is_all ≡ true) → EndsBroken is_all d p d.height f
   turn_broken p f off is_all all text out rest s follows =
       cut_hands (fields_of d.header) d.height (text ++ p) out rest f (subst (λ z. HasHeight (fields_of d.header) z d.height) (sym (append_assoc text p rest)) (known_of text (p ++ rest) s.height)) (λ t. follows (all t)) (off text out (walks_of d text out known s))
 
@@ -662,7 +664,7 @@ pub fewer_after : (old mid new : Bool) (p p1 p' : List ℕ) → mid ≡ old → 
 fewer_after old mid new p p1 p' same le less = let k : steps_left new p' < 2 * length p1 + cond {A = ℕ} old 0 1 = subst (λ b. steps_left new p' < 2 * length p1 + cond {A = ℕ} b 0 1) same less in omega (arith, k, le)
 
 -- before the first byte
-pub started : (d : PieceView) → d.is_open ≡ is_variable (fields_of d.header) → d.waits ≡ d.is_open → d.height ≡ d.header.yd → IsFirstWalk d.walk → WalkStands (fields_of d.header) d.header.yd d.walk [] [] → d.behind.at ≡ None → d.behind.comment ≡ None → DecoderStands d [] []
+pub started : (d : PieceView) → d.is_open ≡ is_variable (fields_of d.header) → d.waits ≡ d.is_open → d.height ≡ d.header.yd → IsFirstWalk d.walk → WalkStands (sized (fields_of d.header) d.header.yd) d.walk [] [] → d.behind.at ≡ None → d.behind.comment ≡ None → DecoderStands d [] []
 started d open_is waits height first s at comment = by d.is_open refl where
   known : HeightKnown (fields_of d.header) d.height d.is_open []
   known = record {
@@ -674,7 +676,7 @@ started d open_is waits height first s at comment = by d.is_open refl where
 
   by : (b : Bool) → d.is_open ≡ b → DecoderStands d [] []
   by true e = put_waits d [] [] e (waits ∙ e) known (waits_first (fields_of d.header) d.walk d.behind [] [] s (inl (first.stage, first.at, first.entities)) first.given at comment)
-  by false e = put_walks d [] [] e known (subst (λ n. WalkStands (fields_of d.header) n d.walk [] []) (sym height) s)
+  by false e = put_walks d [] [] e known (subst (λ n. WalkStands (sized (fields_of d.header) n) d.walk [] []) (sym height) s)
 
 -- the same but for how the stream has ended
 pub stands_same : (d d' : PieceView) (text out : List ℕ) → d'.header ≡ d.header → d'.height ≡ d.height → d'.is_open ≡ d.is_open → d'.waits ≡ d.waits → d'.walk ≡ d.walk → d'.behind ≡ d.behind → DecoderStands d text out → DecoderStands d' text out
@@ -684,7 +686,7 @@ stands_same d d' text out header height is_open waits walk behind s = by d.is_op
 
   by : (a b : Bool) → d.is_open ≡ a → d.waits ≡ b → DecoderStands d' text out
   by false b e f = put_walks d' text out (is_open ∙ e) known
-      (subst (λ z. WalkStands (fields_of z) d'.height d'.walk text out) (sym header) (subst (λ n. WalkStands (fields_of d.header) n d'.walk text out) (sym height) (subst (λ w. WalkStands (fields_of d.header) d.height w text out) (sym walk) (walks_of d text out e s))))
+      (subst (λ z. WalkStands (sized (fields_of z) d'.height) d'.walk text out) (sym header) (subst (λ n. WalkStands (sized (fields_of d.header) n) d'.walk text out) (sym height) (subst (λ w. WalkStands (sized (fields_of d.header) d.height) w text out) (sym walk) (walks_of d text out e s))))
   by true false e f = put_code d' text out (is_open ∙ e) (waits ∙ f) known (subst (λ z. CodeWalks (fields_of z) d'.walk text out) (sym header) (subst (λ w. CodeWalks (fields_of d.header) w text out) (sym walk) (code_of d text out e f s)))
   by true true e f = put_waits d' text out (is_open ∙ e) (waits ∙ f) known
       (subst (λ z. WalkWaits (fields_of z) d'.walk d'.behind text out) (sym header) (subst (λ w. WalkWaits (fields_of d.header) w d'.behind text out) (sym walk) (subst (λ b. WalkWaits (fields_of d.header) d.walk b text out) (sym behind) (waits_of d text out e f s))))
@@ -715,10 +717,10 @@ entities_few d text out late in_code s = go d.waits refl where
 -- ---- of a decoder that stands somewhere
 
 -- its walk does
-pub some_code : (d : PieceView) → d.is_open ≡ true → d.waits ≡ false → SomeStand d → SomeStands (fields_of d.header) d.header.yd d.walk
+pub some_code : (d : PieceView) → d.is_open ≡ true → d.waits ≡ false → SomeStand d → SomeStands (sized (fields_of d.header) d.header.yd) d.walk
 some_code d late going some = (some.0, some.1, (code_of d some.0 some.1 late going some.2).walk)
 
-pub some_waits : (d : PieceView) → d.is_open ≡ true → d.waits ≡ true → SomeStand d → SomeStands (fields_of d.header) d.header.yd d.walk
+pub some_waits : (d : PieceView) → d.is_open ≡ true → d.waits ≡ true → SomeStand d → SomeStands (sized (fields_of d.header) d.header.yd) d.walk
 some_waits d late waits some = let w = waits_of d some.0 some.1 late waits some.2 in (w.done, some.1, w.walk)
 
 -- what a step leaves is told of such a decoder alone
@@ -756,7 +758,7 @@ pub no_row_left : (d : PieceView) → d.is_open ≡ true → d.waits ≡ true �
 no_row_left d late waits all (inl code) not_code some = not_code code
 no_row_left d late waits all (inr row) not_code some =
     let w = waits_of d some.0 some.1 late waits some.2 in
-    let k : InRowStands (fields_of d.header) d.header.yd d.walk.entities d.walk.given d.walk.at d.walk.row d.walk.first d.walk.marker d.walk.carried d.walk.decoder d.walk.place w.done some.1 = at_stage row w.walk in
+    let k : InRowStands (sized (fields_of d.header) d.header.yd) (head_place d.walk.entities d.walk.given d.walk.at d.walk.carried) (code_place d.walk.row d.walk.first d.walk.marker d.walk.decoder) d.walk.place w.done some.1 = at_stage row w.walk in
     let few : d.walk.row < min d.walk.left d.header.l0 = subst (λ z. d.walk.row < min z d.header.l0) (sym w.walk.left_is) k.few in
     let given = all (inr row) in
     omega (arith, few, given)

@@ -10,7 +10,7 @@ use Rattle.qm_core.specs.declared.source.Heard.TheVariants.{More, Ended, Stopped
 use Rattle.qm_core.specs.declared.source.Pulled.{Pulled}
 use Rattle.qm_core.specs.declared.decoder.Decoder.{Decoder}
 use Rattle.raster_core.specs.Packed.{packed_row}
-use Rattle.raster_core.specs.Row.{IsRowStart, HasAbove, StandsInRow}
+use Rattle.raster_core.specs.Row.{IsRowStart, HasAbove, StandsInRow, row_task}
 use Rattle.raster_core.specs.Window.{turned}
 use Rattle.raster_core.specs.declared.place.RowPlace.{RowPlace}
 use Rattle.raster_core.specs.declared.shape.Shape.{Shape}
@@ -26,11 +26,13 @@ use Rattle.t85_core.specs.Laws.{IsInUse}
 use Rattle.t85_core.specs.Steps.CoderLaws.{CoderLaws}
 use Rattle.t85_core.specs.Steps.Segments.{IsByteOrMarker, spot_at}
 use Rattle.t85_core.specs.Steps.State.{StripeStart, first_row_start, next_stripe_start, offset_at}
-use Rattle.t85_core.specs.Steps.Cut.{BegunRun}
+use Rattle.t85_core.specs.Steps.Cut.{BegunRun, open_stripe}
 use Rattle.t85_core.specs.Steps.DecodeRows.{pair_of, IsShapeOf, IsCarried}
-use Rattle.t85_core.specs.Steps.DecodeStripes.{StripeCut, StripeRead, StripesRead, ImageRead}
-use Rattle.t85_core.specs.Steps.PieceCode.{CodeText, CodeOpen, CodeBreaks, PieceRowTaken, RowBroken, RowWaits, MarkerFound, MarkerMissing, CodeKept}
-use Rattle.t85_core.specs.Steps.Pieces.{CutOff, HeadStands, CodeStands, InRowStands, rows_in}
+use Rattle.t85_core.specs.Steps.DecodeStripes.{StripeCut, StripeRead, StripesRead, ImageRead, stripe_place}
+use Rattle.t85_core.specs.Steps.PieceCode.{CodeText, CodeOpen, CodeBreaks, PieceRowTaken, RowBroken, RowWaits, MarkerFound, MarkerMissing, CodeKept, row_state_at, handed}
+use Rattle.t85_core.specs.Steps.Pieces.{CutOff, HeadStands, CodeStands, InRowStands, rows_in, head_place, code_place}
+use Rattle.t85_core.specs.Steps.SizedImage.{sized}
+use Rattle.t85_core.specs.Steps.Passage.{passage}
 use Rattle.t85_core.proofs.Walks.Passed.{passed_none}
 use Rattle.t85_core.proofs.Decodings.ImagePut.{stripes_next, image_read}
 use Rattle.t85_core.proofs.Decodings.RowsSoFar.{rows_whole, rows_full}
@@ -48,7 +50,7 @@ behind_is first (Some reset) answers extra text o = o.behind
 
 -- ---- a stripe whose code breaks
 
-module _ {h : Fields} {height entities : ℕ} {given : Bool} {at : Option move.Move} {start : Carried} {before began : List ℕ} (head : HeadStands h height entities given at start before began)
+module _ {h : Fields} {height entities : ℕ} {given : Bool} {at : Option move.Move} {start : Carried} {before began : List ℕ} (head : HeadStands (sized h height) (head_place entities given at start) before began)
     (code text out : List ℕ) (text_is : text ≡ before ++ code) (q : CoderLaws) (use_ : IsInUse h height) where
   abbrev head_segments : List Segment
   head_segments = head.passed.segments
@@ -59,10 +61,10 @@ module _ {h : Fields} {height entities : ℕ} {given : Bool} {at : Option move.M
   head_back : head.back ≡ flat_map segment_bytes head_segments
   head_back = head.passed.taken ∙ append-nil (flat_map segment_bytes head_segments)
 
-  code_off : (p bytes : List ℕ) (f : Fault) (rows : List (List Bool)) (flags : List Bool) → CodeBreaks code p bytes f → BegunRun h (rows_in h height entities) head.stripes.next head_segments bytes rows flags → out ≡ began ++ flat_map packed_row rows →
-      CutOff h height (text ++ p) out f
+  code_off : (p bytes : List ℕ) (f : Fault) (rows : List (List Bool)) (flags : List Bool) → CodeBreaks code p bytes f → BegunRun (open_stripe h head.stripes.next head_segments) (rows_in h height entities) bytes rows flags → out ≡ began ++ flat_map packed_row rows →
+      CutOff (sized h height) (text ++ p) out f
   code_off p bytes f rows flags b begun out_is =
-      subst (λ z. CutOff h height z out f) (head_more p) (head_breaks head q use_ out (code ++ p) b.unread f b.counted stripe_cut)
+      subst (λ z. CutOff (sized h height) z out f) (head_more p) (head_breaks head q use_ out (code ++ p) b.unread f b.counted stripe_cut)
     where
       part : List ℕ
       part = flat_map segment_bytes head_segments ++ (stuffed bytes ++ b.rest)
@@ -70,7 +72,7 @@ module _ {h : Fields} {height entities : ℕ} {given : Bool} {at : Option move.M
       taken : head.back ++ (code ++ p) ≡ part ++ b.unread
       taken = ap (λ z. head.back ++ z) b.text_is ∙ ap (λ z. z ++ ((stuffed bytes ++ b.rest) ++ b.unread)) head_back ∙ sym (append_assoc (flat_map segment_bytes head_segments) (stuffed bytes ++ b.rest) b.unread)
 
-      stripe_cut : StripeCut h (spot_at (place head)) head.stripes.next (Some (head.back ++ (code ++ p))) (Some b.unread) (rows_in h height entities) (Some began) (Some out) f
+      stripe_cut : StripeCut h (stripe_place (spot_at (place head)) head.stripes.next (rows_in h height entities)) (passage (Some (head.back ++ (code ++ p))) (Some b.unread) (Some began) (Some out)) f
       stripe_cut = record {
         rows = rows;
         flags = flags;
@@ -99,7 +101,7 @@ module _ {h : Fields} {height entities : ℕ} {given : Bool} {at : Option move.M
 -- ---- in a row that has begun
 
 module _ {h : Fields} {height entities : ℕ} {given : Bool} {at : Option move.Move} {row : ℕ} {first : Option code_type.Code} {marker : Option Bool} {carried : Carried} {d : Decoder} {in_row : RowPlace} {text out : List ℕ}
-    (s : InRowStands h height entities given at row first marker carried d in_row text out) where
+    (s : InRowStands (sized h height) (head_place entities given at carried) (code_place row first marker d) in_row text out) where
   -- its decoder goes on
   pub in_row_going : has_stopped d ≡ false
   in_row_going = by in_row.is_begun refl
@@ -122,12 +124,12 @@ module _ {h : Fields} {height entities : ℕ} {given : Bool} {at : Option move.M
   in_row_more : (p : List ℕ) → s.before ++ (s.code ++ p) ≡ text ++ p
   in_row_more p = sym (append_assoc s.before s.code p) ∙ ap (λ z. z ++ p) (sym s.text_is)
 
-  pub row_off : CoderLaws → IsInUse h height → (p : List ℕ) (f : Fault) → RowBroken h s.head.stripes.next s.head.passed.segments (rows_in h height entities) s.began out s.code p f → CutOff h height (text ++ p) out f
+  pub row_off : CoderLaws → IsInUse h height → (p : List ℕ) (f : Fault) → RowBroken (open_stripe h s.head.stripes.next s.head.passed.segments) (rows_in h height entities) (handed s.began out s.code) p f → CutOff (sized h height) (text ++ p) out f
   row_off q use_ p f m = code_off s.head s.code text out s.text_is q use_ p m.bytes f m.rows m.flags m.breaks m.begun m.out_is
 
   -- it ended
-  pub row_on : {first' : Option code_type.Code} {marker' : Option Bool} {carried' : Carried} {d' : Decoder} {p p' : List ℕ} → (m : PieceRowTaken h s.shape s.head.stripes.next s.head.passed.segments row first' marker' carried' d' s.began out s.code p p') →
-      CodeStands h height entities given at (row + 1) first' marker' carried' d' (text ++ m.given) (out ++ carried'.held.current)
+  pub row_on : {first' : Option code_type.Code} {marker' : Option Bool} {carried' : Carried} {d' : Decoder} {in_row' : RowPlace} {p p' : List ℕ} → (m : PieceRowTaken (open_stripe h s.head.stripes.next s.head.passed.segments) s.shape row (row_state_at carried' d' in_row' first' marker' p') (handed s.began out s.code) p) →
+      CodeStands (sized h height) (head_place entities given at carried') (code_place (row + 1) first' marker' d') (text ++ m.given) (out ++ carried'.held.current)
   row_on m = record {
     before = s.before;
     began = s.began;
@@ -145,7 +147,7 @@ module _ {h : Fields} {height entities : ℕ} {given : Bool} {at : Option move.M
 
   -- it waits
   pub row_kept : {first' : Option code_type.Code} {marker' : Option Bool} {carried' : Carried} {d' : Decoder} {in_row' : RowPlace} {p p' : List ℕ} →
-      (m : RowWaits h s.shape s.head.stripes.next s.head.passed.segments row first' marker' carried' d' in_row' s.began out s.code p p') → InRowStands h height entities given at row first' marker' carried' d' in_row' (text ++ m.given) out
+      (m : RowWaits (open_stripe h s.head.stripes.next s.head.passed.segments) s.shape row (row_state_at carried' d' in_row' first' marker' p') (handed s.began out s.code) p) → InRowStands (sized h height) (head_place entities given at carried') (code_place row first' marker' d') in_row' (text ++ m.given) out
   row_kept m = record {
     before = s.before;
     began = s.began;
@@ -160,7 +162,7 @@ module _ {h : Fields} {height entities : ℕ} {given : Bool} {at : Option move.M
   }
 
 module _ {h : Fields} {height entities : ℕ} {given : Bool} {at : Option move.Move} {row : ℕ} {first : Option code_type.Code} {marker : Option Bool} {carried : Carried} {d : Decoder} {text out : List ℕ}
-    (s : CodeStands h height entities given at row first marker carried d text out) where
+    (s : CodeStands (sized h height) (head_place entities given at carried) (code_place row first marker d) text out) where
   abbrev c : StripeStart
   c = s.head.stripes.next
 
@@ -183,7 +185,7 @@ module _ {h : Fields} {height entities : ℕ} {given : Bool} {at : Option move.M
 
   module _ (q : CoderLaws) (use_ : IsInUse h height) where
     -- after its rows
-    pub marker_off : row ≡ count → (p : List ℕ) (f : Fault) → MarkerMissing s.read.answers s.code p f → CutOff h height (text ++ p) out f
+    pub marker_off : row ≡ count → (p : List ℕ) (f : Fault) → MarkerMissing s.read.answers s.code p f → CutOff (sized h height) (text ++ p) out f
     marker_off all p f m =
         code_off s.head s.code text out s.text_is q use_ p (bytes_of s.read.answers ++ m.more) f s.read.rows s.read.flags m.breaks
         (rows_full h c segments s.read.answers s.read.rows s.read.flags s.read.last s.read.so_far q count m.more d (s.read.many ∙ all) s.read.stands m.going m.small) s.read.appended
@@ -191,9 +193,9 @@ module _ {h : Fields} {height entities : ℕ} {given : Bool} {at : Option move.M
     -- ---- it ends
 
     module _ (all : row ≡ count) (p p' : List ℕ) (reset : Bool) (m : MarkerFound s.read.answers s.code p p' reset) (next : Carried) (next_is : IsCarried (first_row_start (next_stripe_start h.xd reset s.read.last)) next) where
-      pub whole : StripesRead h height (Some (text ++ m.given)) (Some []) (entities + 1) (cond given 1 0) next (Some []) (Some out)
+      pub whole : StripesRead h height (passage (Some (text ++ m.given)) (Some []) (Some []) (Some out)) (entities + 1) (cond given 1 0) next
       whole =
-          subst (λ z. StripesRead h height (Some z) (Some []) (entities + 1) (cond given 1 0) next (Some []) (Some out)) all_text
+          subst (λ z. StripesRead h height (passage (Some z) (Some []) (Some []) (Some out)) (entities + 1) (cond given 1 0) next) all_text
           (stripes_next h height (Some (s.head.front ++ (s.head.back ++ (s.code ++ m.given)))) (Some (s.head.back ++ (s.code ++ m.given))) (Some []) entities (cond s.head.before 1 0) count s.start next (Some []) (Some s.began) (Some out)
           (stripes_ext s.head.stripes (s.head.back ++ (s.code ++ m.given))) refl (cond given 1 0) stripe)
         where
@@ -203,7 +205,7 @@ module _ {h : Fields} {height entities : ℕ} {given : Bool} {at : Option move.M
           begun : IsBegun h segments m.code
           begun = record { legal = s.head.passed.begun.legal; one_move = s.head.passed.begun.one_move; bytes = m.small }
 
-          stripe : StripeRead h (record { height = height; entities = entities; heights = cond s.head.before 1 0 }) (cond given 1 0) c (Some (s.head.back ++ (s.code ++ m.given))) (Some []) count next (Some s.began) (Some out)
+          stripe : StripeRead h (stripe_place (record { height = height; entities = entities; heights = cond s.head.before 1 0 }) c count) (cond given 1 0) (passage (Some (s.head.back ++ (s.code ++ m.given))) (Some []) (Some s.began) (Some out)) next
           stripe = record {
             stripe = record { segments = segments; code = m.code; reset = reset };
             taken = ap (λ z. s.head.back ++ z) m.text_is ∙ ap (λ z. z ++ (stuffed m.code ++ marker_bytes reset)) back_is ∙ sym (append-nil (flat_map segment_bytes segments ++ (stuffed m.code ++ marker_bytes reset)));
@@ -217,11 +219,11 @@ module _ {h : Fields} {height entities : ℕ} {given : Bool} {at : Option move.M
           }
 
       -- and was the last
-      pub stripe_last : entities + 1 ≡ stripe_count height h.l0 → ImageRead h height (Some (text ++ m.given)) (Some []) (Some []) (Some out)
+      pub stripe_last : entities + 1 ≡ stripe_count height h.l0 → ImageRead h height (passage (Some (text ++ m.given)) (Some []) (Some []) (Some out))
       stripe_last last = image_read h height (Some (text ++ m.given)) (Some []) (entities + 1) (cond given 1 0) next (Some []) (Some out) whole use_ last
 
       -- and another comes
-      pub stripe_on : entities + 1 < stripe_count height h.l0 → HeadStands h height (entities + 1) given None next (text ++ m.given) out
+      pub stripe_on : entities + 1 < stripe_count height h.l0 → HeadStands (sized h height) (head_place (entities + 1) given None next) (text ++ m.given) out
       stripe_on fewer = record {
         before = given;
         front = text ++ m.given;
@@ -243,7 +245,7 @@ module _ {h : Fields} {height entities : ℕ} {given : Bool} {at : Option move.M
     abbrev answers : List Pulled
     answers = s.read.answers ++ []
 
-    stands_here : StandsInRow s.shape carried'.kept in_row s.read.last.state answers (record { row = s.read.is_carried.third; above = s.read.last.above; second = s.read.last.second }) carried'.held carried'.learned d
+    stands_here : StandsInRow (row_task s.shape carried'.kept s.read.last.state (record { row = s.read.is_carried.third; above = s.read.last.above; second = s.read.last.second })) in_row answers carried'.held carried'.learned d
     stands_here =
         let l = s.read.is_carried.lines_are in
         record {
@@ -257,7 +259,7 @@ module _ {h : Fields} {height entities : ℕ} {given : Bool} {at : Option move.M
           in_it = λ e. absurd (let z : true ≡ false = sym e ∙ start.is_begun in let bot : ⊥ = cc in bot);
         }
 
-    pub row_entered : InRowStands h height entities given at row first marker carried' d in_row text out
+    pub row_entered : InRowStands (sized h height) (head_place entities given at carried') (code_place row first marker d) in_row text out
     row_entered = record {
       before = s.before;
       began = s.began;
@@ -281,7 +283,7 @@ module _ {h : Fields} {height entities : ℕ} {given : Bool} {at : Option move.M
     }
 
   -- what is left of it was skipped, as far as it came
-  pub code_kept : row ≡ count → {first' : Option code_type.Code} (p p' : List ℕ) → (m : CodeKept first' marker s.read.answers s.code p p') → CodeStands h height entities given at row first' marker carried d (text ++ m.given) out
+  pub code_kept : row ≡ count → {first' : Option code_type.Code} (p p' : List ℕ) → (m : CodeKept first' marker s.read.answers s.code p p') → CodeStands (sized h height) (head_place entities given at carried) (code_place row first' marker d) (text ++ m.given) out
   code_kept all p p' m = record {
     before = s.before;
     began = s.began;
@@ -299,7 +301,7 @@ module _ {h : Fields} {height entities : ℕ} {given : Bool} {at : Option move.M
 
   -- its end marker came
   pub code_marked : row ≡ count → marker ≡ None → (p p' : List ℕ) (reset : Bool) → (m : MarkerFound s.read.answers s.code p p' reset) →
-      CodeStands h height entities given at row (Some (code.Marker reset)) marker carried d (text ++ m.given) out
+      CodeStands (sized h height) (head_place entities given at carried) (code_place row (Some (code.Marker reset)) marker d) (text ++ m.given) out
   code_marked all unmarked p p' reset m = record {
     before = s.before;
     began = s.began;
@@ -346,7 +348,7 @@ text_marked first marker answers extra text reset none unmarked o = subst (λ z.
   }
 
 pub code_ahead : {h : Fields} {height entities : ℕ} {given : Bool} {at : Option move.Move} {row : ℕ} {first : Option code_type.Code} {marker : Option Bool} {carried : Carried} {d : Decoder} {text out : List ℕ} (reset : Bool) → first ≡ None → marker ≡ None →
-    CodeStands h height entities given at row first marker carried d text out → CodeStands h height entities given at row (Some (code.Marker reset)) marker carried d (text ++ marker_bytes reset) out
+    CodeStands (sized h height) (head_place entities given at carried) (code_place row first marker d) text out → CodeStands (sized h height) (head_place entities given at carried) (code_place row (Some (code.Marker reset)) marker d) (text ++ marker_bytes reset) out
 code_ahead {first = first} {marker = marker} reset none unmarked s = record {
   before = s.before;
   began = s.began;
@@ -363,7 +365,7 @@ code_ahead {first = first} {marker = marker} reset none unmarked s = record {
 }
 
 pub row_ahead : {h : Fields} {height entities : ℕ} {given : Bool} {at : Option move.Move} {row : ℕ} {first : Option code_type.Code} {marker : Option Bool} {carried : Carried} {d : Decoder} {in_row : RowPlace} {text out : List ℕ} (reset : Bool) → first ≡ None → marker ≡ None →
-    InRowStands h height entities given at row first marker carried d in_row text out → InRowStands h height entities given at row (Some (code.Marker reset)) marker carried d in_row (text ++ marker_bytes reset) out
+    InRowStands (sized h height) (head_place entities given at carried) (code_place row first marker d) in_row text out → InRowStands (sized h height) (head_place entities given at carried) (code_place row (Some (code.Marker reset)) marker d) in_row (text ++ marker_bytes reset) out
 row_ahead {first = first} {marker = marker} reset none unmarked s = record {
   before = s.before;
   began = s.began;

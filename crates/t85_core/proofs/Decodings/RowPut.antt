@@ -3,23 +3,23 @@ use Rattle.std.proofs.Common.{◌≡◌, ℕ, ◌+◌, List, [], ◌∷◌, ◌+
 use Rattle.std.specs.Prelude.{flat_map, IsErr}
 use Rattle.std.specs.Io.KnownBytes.{Appends}
 use Rattle.qm_core.specs.Place.{start}
-use Rattle.qm_core.specs.Source.{Gives}
-use Rattle.qm_core.specs.Decoder.{DecoderIsAt}
+use Rattle.qm_core.specs.Source.{Gives, source_at}
+use Rattle.qm_core.specs.Decoder.{DecoderIsAt, decoder_state}
 use Rattle.qm_core.specs.declared.source.Pulled.{Pulled}
 use Rattle.qm_core.specs.declared.decoder.Decoder.{Decoder}
 use Rattle.qm_core.specs.declared.decoder.Stop.{Stop}
 use Rattle.raster_core.specs.Lines.{Lines}
 use Rattle.raster_core.specs.Packed.{packed_row}
-use Rattle.raster_core.specs.Row.{RowDecoded, RowIs}
+use Rattle.raster_core.specs.Row.{RowDecoded, RowIs, row_task, row_left}
 use Rattle.raster_core.specs.declared.shape.Shape.{Shape}
 use Rattle.raster_core.specs.declared.shape.Kept.{Kept}
 use Rattle.t85_core.specs.Lent.{Carried}
 use Rattle.t85_core.specs.Header.{Fields}
 use Rattle.t85_core.specs.Grammar.{Segment}
 use Rattle.t85_core.specs.Coding.{mode_of, move_of}
-use Rattle.t85_core.specs.Steps.State.{RowStart, StripeStart, first_row_start, after_row, offset_at}
-use Rattle.t85_core.specs.Steps.Cut.{IsReady}
-use Rattle.t85_core.specs.Steps.DecodeRows.{IsShapeOf, IsCarried, RowsRead}
+use Rattle.t85_core.specs.Steps.State.{RowStart, StripeStart, first_row_start, after_row, offset_at, stripe_coding}
+use Rattle.t85_core.specs.Steps.Cut.{IsReady, open_stripe}
+use Rattle.t85_core.specs.Steps.DecodeRows.{IsShapeOf, IsCarried, RowsRead, Leads, rows_done}
 use Rattle.t85_core.proofs.Bytes.Lists.{flat_map_push}
 use Rattle.t85_core.proofs.Decodings.Runs.{row_stands, row_taught}
 use Rattle.t85_core.proofs.Decodings.RowsSoFar.{rows_none, rows_step, kept_step}
@@ -29,13 +29,13 @@ not_err : (x : Unit {0}) → IsErr {T = Unit {0}} {E = Stop} (Ok x) → ⊥
 not_err x e = cc
 
 module _ {S F : Type 0} (pull : S → Pulled → S → Type 0) (joined : F → Pulled → F → Type 0) (old new : S) (from at to : F) (h : Fields) (shape : Shape) (c : StripeStart) (segments : List Segment) (row : ℕ)
-    (carried carried' : Carried) (d d' : Decoder) (began text : Option (List ℕ)) (r : RowsRead joined from at h shape c segments row carried d began text)
+    (carried carried' : Carried) (d d' : Decoder) (began text : Option (List ℕ)) (r : RowsRead (Leads joined from at) (open_stripe h c segments) shape (rows_done row carried d) began text)
     (kept : Kept) (offset_is : kept.offset ≡ offset_at (move_of segments) row carried.kept.offset) (previous_is : kept.previous_typical ≡ carried.kept.previous_typical) where
   -- the rows above the next one
   abbrev below : Lines
   below = record { row = r.is_carried.third; above = r.last.above; second = r.last.second }
 
-  pub ready : IsReady h shape kept below (move_of segments) (length r.rows) r.last
+  pub ready : IsReady (stripe_coding h segments) shape kept below (length r.rows) r.last
   ready = record {
     width_is = r.shape_is.width_is;
     mode_is = r.shape_is.mode_is;
@@ -50,10 +50,10 @@ module _ {S F : Type 0} (pull : S → Pulled → S → Type 0) (joined : F → P
   Join = (more : List Pulled) → Gives pull old more new → Gives joined from (r.answers ++ more) to
 
   -- it was decoded
-  pub row_done : Join → (text' : Option (List ℕ)) → RowDecoded pull old new shape kept carried'.kept r.last.state r.answers below carried'.held carried'.learned d' (Ok tt) →
-      Appends text text' carried'.held.current → RowsRead joined from to h shape c segments (row + 1) carried' d' began text'
+  pub row_done : Join → (text' : Option (List ℕ)) → RowDecoded (source_at pull old r.answers) (row_task shape kept r.last.state below) (row_left carried'.kept carried'.held) (decoder_state new d' carried'.learned) (Ok tt) →
+      Appends text text' carried'.held.current → RowsRead (Leads joined from to) (open_stripe h c segments) shape (rows_done (row + 1) carried' d') began text'
   row_done join text' done' put =
-      let k : RowIs shape kept carried'.kept r.last.state (r.answers ++ done'.more) below carried'.held carried'.learned d' = done'.ok in
+      let k : RowIs (row_task shape kept r.last.state below) (r.answers ++ done'.more) (row_left carried'.kept carried'.held) carried'.learned d' = done'.ok in
       let after : RowStart = after_row (mode_of h.options) (move_of segments) (length r.rows) r.last k.row k.flag in
       let kept_is = kept_step h c segments r.answers r.rows r.flags r.last r.so_far shape kept carried'.kept below carried'.held carried'.learned d' done'.more ready k in
       record {
@@ -78,7 +78,7 @@ module _ {S F : Type 0} (pull : S → Pulled → S → Type 0) (joined : F → P
       }
 
   -- the answers up to its end
-  pub row_done_answers : (join : Join) (text' : Option (List ℕ)) (done' : RowDecoded pull old new shape kept carried'.kept r.last.state r.answers below carried'.held carried'.learned d' (Ok tt)) (put : Appends text text' carried'.held.current) →
+  pub row_done_answers : (join : Join) (text' : Option (List ℕ)) (done' : RowDecoded (source_at pull old r.answers) (row_task shape kept r.last.state below) (row_left carried'.kept carried'.held) (decoder_state new d' carried'.learned) (Ok tt)) (put : Appends text text' carried'.held.current) →
       (row_done join text' done' put).answers ≡ r.answers ++ done'.more
   unfolding row_done
   row_done_answers join text' done' put = refl
@@ -89,7 +89,7 @@ appends_nothing (Some xs) = sym (append-nil xs)
 
 -- before the first row
 abbrev pub rows_begin : {S : Type 0} (pull : S → Pulled → S → Type 0) (from : S) (h : Fields) (shape : Shape) (c : StripeStart) (segments : List Segment) (carried : Carried) (d : Decoder) (text : Option (List ℕ)) →
-    DecoderIsAt d start [] → IsShapeOf h shape → IsCarried (first_row_start c) carried → RowsRead pull from from h shape c segments 0 carried d text text
+    DecoderIsAt d start [] → IsShapeOf h shape → IsCarried (first_row_start c) carried → RowsRead (Leads pull from from) (open_stripe h c segments) shape (rows_done 0 carried d) text text
 rows_begin pull from h shape c segments carried d text stands shape_is is = record {
   answers = [];
   gives = refl;

@@ -19,11 +19,11 @@ use Rattle.raster_core.specs.Window.{repeated, shape_mode}
 use Rattle.raster_core.specs.declared.shape.Shape.{Shape}
 use Rattle.t85_core.specs.Header.{Fields}
 use Rattle.t85_core.specs.Grammar.{Segment}
-use Rattle.t85_core.specs.Coding.{mode_of, move_of}
+use Rattle.t85_core.specs.Coding.{mode_of, move_of, flagged}
 use Rattle.t85_core.specs.Steps.Buffers.{copies}
-use Rattle.t85_core.specs.Steps.State.{RowStart, StripeStart, first_row_start, offset_at}
-use Rattle.t85_core.specs.Steps.Cut.{RowsSoFar}
-use Rattle.t85_core.specs.Steps.DecodeRows.{IsShapeOf, IsCarried, RowsRead, RowsRepeated, RepeatsRows}
+use Rattle.t85_core.specs.Steps.State.{RowStart, StripeStart, first_row_start, offset_at, stripe_coding}
+use Rattle.t85_core.specs.Steps.Cut.{RowsSoFar, open_stripe}
+use Rattle.t85_core.specs.Steps.DecodeRows.{IsShapeOf, IsCarried, RowsRead, RowsRepeated, RepeatsRows, Leads, rows_done}
 use Rattle.t85_core.specs.Lent.{Carried}
 use Rattle.t85_core.proofs.Bytes.Streams.{Appends-more}
 use Rattle.t85_core.proofs.Decodings.TypicalRows.{run_append, run_enough_append, behind, state_behind, above_behind, second_behind, previous_behind, offset_behind, run_behind, enough_behind, flat_copies}
@@ -36,7 +36,7 @@ module _ (shape : Shape) (move : Option (ℕ × ℕ)) (row count : ℕ) (carried
     (settled : (k o : ℕ) → row ≤ k → offset_at move k o ≡ o)
     (kept_is : carried'.kept ≡ carried.kept) (learned_is : carried'.learned ≡ carried.learned) (window_is : carried'.held ≡ repeated carried.held) where
   module _ (h : Fields) (c : StripeStart) (segments : List Segment) (answers : List Pulled) (rows : List (List Bool)) (flags : List Bool) (last : RowStart) (move_is : move ≡ move_of segments) (shape_is : IsShapeOf h shape)
-      (so_far : RowsSoFar h c segments answers rows flags last) (many : length rows ≡ row) (stands : DecoderIsAt d last.state.place answers) (is : IsCarried last carried) where
+      (so_far : RowsSoFar (open_stripe h c segments) answers rows flags last) (many : length rows ≡ row) (stands : DecoderIsAt d last.state.place answers) (is : IsCarried last carried) where
     previous : carried.kept.previous_typical ≡ true
     previous = (skipped last.state.place answers stands).previous
 
@@ -81,16 +81,17 @@ module _ (shape : Shape) (move : Option (ℕ × ℕ)) (row count : ℕ) (carried
         (subst (λ z. HasLines (repeated carried.held) (record { row = last.above; above = z; second = last.second })) (sym second_is)
         (record { row_is = l.row_is; above_is = l.row_is; second_is = l.above_is; row_wide = l.row_wide; above_wide = l.row_wide; second_wide = l.above_wide })))
 
-    pub rows_repeated : RowsRepeated h c segments answers rows flags last count carried' d'
+    pub rows_repeated : RowsRepeated (open_stripe h c segments) answers (flagged rows flags) last count (rows_done (row + count) carried' d')
     rows_repeated = record {
       last = ends_at;
       so_far = record {
-        run = run_append h.xd (mode_of h.options) (move_of segments) 0 (first_row_start c) rows flags last (replicate count last.above) (replicate count true) ends_at so_far.run
+        run = run_append (stripe_coding h segments) 0 (first_row_start c) rows flags last (replicate count last.above) (replicate count true) ends_at so_far.run
             (run_behind h.xd (mode_of h.options) (move_of segments) mode_typical (0 + length rows) last count as_wide);
         enough = λ going.
-            run_enough_append (length (bytes_of answers)) h.xd (mode_of h.options) (move_of segments) 0 (first_row_start c) rows flags last (replicate count last.above) (replicate count true) so_far.run (so_far.enough going)
+            run_enough_append (length (bytes_of answers)) (stripe_coding h segments) 0 (first_row_start c) rows flags last (replicate count last.above) (replicate count true) so_far.run (so_far.enough going)
             (enough_behind h.xd (mode_of h.options) (move_of segments) mode_typical (length (bytes_of answers)) (0 + length rows) last count was_typical (all_skipped.2 going) all_skipped.0.quiet);
       };
+      many = omega (arith, many);
       stands = subst (λ z. DecoderIsAt d' z.place answers) (sym state_is) all_skipped.1;
       is_carried = record {
         offset_is = ap (λ z. z.offset) kept_is ∙ is.offset_is ∙ sym (offset_behind h.xd (mode_of h.options) (move_of segments) mode_typical (0 + length rows) last count still_settled);
@@ -101,7 +102,7 @@ module _ (shape : Shape) (move : Option (ℕ × ℕ)) (row count : ℕ) (carried
       };
     }
 
-  pub repeats_rows : RepeatsRows shape move row count carried carried' d d'
+  pub repeats_rows : RepeatsRows shape move count (rows_done row carried d) (rows_done (row + count) carried' d')
   repeats_rows h c segments answers rows flags last move_is shape_is so_far many stands is = rows_repeated h c segments answers rows flags last move_is shape_is so_far many stands is
 
 -- ---- and written
@@ -111,16 +112,16 @@ length_replicate zero x = refl
 length_replicate (suc n) x = ap suc (length_replicate n x)
 
 module _ {F : Type 0} (joined : F → Pulled → F → Type 0) (from at : F) (h : Fields) (shape : Shape) (c : StripeStart) (segments : List Segment) (row count : ℕ)
-    (carried carried' : Carried) (d d' : Decoder) (began text : Option (List ℕ)) (r : RowsRead joined from at h shape c segments row carried d began text)
-    (move : Option (ℕ × ℕ)) (move_is : move ≡ move_of segments) (repeats : RepeatsRows shape move row count carried carried' d d') where
-  abbrev all : RowsRepeated h c segments r.answers r.rows r.flags r.last count carried' d'
+    (carried carried' : Carried) (d d' : Decoder) (began text : Option (List ℕ)) (r : RowsRead (Leads joined from at) (open_stripe h c segments) shape (rows_done row carried d) began text)
+    (move : Option (ℕ × ℕ)) (move_is : move ≡ move_of segments) (repeats : RepeatsRows shape move count (rows_done row carried d) (rows_done (row + count) carried' d')) where
+  abbrev all : RowsRepeated (open_stripe h c segments) r.answers (flagged r.rows r.flags) r.last count (rows_done (row + count) carried' d')
   all = repeats h c segments r.answers r.rows r.flags r.last move_is r.shape_is r.so_far r.many r.stands r.is_carried
 
   flat_is : flat_map packed_row (r.rows ++ replicate count r.last.above) ≡ flat_map packed_row r.rows ++ copies count carried.held.current
   flat_is =
       flat_map-append packed_row r.rows (replicate count r.last.above) ∙ ap (λ z. flat_map packed_row r.rows ++ z) (flat_copies count r.last.above ∙ ap (copies count) (sym r.is_carried.lines_are.row_is))
 
-  pub repeated_read : (text' : Option (List ℕ)) → Appends text text' (copies count carried.held.current) → RowsRead joined from at h shape c segments (row + count) carried' d' began text'
+  pub repeated_read : (text' : Option (List ℕ)) → Appends text text' (copies count carried.held.current) → RowsRead (Leads joined from at) (open_stripe h c segments) shape (rows_done (row + count) carried' d') began text'
   repeated_read text' put = record {
     answers = r.answers;
     gives = r.gives;

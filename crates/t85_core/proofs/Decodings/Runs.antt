@@ -12,7 +12,7 @@ use Rattle.qm_core.specs.declared.decoder.Decoder.{Decoder}
 use Rattle.raster_core.specs.Lines.{Lines, Mode, row_events, context_at, numbers_from, same_row, IsLegalFlag}
 use Rattle.raster_core.specs.Enough.{beginnings, AreEnough}
 use Rattle.raster_core.specs.Machine.Decoded.{with_row}
-use Rattle.raster_core.specs.Row.{RowIs, events_after, IsRowUndecided}
+use Rattle.raster_core.specs.Row.{RowIs, events_after, IsRowUndecided, row_task, row_left}
 use Rattle.raster_core.specs.Window.{shape_mode}
 use Rattle.raster_core.specs.Packed.{Held}
 use Rattle.raster_core.specs.Raster.{pixel_at}
@@ -20,25 +20,26 @@ use Rattle.raster_core.specs.declared.shape.Shape.{Shape}
 use Rattle.raster_core.specs.declared.shape.Kept.{Kept}
 use Rattle.t85_core.specs.Header.{Fields}
 use Rattle.t85_core.specs.Grammar.{Stripe}
-use Rattle.t85_core.specs.Steps.State.{RowStart, StripeStart, lines_with, offset_at, after_row, IsNextRow, Run, StripeRun, StripesRun}
+use Rattle.t85_core.specs.Steps.State.{RowStart, StripeStart, lines_with, offset_at, after_row, IsNextRow, Run, StripeRun, StripesRun, row_coding, RowCoding}
 use Rattle.t85_core.specs.Steps.Cut.{events_with, RunEnough, NoneDecided}
 use Rattle.t85_core.specs.Steps.CoderLaws.{CoderLaws}
+use Rattle.t85_core.specs.Coding.{flagged}
 
 -- ---- a row more
 
-pub run_push : (w : ℕ) (mode : Mode) (move : Option (ℕ × ℕ)) (r : ℕ) (b : RowStart) (rows : List (List Bool)) (flags : List Bool) (last : RowStart) (row : List Bool) (flag : Bool) →
-    Run w mode move r b rows flags last → IsNextRow w mode last row flag →
-    Run w mode move r b (rows ++ row ∷ []) (flags ++ flag ∷ []) (after_row mode move (r + length rows) last row flag)
-run_push w mode move r b [] [] last row flag run k =
+pub run_push : (coding : RowCoding) (r : ℕ) (b : RowStart) (rows : List (List Bool)) (flags : List Bool) (last : RowStart) (row : List Bool) (flag : Bool) →
+    Run coding r b rows flags last → IsNextRow coding.width coding.mode last row flag →
+    Run coding r b (rows ++ row ∷ []) (flags ++ flag ∷ []) (after_row coding.mode coding.move (r + length rows) last row flag)
+run_push coding r b [] [] last row flag run k =
     let r0 : r ≡ r + 0 = omega arith in
-    (subst (λ z. IsNextRow w mode z row flag) (sym run) k, ap (λ z. after_row mode move r z row flag) run ∙ ap (λ z. after_row mode move z last row flag) r0)
-run_push w mode move r b [] (f ∷ flags) last row flag run k = absurd run
-run_push w mode move r b (x ∷ rows) [] last row flag run k = absurd run
-run_push w mode move r b (x ∷ rows) (f ∷ flags) last row flag run k =
+    (subst (λ z. IsNextRow coding.width coding.mode z row flag) (sym run) k, ap (λ z. after_row coding.mode coding.move r z row flag) run ∙ ap (λ z. after_row coding.mode coding.move z last row flag) r0)
+run_push coding r b [] (f ∷ flags) last row flag run k = absurd run
+run_push coding r b (x ∷ rows) [] last row flag run k = absurd run
+run_push coding r b (x ∷ rows) (f ∷ flags) last row flag run k =
     let at : (r + 1) + length rows ≡ r + suc (length rows) = omega arith in (
       run.0,
-      subst (λ z. Run w mode move (r + 1) (after_row mode move r b x f) (rows ++ row ∷ []) (flags ++ flag ∷ []) (after_row mode move z last row flag)) at
-          (run_push w mode move (r + 1) (after_row mode move r b x f) rows flags last row flag run.1 k),
+      subst (λ z. Run coding (r + 1) (after_row coding.mode coding.move r b x f) (rows ++ row ∷ []) (flags ++ flag ∷ []) (after_row coding.mode coding.move z last row flag)) at
+          (run_push coding (r + 1) (after_row coding.mode coding.move r b x f) rows flags last row flag run.1 k),
     )
 
 -- more bytes decide what fewer do
@@ -48,29 +49,29 @@ enough_more count more s events le h = went (beginnings s events) h where
   went [] all = tt
   went (k ∷ ks) all = (let here : wanted_bytes k ≤ count = all.0 in omega (arith, here, le), went ks all.1)
 
-pub run_enough_more : (count more : ℕ) (mode : Mode) (move : Option (ℕ × ℕ)) (r : ℕ) (b : RowStart) (rows : List (List Bool)) (flags : List Bool) → count ≤ more → RunEnough count mode move r b rows flags → RunEnough more mode move r b rows flags
-run_enough_more count more mode move r b [] flags le h = tt
-run_enough_more count more mode move r b (row ∷ rows) [] le h = tt
-run_enough_more count more mode move r b (row ∷ rows) (flag ∷ flags) le h =
-    (enough_more count more b.state (events_with mode move r b row flag) le h.0, run_enough_more count more mode move (r + 1) (after_row mode move r b row flag) rows flags le h.1)
+pub run_enough_more : (count more : ℕ) (coding : RowCoding) (r : ℕ) (b : RowStart) (rows : List (List Bool)) (flags : List Bool) → count ≤ more → RunEnough count coding r b rows flags → RunEnough more coding r b rows flags
+run_enough_more count more coding r b [] flags le h = tt
+run_enough_more count more coding r b (row ∷ rows) [] le h = tt
+run_enough_more count more coding r b (row ∷ rows) (flag ∷ flags) le h =
+    (enough_more count more b.state (events_with coding.mode coding.move r b row flag) le h.0, run_enough_more count more coding (r + 1) (after_row coding.mode coding.move r b row flag) rows flags le h.1)
 
-pub run_enough_push : (count w : ℕ) (mode : Mode) (move : Option (ℕ × ℕ)) (r : ℕ) (b : RowStart) (rows : List (List Bool)) (flags : List Bool) (last : RowStart) (row : List Bool) (flag : Bool) →
-    Run w mode move r b rows flags last → RunEnough count mode move r b rows flags → AreEnough count last.state (events_with mode move (r + length rows) last row flag) →
-    RunEnough count mode move r b (rows ++ row ∷ []) (flags ++ flag ∷ [])
-run_enough_push count w mode move r b [] [] last row flag run h k =
+pub run_enough_push : (count : ℕ) (coding : RowCoding) (r : ℕ) (b : RowStart) (rows : List (List Bool)) (flags : List Bool) (last : RowStart) (row : List Bool) (flag : Bool) →
+    Run coding r b rows flags last → RunEnough count coding r b rows flags → AreEnough count last.state (events_with coding.mode coding.move (r + length rows) last row flag) →
+    RunEnough count coding r b (rows ++ row ∷ []) (flags ++ flag ∷ [])
+run_enough_push count coding r b [] [] last row flag run h k =
     let r0 : r + 0 ≡ r = omega arith in
-    (subst (λ z. AreEnough count z.state (events_with mode move r z row flag)) (sym run) (subst (λ z. AreEnough count last.state (events_with mode move z last row flag)) r0 k), tt)
-run_enough_push count w mode move r b [] (f ∷ flags) last row flag run h k = absurd run
-run_enough_push count w mode move r b (x ∷ rows) [] last row flag run h k = absurd run
-run_enough_push count w mode move r b (x ∷ rows) (f ∷ flags) last row flag run h k =
+    (subst (λ z. AreEnough count z.state (events_with coding.mode coding.move r z row flag)) (sym run) (subst (λ z. AreEnough count last.state (events_with coding.mode coding.move z last row flag)) r0 k), tt)
+run_enough_push count coding r b [] (f ∷ flags) last row flag run h k = absurd run
+run_enough_push count coding r b (x ∷ rows) [] last row flag run h k = absurd run
+run_enough_push count coding r b (x ∷ rows) (f ∷ flags) last row flag run h k =
     let at : r + suc (length rows) ≡ (r + 1) + length rows = omega arith in
-    (h.0, run_enough_push count w mode move (r + 1) (after_row mode move r b x f) rows flags last row flag run.1 h.1 (subst (λ z. AreEnough count last.state (events_with mode move z last row flag)) at k))
+    (h.0, run_enough_push count coding (r + 1) (after_row coding.mode coding.move r b x f) rows flags last row flag run.1 h.1 (subst (λ z. AreEnough count last.state (events_with coding.mode coding.move z last row flag)) at k))
 
 -- ---- a stripe more
 
 pub stripes_push : (h : Fields) (left : ℕ) (c : StripeStart) (stripes : List Stripe) (rows : List (List Bool)) (flags : List Bool) (mid : StripeStart) (s : Stripe) (more : List (List Bool)) (more_flags : List Bool) (next : StripeStart) →
-    StripesRun h left c stripes rows flags mid → StripeRun h (min (left - length stripes * h.l0) h.l0) mid s more more_flags next →
-    StripesRun h left c (stripes ++ s ∷ []) (rows ++ more) (flags ++ more_flags) next
+    StripesRun h left c stripes (flagged rows flags) mid → StripeRun h (min (left - length stripes * h.l0) h.l0) mid s (flagged more more_flags) next →
+    StripesRun h left c (stripes ++ s ∷ []) (flagged (rows ++ more) (flags ++ more_flags)) next
 stripes_push h left c [] rows flags mid s more more_flags next run k =
     let l0 : left - 0 * h.l0 ≡ left = omega arith in (
       more,
@@ -80,7 +81,7 @@ stripes_push h left c [] rows flags mid s more more_flags next run k =
       next,
       ap (λ z. z ++ more) run.0 ∙ sym (append-nil more),
       ap (λ z. z ++ more_flags) run.1 ∙ sym (append-nil more_flags),
-      subst (λ z. StripeRun h (min left h.l0) z s more more_flags next) (sym run.2) (subst (λ z. StripeRun h (min z h.l0) mid s more more_flags next) l0 k),
+      subst (λ z. StripeRun h (min left h.l0) z s (flagged more more_flags) next) (sym run.2) (subst (λ z. StripeRun h (min z h.l0) mid s (flagged more more_flags) next) l0 k),
       (refl, refl, refl),
     )
 stripes_push h left c (t ∷ stripes) rows flags mid s more more_flags next run k =
@@ -93,7 +94,7 @@ stripes_push h left c (t ∷ stripes) rows flags mid s more more_flags next run 
       ap (λ z. z ++ more) run.5 ∙ append_assoc run.0 run.1 more,
       ap (λ z. z ++ more_flags) run.6 ∙ append_assoc run.2 run.3 more_flags,
       run.7,
-      stripes_push h (left - h.l0) run.4 stripes run.1 run.3 mid s more more_flags next run.8 (subst (λ z. StripeRun h (min z h.l0) mid s more more_flags next) l0 k),
+      stripes_push h (left - h.l0) run.4 stripes run.1 run.3 mid s more more_flags next run.8 (subst (λ z. StripeRun h (min z h.l0) mid s (flagged more more_flags) next) l0 k),
     )
 
 -- ---- a code that decides no row
@@ -110,9 +111,9 @@ short_code two false lines offset previous false s count some few legal h = pixe
     first_of : ℕ → Lines → List Event
     first_of n z = map (λ y. record { context = context_at (record { two_line = two; typical = false }) z offset y; pixel = pixel_at z.row y }) (numbers_from 0 n)
 
-pub none_decided : (w : ℕ) (mode : Mode) (move : Option (ℕ × ℕ)) (r : ℕ) (b : RowStart) (code : List ℕ) → 1 ≤ w → length code ≤ 1 → NoneDecided w mode move r b code
-none_decided w mode move r b code some few row flag wide legal lies enough =
-    short_code mode.two_line mode.typical (lines_with b row) (offset_at move r b.offset) b.previous flag b.state (length code) (omega (arith, some, wide)) few legal enough
+pub none_decided : (coding : RowCoding) (r : ℕ) (b : RowStart) (code : List ℕ) → 1 ≤ coding.width → length code ≤ 1 → NoneDecided coding r b code
+none_decided coding r b code some few row flag wide legal lies enough =
+    short_code coding.mode.two_line coding.mode.typical (lines_with b row) (offset_at coding.move r b.offset) b.previous flag b.state (length code) (omega (arith, some, wide)) few legal enough
 
 -- ---- a row as it is decoded
 
@@ -138,7 +139,7 @@ module _ (shape : Shape) (kept : Kept) (s : State) (lines : Lines) (mode : Mode)
   legal_back row flag h = subst (λ z. IsLegalFlag z (with_row lines row) flag) (sym mode_is) (subst (λ z. IsLegalFlag mode z flag) (sym (lines_alike row)) h)
 
   -- where the rows' decoder decides no row, there is none
-  pub undecided_alike : (answers : List Pulled) → IsRowUndecided shape kept s answers lines → NoneDecided shape.width mode move r b (bytes_of answers)
+  pub undecided_alike : (answers : List Pulled) → IsRowUndecided shape kept s answers lines → NoneDecided (row_coding shape.width mode move) r b (bytes_of answers)
   undecided_alike answers h row flag wide legal lies enough =
       h row flag wide (legal_back row flag legal)
       (subst (λ z. Lies (bytes_of answers) (after z (events_after shape kept (with_row lines row) flag)).place) (sym state_is) (subst (λ z. Lies (bytes_of answers) (after b.state z).place) (sym (events_alike row flag)) lies))
@@ -148,7 +149,7 @@ module _ (shape : Shape) (kept : Kept) (s : State) (lines : Lines) (mode : Mode)
   pub state_alike : (row : List Bool) (flag : Bool) → after s (events_after shape kept (with_row lines row) flag) ≡ (after_row mode move r b row flag).state
   state_alike row flag = ap (λ z. after z (events_after shape kept (with_row lines row) flag)) state_is ∙ ap (after b.state) (events_alike row flag)
 
-  module _ (kept' : Kept) (answers : List Pulled) (window : Held) (learned : List Estimate) (d : Decoder) (k : RowIs shape kept kept' s answers lines window learned d) where
+  module _ (kept' : Kept) (answers : List Pulled) (window : Held) (learned : List Estimate) (d : Decoder) (k : RowIs (row_task shape kept s lines) answers (row_left kept' window) learned d) where
     pub row_next : (w : ℕ) → shape.width ≡ w → IsNextRow w mode b k.row k.flag
     row_next w width_is = record { wide = k.wide ∙ width_is; legal = legal_alike k.row k.flag k.legal }
 
@@ -164,10 +165,10 @@ module _ (shape : Shape) (kept : Kept) (s : State) (lines : Lines) (mode : Mode)
         (subst (λ z. AreEnough (length (bytes_of answers)) s z) (events_alike k.row k.flag) (k.enough going))
 
 -- a run leads from a place to a place
-pub run_place : CoderLaws → (w : ℕ) (mode : Mode) (move : Option (ℕ × ℕ)) (r : ℕ) (b : RowStart) (rows : List (List Bool)) (flags : List Bool) (last : RowStart) →
-    IsPlace b.state.place → Run w mode move r b rows flags last → IsPlace last.state.place
-run_place q w mode move r b [] [] last p run = subst (λ z. IsPlace z.state.place) run p
-run_place q w mode move r b [] (f ∷ flags) last p run = absurd run
-run_place q w mode move r b (row ∷ rows) [] last p run = absurd run
-run_place q w mode move r b (row ∷ rows) (f ∷ flags) last p run =
-    run_place q w mode move (r + 1) (after_row mode move r b row f) rows flags last (q.events_keep_place (events_with mode move r b row f) b.state p) run.1
+pub run_place : CoderLaws → (coding : RowCoding) (r : ℕ) (b : RowStart) (rows : List (List Bool)) (flags : List Bool) (last : RowStart) →
+    IsPlace b.state.place → Run coding r b rows flags last → IsPlace last.state.place
+run_place q coding r b [] [] last p run = subst (λ z. IsPlace z.state.place) run p
+run_place q coding r b [] (f ∷ flags) last p run = absurd run
+run_place q coding r b (row ∷ rows) [] last p run = absurd run
+run_place q coding r b (row ∷ rows) (f ∷ flags) last p run =
+    run_place q coding (r + 1) (after_row coding.mode coding.move r b row f) rows flags last (q.events_keep_place (events_with coding.mode coding.move r b row f) b.state p) run.1

@@ -8,7 +8,8 @@ use Rattle.t85_core.specs.Refusal.{Spot}
 use Rattle.t85_core.specs.Failures.{Ends}
 use Rattle.t85_core.specs.Steps.Segments.{HeadFault}
 use Rattle.t85_core.specs.Steps.State.{StripeStart}
-use Rattle.t85_core.specs.Steps.DecodeStripes.{StripeCut}
+use Rattle.t85_core.specs.Steps.DecodeStripes.{StripeCut, stripe_place}
+use Rattle.t85_core.specs.Steps.Passage.{passage}
 use Rattle.t85_core.proofs.Walks.StripeBegins.{begun_none}
 use Rattle.t85_core.proofs.Decodings.RowPut.{appends_nothing}
 
@@ -18,7 +19,7 @@ not_nil [] some = absurd (omega (arith, some))
 not_nil (b ∷ bytes) some = refl
 
 -- a stripe that breaks before its code begins
-pub stripe_head : (h : Fields) (spot : Spot) (c : StripeStart) (old new : Option (List ℕ)) (count : ℕ) (text : Option (List ℕ)) (fault : Fault) → 1 ≤ h.xd → Ends Truncated old new (HeadFault h spot) fault → StripeCut h spot c old new count text text fault
+pub stripe_head : (h : Fields) (spot : Spot) (c : StripeStart) (old new : Option (List ℕ)) (count : ℕ) (text : Option (List ℕ)) (fault : Fault) → 1 ≤ h.xd → Ends Truncated old new (HeadFault h spot) fault → StripeCut h (stripe_place spot c count) (passage old new text text) fault
 stripe_head h spot c old new count text fault some ends = record {
   rows = [];
   flags = [];

@@ -1,5 +1,5 @@
 -- Stripes that a decoder ran through, as the definitions see them in the whole image.
-use Rattle.std.proofs.Common.{◌≡◌, ℕ, zero, suc, ◌+◌, ◌-◌, ◌*◌, ◌<◌, ◌≤◌, ◌⊎◌, inl, inr, nat_eq, Bool, true, false, List, [], ◌∷◌, ◌++◌, length, map, refl, sym, ◌∙◌, ap, subst, arith, Option, None, length-append}
+use Rattle.std.proofs.Common.{◌≡◌, ℕ, zero, suc, ◌+◌, ◌-◌, ◌*◌, ◌<◌, ◌≤◌, ◌⊎◌, inl, inr, nat_eq, Bool, true, false, List, [], ◌∷◌, ◌++◌, length, map, refl, sym, ◌∙◌, ap, subst, arith, None, length-append}
 use Rattle.std.specs.Prelude.{slice_index_or, if◌then◌else◌, flat_map, filter_map, min}
 use Rattle.std.specs.List.{AllByRecursion}
 use Rattle.std.proofs.lemmas.Bool.{cases_lt}
@@ -7,29 +7,29 @@ use Rattle.std.proofs.lemmas.Bool.Decides.{nat_tests}
 use Rattle.qm_core.specs.Place.{after, fresh}
 use Rattle.qm_core.specs.Code.{Lies}
 use Rattle.raster_core.specs.Raster.{row_above, white_row}
-use Rattle.raster_core.specs.Lines.{Mode, numbers_from, IsLegalFlag}
+use Rattle.raster_core.specs.Lines.{numbers_from, IsLegalFlag}
 use Rattle.t85_core.specs.Header.{Fields}
 use Rattle.t85_core.specs.Grammar.{Stripe}
-use Rattle.t85_core.specs.Coding.{Coding, fresh_stripe, lines_of, moved_at, last_or, flag_of, events_of_row, learned_at, place_of, begun, mode_of, move_of}
+use Rattle.t85_core.specs.Coding.{Coding, fresh_stripe, lines_of, moved_at, last_or, flag_of, events_of_row, learned_at, place_of, begun, mode_of, move_of, flagged}
 use Rattle.t85_core.specs.Denotes.{coding_in}
-use Rattle.t85_core.specs.Steps.State.{RowStart, StripeStart, first_row_start, next_stripe_start, after_row, Run, StripeRun, StripesRun}
+use Rattle.t85_core.specs.Steps.State.{RowStart, StripeStart, first_row_start, next_stripe_start, after_row, Run, StripeRun, StripesRun, RowCoding, stripe_coding}
 use Rattle.t85_core.proofs.Theorems.Joined.{row_above_top}
 use Rattle.t85_core.proofs.Bytes.Elements.{Continues, continues_left, continues_right, continues_first, continues_rest}
 use Rattle.t85_core.specs.Steps.Looked.{CarryAt, offset_before, flag_before}
 use Rattle.t85_core.proofs.Theorems.StateLookedUp.{CarriedAt, stripe_begins, rows_run}
 
 -- as many flags as rows, each as wide as it should be
-pub run_flags : (w : ℕ) (mode : Mode) (move : Option (ℕ × ℕ)) (r : ℕ) (b : RowStart) (rows : List (List Bool)) (flags : List Bool) (last : RowStart) → Run w mode move r b rows flags last → length flags ≡ length rows
-run_flags w mode move r b [] [] last h = refl
-run_flags w mode move r b [] (f ∷ flags) last h = absurd h
-run_flags w mode move r b (row ∷ rows) [] last h = absurd h
-run_flags w mode move r b (row ∷ rows) (f ∷ flags) last h = ap suc (run_flags w mode move (r + 1) (after_row mode move r b row f) rows flags last h.1)
+pub run_flags : (coding : RowCoding) (r : ℕ) (b : RowStart) (rows : List (List Bool)) (flags : List Bool) (last : RowStart) → Run coding r b rows flags last → length flags ≡ length rows
+run_flags coding r b [] [] last h = refl
+run_flags coding r b [] (f ∷ flags) last h = absurd h
+run_flags coding r b (row ∷ rows) [] last h = absurd h
+run_flags coding r b (row ∷ rows) (f ∷ flags) last h = ap suc (run_flags coding (r + 1) (after_row coding.mode coding.move r b row f) rows flags last h.1)
 
-pub run_wide : (w : ℕ) (mode : Mode) (move : Option (ℕ × ℕ)) (r : ℕ) (b : RowStart) (rows : List (List Bool)) (flags : List Bool) (last : RowStart) → Run w mode move r b rows flags last → AllByRecursion (λ row. length row ≡ w) rows
-run_wide w mode move r b [] [] last h = tt
-run_wide w mode move r b [] (f ∷ flags) last h = absurd h
-run_wide w mode move r b (row ∷ rows) [] last h = absurd h
-run_wide w mode move r b (row ∷ rows) (f ∷ flags) last h = (h.0.wide, run_wide w mode move (r + 1) (after_row mode move r b row f) rows flags last h.1)
+pub run_wide : (coding : RowCoding) (r : ℕ) (b : RowStart) (rows : List (List Bool)) (flags : List Bool) (last : RowStart) → Run coding r b rows flags last → AllByRecursion (λ row. length row ≡ coding.width) rows
+run_wide coding r b [] [] last h = tt
+run_wide coding r b [] (f ∷ flags) last h = absurd h
+run_wide coding r b (row ∷ rows) [] last h = absurd h
+run_wide coding r b (row ∷ rows) (f ∷ flags) last h = (h.0.wide, run_wide coding (r + 1) (after_row coding.mode coding.move r b row f) rows flags last h.1)
 
 module _ (h : Fields) (some : 0 < h.l0) (all : List Stripe) (all_flags : List Bool) (all_rows : List (List Bool)) where
   abbrev c : Coding
@@ -73,7 +73,7 @@ module _ (h : Fields) (some : 0 < h.l0) (all : List Stripe) (all_flags : List Bo
       n ≡ min h.l0 (length all_rows - i * h.l0) → CarryAt c i (i * h.l0) b →
       slice_index_or c.moves i None ≡ move_of s.segments → slice_index_or c.resets i false ≡ s.reset →
       Continues (white_row h.xd) all_rows (i * h.l0) rows → Continues false all_flags (i * h.l0) flags →
-      StripeRun h n b s rows flags next → Followed i s n next
+      StripeRun h n b s (flagged rows flags) next → Followed i s n next
   stripe_follows i n b s rows flags next n_is k move_is reset_is rows_at flags_at run =
       let y : i * h.l0 ≡ i * h.l0 + 0 = omega arith in
       let ran = rows_run c i (move_of s.segments) move_is rows flags 0 (i * h.l0) (first_row_start b) run.last (omega (arith, n_is, run.many)) y (stripe_begins c i b k) rows_at flags_at run.run in
@@ -107,7 +107,7 @@ module _ (h : Fields) (some : 0 < h.l0) (all : List Stripe) (all_flags : List Bo
       length todo * h.l0 < left + h.l0 → min left (length todo * h.l0) ≡ min (length all_rows - i * h.l0) (length todo * h.l0) →
       (i * h.l0 ≤ length all_rows → Ahead i b rows flags) →
       Continues None c.moves i (map (λ (s : Stripe). move_of s.segments) todo) → Continues false c.resets i (map (λ (s : Stripe). s.reset) todo) →
-      StripesRun h left b todo rows flags next → AllFollowed i left todo (length rows) next
+      StripesRun h left b todo (flagged rows flags) next → AllFollowed i left todo (length rows) next
   stripes_follow i left b [] rows flags next enough alike ahead moves_at resets_at run =
       let none : length rows ≡ 0 = ap length run.0 in
       let i0 : i ≡ i + 0 = omega arith in
@@ -127,7 +127,7 @@ module _ (h : Fields) (some : 0 < h.l0) (all : List Stripe) (all_flags : List Bo
       lengths = ap length run.5 ∙ length-append run.0 run.1
 
       flags_many : length run.2 ≡ length run.0
-      flags_many = run_flags h.xd (mode_of h.options) (move_of s.segments) 0 (first_row_start b) run.0 run.2 run.7.last run.7.run
+      flags_many = run_flags (stripe_coding h s.segments) 0 (first_row_start b) run.0 run.2 run.7.last run.7.run
 
       i_next : i + 1 ≡ suc i
       i_next = omega arith

@@ -7,32 +7,32 @@ use Rattle.raster_core.specs.Lines.{Mode, pseudo_event, same_row}
 use Rattle.raster_core.specs.Enough.{AreEnough}
 use Rattle.raster_core.specs.Packed.{packed_row}
 use Rattle.t85_core.specs.Steps.Buffers.{copies}
-use Rattle.t85_core.specs.Steps.State.{RowStart, offset_at, after_row, Run}
+use Rattle.t85_core.specs.Steps.State.{RowStart, offset_at, after_row, Run, row_coding, RowCoding}
 use Rattle.t85_core.specs.Steps.Cut.{events_with, RunEnough}
 
 -- ---- runs, one after another
 
-pub run_append : (w : ℕ) (mode : Mode) (move : Option (ℕ × ℕ)) (r : ℕ) (b : RowStart) (rows : List (List Bool)) (flags : List Bool) (mid : RowStart) (more : List (List Bool)) (more_flags : List Bool) (last : RowStart) →
-    Run w mode move r b rows flags mid → Run w mode move (r + length rows) mid more more_flags last → Run w mode move r b (rows ++ more) (flags ++ more_flags) last
-run_append w mode move r b [] [] mid more more_flags last run k =
+pub run_append : (coding : RowCoding) (r : ℕ) (b : RowStart) (rows : List (List Bool)) (flags : List Bool) (mid : RowStart) (more : List (List Bool)) (more_flags : List Bool) (last : RowStart) →
+    Run coding r b rows flags mid → Run coding (r + length rows) mid more more_flags last → Run coding r b (rows ++ more) (flags ++ more_flags) last
+run_append coding r b [] [] mid more more_flags last run k =
     let r0 : r + 0 ≡ r = omega arith in
-    subst (λ z. Run w mode move r z more more_flags last) (sym run) (subst (λ z. Run w mode move z mid more more_flags last) r0 k)
-run_append w mode move r b [] (f ∷ flags) mid more more_flags last run k = absurd run
-run_append w mode move r b (x ∷ rows) [] mid more more_flags last run k = absurd run
-run_append w mode move r b (x ∷ rows) (f ∷ flags) mid more more_flags last run k =
+    subst (λ z. Run coding r z more more_flags last) (sym run) (subst (λ z. Run coding z mid more more_flags last) r0 k)
+run_append coding r b [] (f ∷ flags) mid more more_flags last run k = absurd run
+run_append coding r b (x ∷ rows) [] mid more more_flags last run k = absurd run
+run_append coding r b (x ∷ rows) (f ∷ flags) mid more more_flags last run k =
     let at : r + suc (length rows) ≡ (r + 1) + length rows = omega arith in
-    (run.0, run_append w mode move (r + 1) (after_row mode move r b x f) rows flags mid more more_flags last run.1 (subst (λ z. Run w mode move z mid more more_flags last) at k))
+    (run.0, run_append coding (r + 1) (after_row coding.mode coding.move r b x f) rows flags mid more more_flags last run.1 (subst (λ z. Run coding z mid more more_flags last) at k))
 
-pub run_enough_append : (count w : ℕ) (mode : Mode) (move : Option (ℕ × ℕ)) (r : ℕ) (b : RowStart) (rows : List (List Bool)) (flags : List Bool) (mid : RowStart) (more : List (List Bool)) (more_flags : List Bool) →
-    Run w mode move r b rows flags mid → RunEnough count mode move r b rows flags → RunEnough count mode move (r + length rows) mid more more_flags → RunEnough count mode move r b (rows ++ more) (flags ++ more_flags)
-run_enough_append count w mode move r b [] [] mid more more_flags run h k =
+pub run_enough_append : (count : ℕ) (coding : RowCoding) (r : ℕ) (b : RowStart) (rows : List (List Bool)) (flags : List Bool) (mid : RowStart) (more : List (List Bool)) (more_flags : List Bool) →
+    Run coding r b rows flags mid → RunEnough count coding r b rows flags → RunEnough count coding (r + length rows) mid more more_flags → RunEnough count coding r b (rows ++ more) (flags ++ more_flags)
+run_enough_append count coding r b [] [] mid more more_flags run h k =
     let r0 : r + 0 ≡ r = omega arith in
-    subst (λ z. RunEnough count mode move r z more more_flags) (sym run) (subst (λ z. RunEnough count mode move z mid more more_flags) r0 k)
-run_enough_append count w mode move r b [] (f ∷ flags) mid more more_flags run h k = absurd run
-run_enough_append count w mode move r b (x ∷ rows) [] mid more more_flags run h k = absurd run
-run_enough_append count w mode move r b (x ∷ rows) (f ∷ flags) mid more more_flags run h k =
+    subst (λ z. RunEnough count coding r z more more_flags) (sym run) (subst (λ z. RunEnough count coding z mid more more_flags) r0 k)
+run_enough_append count coding r b [] (f ∷ flags) mid more more_flags run h k = absurd run
+run_enough_append count coding r b (x ∷ rows) [] mid more more_flags run h k = absurd run
+run_enough_append count coding r b (x ∷ rows) (f ∷ flags) mid more more_flags run h k =
     let at : r + suc (length rows) ≡ (r + 1) + length rows = omega arith in
-    (h.0, run_enough_append count w mode move (r + 1) (after_row mode move r b x f) rows flags mid more more_flags run.1 h.1 (subst (λ z. RunEnough count mode move z mid more more_flags) at k))
+    (h.0, run_enough_append count coding (r + 1) (after_row coding.mode coding.move r b x f) rows flags mid more more_flags run.1 h.1 (subst (λ z. RunEnough count coding z mid more more_flags) at k))
 
 -- ---- typical rows after another
 
@@ -80,13 +80,13 @@ module _ (w : ℕ) (mode : Mode) (move : Option (ℕ × ℕ)) (typical : mode.ty
   offset_behind r b (suc n) settled =
       offset_behind (r + 1) (after_row mode move r b b.above true) n (λ k o le. settled k o (omega (arith, le))) ∙ settled r b.offset (omega arith)
 
-  pub run_behind : (r : ℕ) (b : RowStart) (n : ℕ) → length b.above ≡ w → Run w mode move r b (replicate n b.above) (replicate n true) (behind r b n)
+  pub run_behind : (r : ℕ) (b : RowStart) (n : ℕ) → length b.above ≡ w → Run (row_coding w mode move) r b (replicate n b.above) (replicate n true) (behind r b n)
   run_behind r b zero wide = refl
   run_behind r b (suc n) wide =
       (record { wide = wide; legal = λ _. rw typical (rw (same_row_self b.above) refl) }, run_behind (r + 1) (after_row mode move r b b.above true) n wide)
 
   pub enough_behind : (count r : ℕ) (b : RowStart) (n : ℕ) → b.previous ≡ true → wanted_bytes b.state.place.doublings ≤ count →
-      ((k : ℕ) → k ≤ n → (after b.state (replicate k again)).place.doublings ≡ b.state.place.doublings) → RunEnough count mode move r b (replicate n b.above) (replicate n true)
+      ((k : ℕ) → k ≤ n → (after b.state (replicate k again)).place.doublings ≡ b.state.place.doublings) → RunEnough count (row_coding w mode move) r b (replicate n b.above) (replicate n true)
   enough_behind count r b zero previous enough quiet = tt
   enough_behind count r b (suc n) previous enough quiet =
       let events = again_events r b previous in

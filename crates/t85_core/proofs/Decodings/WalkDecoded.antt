@@ -17,16 +17,17 @@ use Rattle.t85_core.specs.declared.segments.Move as move
 use Rattle.t85_core.specs.Lent.{Carried}
 use Rattle.t85_core.specs.Header.{Fields}
 use Rattle.t85_core.specs.Grammar.{Segment, segment_bytes, marker_bytes, stripe_bytes}
-use Rattle.t85_core.specs.Coding.{mode_of, move_of}
 use Rattle.t85_core.specs.Laws.{IsInUse}
 use Rattle.t85_core.specs.Steps.CoderLaws.{CoderLaws}
 use Rattle.t85_core.specs.Steps.Buffers.{copies}
-use Rattle.t85_core.specs.Steps.State.{StripeStart, first_row_start}
+use Rattle.t85_core.specs.Steps.State.{StripeStart, first_row_start, stripe_coding}
 use Rattle.t85_core.specs.Steps.Cut.{RunEnough}
-use Rattle.t85_core.specs.Steps.DecodeRows.{pair_of, IsShapeOf, RepeatsRows}
-use Rattle.t85_core.specs.Steps.DecodeStripes.{StripeUnwritten, ImageUnwritten, AreFirst}
+use Rattle.t85_core.specs.Steps.DecodeRows.{pair_of, IsShapeOf, RepeatsRows, rows_done}
+use Rattle.t85_core.specs.Steps.DecodeStripes.{StripeUnwritten, ImageUnwritten, AreFirst, stripe_place}
 use Rattle.t85_core.specs.Steps.PieceCode.{Anything, CodeText, ahead_bytes}
-use Rattle.t85_core.specs.Steps.Pieces.{CodeStands, rows_in}
+use Rattle.t85_core.specs.Steps.Pieces.{CodeStands, rows_in, head_place, code_place}
+use Rattle.t85_core.specs.Steps.SizedImage.{sized}
+use Rattle.t85_core.specs.Steps.Passage.{passage}
 use Rattle.t85_core.proofs.Bytes.Stuffing.{stuffed_append}
 use Rattle.t85_core.proofs.Bytes.Streams.{Consumes-more, beginning_all, beginning_longer}
 use Rattle.t85_core.proofs.Decodings.Firsts.{pbm_of, text_first}
@@ -66,11 +67,11 @@ copies_long (suc n) bytes =
 -- ---- rows that equal the one before
 
 module _ {h : Fields} {height entities : ℕ} {given : Bool} {at : Option move.Move} {row : ℕ} {first : Option code_type.Code} {marker : Option Bool} {carried : Carried} {d : Decoder} {text out : List ℕ}
-    (s : CodeStands h height entities given at row first marker carried d text out) where
-  pub code_repeated : (shape : Shape) → IsShapeOf h shape → (count : ℕ) (carried' : Carried) (d' : Decoder) → RepeatsRows shape (option_map pair_of at) row count carried carried' d d' → row + count ≤ rows_in h height entities →
-      CodeStands h height entities given at (row + count) first marker carried' d' text (out ++ copies count carried.held.current)
+    (s : CodeStands (sized h height) (head_place entities given at carried) (code_place row first marker d) text out) where
+  pub code_repeated : (shape : Shape) → IsShapeOf h shape → (count : ℕ) (carried' : Carried) (d' : Decoder) → RepeatsRows shape (option_map pair_of at) count (rows_done row carried d) (rows_done (row + count) carried' d') → row + count ≤ rows_in h height entities →
+      CodeStands (sized h height) (head_place entities given at carried') (code_place (row + count) first marker d') text (out ++ copies count carried.held.current)
   code_repeated shape shape_is count carried' d' repeats few =
-      let here = subst (λ z. RepeatsRows z (option_map pair_of at) row count carried carried' d d') (shape_here s shape shape_is) repeats in
+      let here = subst (λ z. RepeatsRows z (option_map pair_of at) count (rows_done row carried d) (rows_done (row + count) carried' d')) (shape_here s shape shape_is) repeats in
       record {
         before = s.before;
         began = s.began;
@@ -107,9 +108,9 @@ module _ {h : Fields} {height entities : ℕ} {given : Bool} {at : Option move.M
 
   module _ (q : CoderLaws) where
     stripe_begun : (part ahead : List ℕ) → s.code ≡ part ++ ahead →
-        ((front ++ part ≡ front ++ stuffed (bytes_of answers)) × RunEnough (length (bytes_of answers)) (mode_of h.options) (move_of segments) 0 (first_row_start c) s.read.rows s.read.flags)
+        ((front ++ part ≡ front ++ stuffed (bytes_of answers)) × RunEnough (length (bytes_of answers)) (stripe_coding h segments) 0 (first_row_start c) s.read.rows s.read.flags)
         ⊎ ((reset : Bool) × (front ++ part ≡ stripe_bytes (record { segments = segments; code = bytes_of answers; reset = reset }))) →
-        StripeUnwritten h (record { height = height; entities = entities; heights = cond s.head.before 1 0 }) c (Some (s.head.back ++ s.code)) (Some []) (rows_in h height entities) (Some s.began) (Some out)
+        StripeUnwritten h (stripe_place (record { height = height; entities = entities; heights = cond s.head.before 1 0 }) c (rows_in h height entities)) (passage (Some (s.head.back ++ s.code)) (Some []) (Some s.began) (Some out))
     stripe_begun part ahead code_is decides = record {
       given = front ++ part;
       ahead = ahead;
@@ -133,16 +134,16 @@ module _ {h : Fields} {height entities : ℕ} {given : Bool} {at : Option move.M
     }
 
     stripe_unset : (m : Option Bool) → CodeText first m answers s.extra s.code →
-        StripeUnwritten h (record { height = height; entities = entities; heights = cond s.head.before 1 0 }) c (Some (s.head.back ++ s.code)) (Some []) (rows_in h height entities) (Some s.began) (Some out)
+        StripeUnwritten h (stripe_place (record { height = height; entities = entities; heights = cond s.head.before 1 0 }) c (rows_in h height entities)) (passage (Some (s.head.back ++ s.code)) (Some []) (Some s.began) (Some out))
     stripe_unset None o =
         stripe_begun (stuffed (bytes_of answers)) (stuffed s.extra ++ ahead_bytes first)
         (o.text_is ∙ ap (λ z. z ++ ahead_bytes first) (stuffed_append (bytes_of answers) s.extra) ∙ append_assoc (stuffed (bytes_of answers)) (stuffed s.extra) (ahead_bytes first))
         (inl (refl, s.read.so_far.enough o.going))
     stripe_unset (Some reset) o = stripe_begun (stuffed (bytes_of answers) ++ marker_bytes reset) [] (o.text_is ∙ sym (append-nil (stuffed (bytes_of answers) ++ marker_bytes reset))) (inr (reset, refl))
 
-    pub code_unset : IsInUse h height → ImageUnwritten h height (Some text) (Some []) (Some []) (Some out)
+    pub code_unset : IsInUse h height → ImageUnwritten h height (passage (Some text) (Some []) (Some []) (Some out))
     code_unset use_ =
-        subst (λ z. ImageUnwritten h height (Some z) (Some []) (Some []) (Some out)) all_text
+        subst (λ z. ImageUnwritten h height (passage (Some z) (Some []) (Some []) (Some out))) all_text
         (image_unset h height (Some (s.head.front ++ (s.head.back ++ s.code))) (Some (s.head.back ++ s.code)) (Some []) entities (cond s.head.before 1 0) (rows_in h height entities) s.start s.start (Some []) (Some s.began) (Some out)
         (stripes_ext s.head.stripes (s.head.back ++ s.code)) refl q use_ s.head.fewer (stripe_unset marker s.code_is))
       where
@@ -169,7 +170,7 @@ module _ {h : Fields} {height entities : ℕ} {given : Bool} {at : Option move.M
     long : length out ≡ (length s.head.stripes.rows + row) * row_bytes h.xd
     long =
         let before = flat_wide h.xd s.head.stripes.rows (stripes_wide h height _ s.head.stripes.stripes s.head.stripes.rows s.head.stripes.flags s.head.stripes.next s.head.stripes.run) in
-        let here = flat_wide h.xd s.read.rows (run_wide h.xd (mode_of h.options) (move_of segments) 0 (first_row_start c) s.read.rows s.read.flags s.read.last s.read.so_far.run) in
+        let here = flat_wide h.xd s.read.rows (run_wide (stripe_coding h segments) 0 (first_row_start c) s.read.rows s.read.flags s.read.last s.read.so_far.run) in
         let sum = ap length out_is ∙ length-append s.began (flat_map packed_row s.read.rows) in
         let began = ap length began_is in
         let rows : length s.read.rows * row_bytes h.xd ≡ row * row_bytes h.xd = ap (λ n. n * row_bytes h.xd) s.read.many in
@@ -180,7 +181,7 @@ module _ {h : Fields} {height entities : ℕ} {given : Bool} {at : Option move.M
   code_wide wide = ap length s.read.is_carried.lines_are.row_is ∙ packed_long s.read.last.above ∙ ap row_bytes (s.read.is_carried.lines_are.row_wide ∙ wide)
 
 -- nothing was written yet
-pub none_unset : (h : Fields) (height : ℕ) → ImageUnwritten h height (Some []) (Some []) (Some []) (Some [])
+pub none_unset : (h : Fields) (height : ℕ) → ImageUnwritten h height (passage (Some []) (Some []) (Some []) (Some []))
 none_unset h height = record {
   given = [];
   ahead = [];
@@ -194,8 +195,8 @@ none_unset h height = record {
   none_first rest (Some fault) text o = let t = text_first h.xd height [] o.0 refl in (t.0, o.2 ∙ t.1)
 
 -- what a target took of it
-pub unset_there : (h : Fields) (height : ℕ) (bytes out more : List ℕ) (known known' known'' text text' : Option (List ℕ)) → ImageUnwritten h height (Some bytes) (Some []) (Some []) (Some out) →
-    Consumes known known' bytes → Consumes known' known'' more → AppendsBeginning text text' out → ImageUnwritten h height known known'' text text'
+pub unset_there : (h : Fields) (height : ℕ) (bytes out more : List ℕ) (known known' known'' text text' : Option (List ℕ)) → ImageUnwritten h height (passage (Some bytes) (Some []) (Some []) (Some out)) →
+    Consumes known known' bytes → Consumes known' known'' more → AppendsBeginning text text' out → ImageUnwritten h height (passage known known'' text text')
 unset_there h height bytes out more known known' known'' text text' i taken further put = record {
   given = i.given;
   ahead = i.ahead ++ more;

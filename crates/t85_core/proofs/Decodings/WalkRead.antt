@@ -10,8 +10,9 @@ use Rattle.t85_core.specs.Header.{Fields}
 use Rattle.t85_core.specs.Fixed.{Fixes}
 use Rattle.t85_core.specs.Info.{IsBodyFault}
 use Rattle.t85_core.specs.Failures.{CountsRead, Ends, counted_as, reads_after, writes_after}
-use Rattle.t85_core.specs.Steps.Buffers.{SourceView, ReadsOn, copies}
-use Rattle.t85_core.specs.Steps.Pieces.{CutOff, WalkStands, SomeStands, StepsOff, StepsOn, Turn, CodeStands}
+use Rattle.t85_core.specs.Steps.Buffers.{SourceView, ReadsOn, copies, reading}
+use Rattle.t85_core.specs.Steps.Pieces.{CutOff, WalkStands, SomeStands, StepsOff, StepsOn, Turn, CodeStands, head_place, code_place}
+use Rattle.t85_core.specs.Steps.SizedImage.{sized}
 use Rattle.t85_core.specs.Steps.Reading.{KeepsLast, ReadsWalk, BreaksWalk, WaitsWalk, HeldTurn, ReadTurn, RowsTurn, ImageSoFar}
 use Rattle.std.specs.Result.{IsErrAnd}
 use Rattle.std.proofs.lemmas.Bool.{cases_lt}
@@ -22,6 +23,7 @@ use Rattle.t85_core.specs.declared.pieces.walk.Stage.TheVariants as stage
 use Rattle.t85_core.specs.Laws.{IsInUse}
 use Rattle.t85_core.specs.Steps.CoderLaws.{CoderLaws}
 use Rattle.t85_core.specs.Steps.DecodeStripes.{ImageRead, ImageCut, ImageUnwritten}
+use Rattle.t85_core.specs.Steps.Passage.{passage}
 use Rattle.t85_core.proofs.Bytes.Streams.{Appends-more, Consumes-more, Consumes-keeps, beginning_after, beginning_all}
 use Rattle.t85_core.proofs.Walks.Passed.{Consumes-none}
 use Rattle.t85_core.proofs.Decodings.PieceSteps.{at_stage}
@@ -31,7 +33,7 @@ use Rattle.t85_core.proofs.Grammar.Faults.{body_faults, uncounted_body, walk_fau
 use Rattle.t85_core.proofs.Decodings.Decoded.{fixes_more}
 
 -- what came fixes what was handed out
-pub cut_all : (h : Fields) (height : ℕ) (text out : List ℕ) (f : Fault) → CutOff h height text out f → (rows : List (List Bool)) × Fixes h height text f rows × (out ≡ flat_map packed_row rows)
+pub cut_all : (h : Fields) (height : ℕ) (text out : List ℕ) (f : Fault) → CutOff (sized h height) text out f → (rows : List (List Bool)) × Fixes h height text f rows × (out ≡ flat_map packed_row rows)
 cut_all h height text out f c = (c.cut.rows, subst (λ z. Fixes h height z f c.cut.rows) (sym c.cut.ends.taken) (went (fixes_more h height c.cut.ends.given c.unread f c.cut.rows has)), c.cut.appended) where
   has : Fixes h height c.cut.ends.given f c.cut.rows
   has = subst (λ z. Fixes h height c.cut.ends.given z c.cut.rows) c.counted c.cut.ends.has_fault
@@ -56,26 +58,26 @@ body_unread Changed p other n = refl
 body_unread Read p other n = absurd (other refl)
 body_unread _ p other n = absurd p
 
-cut_unread : (h : Fields) (height : ℕ) (text out : List ℕ) (f : Fault) → CutOff h height text out f → (n : ℕ) → reads_after f n ≡ n
+cut_unread : (h : Fields) (height : ℕ) (text out : List ℕ) (f : Fault) → CutOff (sized h height) text out f → (n : ℕ) → reads_after f n ≡ n
 cut_unread h height text out f c = body_unread f (body_faults h height _ text f (cut_all h height text out f c).1.broken) (counted_never f c.counted)
 
 -- ---- a turn over what is held
 
 module _ (h : Fields) (height : ℕ) (w w' : WalkView) (old new : SourceView) (held held' piece' : List ℕ) (left : ℕ) (k : KeepsLast old held new held' left) where
-  held_on : length piece' ≡ left → (row : List ℕ) → StepsOn h height w w' held piece' row → ReadsWalk h height w w' old.known new.known row
+  held_on : length piece' ≡ left → (row : List ℕ) → StepsOn (sized h height) w w' held piece' row → ReadsWalk (sized h height) w w' old.known new.known row
   held_on e row on text out s = let a = on text out s in (a.0, (k.taken a.0 piece' a.1 e).1, a.2)
 
-  held_waits : length piece' ≡ left → StepsOn h height w w' held piece' [] → StepsOff h height w held Truncated → WaitsWalk h height w w' old.known new.known held'
+  held_waits : length piece' ≡ left → StepsOn (sized h height) w w' held piece' [] → StepsOff (sized h height) w held Truncated → WaitsWalk (sized h height) w w' old.known new.known held'
   held_waits e on off text out s =
       let a = on text out s in
       let t = k.taken a.0 piece' a.1 e in (
         a.0,
         t.1,
-        subst (WalkStands h height w' (text ++ a.0)) (append-nil out) a.2,
-        subst (λ z. CutOff h height z out Truncated) (ap (λ z. text ++ z) (a.1 ∙ ap (λ z. a.0 ++ z) (sym t.0)) ∙ sym (append_assoc text a.0 held')) (off text out s),
+        subst (WalkStands (sized h height) w' (text ++ a.0)) (append-nil out) a.2,
+        subst (λ z. CutOff (sized h height) z out Truncated) (ap (λ z. text ++ z) (a.1 ∙ ap (λ z. a.0 ++ z) (sym t.0)) ∙ sym (append_assoc text a.0 held')) (off text out s),
       )
 
-  held_breaks : 0 ≡ left → (f : Fault) → f ≢ Truncated → StepsOff h height w held f → BreaksWalk h height w old.known new.known f
+  held_breaks : 0 ≡ left → (f : Fault) → f ≢ Truncated → StepsOff (sized h height) w held f → BreaksWalk (sized h height) w old.known new.known f
   held_breaks e f other off text out s =
       let cut = off text out s in
       let all = cut_all h height (text ++ held) out f cut in
@@ -89,8 +91,8 @@ module _ (h : Fields) (height : ℕ) (w w' : WalkView) (old new : SourceView) (h
       }
 
 pub held_turn : (h : Fields) (height : ℕ) (w w' : WalkView) (old new : SourceView) (held held' piece' : List ℕ) (left : ℕ) → KeepsLast old held new held' left →
-    (answer : Result Bool Fault) → Turn h height w w' held piece' answer →
-    (IfErr answer (λ f. f ≡ Truncated) → left ≡ length piece') → ((f : Fault) → answer ≡ Err f → f ≢ Truncated → left ≡ 0) → HeldTurn h height w w' old.known new.known held' answer
+    (answer : Result Bool Fault) → Turn (sized h height) w w' held piece' answer →
+    (IfErr answer (λ f. f ≡ Truncated) → left ≡ length piece') → ((f : Fault) → answer ≡ Err f → f ≢ Truncated → left ≡ 0) → HeldTurn (sized h height) w w' (reading old.known new.known) held' answer
 held_turn h height w w' old new held held' piece' left k (Ok b) t kept none = record {
   row = λ e. held_on h height w w' old new held held' piece' left k (sym (kept tt)) w'.carried.held.current (t.row e);
   done = λ e. (held_on h height w w' old new held held' piece' left k (sym (kept tt)) [] (t.done e).0, (t.done e).1);
@@ -102,7 +104,7 @@ held_turn h height w w' old new held held' piece' left k (Ok b) t kept none = re
 held_turn h height w w' old new held held' piece' left k (Err f) t kept none = record {
   row = λ e. absurd (let bot : ⊥ = cc in bot);
   done = λ e. absurd (let bot : ⊥ = cc in bot);
-  waits = λ e. let is : f ≡ Truncated = cc in held_waits h height w w' old new held held' piece' left k (sym (kept is)) (t.more e).0 (subst (StepsOff h height w held) is t.err);
+  waits = λ e. let is : f ≡ Truncated = cc in held_waits h height w w' old new held held' piece' left k (sym (kept is)) (t.more e).0 (subst (StepsOff (sized h height) w held) is t.err);
   few = λ e. let is : f ≡ Truncated = cc in let short = (t.more e).1 in let all = kept is in let within = k.within in omega (arith, short, all, within);
   err = λ other. held_breaks h height w w' old new held held' piece' left k (sym (none f refl other)) f other t.err;
   unread = λ some. cut_unread h height _ _ f (t.err some.0 some.1 some.2);
@@ -110,17 +112,17 @@ held_turn h height w w' old new held held' piece' left k (Err f) t kept none = r
 
 -- ---- turns one after another
 
-module _ (h : Fields) (height : ℕ) (w w1 : WalkView) (a b : Option (List ℕ)) (on : ReadsWalk h height w w1 a b []) where
-  pub reads_then : (w2 : WalkView) (c : Option (List ℕ)) (row : List ℕ) → ReadsWalk h height w1 w2 b c row → ReadsWalk h height w w2 a c row
+module _ (h : Fields) (height : ℕ) (w w1 : WalkView) (a b : Option (List ℕ)) (on : ReadsWalk (sized h height) w w1 a b []) where
+  pub reads_then : (w2 : WalkView) (c : Option (List ℕ)) (row : List ℕ) → ReadsWalk (sized h height) w1 w2 b c row → ReadsWalk (sized h height) w w2 a c row
   reads_then w2 c row next text out s =
       let x = on text out s in
       let y = next (text ++ x.0) (out ++ []) x.2 in (
         x.0 ++ y.0,
         Consumes-more a b c x.0 y.0 x.1 y.1,
-        subst (λ z. WalkStands h height w2 z (out ++ row)) (append_assoc text x.0 y.0) (subst (λ z. WalkStands h height w2 ((text ++ x.0) ++ y.0) (z ++ row)) (append-nil out) y.2),
+        subst (λ z. WalkStands (sized h height) w2 z (out ++ row)) (append_assoc text x.0 y.0) (subst (λ z. WalkStands (sized h height) w2 ((text ++ x.0) ++ y.0) (z ++ row)) (append-nil out) y.2),
       )
 
-  pub breaks_then : (c : Option (List ℕ)) (f : Fault) → BreaksWalk h height w1 b c f → BreaksWalk h height w a c f
+  pub breaks_then : (c : Option (List ℕ)) (f : Fault) → BreaksWalk (sized h height) w1 b c f → BreaksWalk (sized h height) w a c f
   breaks_then c f next text out s =
       let x = on text out s in
       let y = next (text ++ x.0) (out ++ []) x.2 in
@@ -133,18 +135,18 @@ module _ (h : Fields) (height : ℕ) (w w1 : WalkView) (a b : Option (List ℕ))
         at_end = y.at_end;
       }
 
-  pub some_then : SomeStands h height w → SomeStands h height w1
+  pub some_then : SomeStands (sized h height) w → SomeStands (sized h height) w1
   some_then some = let x = on some.0 some.1 some.2 in (some.0 ++ x.0, some.1 ++ [], x.2)
 
 -- a walk that waits goes on
-pub waits_on : (h : Fields) (height : ℕ) (w w' : WalkView) (a b c : Option (List ℕ)) (held' : List ℕ) → WaitsWalk h height w w' a b held' → Keeps b c → ReadsWalk h height w w' a c []
+pub waits_on : (h : Fields) (height : ℕ) (w w' : WalkView) (a b c : Option (List ℕ)) (held' : List ℕ) → WaitsWalk (sized h height) w w' a b held' → Keeps b c → ReadsWalk (sized h height) w w' a c []
 waits_on h height w w' a b c held' waits keeps text out s =
     let x = waits text out s in
-    (x.0, Consumes-keeps a b c x.0 x.1 keeps, subst (WalkStands h height w' (text ++ x.0)) (sym (append-nil out)) x.2)
+    (x.0, Consumes-keeps a b c x.0 x.1 keeps, subst (WalkStands (sized h height) w' (text ++ x.0)) (sym (append-nil out)) x.2)
 
 -- or nothing comes
-pub waits_off : (h : Fields) (height : ℕ) (w w' : WalkView) (a b c : Option (List ℕ)) (held' : List ℕ) (f : Fault) → WaitsWalk h height w w' a b held' →
-    Ends Truncated b c (λ given fault. (given ≡ held') × (fault ≡ Truncated)) f → BreaksWalk h height w a c f
+pub waits_off : (h : Fields) (height : ℕ) (w w' : WalkView) (a b c : Option (List ℕ)) (held' : List ℕ) (f : Fault) → WaitsWalk (sized h height) w w' a b held' →
+    Ends Truncated b c (λ given fault. (given ≡ held') × (fault ≡ Truncated)) f → BreaksWalk (sized h height) w a c f
 waits_off h height w w' a b c held' f waits e text out s =
     let x = waits text out s in
     let all = cut_all h height ((text ++ x.0) ++ held') out Truncated x.3 in
@@ -159,16 +161,16 @@ waits_off h height w w' a b c held' f waits e text out s =
 
 -- ---- what a turn is that reads on
 
-pub reads_nothing : (h : Fields) (height : ℕ) (w : WalkView) (known : Option (List ℕ)) → ReadsWalk h height w w known known []
-reads_nothing h height w known text out s = ([], Consumes-none known, subst (λ z. WalkStands h height w z (out ++ [])) (sym (append-nil text)) (subst (WalkStands h height w text) (sym (append-nil out)) s))
+pub reads_nothing : (h : Fields) (height : ℕ) (w : WalkView) (known : Option (List ℕ)) → ReadsWalk (sized h height) w w known known []
+reads_nothing h height w known text out s = ([], Consumes-none known, subst (λ z. WalkStands (sized h height) w z (out ++ [])) (sym (append-nil text)) (subst (WalkStands (sized h height) w text) (sym (append-nil out)) s))
 
 -- rows were handed out, and no byte was taken
-pub reads_none : (h : Fields) (height : ℕ) (w w' : WalkView) (known : Option (List ℕ)) (row : List ℕ) → ((text out : List ℕ) → WalkStands h height w text out → WalkStands h height w' text (out ++ row)) → ReadsWalk h height w w' known known row
-reads_none h height w w' known row on text out s = ([], Consumes-none known, subst (λ z. WalkStands h height w' z (out ++ row)) (sym (append-nil text)) (on text out s))
+pub reads_none : (h : Fields) (height : ℕ) (w w' : WalkView) (known : Option (List ℕ)) (row : List ℕ) → ((text out : List ℕ) → WalkStands (sized h height) w text out → WalkStands (sized h height) w' text (out ++ row)) → ReadsWalk (sized h height) w w' known known row
+reads_none h height w w' known row on text out s = ([], Consumes-none known, subst (λ z. WalkStands (sized h height) w' z (out ++ row)) (sym (append-nil text)) (on text out s))
 
-module _ (h : Fields) (height : ℕ) (w w1 w2 : WalkView) (old mid new : SourceView) (on : ReadsWalk h height w w1 old.known mid.known []) where
+module _ (h : Fields) (height : ℕ) (w w1 w2 : WalkView) (old mid new : SourceView) (on : ReadsWalk (sized h height) w w1 old.known mid.known []) where
   -- a row, or the end
-  pub turn_found : (held' : List ℕ) (b : Bool) → HeldTurn h height w1 w2 mid.known new.known held' (Ok b) → new.failures ≡ old.failures → new.source ≡ old.source → ReadTurn h height w w2 old new (Ok b)
+  pub turn_found : (held' : List ℕ) (b : Bool) → HeldTurn (sized h height) w1 w2 (reading mid.known new.known) held' (Ok b) → new.failures ≡ old.failures → new.source ≡ old.source → ReadTurn (sized h height) w w2 old new (Ok b)
   turn_found held' b t unfailed same = record {
     row = λ e. reads_then h height w w1 old.known mid.known on w2 new.known w2.carried.held.current (t.row e);
     done = λ e. (reads_then h height w w1 old.known mid.known on w2 new.known [] (t.done e).0, (t.done e).1);
@@ -177,7 +179,7 @@ module _ (h : Fields) (height : ℕ) (w w1 w2 : WalkView) (old mid new : SourceV
   }
 
   -- a fault in what is held
-  pub turn_off : (held' : List ℕ) (f : Fault) → HeldTurn h height w1 w2 mid.known new.known held' (Err f) → f ≢ Truncated → new.failures ≡ old.failures → new.source ≡ old.source → ReadTurn h height w w2 old new (Err f)
+  pub turn_off : (held' : List ℕ) (f : Fault) → HeldTurn (sized h height) w1 w2 (reading mid.known new.known) held' (Err f) → f ≢ Truncated → new.failures ≡ old.failures → new.source ≡ old.source → ReadTurn (sized h height) w w2 old new (Err f)
   turn_off held' f t other unfailed same = record {
     row = λ e. absurd (let bot : ⊥ = cc in bot);
     done = λ e. absurd (let bot : ⊥ = cc in bot);
@@ -192,8 +194,8 @@ module _ (h : Fields) (height : ℕ) (w w1 w2 : WalkView) (old mid new : SourceV
   }
 
   -- nothing is read behind it
-  pub turn_unread : (last : SourceView) (held' : List ℕ) (r : Result Bool Fault) (e : Fault) (t : Result (Unit {0}) Fault) → IsErrAnd r (λ y. y ≡ e) → t ≡ Err e → WaitsWalk h height w1 w2 mid.known new.known held' →
-      IfErr t (Ends Truncated new.known last.known (λ given fault. (given ≡ held') × (fault ≡ Truncated))) → ReadsOn new last t → new.failures ≡ old.failures → new.source ≡ old.source → ReadTurn h height w w2 old last r
+  pub turn_unread : (last : SourceView) (held' : List ℕ) (r : Result Bool Fault) (e : Fault) (t : Result (Unit {0}) Fault) → IsErrAnd r (λ y. y ≡ e) → t ≡ Err e → WaitsWalk (sized h height) w1 w2 mid.known new.known held' →
+      IfErr t (Ends Truncated new.known last.known (λ given fault. (given ≡ held') × (fault ≡ Truncated))) → ReadsOn new last t → new.failures ≡ old.failures → new.source ≡ old.source → ReadTurn (sized h height) w w2 old last r
   turn_unread last held' (Ok x) e t a is waits ends reads unfailed same = absurd a
   turn_unread last held' (Err y) e t a is waits ends reads unfailed same =
       let there : Ends Truncated new.known last.known (λ given fault. (given ≡ held') × (fault ≡ Truncated)) y = subst (Ends Truncated new.known last.known (λ given fault. (given ≡ held') × (fault ≡ Truncated))) (sym a) (subst (λ z. IfErr z (Ends Truncated new.known last.known (λ given fault. (given ≡ held') × (fault ≡ Truncated)))) is ends) in
@@ -212,8 +214,8 @@ module _ (h : Fields) (height : ℕ) (w w1 w2 : WalkView) (old mid new : SourceV
 -- ---- several rows
 
 -- rows that equal the one before
-pub rows_same : (h : Fields) (height : ℕ) (w w' : WalkView) (s : SourceView) (n : ℕ) → 0 < n → ((text out : List ℕ) → WalkStands h height w text out → WalkStands h height w' text (out ++ copies n w'.carried.held.current)) → (0 < n → w'.stage ≡ stage.Code) →
-    RowsTurn h height w w' s s (Ok n)
+pub rows_same : (h : Fields) (height : ℕ) (w w' : WalkView) (s : SourceView) (n : ℕ) → 0 < n → ((text out : List ℕ) → WalkStands (sized h height) w text out → WalkStands (sized h height) w' text (out ++ copies n w'.carried.held.current)) → (0 < n → w'.stage ≡ stage.Code) →
+    RowsTurn (sized h height) w w' s s (Ok n)
 rows_same h height w w' s n some on code = record {
   some = λ _. (reads_none h height w w' s.known (copies n w'.carried.held.current) on, code some);
   none = λ none. absurd (omega (arith, some, none));
@@ -222,15 +224,15 @@ rows_same h height w w' s n some on code = record {
 }
 
 -- none of those
-pub reads_no_rows : (h : Fields) (height : ℕ) (w w' : WalkView) (known : Option (List ℕ)) (n : ℕ) → n ≡ 0 → ((text out : List ℕ) → WalkStands h height w text out → WalkStands h height w' text (out ++ copies n w'.carried.held.current)) → ReadsWalk h height w w' known known []
-reads_no_rows h height w w' known n none on = reads_none h height w w' known [] (λ text out s. subst (λ z. WalkStands h height w' text (out ++ copies z w'.carried.held.current)) none (on text out s))
+pub reads_no_rows : (h : Fields) (height : ℕ) (w w' : WalkView) (known : Option (List ℕ)) (n : ℕ) → n ≡ 0 → ((text out : List ℕ) → WalkStands (sized h height) w text out → WalkStands (sized h height) w' text (out ++ copies n w'.carried.held.current)) → ReadsWalk (sized h height) w w' known known []
+reads_no_rows h height w w' known n none on = reads_none h height w w' known [] (λ text out s. subst (λ z. WalkStands (sized h height) w' text (out ++ copies z w'.carried.held.current)) none (on text out s))
 
-module _ (h : Fields) (height : ℕ) (w w1 w2 : WalkView) (old new : SourceView) (on : ReadsWalk h height w w1 old.known old.known []) where
-  pub rows_one : (b : Bool) (n : ℕ) → n ≡ cond b 1 0 → ReadTurn h height w1 w2 old new (Ok b) → (◌≡◌ {A = Result Bool Fault} (Ok b) (Ok true) → w2.stage ≡ stage.Code) → RowsTurn h height w w2 old new (Ok n)
+module _ (h : Fields) (height : ℕ) (w w1 w2 : WalkView) (old new : SourceView) (on : ReadsWalk (sized h height) w w1 old.known old.known []) where
+  pub rows_one : (b : Bool) (n : ℕ) → n ≡ cond b 1 0 → ReadTurn (sized h height) w1 w2 old new (Ok b) → (◌≡◌ {A = Result Bool Fault} (Ok b) (Ok true) → w2.stage ≡ stage.Code) → RowsTurn (sized h height) w w2 old new (Ok n)
   rows_one b n is t code = went b n is t code where
-    went : (b : Bool) (n : ℕ) → n ≡ cond b 1 0 → ReadTurn h height w1 w2 old new (Ok b) → (◌≡◌ {A = Result Bool Fault} (Ok b) (Ok true) → w2.stage ≡ stage.Code) → RowsTurn h height w w2 old new (Ok n)
+    went : (b : Bool) (n : ℕ) → n ≡ cond b 1 0 → ReadTurn (sized h height) w1 w2 old new (Ok b) → (◌≡◌ {A = Result Bool Fault} (Ok b) (Ok true) → w2.stage ≡ stage.Code) → RowsTurn (sized h height) w w2 old new (Ok n)
     went true n is t code = record {
-      some = λ _. (reads_then h height w w1 old.known old.known on w2 new.known (copies n w2.carried.held.current) (subst (λ z. ReadsWalk h height w1 w2 old.known new.known z) (sym (append-nil w2.carried.held.current) ∙ ap (λ z. copies z w2.carried.held.current) (sym is)) (t.row refl)), code refl);
+      some = λ _. (reads_then h height w w1 old.known old.known on w2 new.known (copies n w2.carried.held.current) (subst (λ z. ReadsWalk (sized h height) w1 w2 old.known new.known z) (sym (append-nil w2.carried.held.current) ∙ ap (λ z. copies z w2.carried.held.current) (sym is)) (t.row refl)), code refl);
       none = λ none. absurd (omega (arith, is, none));
       err = tt;
       reads = λ some. let r = t.reads (some_then h height w w1 old.known old.known on some) in record { drained = λ e. absurd (let bot : ⊥ = cc in bot); counts = r.counts; same_source = r.same_source };
@@ -242,11 +244,11 @@ module _ (h : Fields) (height : ℕ) (w w1 w2 : WalkView) (old new : SourceView)
       reads = λ some. let r = t.reads (some_then h height w w1 old.known old.known on some) in record { drained = λ e. absurd (let bot : ⊥ = cc in bot); counts = r.counts; same_source = r.same_source };
     }
 
-  pub rows_off : (r : Result ℕ Fault) (e : Fault) (t : Result Bool Fault) → IsErrAnd r (λ y. y ≡ e) → t ≡ Err e → ReadTurn h height w1 w2 old new t → RowsTurn h height w w2 old new r
+  pub rows_off : (r : Result ℕ Fault) (e : Fault) (t : Result Bool Fault) → IsErrAnd r (λ y. y ≡ e) → t ≡ Err e → ReadTurn (sized h height) w1 w2 old new t → RowsTurn (sized h height) w w2 old new r
   rows_off (Ok x) e t a is turn = absurd a
   rows_off (Err y) e t a is turn =
       let same : t ≡ Err y = is ∙ ap Err (sym a) in
-      let there : ReadTurn h height w1 w2 old new (Err y) = subst (ReadTurn h height w1 w2 old new) same turn in
+      let there : ReadTurn (sized h height) w1 w2 old new (Err y) = subst (ReadTurn (sized h height) w1 w2 old new) same turn in
       record {
         some = tt;
         none = tt;
@@ -256,9 +258,9 @@ module _ (h : Fields) (height : ℕ) (w w1 w2 : WalkView) (old new : SourceView)
 
 -- ---- the image
 
-module _ (h : Fields) (height : ℕ) (w w' : WalkView) (known known' known'' text text' : Option (List ℕ)) (row : ℕ) (so : ImageSoFar h height w known known' text text' row) where
+module _ (h : Fields) (height : ℕ) (w w' : WalkView) (known known' known'' text text' : Option (List ℕ)) (row : ℕ) (so : ImageSoFar (sized h height) w (passage known known' text text') row) where
   -- it breaks
-  pub image_off : (f : Fault) → BreaksWalk h height w known' known'' f → ImageCut h height known known'' text text' f
+  pub image_off : (f : Fault) → BreaksWalk (sized h height) w known' known'' f → ImageCut h height (passage known known'' text text') f
   image_off f off =
       let b = off so.bytes so.out so.stands in
       record {
@@ -267,17 +269,17 @@ module _ (h : Fields) (height : ℕ) (w w' : WalkView) (known known' known'' tex
         appended = subst (Appends text text') b.out_is so.put;
       }
 
-  pub image_off_begun : (f : Fault) → BreaksWalk h height w known' known'' f → ImageUnwritten h height known known'' text text'
+  pub image_off_begun : (f : Fault) → BreaksWalk (sized h height) w known' known'' f → ImageUnwritten h height (passage known known'' text text')
   image_off_begun f off = let b = off so.bytes so.out so.stands in unset_there h height so.bytes so.out b.given known known' known'' text text' so.begun so.taken b.taken (beginning_all text text' so.out so.put)
 
-  pub image_off_unwritten : (f : Fault) → BreaksWalk h height w known' known'' f → (n : ℕ) → writes_after f n ≡ n
+  pub image_off_unwritten : (f : Fault) → BreaksWalk (sized h height) w known' known'' f → (n : ℕ) → writes_after f n ≡ n
   image_off_unwritten f off = let b = off so.bytes so.out so.stands in unwritten f (walk_fault f (uncounted_body Truncated f (body_faults h height _ _ _ b.fixes.broken)))
 
   -- it is whole
-  pub image_whole : ReadsWalk h height w w' known' known'' [] → w'.stage ≡ stage.Done → ImageRead h height known known'' text text'
+  pub image_whole : ReadsWalk (sized h height) w w' known' known'' [] → w'.stage ≡ stage.Done → ImageRead h height (passage known known'' text text')
   image_whole on is =
       let x = on so.bytes so.out so.stands in
-      let done : ImageRead h height (Some (so.bytes ++ x.0)) (Some []) (Some []) (Some (so.out ++ [])) = at_stage is x.2 in
+      let done : ImageRead h height (passage (Some (so.bytes ++ x.0)) (Some []) (Some []) (Some (so.out ++ []))) = at_stage is x.2 in
       record {
         given = done.given;
         taken = subst (Consumes known known'') (done.taken ∙ append-nil done.given) (Consumes-more known known' known'' so.bytes x.0 so.taken x.1);
@@ -287,11 +289,11 @@ module _ (h : Fields) (height : ℕ) (w w' : WalkView) (known known' known'' tex
       }
 
   -- rows more
-  module _ (n : ℕ) (some : 0 < n) (use_ : IsInUse h height) (q : CoderLaws) (on : ReadsWalk h height w w' known' known'' (copies n w'.carried.held.current) × (w'.stage ≡ stage.Code)) where
-    abbrev next : (given : List ℕ) × Consumes known' known'' given × WalkStands h height w' (so.bytes ++ given) (so.out ++ copies n w'.carried.held.current)
+  module _ (n : ℕ) (some : 0 < n) (use_ : IsInUse h height) (q : CoderLaws) (on : ReadsWalk (sized h height) w w' known' known'' (copies n w'.carried.held.current) × (w'.stage ≡ stage.Code)) where
+    abbrev next : (given : List ℕ) × Consumes known' known'' given × WalkStands (sized h height) w' (so.bytes ++ given) (so.out ++ copies n w'.carried.held.current)
     next = on.0 so.bytes so.out so.stands
 
-    abbrev here : CodeStands h height w'.entities w'.given w'.at w'.row w'.first w'.marker w'.carried w'.decoder (so.bytes ++ next.0) (so.out ++ copies n w'.carried.held.current)
+    abbrev here : CodeStands (sized h height) (head_place w'.entities w'.given w'.at w'.carried) (code_place w'.row w'.first w'.marker w'.decoder) (so.bytes ++ next.0) (so.out ++ copies n w'.carried.held.current)
     here = at_stage on.1 next.2
 
     long : length (so.out ++ copies n w'.carried.held.current) ≡ (row + n) * row_bytes h.xd
@@ -316,13 +318,13 @@ module _ (h : Fields) (height : ℕ) (w w' : WalkView) (known known' known'' tex
           let one : suc height * row_bytes h.xd ≡ row_bytes h.xd + height * row_bytes h.xd = omega arith in
           absurd (let bytes = some_bytes in let is = long in omega (arith, most, above, one, m.2, bytes, is))
 
-    begun_here : ImageUnwritten h height (Some (so.bytes ++ next.0)) (Some []) (Some []) (Some (so.out ++ copies n w'.carried.held.current))
+    begun_here : ImageUnwritten h height (passage (Some (so.bytes ++ next.0)) (Some []) (Some []) (Some (so.out ++ copies n w'.carried.held.current)))
     begun_here = code_unset here q use_
 
     taken_here : Consumes known known'' (so.bytes ++ next.0)
     taken_here = Consumes-more known known' known'' so.bytes next.0 so.taken next.1
 
-    pub so_far_next : (text'' : Option (List ℕ)) → Appends text' text'' (copies n w'.carried.held.current) → ImageSoFar h height w' known known'' text text'' (row + n)
+    pub so_far_next : (text'' : Option (List ℕ)) → Appends text' text'' (copies n w'.carried.held.current) → ImageSoFar (sized h height) w' (passage known known'' text text'') (row + n)
     so_far_next text'' put = record {
       bytes = so.bytes ++ next.0;
       out = so.out ++ copies n w'.carried.held.current;
@@ -335,13 +337,13 @@ module _ (h : Fields) (height : ℕ) (w w' : WalkView) (known known' known'' tex
     }
 
     -- the target takes no more
-    pub image_rows_unset : (text'' : Option (List ℕ)) → AppendsBeginning text' text'' (copies n w'.carried.held.current) → ImageUnwritten h height known known'' text text''
+    pub image_rows_unset : (text'' : Option (List ℕ)) → AppendsBeginning text' text'' (copies n w'.carried.held.current) → ImageUnwritten h height (passage known known'' text text'')
     image_rows_unset text'' put =
         unset_there h height (so.bytes ++ next.0) (so.out ++ copies n w'.carried.held.current) [] known known'' known'' text text'' begun_here taken_here (Consumes-none known'')
         (beginning_after text text' text'' so.out (copies n w'.carried.held.current) so.put put)
 
 -- before the first row
-pub so_far_first : (h : Fields) (height : ℕ) (w : WalkView) (known text : Option (List ℕ)) → WalkStands h height w [] [] → ImageSoFar h height w known known text text 0
+pub so_far_first : (h : Fields) (height : ℕ) (w : WalkView) (known text : Option (List ℕ)) → WalkStands (sized h height) w [] [] → ImageSoFar (sized h height) w (passage known known text text) 0
 so_far_first h height w known text s = record {
   bytes = [];
   out = [];

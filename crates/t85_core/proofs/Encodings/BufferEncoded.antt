@@ -14,20 +14,21 @@ use Rattle.raster_core.specs.Raster.{Raster}
 use Rattle.t85_core.specs.Steps.EncodeStripes.{ImageCoded, ImageShort, ImageRefused, ImageFront}
 use Rattle.t85_core.specs.declared.fault.Fault.{Fault}
 use Rattle.t85_core.specs.declared.fault.Fault.TheVariants.{Write, Pbm}
-use Rattle.t85_core.specs.Encode.{raster_of, IsEncodeFault}
+use Rattle.t85_core.specs.Encode.{raster_of, IsEncodeFault, layout_of}
 use Rattle.t85_core.proofs.Encodings.SinkTakes.{which, is_of}
 use Rattle.t85_core.proofs.Walks.Passed.{Consumes-none}
 use Rattle.t85_core.specs.Jbg.{Settings}
 use Rattle.t85_core.proofs.Bytes.Streams.{Appends-keeps}
+use Rattle.t85_core.specs.Steps.Passage.{passage}
 
 module _ {form : Form} (width height' : ℕ) (whole : Raster → List ℕ) (known known' text old new : Option (List ℕ)) where
-  pub coded_handed : ImageCoded form width height' whole known known' text old → Keeps old new → ImageCoded form width height' whole known known' text new
+  pub coded_handed : ImageCoded (layout_of form width height') whole (passage known known' text old) → Keeps old new → ImageCoded (layout_of form width height') whole (passage known known' text new)
   coded_handed i k = record { rows = i.rows; many = i.many; read = i.read; appended = Appends-keeps text old new _ i.appended k }
 
-  pub short_handed : (s : Settings) (up_to : Raster → ℕ → List ℕ) (fault : PbmFault) → ImageShort s form width height' up_to whole known known' text old fault → Keeps old new → ImageShort s form width height' up_to whole known known' text new fault
+  pub short_handed : (s : Settings) (up_to : Raster → ℕ → List ℕ) (fault : PbmFault) → ImageShort s (layout_of form width height') up_to whole (passage known known' text old) fault → Keeps old new → ImageShort s (layout_of form width height') up_to whole (passage known known' text new) fault
   short_handed s up_to fault i k = record { rows = i.rows; few = i.few; mid = i.mid; read = i.read; part = i.part; bytes = i.bytes; holds = i.holds; begins = i.begins; appended = Appends-keeps text old new _ i.appended k }
 
-  pub front_handed : ImageFront form width height' whole known known' text old → Keeps old new → ImageFront form width height' whole known known' text new
+  pub front_handed : ImageFront (layout_of form width height') whole (passage known known' text old) → Keeps old new → ImageFront (layout_of form width height') whole (passage known known' text new)
   front_handed i k = record {
     rows = i.rows;
     few = i.few;
@@ -49,7 +50,7 @@ nothing_short Plain width some = record { pixels = []; digits = []; space = []; 
 
 module _ {form : Form} (width height' : ℕ) (whole : Raster → List ℕ) (known known' text text' : Option (List ℕ)) where
   -- all rows were read
-  pub coded_front : 1 ≤ width → ImageCoded form width height' whole known known' text text' → ImageFront form width height' whole known known' text text'
+  pub coded_front : 1 ≤ width → ImageCoded (layout_of form width height') whole (passage known known' text text') → ImageFront (layout_of form width height') whole (passage known known' text text')
   coded_front some i = record {
     rows = i.rows;
     few = (let many = i.many in omega (arith, many));
@@ -71,7 +72,7 @@ module _ {form : Form} (width height' : ℕ) (whole : Raster → List ℕ) (know
   }
 
   -- some were, and nothing more
-  pub refused_front : 1 ≤ width → ImageRefused form width height' whole known known' text text' → ImageFront form width height' whole known known' text text'
+  pub refused_front : 1 ≤ width → ImageRefused (layout_of form width height') whole (passage known known' text text') → ImageFront (layout_of form width height') whole (passage known known' text text')
   refused_front some i = record {
     rows = i.rows;
     few = i.few;
@@ -87,7 +88,7 @@ module _ {form : Form} (width height' : ℕ) (whole : Raster → List ℕ) (know
   }
 
   -- some were, and a row of which less came
-  pub short_front : (s : Settings) (up_to : Raster → ℕ → List ℕ) (fault : PbmFault) → ImageShort s form width height' up_to whole known known' text text' fault → ImageFront form width height' whole known known' text text'
+  pub short_front : (s : Settings) (up_to : Raster → ℕ → List ℕ) (fault : PbmFault) → ImageShort s (layout_of form width height') up_to whole (passage known known' text text') fault → ImageFront (layout_of form width height') whole (passage known known' text text')
   short_front s up_to fault i = record {
     rows = i.rows;
     few = (let less = i.few in omega (arith, less));
@@ -104,8 +105,8 @@ module _ {form : Form} (width height' : ℕ) (whole : Raster → List ℕ) (know
 
   -- whatever was reported
   pub told_front : (s : Settings) (up_to : Raster → ℕ → List ℕ) (fault : Fault) → IsEncodeFault fault → fault ≢ Write →
-      ((why : PbmFault) → IsErrOf {T = Unit {0}} {E = Fault} (Err fault) (Pbm why) → ImageShort s form width height' up_to whole known known' text text' why) → ImageFront form width height' whole known known' text text'
+      ((why : PbmFault) → IsErrOf {T = Unit {0}} {E = Fault} (Err fault) (Pbm why) → ImageShort s (layout_of form width height') up_to whole (passage known known' text text') why) → ImageFront (layout_of form width height') whole (passage known known' text text')
   told_front s up_to fault among other short = went (which fault among) where
-    went : (fault ≡ Write) ⊎ ((why : PbmFault) × (fault ≡ Pbm why)) → ImageFront form width height' whole known known' text text'
+    went : (fault ≡ Write) ⊎ ((why : PbmFault) × (fault ≡ Pbm why)) → ImageFront (layout_of form width height') whole (passage known known' text text')
     went (inl is) = absurd (other is)
     went (inr (why, is)) = short_front s up_to why (short why (is_of fault (Pbm why) is))

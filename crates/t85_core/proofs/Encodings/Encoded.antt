@@ -14,7 +14,7 @@ use Rattle.t85_core.specs.declared.fault.Fault.{Fault}
 use Rattle.t85_core.specs.declared.fault.Fault.TheVariants.{AnnouncedLow, Pbm}
 use Rattle.t85_core.specs.declared.options.Options.{Options}
 use Rattle.pbm_core.specs.Image.{HoldsRows}
-use Rattle.t85_core.specs.Encode.{raster_of, IsEncodeFault, WritesCode, WritesCodeBegun, WritesCodeFront, Encode}
+use Rattle.t85_core.specs.Encode.{raster_of, IsEncodeFault, WritesCode, WritesCodeBegun, WritesCodeFront, Encode, layout_of}
 use Rattle.t85_core.specs.Steps.EncodeStripes.{ImageCoded, ImageShort, ImageFront}
 use Rattle.t85_core.specs.Steps.Buffers.{known_length}
 use Rattle.t85_core.specs.Jbg.{Settings, AreSettings, jbg, jbg_up_to, IsAnnounced, is_low}
@@ -29,6 +29,7 @@ use Rattle.t85_core.proofs.Decodings.RowPut.{appends_nothing}
 use Rattle.t85_core.proofs.Encodings.RowsHeld.{rows_hold, rows_wide}
 use Rattle.t85_core.proofs.Bytes.Streams.{Consumes-more, beginning_all}
 use Rattle.t85_core.proofs.Bytes.HeldBack.{beginning_handed}
+use Rattle.t85_core.specs.Steps.Passage.{passage}
 
 comment_fits : (comment : Option (Bor (List ℕ))) → option_map_or (λ c. length c.now) comment 0 < 2 ^ 32 → length (unwrap_or (option_map (λ c. c.now) comment) []) < 2 ^ 32
 comment_fits None fits = fits
@@ -80,7 +81,7 @@ fault_stays fault other = refl
 
 module _ (s : Settings) (form : Form) (width height' : ℕ) (in_old in_new out_old out_new : Option (List ℕ)) where
   -- all rows were read and written
-  code_whole : CodeDenotes → AreSettings s → is_low s height' ≡ false → IsSize width height' → ImageCoded form width height' (λ raster. jbg s raster) in_old in_new out_old out_new → IfSome in_old (λ body. WritesCode s form width height' body out_old out_new)
+  code_whole : CodeDenotes → AreSettings s → is_low s height' ≡ false → IsSize width height' → ImageCoded (layout_of form width height') (λ raster. jbg s raster) (passage in_old in_new out_old out_new) → IfSome in_old (λ body. WritesCode s (layout_of form width height') body out_old out_new)
   code_whole law are low size i = went in_old in_new i.read.taken where
     proper : IsRaster (raster_of width i.rows)
     proper = record {
@@ -91,7 +92,7 @@ module _ (s : Settings) (form : Form) (width height' : ℕ) (in_old in_new out_o
       rows = rows_wide form width i.read.given i.rows i.read.are_rows;
     }
 
-    went : (old new : Option (List ℕ)) → Consumes old new i.read.given → IfSome old (λ body. WritesCode s form width height' body out_old out_new)
+    went : (old new : Option (List ℕ)) → Consumes old new i.read.given → IfSome old (λ body. WritesCode s (layout_of form width height') body out_old out_new)
     went None new taken = tt
     went (Some body) None taken = absurd taken
     went (Some body) (Some rest) taken = record {
@@ -103,7 +104,7 @@ module _ (s : Settings) (form : Form) (width height' : ℕ) (in_old in_new out_o
       denotes = law s (raster_of width i.rows) are proper (subst (λ n. IsAnnounced s n) (sym i.many) (not_low (unwrap_or s.announced height') height' low));
     }
 
-  module _ (fault : PbmFault) (i : ImageShort s form width height' (λ raster n. jbg_up_to s raster n) (λ raster. jbg s raster) in_old in_new out_old out_new fault) where
+  module _ (fault : PbmFault) (i : ImageShort s (layout_of form width height') (λ raster n. jbg_up_to s raster n) (λ raster. jbg s raster) (passage in_old in_new out_old out_new) fault) where
     -- what was taken
     abbrev given : List ℕ
     given = i.read.given ++ i.part.given
@@ -112,7 +113,7 @@ module _ (s : Settings) (form : Form) (width height' : ℕ) (in_old in_new out_o
     taken = Consumes-more in_old i.mid in_new i.read.given i.part.given i.read.taken i.part.taken
 
     -- whatever is left
-    begun : (left : List ℕ) → (fault_of_given fault ≡ pbm.Truncated → left ≡ []) → WritesCodeBegun s form width height' (given ++ left) (fault_of_given fault) out_old out_new
+    begun : (left : List ℕ) → (fault_of_given fault ≡ pbm.Truncated → left ≡ []) → WritesCodeBegun s (layout_of form width height') (given ++ left) (fault_of_given fault) out_old out_new
     begun left at_end = record {
       rows = i.rows;
       rest = i.part.given ++ left;
@@ -125,27 +126,27 @@ module _ (s : Settings) (form : Form) (width height' : ℕ) (in_old in_new out_o
     }
 
     -- the rows have a fault
-    code_short : fault ≢ pbm.Read → IfSome in_old (λ body. WritesCodeBegun s form width height' body fault out_old out_new)
+    code_short : fault ≢ pbm.Read → IfSome in_old (λ body. WritesCodeBegun s (layout_of form width height') body fault out_old out_new)
     code_short other = went in_old in_new taken i.part.at_end where
-      went : (old new : Option (List ℕ)) → Consumes old new given → (fault ≡ pbm.Truncated → IsAtEnd new) → IfSome old (λ body. WritesCodeBegun s form width height' body fault out_old out_new)
+      went : (old new : Option (List ℕ)) → Consumes old new given → (fault ≡ pbm.Truncated → IsAtEnd new) → IfSome old (λ body. WritesCodeBegun s (layout_of form width height') body fault out_old out_new)
       went None new took end = tt
       went (Some body) None took end = absurd took
       went (Some body) (Some left) took end =
-          subst (λ z. WritesCodeBegun s form width height' z fault out_old out_new) (sym took)
-          (subst (λ f. WritesCodeBegun s form width height' (given ++ left) f out_old out_new) (fault_stays fault other) (begun left (λ is. end (sym (fault_stays fault other) ∙ is))))
+          subst (λ z. WritesCodeBegun s (layout_of form width height') z fault out_old out_new) (sym took)
+          (subst (λ f. WritesCodeBegun s (layout_of form width height') (given ++ left) f out_old out_new) (fault_stays fault other) (begun left (λ is. end (sym (fault_stays fault other) ∙ is))))
 
   -- a read failed within the rows
-  code_unread : ImageShort s form width height' (λ raster n. jbg_up_to s raster n) (λ raster. jbg s raster) in_old in_new out_old out_new pbm.Read →
-      (all : List ℕ) × Consumes in_old in_new all × WritesCodeBegun s form width height' all pbm.Truncated out_old out_new
+  code_unread : ImageShort s (layout_of form width height') (λ raster n. jbg_up_to s raster n) (λ raster. jbg s raster) (passage in_old in_new out_old out_new) pbm.Read →
+      (all : List ℕ) × Consumes in_old in_new all × WritesCodeBegun s (layout_of form width height') all pbm.Truncated out_old out_new
   code_unread i = (
     given pbm.Read i,
     taken pbm.Read i,
-    subst (λ z. WritesCodeBegun s form width height' z pbm.Truncated out_old out_new) (append-nil (given pbm.Read i)) (begun pbm.Read i [] (λ _. refl)),
+    subst (λ z. WritesCodeBegun s (layout_of form width height') z pbm.Truncated out_old out_new) (append-nil (given pbm.Read i)) (begun pbm.Read i [] (λ _. refl)),
   )
 
   -- what is written is a beginning of what was written
-  front_written : (held : List ℕ) → known_length out_old ≤ known_length out_new → ImageFront form width height' (λ raster. jbg s raster) in_old in_new out_old (append_known out_new held) →
-      (given : List ℕ) × Consumes in_old in_new given × WritesCodeFront s form width height' given out_old out_new
+  front_written : (held : List ℕ) → known_length out_old ≤ known_length out_new → ImageFront (layout_of form width height') (λ raster. jbg s raster) (passage in_old in_new out_old (append_known out_new held)) →
+      (given : List ℕ) × Consumes in_old in_new given × WritesCodeFront s (layout_of form width height') given out_old out_new
   front_written held grows i =
       let p = beginning_handed out_old out_new held i.bytes grows (beginning_all out_old (append_known out_new held) i.bytes i.appended) in (
         i.read.given ++ i.part,
@@ -164,11 +165,11 @@ module _ (s : Settings) (form : Form) (width height' : ℕ) (in_old in_new out_o
       )
 
   pub encoded : (held : List ℕ) → CodeDenotes → AreSettings s → is_low s height' ≡ false → IsSize width height' → (reads_old reads_new writes_old writes_new : ℕ) (r : Result (Unit {0}) Fault) →
-      OnOk r (ImageCoded form width height' (λ raster. jbg s raster) in_old in_new out_old out_new) →
-      ((fault : PbmFault) → IsErrOf r (Pbm fault) → ImageShort s form width height' (λ raster n. jbg_up_to s raster n) (λ raster. jbg s raster) in_old in_new out_old out_new fault) →
+      OnOk r (ImageCoded (layout_of form width height') (λ raster. jbg s raster) (passage in_old in_new out_old out_new)) →
+      ((fault : PbmFault) → IsErrOf r (Pbm fault) → ImageShort s (layout_of form width height') (λ raster n. jbg_up_to s raster n) (λ raster. jbg s raster) (passage in_old in_new out_old out_new) fault) →
       IfErr r IsEncodeFault → CountsBoth reads_old reads_new r → CountsWrite writes_old writes_new r →
-      known_length out_old ≤ known_length out_new → ImageFront form width height' (λ raster. jbg s raster) in_old in_new out_old (append_known out_new held) →
-      Encode s form width height' (between in_old in_new reads_old reads_new) (between out_old out_new writes_old writes_new) r
+      known_length out_old ≤ known_length out_new → ImageFront (layout_of form width height') (λ raster. jbg s raster) (passage in_old in_new out_old (append_known out_new held)) →
+      Encode s (layout_of form width height') (between in_old in_new reads_old reads_new) (between out_old out_new writes_old writes_new) r
   encoded held law are low size reads_old reads_new writes_old writes_new r ok short among reads writes grows begun = record {
     low = λ e. absurd (none_low r among e);
     not_low = always r low;
@@ -186,15 +187,15 @@ module _ (s : Settings) (form : Form) (width height' : ℕ) (in_old in_new out_o
 -- the output as it is before it is lent and when its loan ends
 pub encodes_at : {W : Type 0} (contents : W → Option (List ℕ)) (failures : W → ℕ) (s : Settings) (form : Form) (width height' : ℕ) (in_old in_new : Option (List ℕ)) (reads_old reads_new : ℕ)
     (before : Option (List ℕ)) (count : ℕ) (start output output' : W) (r : Result (Unit {0}) Fault) → before ≡ contents start → count ≡ failures start → output ≡ output' →
-    Encode s form width height' (between in_old in_new reads_old reads_new) (between before (contents output) count (failures output)) r →
-    Encode s form width height' (between in_old in_new reads_old reads_new) (between (contents start) (contents output') (failures start) (failures output')) r
+    Encode s (layout_of form width height') (between in_old in_new reads_old reads_new) (between before (contents output) count (failures output)) r →
+    Encode s (layout_of form width height') (between in_old in_new reads_old reads_new) (between (contents start) (contents output') (failures start) (failures output')) r
 encodes_at contents failures s form width height' in_old in_new reads_old reads_new before count start output output' r text n same e =
-    subst (λ x. Encode s form width height' (between in_old in_new reads_old reads_new) (between (contents start) (contents x) (failures start) (failures x)) r) same
-    (subst (λ z. Encode s form width height' (between in_old in_new reads_old reads_new) (between z (contents output) (failures start) (failures output)) r) text
-    (subst (λ z. Encode s form width height' (between in_old in_new reads_old reads_new) (between before (contents output) z (failures output)) r) n e))
+    subst (λ x. Encode s (layout_of form width height') (between in_old in_new reads_old reads_new) (between (contents start) (contents x) (failures start) (failures x)) r) same
+    (subst (λ z. Encode s (layout_of form width height') (between in_old in_new reads_old reads_new) (between z (contents output) (failures start) (failures output)) r) text
+    (subst (λ z. Encode s (layout_of form width height') (between in_old in_new reads_old reads_new) (between before (contents output) z (failures output)) r) n e))
 
 -- an announced height that is too low is reported at once
-pub told_low : (s : Settings) (form : Form) (width height' : ℕ) (known text : Option (List ℕ)) (reads writes : ℕ) → 1 ≤ width → is_low s height' ≡ true → Encode s form width height' (between known known reads reads) (between text text writes writes) (Err AnnouncedLow)
+pub told_low : (s : Settings) (form : Form) (width height' : ℕ) (known text : Option (List ℕ)) (reads writes : ℕ) → 1 ≤ width → is_low s height' ≡ true → Encode s (layout_of form width height') (between known known reads reads) (between text text writes writes) (Err AnnouncedLow)
 told_low s form width height' known text reads writes some is = record {
   low = λ _. (is, Keeps-same known, Keeps-same text);
   not_low = tt;

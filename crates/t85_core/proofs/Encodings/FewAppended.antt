@@ -6,10 +6,10 @@ use Rattle.std.proofs.lemmas.List.{length-map}
 use Rattle.pbm_core.specs.Device.{AppendsBeginning}
 use Rattle.qm_core.specs.Place.{Place, Estimate}
 use Rattle.qm_core.specs.Code.{stuffed}
-use Rattle.qm_core.specs.Encoder.{EncoderIsAt, waiting_bytes}
+use Rattle.qm_core.specs.Encoder.{EncoderIsAt, waiting_bytes, encoder_state}
 use Rattle.qm_core.specs.declared.encoder.Encoder.{Encoder}
 use Rattle.raster_core.specs.Lines.{Lines, pixel_events, pseudo_event, may_be_typical}
-use Rattle.raster_core.specs.Row.{canonical_events}
+use Rattle.raster_core.specs.Row.{canonical_events, row_task}
 use Rattle.raster_core.specs.Window.{shape_mode}
 use Rattle.raster_core.specs.declared.shape.Shape.{Shape}
 use Rattle.raster_core.specs.declared.shape.Kept.{Kept}
@@ -73,7 +73,7 @@ events_few shape kept lines n wide =
 
 module _ (laws : WritingLaws) (e : Encoder) (p : Place) (learned : List Estimate) (pushed : List ℕ) (at : EncoderIsAt e p pushed) (old new : Option (List ℕ)) where
   pub row_put_few : (shape : Shape) (kept kept' : Kept) (lines : Lines) (e' : Encoder) (learned' : List Estimate) (n : ℕ) → length lines.row ≡ n →
-      RowPut shape kept kept' (record { place = p; learned = learned }) pushed lines e' learned' old new → AppendsBeside (2 * waiting_bytes e') (2 * waiting_bytes e + 4 * (n + 1)) old new
+      RowPut (row_task shape kept (record { place = p; learned = learned }) lines) pushed kept' old (encoder_state new e' learned') → AppendsBeside (2 * waiting_bytes e') (2 * waiting_bytes e + 4 * (n + 1)) old new
   row_put_few shape kept kept' lines e' learned' n wide put =
       let events = events_few shape kept lines n wide in
       let few = laws.few_pushed e e' (record { place = p; learned = learned }) (canonical_events shape kept lines) pushed put.more at put.codes in

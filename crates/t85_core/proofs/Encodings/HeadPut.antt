@@ -6,7 +6,7 @@ use Rattle.pbm_core.specs.declared.form.Form.{Form}
 use Rattle.raster_core.specs.Raster.{Raster, height}
 use Rattle.t85_core.specs.declared.fault.Fault.{Fault}
 use Rattle.t85_core.specs.Failures.{CountsWrite}
-use Rattle.t85_core.specs.Encode.{BeginsWith}
+use Rattle.t85_core.specs.Encode.{BeginsWith, layout_of}
 use Rattle.t85_core.specs.Steps.EncodeStripes.{ImageRefused}
 use Rattle.pbm_core.specs.Device.{AppendsBeginning}
 use Rattle.t85_core.specs.Grammar.{Comment, segment_bytes}
@@ -14,6 +14,7 @@ use Rattle.t85_core.specs.Header.{header_bytes}
 use Rattle.t85_core.specs.Jbg.{Settings, header_of, head_of, stripes_of, jbg, ending}
 use Rattle.t85_core.proofs.Encodings.RowsJoined.{reads_none}
 use Rattle.t85_core.proofs.Bytes.Streams.{Appends-more, beginning_longer, beginning_after}
+use Rattle.t85_core.specs.Steps.Passage.{passage}
 
 -- no write failed before
 pub counts_on : {T : Type 0} (old mid new : ℕ) (r : Result T Fault) → mid ≡ old → CountsWrite mid new r → CountsWrite old new r
@@ -40,7 +41,7 @@ same_head : (s : Settings) (width height' : ℕ) (rows : List (List Bool)) (rast
 same_head s width height' rows raster b = ap (λ n. head_of s n height') (sym b.width_is) ∙ ap (head_of s raster.width) (sym b.height_is)
 
 -- the target took no more of the head
-pub head_refused : {form : Form} (s : Settings) (width height' : ℕ) (known text text' : Option (List ℕ)) → AppendsBeginning text text' (head_of s width height') → ImageRefused form width height' (λ raster. jbg s raster) known known text text'
+pub head_refused : {form : Form} (s : Settings) (width height' : ℕ) (known text text' : Option (List ℕ)) → AppendsBeginning text text' (head_of s width height') → ImageRefused (layout_of form width height') (λ raster. jbg s raster) (passage known known text text')
 head_refused s width height' known text text' p = record {
   rows = [];
   few = omega arith;

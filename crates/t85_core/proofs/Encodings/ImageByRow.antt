@@ -8,18 +8,20 @@ use Rattle.raster_core.specs.Raster.{Raster, height}
 use Rattle.raster_core.specs.Packed.{Held}
 use Rattle.t85_core.specs.Grammar.{marker_bytes, stripe_bytes, stripe_count}
 use Rattle.t85_core.specs.Coding.{mode_of}
-use Rattle.t85_core.specs.Encode.{IsBeginning, BeginsWith, raster_of}
+use Rattle.t85_core.specs.Encode.{IsBeginning, BeginsWith, raster_of, layout_of}
 use Rattle.t85_core.specs.Jbg.{Settings, jbg, jbg_up_to}
 use Rattle.t85_core.specs.Steps.Written.{next_move, next_stripe}
 use Rattle.t85_core.specs.Steps.CoderLaws.{WritingLaws}
 use Rattle.t85_core.specs.Steps.EncodeRows.{ReadsRows, RowTaken, EndsInRow}
 use Rattle.t85_core.specs.Steps.EncodeStripes.{ImageShort, ImageRefused}
 use Rattle.t85_core.specs.Steps.Sent.{Origin, SendsBeginning, here}
-use Rattle.t85_core.specs.Steps.ByRow.{RowView, MayCome, StreamCut, StreamFront, Waits, Runs, Stands, IsLined, move_bytes}
+use Rattle.t85_core.specs.Steps.ByRow.{RowView, StreamCut, StreamFront, Waits, Runs, Stands, IsLined, move_bytes}
+use Rattle.t85_core.specs.RowImage.{MayCome, Image, image_of}
 use Rattle.t85_core.proofs.Bytes.Sendings.{here_sent}
 use Rattle.t85_core.proofs.Theorems.Joined.{stripe_at}
 use Rattle.t85_core.proofs.Encodings.RowShort.{pushed_begins}
 use Rattle.t85_core.proofs.Encodings.RowStream.{come_first, come_long, part_begins, front_begins, less_or_not}
+use Rattle.t85_core.specs.Steps.Passage.{passage}
 
 -- so many whole stripes are stripes of the image
 few_stripes : (n l i : ℕ) → 1 ≤ l → i * l ≤ n → i ≤ stripe_count n l
@@ -32,73 +34,73 @@ few_stripes n l i some within = went (less_or_not (stripe_count n l) i) where
       let sum : (stripe_count n l + 1) * l ≡ stripe_count n l * l + 1 * l = Rattle.std.proofs.Math.Nat.add-mul (stripe_count n l) 1 l in
       absurd (omega (arith, low, up, sum, within, some))
 
-module _ (s : Settings) (width limit : ℕ) (rows : List (List Bool)) (v : RowView) (window : Held) (origin : Origin) (text : Option (List ℕ)) where
+module _ (image : Image) (rows : List (List Bool)) (v : RowView) (window : Held) (origin : Origin) (text : Option (List ℕ)) where
   -- no stripe runs
-  front_waits : Waits s width limit rows v window origin text → StreamFront s width limit rows origin text
+  front_waits : Waits image rows v window origin text → StreamFront image rows origin text
   front_waits w = record {
     bytes = w.front;
     sent = w.sent;
     begun = λ raster b. record {
-      holds = record { rest = []; bytes_are = w.stripes.front_is raster b ∙ sym (ap (jbg_up_to s raster) whole) ∙ sym (append-nil (jbg_up_to s raster (length rows / s.stripe_rows))) };
-      begins = front_begins s raster w.i w.front (few_stripes (height raster) s.stripe_rows w.i w.plan_is.some (let long = come_long s width limit rows raster b in omega (arith, long, w.stripes.many)))
+      holds = record { rest = []; bytes_are = w.stripes.front_is raster b ∙ sym (ap (jbg_up_to image.settings raster) whole) ∙ sym (append-nil (jbg_up_to image.settings raster (length rows / image.settings.stripe_rows))) };
+      begins = front_begins image.settings raster w.i w.front (few_stripes (height raster) image.settings.stripe_rows w.i w.plan_is.some (let long = come_long image rows raster b in omega (arith, long, w.stripes.many)))
           (record { rest = []; bytes_are = sym (w.stripes.front_is raster b) ∙ sym (append-nil w.front) });
     };
   } where
-    whole : length rows / s.stripe_rows ≡ w.i
+    whole : length rows / image.settings.stripe_rows ≡ w.i
     whole =
-        let sum : length rows ≡ w.i * s.stripe_rows + 0 = omega (arith, w.stripes.many) in
-        ap (λ n. n / s.stripe_rows) sum ∙ stripe_at s.stripe_rows w.i 0 (omega (arith, w.plan_is.some))
+        let sum : length rows ≡ w.i * image.settings.stripe_rows + 0 = omega (arith, w.stripes.many) in
+        ap (λ n. n / image.settings.stripe_rows) sum ∙ stripe_at image.settings.stripe_rows w.i 0 (omega (arith, w.plan_is.some))
 
   -- one runs
-  front_runs : WritingLaws → 0 < v.in_stripe → v.in_stripe < v.plan.stripe_rows → Runs s width limit rows v window origin text → StreamFront s width limit rows origin text
+  front_runs : WritingLaws → 0 < v.in_stripe → v.in_stripe < v.plan.stripe_rows → Runs image rows v window origin text → StreamFront image rows origin text
   front_runs laws some fewer r = record {
-    bytes = r.front ++ (move_bytes s width r.at ++ r.pushed);
+    bytes = r.front ++ (move_bytes image.settings image.width r.at ++ r.pushed);
     sent = r.sent;
     begun = λ raster b. record {
       holds = record {
-        rest = move_bytes s width r.at ++ r.pushed;
-        bytes_are = ap (λ z. z ++ (move_bytes s width r.at ++ r.pushed)) (r.stripes.front_is raster (first raster b) ∙ sym (ap (jbg_up_to s raster) whole));
+        rest = move_bytes image.settings image.width r.at ++ r.pushed;
+        bytes_are = ap (λ z. z ++ (move_bytes image.settings image.width r.at ++ r.pushed)) (r.stripes.front_is raster (first raster b) ∙ sym (ap (jbg_up_to image.settings raster) whole));
       };
-      begins = part_begins s width limit r.i r.whole r.at r.front r.plan_is.some r.stripes r.part (move_bytes s width r.at ++ r.pushed) r.few begins raster (all raster b)
-          (let long = come_long s width limit (r.whole ++ r.part) raster (all raster b) in omega (arith, long, length-append r.whole r.part, r.stripes.many, some, r.in_stripe));
+      begins = part_begins image r.i r.whole r.at r.front r.plan_is.some r.stripes r.part (move_bytes image.settings image.width r.at ++ r.pushed) r.few begins raster (all raster b)
+          (let long = come_long image (r.whole ++ r.part) raster (all raster b) in omega (arith, long, length-append r.whole r.part, r.stripes.many, some, r.in_stripe));
     };
   } where
-    all : (raster : Raster) → MayCome s width limit rows raster → MayCome s width limit (r.whole ++ r.part) raster
-    all raster b = subst (λ z. MayCome s width limit z raster) r.all b
+    all : (raster : Raster) → MayCome image rows raster → MayCome image (r.whole ++ r.part) raster
+    all raster b = subst (λ z. MayCome image z raster) r.all b
 
-    first : (raster : Raster) → MayCome s width limit rows raster → MayCome s width limit r.whole raster
-    first raster b = come_first s width limit r.whole r.part raster (all raster b)
+    first : (raster : Raster) → MayCome image rows raster → MayCome image r.whole raster
+    first raster b = come_first image r.whole r.part raster (all raster b)
 
-    whole : length rows / s.stripe_rows ≡ r.i
+    whole : length rows / image.settings.stripe_rows ≡ r.i
     whole =
-        let sum : length rows ≡ r.i * s.stripe_rows + length r.part = ap length r.all ∙ (omega (arith, length-append r.whole r.part, r.stripes.many)) in
-        ap (λ n. n / s.stripe_rows) sum ∙ stripe_at s.stripe_rows r.i (length r.part) (omega (arith, fewer, r.in_stripe, r.plan_is.stripe_rows_is))
+        let sum : length rows ≡ r.i * image.settings.stripe_rows + length r.part = ap length r.all ∙ (omega (arith, length-append r.whole r.part, r.stripes.many)) in
+        ap (λ n. n / image.settings.stripe_rows) sum ∙ stripe_at image.settings.stripe_rows r.i (length r.part) (omega (arith, fewer, r.in_stripe, r.plan_is.stripe_rows_is))
 
-    begins : (later : List (List Bool)) → IsBeginning (move_bytes s width r.at ++ r.pushed) (stripe_bytes (next_stripe s width r.at (r.part ++ later)))
+    begins : (later : List (List Bool)) → IsBeginning (move_bytes image.settings image.width r.at ++ r.pushed) (stripe_bytes (next_stripe image.settings image.width r.at (r.part ++ later)))
     begins later =
-        let p = pushed_begins laws (mode_of s.options) (next_move s width r.at) r.at.carry r.part (length r.part + length later) v.encoder r.pushed r.running.codes later refl in
+        let p = pushed_begins laws (mode_of image.settings.options) (next_move image.settings image.width r.at) r.at.carry r.part (length r.part + length later) v.encoder r.pushed r.running.codes later refl in
         record {
-          rest = p.rest ++ marker_bytes s.reset;
+          rest = p.rest ++ marker_bytes image.settings.reset;
           bytes_are =
-              ap (λ z. move_bytes s width r.at ++ (z ++ marker_bytes s.reset)) p.bytes_are
-              ∙ ap (λ z. move_bytes s width r.at ++ z) (append_assoc r.pushed p.rest (marker_bytes s.reset))
-              ∙ sym (append_assoc (move_bytes s width r.at) r.pushed (p.rest ++ marker_bytes s.reset));
+              ap (λ z. move_bytes image.settings image.width r.at ++ (z ++ marker_bytes image.settings.reset)) p.bytes_are
+              ∙ ap (λ z. move_bytes image.settings image.width r.at ++ z) (append_assoc r.pushed p.rest (marker_bytes image.settings.reset))
+              ∙ sym (append_assoc (move_bytes image.settings image.width r.at) r.pushed (p.rest ++ marker_bytes image.settings.reset));
         }
 
   -- what stands is a beginning of each stream that may come, with each stripe whose rows all came
-  pub front_stands : WritingLaws → Stands s width limit rows v window origin text → StreamFront s width limit rows origin text
+  pub front_stands : WritingLaws → Stands image rows v window origin text → StreamFront image rows origin text
   front_stands laws (inl w) = front_waits w
   front_stands laws (inr r) = front_runs laws r.1 r.2 r.0
 
 -- ---- an image of a height that is known
 
-pub may_come : (s : Settings) (width height' : ℕ) (rows : List (List Bool)) (raster : Raster) → BeginsWith width height' rows raster → MayCome s width height' rows raster
+pub may_come : (s : Settings) (width height' : ℕ) (rows : List (List Bool)) (raster : Raster) → BeginsWith width height' rows raster → MayCome (image_of s width height') rows raster
 may_come s width height' rows raster b = record { proper = b.proper; width_is = b.width_is; height_to = omega (arith, b.height_is); height_is = λ _. b.height_is; first = b.first }
 
 module _ {form : Form} (s : Settings) (width height' : ℕ) (rows : List (List Bool)) (known mid known' text text' : Option (List ℕ)) (read : ReadsRows form width known mid rows) where
   -- no whole row more came
-  pub front_short : (fault : PbmFault) → length rows < height' → EndsInRow form width mid known' fault → StreamFront s width height' rows (here text) text'
-      → ImageShort s form width height' (λ raster n. jbg_up_to s raster n) (λ raster. jbg s raster) known known' text text' fault
+  pub front_short : (fault : PbmFault) → length rows < height' → EndsInRow form width mid known' fault → StreamFront (image_of s width height') rows (here text) text'
+      → ImageShort s (layout_of form width height') (λ raster n. jbg_up_to s raster n) (λ raster. jbg s raster) (passage known known' text text') fault
   front_short fault few part front = record {
     rows = rows;
     few = few;
@@ -112,10 +114,10 @@ module _ {form : Form} (s : Settings) (width height' : ℕ) (rows : List (List B
   }
 
   -- the target took no more
-  pub cut_refused : length rows ≤ height' → StreamCut s width height' rows (here text) text' → ImageRefused form width height' (λ raster. jbg s raster) known mid text text'
+  pub cut_refused : length rows ≤ height' → StreamCut (image_of s width height') rows (here text) text' → ImageRefused (layout_of form width height') (λ raster. jbg s raster) (passage known mid text text')
   cut_refused few cut = record { rows = rows; few = few; read = read; bytes = cut.bytes; begins = λ raster b. cut.begins raster (may_come s width height' rows raster b); appended = here_sent text text' cut.bytes cut.sent }
 
-  pub end_refused : length rows ≡ height' → SendsBeginning (here text) text' (jbg s (raster_of width rows)) → ImageRefused form width height' (λ raster. jbg s raster) known mid text text'
+  pub end_refused : length rows ≡ height' → SendsBeginning (here text) text' (jbg s (raster_of width rows)) → ImageRefused (layout_of form width height') (λ raster. jbg s raster) (passage known mid text text')
   end_refused many cut = record {
     rows = rows;
     few = omega (arith, many);
@@ -134,7 +136,7 @@ module _ {form : Form} (s : Settings) (width height' : ℕ) (rows : List (List B
 -- the rows that were read, and where the encoder stands
 abbrev pub ComeTo : Form → Settings → ℕ → ℕ → ℕ → Option (List ℕ) → Option (List ℕ) → RowView → Held → Option (List ℕ) → Option (List ℕ) → Type 0
 ComeTo form s width height' count known known' v window text text' =
-    (rows : List (List Bool)) × (length rows ≡ count) × ReadsRows form width known known' rows × Stands s width height' rows v window (here text) text'
+    (rows : List (List Bool)) × (length rows ≡ count) × ReadsRows form width known known' rows × Stands (image_of s width height') rows v window (here text) text'
 
 -- the window has lines after a row was read
 pub taken_lined : {form : Form} (width : ℕ) (known known' : Option (List ℕ)) (old new : Held) → RowTaken form width known known' old new → IsLined old → IsLined new

@@ -14,7 +14,7 @@ use Rattle.pbm_core.specs.declared.form.Form.TheVariants.{Raw}
 use Rattle.pbm_core.specs.declared.size.Size.{Size}
 use Rattle.t85_core.specs.declared.fault.Fault.{Fault}
 use Rattle.t85_core.specs.declared.fault.Fault.TheVariants.{AnnouncedLow, Write, OutOfMemory, Pbm}
-use Rattle.t85_core.specs.Encode.{IsEncodeFault}
+use Rattle.t85_core.specs.Encode.{IsEncodeFault, layout_of}
 use Rattle.t85_core.specs.ToJbg.{HasSize, RefusesPbm, ToJbg}
 use Rattle.t85_core.specs.Jbg.{Settings, is_low}
 use Rattle.t85_core.specs.Failures.{reads_after}
@@ -120,7 +120,7 @@ module _ (s : Settings) (in_old in_new : Option (List ℕ)) (reads_old reads_new
 
   module _ (form : Form) (width height' : ℕ) (t : TakesHeader in_old in_new form width height') where
     size_alone : (low : Bool) → is_low s height' ≡ low → (given : List ℕ) × Consumes in_old in_new given × HasSize s low given
-    size_alone low is = (t.front, t.taken, record { form = form; width = width; height' = height'; header = subst (λ z. HasHeader z form width height' []) (append-nil t.front) (t.header []); low_is = is })
+    size_alone low is = (t.front, t.taken, record { layout = layout_of form width height'; header = subst (λ z. HasHeader z form width height' []) (append-nil t.front) (t.header []); low_is = is })
 
     -- the announced height is too low
     pub too_low : is_low s height' ≡ true → reads_new ≡ reads_old → ToJbg s (between in_old in_new reads_old reads_new) (between out out writes writes) flushed (Err AnnouncedLow)

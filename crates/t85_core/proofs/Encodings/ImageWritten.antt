@@ -10,7 +10,7 @@ use Rattle.pbm_core.specs.declared.fault.PbmFault.TheVariants as pbm
 use Rattle.pbm_core.specs.declared.form.Form.{Form}
 use Rattle.t85_core.specs.declared.fault.Fault.{Fault}
 use Rattle.t85_core.specs.declared.fault.Fault.TheVariants.{Write, OutOfMemory}
-use Rattle.t85_core.specs.Encode.{raster_of, IsEncodeFault, WritesCode, WritesCodeBegun, WritesCodeFront, AreAllRows, Encode}
+use Rattle.t85_core.specs.Encode.{raster_of, IsEncodeFault, WritesCode, WritesCodeBegun, WritesCodeFront, AreAllRows, Encode, layout_of}
 use Rattle.t85_core.specs.ToJbg.{IsImage, WritesStreamFront, WritesStream, WritesStreamBegun, RefusesPbm, ToJbg}
 use Rattle.t85_core.specs.Jbg.{Settings, is_low, jbg}
 use Rattle.t85_core.specs.Failures.{CountsBoth}
@@ -21,15 +21,13 @@ use Rattle.t85_core.proofs.Bytes.Streams.{Appends-keeps, Consumes-more}
 module _ (s : Settings) (in_old mid in_new : Option (List ℕ)) (reads_old reads_mid reads_new : ℕ) (out_old out_new : Option (List ℕ)) (writes_old writes_new : ℕ)
     (form : Form) (width height' : ℕ) (t : TakesHeader in_old mid form width height') (counted : reads_mid ≡ reads_old) where
   -- a write failed, or the flush after all that was written
-  cut_at : is_low s height' ≡ false → (out_last : Option (List ℕ)) → Keeps out_new out_last → (given : List ℕ) → Consumes mid in_new given → WritesCodeFront s form width height' given out_old out_new →
+  cut_at : is_low s height' ≡ false → (out_last : Option (List ℕ)) → Keeps out_new out_last → (given : List ℕ) → Consumes mid in_new given → WritesCodeFront s (layout_of form width height') given out_old out_new →
       (all : List ℕ) × Consumes in_old in_new all × WritesStreamFront s all out_old out_last
   cut_at fits out_last keeps given taken w = (
     t.front ++ given,
     Consumes-more in_old mid in_new t.front given t.taken taken,
     record {
-      form = form;
-      width = width;
-      height' = height';
+      layout = layout_of form width height';
       body = given;
       header = t.header given;
       fits = fits;
@@ -37,7 +35,7 @@ module _ (s : Settings) (in_old mid in_new : Option (List ℕ)) (reads_old reads
     },
   )
 
-  pub image_unflushed : (flushed : Bool) (out_last : Option (List ℕ)) (writes_last : ℕ) → Encode s form width height' (between mid in_new reads_mid reads_new) (between out_old out_new writes_old writes_new) (Ok tt) → Keeps out_new out_last → writes_last ≡ one_more writes_new →
+  pub image_unflushed : (flushed : Bool) (out_last : Option (List ℕ)) (writes_last : ℕ) → Encode s (layout_of form width height') (between mid in_new reads_mid reads_new) (between out_old out_new writes_old writes_new) (Ok tt) → Keeps out_new out_last → writes_last ≡ one_more writes_new →
       ToJbg s (between in_old in_new reads_old reads_new) (between out_old out_last writes_old writes_last) flushed (Err Write)
   image_unflushed flushed out_last writes_last e keeps more = record {
     whole = tt;
@@ -54,7 +52,7 @@ module _ (s : Settings) (in_old mid in_new : Option (List ℕ)) (reads_old reads
   }
 
   -- rows are missing, or a device failed
-  pub image_broken : is_low s height' ≡ false → (flushed : Bool) (f : Fault) → Encode s form width height' (between mid in_new reads_mid reads_new) (between out_old out_new writes_old writes_new) (Err f) →
+  pub image_broken : is_low s height' ≡ false → (flushed : Bool) (f : Fault) → Encode s (layout_of form width height') (between mid in_new reads_mid reads_new) (between out_old out_new writes_old writes_new) (Err f) →
       ToJbg s (between in_old in_new reads_old reads_new) (between out_old out_new writes_old writes_new) flushed (Err f)
   image_broken fits flushed f e = record {
     whole = tt;
@@ -76,16 +74,16 @@ module _ (s : Settings) (in_old mid in_new : Option (List ℕ)) (reads_old reads
     may : IsEncodeFault f
     may = e.among (λ is. not_low_told (e.low (ap Err is)).0)
 
-    some : (fault : PbmFault) (body : List ℕ) → WritesCodeBegun s form width height' body fault out_old out_new → WritesStreamBegun s (t.front ++ body) fault out_old out_new
-    some fault body w = record { form = form; width = width; height' = height'; body = body; header = t.header body; fits = fits; writes = w }
+    some : (fault : PbmFault) (body : List ℕ) → WritesCodeBegun s (layout_of form width height') body fault out_old out_new → WritesStreamBegun s (t.front ++ body) fault out_old out_new
+    some fault body w = record { layout = layout_of form width height'; body = body; header = t.header body; fits = fits; writes = w }
 
-    refused : (old new : Option (List ℕ)) (fault : PbmFault) → Consumes old new t.front → IfSome new (λ body. WritesCodeBegun s form width height' body fault out_old out_new) → IfSome old (λ bytes. RefusesPbm s bytes fault out_old out_new)
+    refused : (old new : Option (List ℕ)) (fault : PbmFault) → Consumes old new t.front → IfSome new (λ body. WritesCodeBegun s (layout_of form width height') body fault out_old out_new) → IfSome old (λ bytes. RefusesPbm s bytes fault out_old out_new)
     refused None new fault taken w = tt
     refused (Some bytes) None fault taken w = absurd taken
     refused (Some bytes) (Some body) fault taken w = inr (subst (λ z. WritesStreamBegun s z fault out_old out_new) (sym taken) (some fault body w))
 
   -- the stream was written, and flushed
-  pub image_whole : (flushed : Bool) (out_last : Option (List ℕ)) (writes_last : ℕ) → Encode s form width height' (between mid in_new reads_mid reads_new) (between out_old out_new writes_old writes_new) (Ok tt) → Keeps out_new out_last → flushed ≡ true → writes_last ≡ writes_new →
+  pub image_whole : (flushed : Bool) (out_last : Option (List ℕ)) (writes_last : ℕ) → Encode s (layout_of form width height') (between mid in_new reads_mid reads_new) (between out_old out_new writes_old writes_new) (Ok tt) → Keeps out_new out_last → flushed ≡ true → writes_last ≡ writes_new →
       ToJbg s (between in_old in_new reads_old reads_new) (between out_old out_last writes_old writes_last) flushed (Ok tt)
   image_whole flushed out_last writes_last e keeps last same = record {
     whole = whole in_old mid t.taken e.whole;
@@ -112,7 +110,7 @@ module _ (s : Settings) (in_old mid in_new : Option (List ℕ)) (reads_old reads
       };
     }
 
-    whole : (old new : Option (List ℕ)) → Consumes old new t.front → IfSome new (λ body. WritesCode s form width height' body out_old out_new) → IfSome old (λ bytes. WritesStream s bytes out_old out_last)
+    whole : (old new : Option (List ℕ)) → Consumes old new t.front → IfSome new (λ body. WritesCode s (layout_of form width height') body out_old out_new) → IfSome old (λ bytes. WritesStream s bytes out_old out_last)
     whole None new taken w = tt
     whole (Some bytes) None taken w = absurd taken
     whole (Some bytes) (Some body) taken w = record {

@@ -4,27 +4,27 @@ use Rattle.std.specs.Io.KnownBytes.{Keeps, append_known}
 use Rattle.qm_core.specs.Place.{Estimate}
 use Rattle.raster_core.specs.Packed.{Held}
 use Rattle.raster_core.specs.declared.shape.Kept.{Kept}
-use Rattle.t85_core.specs.Jbg.{Settings}
 use Rattle.t85_core.specs.Steps.Buffers.{known_length}
 use Rattle.t85_core.specs.Steps.State.{RowStart, first_row_start}
 use Rattle.t85_core.specs.Steps.Written.{next_move, row_start_in}
 use Rattle.t85_core.specs.Steps.Sent.{Origin, Sends, behind}
 use Rattle.t85_core.specs.Steps.ByRow.{RowView, StreamCut, StreamFront, Stands, IsHeldBy, IsLined, move_bytes}
+use Rattle.t85_core.specs.RowImage.{Image}
 use Rattle.t85_core.proofs.Bytes.Sendings.{Sends-keeps, sends_grows, sends_handed, sent_behind, appends_none}
 
-module _ (s : Settings) (width limit : ℕ) (rows : List (List Bool)) (v : RowView) (window : Held) (origin : Origin) (text : Option (List ℕ)) where
+module _ (image : Image) (rows : List (List Bool)) (v : RowView) (window : Held) (origin : Origin) (text : Option (List ℕ)) where
   -- the bytes so far
-  bytes_of : Stands s width limit rows v window origin text → List ℕ
+  bytes_of : Stands image rows v window origin text → List ℕ
   bytes_of (inl w) = w.front
-  bytes_of (inr r) = r.0.front ++ (move_bytes s width r.0.at ++ r.0.pushed)
+  bytes_of (inr r) = r.0.front ++ (move_bytes image.settings image.width r.0.at ++ r.0.pushed)
 
-  sends_of : (so : Stands s width limit rows v window origin text) → Sends origin text (bytes_of so)
+  sends_of : (so : Stands image rows v window origin text) → Sends origin text (bytes_of so)
   unfolding bytes_of
   sends_of (inl w) = w.sent
   sends_of (inr r) = r.0.sent
 
   -- where they went elsewhere
-  resent : (origin' : Origin) (text' : Option (List ℕ)) (so : Stands s width limit rows v window origin text) → Sends origin' text' (bytes_of so) → Stands s width limit rows v window origin' text'
+  resent : (origin' : Origin) (text' : Option (List ℕ)) (so : Stands image rows v window origin text) → Sends origin' text' (bytes_of so) → Stands image rows v window origin' text'
   unfolding bytes_of
   resent origin' text' (inl w) sent = inl (record {
     plan_is = w.plan_is;
@@ -61,30 +61,30 @@ module _ (s : Settings) (width limit : ℕ) (rows : List (List Bool)) (v : RowVi
   )
 
   -- what was held back was written
-  pub stands_kept : (text' : Option (List ℕ)) → Keeps text text' → Stands s width limit rows v window origin text → Stands s width limit rows v window origin text'
+  pub stands_kept : (text' : Option (List ℕ)) → Keeps text text' → Stands image rows v window origin text → Stands image rows v window origin text'
   stands_kept text' k so = resent origin text' so (Sends-keeps origin text text' (bytes_of so) (sends_of so) k)
 
   -- no byte was taken away
-  pub stands_grown : Stands s width limit rows v window origin text → known_length origin.text ≤ known_length text
+  pub stands_grown : Stands image rows v window origin text → known_length origin.text ≤ known_length text
   stands_grown so = sends_grows origin text (bytes_of so) (sends_of so)
 
   -- what stands, stands behind what was sent
-  pub stands_elsewhere : Stands s width limit rows v window origin text → (bytes : List ℕ) × Sends origin text bytes × ((text' : Option (List ℕ)) → Stands s width limit rows v window (behind bytes text') text')
+  pub stands_elsewhere : Stands image rows v window origin text → (bytes : List ℕ) × Sends origin text bytes × ((text' : Option (List ℕ)) → Stands image rows v window (behind bytes text') text')
   stands_elsewhere so = (bytes_of so, sends_of so, λ text'. resent (behind (bytes_of so) text') text' so (sent_behind (bytes_of so) text' (appends_none text')))
 
-module _ (s : Settings) (width limit : ℕ) (rows : List (List Bool)) (origin : Origin) (mid text' : Option (List ℕ)) where
-  pub front_cut : Keeps mid text' → StreamFront s width limit rows origin mid → StreamCut s width limit rows origin text'
+module _ (image : Image) (rows : List (List Bool)) (origin : Origin) (mid text' : Option (List ℕ)) where
+  pub front_cut : Keeps mid text' → StreamFront image rows origin mid → StreamCut image rows origin text'
   front_cut k f = record { bytes = f.bytes; sent = Sends-keeps origin mid text' f.bytes f.sent k; begins = λ raster b. (f.begun raster b).begins }
 
-  pub cut_kept : Keeps mid text' → StreamCut s width limit rows origin mid → StreamCut s width limit rows origin text'
+  pub cut_kept : Keeps mid text' → StreamCut image rows origin mid → StreamCut image rows origin text'
   cut_kept k c = record { bytes = c.bytes; sent = Sends-keeps origin mid text' c.bytes c.sent k; begins = c.begins }
 
-module _ (s : Settings) (width limit : ℕ) (rows : List (List Bool)) (v : RowView) (old new : Held) (origin : Origin) (text : Option (List ℕ)) (stays : IsLined old → new ≡ old) where
+module _ (image : Image) (rows : List (List Bool)) (v : RowView) (old new : Held) (origin : Origin) (text : Option (List ℕ)) (stays : IsLined old → new ≡ old) where
   -- the padding of a window that has lines is 0
   held_cleared : (move : Option (ℕ × ℕ)) (r : ℕ) (b : RowStart) (kept : Kept) (learned : List Estimate) → IsHeldBy move r b kept learned old → IsHeldBy move r b kept learned new
   held_cleared move r b kept learned h = subst (IsHeldBy move r b kept learned) (sym (stays (_, h.lines_are))) h
 
-  pub stands_cleared : Stands s width limit rows v old origin text → Stands s width limit rows v new origin text
+  pub stands_cleared : Stands image rows v old origin text → Stands image rows v new origin text
   stands_cleared (inl w) = inl (record {
     plan_is = w.plan_is;
     come = w.come;
@@ -113,7 +113,7 @@ module _ (s : Settings) (width limit : ℕ) (rows : List (List Bool)) (v : RowVi
       pushed = r.pushed;
       running = record {
         codes = r.running.codes;
-        is_held = held_cleared (next_move s width r.at) (length r.part) (row_start_in s width r.at r.part) v.kept v.learned r.running.is_held;
+        is_held = held_cleared (next_move image.settings image.width r.at) (length r.part) (row_start_in image.settings image.width r.at r.part) v.kept v.learned r.running.is_held;
         two_line = r.running.two_line;
         most = r.running.most;
         tallied = r.running.tallied;
@@ -126,8 +126,8 @@ module _ (s : Settings) (width limit : ℕ) (rows : List (List Bool)) (v : RowVi
   )
 
 -- what was written of a beginning is a beginning
-pub cut_written : (s : Settings) (width limit : ℕ) (rows : List (List Bool)) (origin : Origin) (out : Option (List ℕ)) (held : List ℕ) → known_length origin.text ≤ known_length out → StreamCut s width limit rows origin (append_known out held) → StreamCut s width limit rows origin out
-cut_written s width limit rows origin out held grows c =
+pub cut_written : (image : Image) (rows : List (List Bool)) (origin : Origin) (out : Option (List ℕ)) (held : List ℕ) → known_length origin.text ≤ known_length out → StreamCut image rows origin (append_known out held) → StreamCut image rows origin out
+cut_written image rows origin out held grows c =
     let p = sends_handed origin out held c.bytes grows c.sent in
     record {
       bytes = p.front;

@@ -2,9 +2,10 @@
 use Rattle.std.proofs.Common.{◌≡◌, ℕ, List, ◌++◌, sym, ap, ◌∙◌, subst, Option, Result, Ok, Err, arith, append_assoc}
 use Rattle.std.specs.Io.KnownBytes.{Appends}
 use Rattle.qm_core.specs.Place.{Place, State, Estimate, after}
-use Rattle.qm_core.specs.Encoder.{IsStuffedFront}
-use Rattle.qm_core.specs.Sink.{Took, Refused}
+use Rattle.qm_core.specs.Encoder.{IsStuffedFront, encoder_state}
+use Rattle.qm_core.specs.Sink.{Took, Refused, sink_at}
 use Rattle.qm_core.specs.declared.encoder.Encoder.{Encoder}
+use Rattle.qm_core.specs.declared.sink.CodeSink.{Ghosts}
 use Rattle.raster_core.specs.Lines.{Lines}
 use Rattle.raster_core.specs.declared.shape.Shape.{Shape}
 use Rattle.raster_core.specs.declared.shape.Kept.{Kept}
@@ -13,13 +14,17 @@ use Rattle.t85_core.specs.Steps.Buffers.{SinkView, SameSink, TakesByte, RefusesB
 use Rattle.t85_core.specs.Steps.RowSteps.{RowSent, EndSent, RowOutcome, CodeFinished}
 use Rattle.t85_core.proofs.Bytes.Streams.{Appends-keeps}
 use Rattle.t85_core.proofs.Encodings.SinkTakes.{took_inked}
+use Rattle.raster_core.specs.Row.{row_task}
 
-module _ {S : Type 0} (view : S → SinkView) (from to : S) where
+module _ {S : Type 0} (view : S → SinkView) (failed : S → ℕ) (from to : S) where
   abbrev takes : S → ℕ → S → Type 0
   takes s byte t = TakesByte (view s) byte (view t)
 
   abbrev refuses : S → S → Type 0
   refuses s t = RefusesByte (view s) (view t)
+
+  abbrev pushes : Ghosts S
+  pushes = record { took = takes; refused = refuses; failed = failed }
 
   refused_stays : (bytes : List ℕ) → Refused takes refuses from bytes to → SameSink (view from) (view to)
   refused_stays bytes r =
@@ -29,11 +34,11 @@ module _ {S : Type 0} (view : S → SinkView) (from to : S) where
 
   -- it is the same target
   pub row_stays : (shape : Shape) (kept kept' : Kept) (s : State) (pushed : List ℕ) (lines : Lines) (e : Encoder) (learned : List Estimate) (answer : Result (Unit {0}) Fault)
-      → RowSent takes refuses from to shape kept kept' s pushed lines e learned answer → SameSink (view from) (view to)
+      → RowSent (sink_at pushes from pushed) (row_task shape kept s lines) kept' (encoder_state to e learned) answer → SameSink (view from) (view to)
   row_stays shape kept kept' s pushed lines e learned (Ok u) r = (took_inked view from to r.ok.encodes.more r.ok.encodes.taken).0
   row_stays shape kept kept' s pushed lines e learned (Err f) r = refused_stays r.err.fails.more r.err.fails.cut
 
-  pub end_stays : (p : Place) (pushed : List ℕ) (answer : Result (Unit {0}) Fault) → EndSent takes refuses from to p pushed answer → SameSink (view from) (view to)
+  pub end_stays : (p : Place) (pushed : List ℕ) (answer : Result (Unit {0}) Fault) → EndSent (sink_at pushes from pushed) p to answer → SameSink (view from) (view to)
   end_stays p pushed (Ok u) r = (took_inked view from to r.more r.ok).0
   end_stays p pushed (Err f) r = refused_stays r.more r.err
 
@@ -47,7 +52,7 @@ module _ {S : Type 0} (view : S → SinkView) (from to : S) where
         subst (λ z. Appends z text' r.done) text_is (subst (λ z. Appends (view from).text z r.done) text_is' kept)
 
     pub row_inked : (shape : Shape) (kept kept' : Kept) (s : State) (pushed : List ℕ) (lines : Lines) (e : Encoder) (learned : List Estimate) (answer : Result (Unit {0}) Fault)
-        → RowSent takes refuses from to shape kept kept' s pushed lines e learned answer → RowOutcome shape kept kept' s pushed lines e learned text text' answer
+        → RowSent (sink_at pushes from pushed) (row_task shape kept s lines) kept' (encoder_state to e learned) answer → RowOutcome (row_task shape kept s lines) pushed kept' text (encoder_state text' e learned) answer
     row_inked shape kept kept' s pushed lines e learned (Ok u) r = record {
       ok = record {
         more = r.ok.encodes.more;
@@ -72,7 +77,7 @@ module _ {S : Type 0} (view : S → SinkView) (from to : S) where
       });
     }
 
-    pub end_inked : (p : Place) (pushed : List ℕ) (answer : Result (Unit {0}) Fault) → EndSent takes refuses from to p pushed answer → CodeFinished p pushed text text' answer
+    pub end_inked : (p : Place) (pushed : List ℕ) (answer : Result (Unit {0}) Fault) → EndSent (sink_at pushes from pushed) p to answer → CodeFinished p pushed text text' answer
     end_inked p pushed (Ok u) r = record { code = r.code; is = r.is; more = r.more; all = r.all; ok = taken r.more r.ok; cut = tt }
     end_inked p pushed (Err f) r = record {
       code = r.code;

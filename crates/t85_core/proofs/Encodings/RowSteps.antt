@@ -9,13 +9,13 @@ use Rattle.std.proofs.Math.Seq.{take-length}
 use Rattle.pbm_core.specs.Device.{AppendsBeginning}
 use Rattle.qm_core.specs.Place.{Estimate, start, fresh, after}
 use Rattle.qm_core.specs.Code.{code_of, stuffed}
-use Rattle.qm_core.specs.Encoder.{EncoderIsAt, IsStuffedFront}
+use Rattle.qm_core.specs.Encoder.{EncoderIsAt, IsStuffedFront, encoder_state}
 use Rattle.qm_core.specs.declared.encoder.Encoder.{Encoder}
 use Rattle.raster_core.specs.Raster.{height, white_row}
 use Rattle.raster_core.specs.Lines.{Lines, Mode, row_events, may_be_typical}
 use Rattle.raster_core.specs.Offset.{candidates}
 use Rattle.raster_core.specs.Packed.{Held, HasLines, white_lines}
-use Rattle.raster_core.specs.Row.{canonical_events}
+use Rattle.raster_core.specs.Row.{canonical_events, row_task}
 use Rattle.raster_core.specs.Tally.{CountsLines, is_two_line, most_of}
 use Rattle.raster_core.specs.declared.shape.Kept.{Kept}
 use Rattle.raster_core.specs.declared.tally.Tally.{Tally}
@@ -29,7 +29,8 @@ use Rattle.t85_core.specs.Steps.CoderLaws.{WritingLaws}
 use Rattle.t85_core.specs.Steps.EncodeRows.{IsCountedTo}
 use Rattle.t85_core.specs.Steps.EncodeStripes.{IsTallied}
 use Rattle.t85_core.specs.Steps.Sent.{Origin, Sends, SendsBeginning, here}
-use Rattle.t85_core.specs.Steps.ByRow.{RowView, MayCome, StreamCut, IsPlan, HaveCome, StripesWhole, IsHeldBy, IsStart, Runs, Waits, Stands, counted_of, move_bytes, IsBelow}
+use Rattle.t85_core.specs.Steps.ByRow.{RowView, StreamCut, IsPlan, HaveCome, StripesWhole, IsHeldBy, IsStart, Runs, Waits, Stands, counted_of, move_bytes, IsBelow, encoder_at}
+use Rattle.t85_core.specs.RowImage.{MayCome, Image}
 use Rattle.t85_core.specs.Steps.RowSteps.{MoveMade, MoveCut, RowPut, RowCut, StripeEnded, StripeBegun, StripesEnded}
 use Rattle.t85_core.proofs.Bytes.Sendings.{Sends-more, Sends-keeps, sends_after, sends_longer, sent_here}
 use Rattle.t85_core.proofs.Encodings.RowsDown.{after_more, lines_more}
@@ -55,16 +56,16 @@ none_counted width (Some current) tally h = h width current
 
 -- ---- a stripe begins
 
-module _ (s : Settings) (width limit : ℕ) (rows : List (List Bool)) (v : RowView) (before : Held) (origin : Origin) (mid text' : Option (List ℕ)) (w : Waits s width limit rows v before origin mid) where
+module _ (image : Image) (rows : List (List Bool)) (v : RowView) (before : Held) (origin : Origin) (mid text' : Option (List ℕ)) (w : Waits image rows v before origin mid) where
   -- where rows may still come
-  waits_within : v.rows < v.plan.limit → w.i * s.stripe_rows < limit
+  waits_within : v.rows < v.plan.limit → w.i * image.settings.stripe_rows < image.limit
   waits_within left = omega (arith, left, w.plan_is.limit_is, w.come.many, w.stripes.many)
 
   pub stripe_begun : v.rows < v.plan.limit → (kept : Kept) (tally : Tally) (is_counted : Bool)
-      → ((s' : Settings) (width' : ℕ) (at : EncoderStart) → v.kept.offset ≡ at.carry.offset → IsTallied s' width' at v.tally → MoveMade s' width' at mid text' v.kept kept)
+      → ((s' : Settings) (width' : ℕ) (at : EncoderStart) → v.kept.offset ≡ at.carry.offset → IsTallied s' width' at v.tally → MoveMade (next_move s' width' at) at.carry.offset mid text' v.kept kept)
       → ((width' current : ℕ) → CountsLines tally width' current []) → is_two_line tally ≡ is_two_line v.tally → most_of tally ≡ most_of v.tally
       → (v.plan.stripe_rows < v.plan.limit - v.rows → v.plan.has_candidates ≡ true → is_counted ≡ true)
-      → Runs s width limit rows (record v { kept = kept; tally = tally; is_counted = is_counted }) before origin text'
+      → Runs image rows (record v { kept = kept; tally = tally; is_counted = is_counted }) before origin text'
   stripe_begun left kept tally is_counted moves counts two_line most counted = record {
     plan_is = w.plan_is;
     come = w.come;
@@ -90,40 +91,40 @@ module _ (s : Settings) (width limit : ℕ) (rows : List (List Bool)) (v : RowVi
       };
       two_line = two_line ∙ on.is_tallied.two_line;
       most = most ∙ on.is_tallied.most;
-      tallied = none_counted width _ tally counts;
+      tallied = none_counted image.width _ tally counts;
     };
     counts = λ more some. counted
-        (let sum : (w.i + 1) * s.stripe_rows ≡ w.i * s.stripe_rows + 1 * s.stripe_rows = Rattle.std.proofs.Math.Nat.add-mul w.i 1 s.stripe_rows in omega (arith, w.plan_is.limit_is, w.come.many, w.stripes.many, w.plan_is.stripe_rows_is, more, sum))
+        (let sum : (w.i + 1) * image.settings.stripe_rows ≡ w.i * image.settings.stripe_rows + 1 * image.settings.stripe_rows = Rattle.std.proofs.Math.Nat.add-mul w.i 1 image.settings.stripe_rows in omega (arith, w.plan_is.limit_is, w.come.many, w.stripes.many, w.plan_is.stripe_rows_is, more, sum))
         (w.plan_is.candidates_are ∙ (grind (arith, nat_tests, some)));
-    sent = Sends-more origin mid text' w.front (move_bytes s width w.at ++ []) w.sent (subst (Appends mid text') (sym (append-nil (move_bytes s width w.at))) made.appended);
+    sent = Sends-more origin mid text' w.front (move_bytes image.settings image.width w.at ++ []) w.sent (subst (Appends mid text') (sym (append-nil (move_bytes image.settings image.width w.at))) made.appended);
   } where
-    on : IsStart s width w.at v before
+    on : IsStart image.settings image.width w.at v before
     on = w.on_course (waits_within left)
 
-    made : MoveMade s width w.at mid text' v.kept kept
-    made = moves s width w.at on.is_held.offset_is on.is_tallied
+    made : MoveMade (next_move image.settings image.width w.at) w.at.carry.offset mid text' v.kept kept
+    made = moves image.settings image.width w.at on.is_held.offset_is on.is_tallied
 
   -- a beginning of the move was written
   pub move_cut : v.rows < v.plan.limit → (row : List Bool)
       → ((s' : Settings) (width' : ℕ) (at : EncoderStart) → v.kept.offset ≡ at.carry.offset → IsTallied s' width' at v.tally → MoveCut s' width' at mid text')
-      → StreamCut s width limit (rows ++ row ∷ []) origin text'
+      → StreamCut image (rows ++ row ∷ []) origin text'
   move_cut left row cuts = record {
     bytes = w.front ++ p.front;
     sent = Sends-more origin mid text' w.front p.front w.sent p.appends;
-    begins = λ raster b. part_begins s width limit w.i rows w.at w.front w.plan_is.some w.stripes [] p.front (omega arith)
+    begins = λ raster b. part_begins image w.i rows w.at w.front w.plan_is.some w.stripes [] p.front (omega arith)
         (λ later. record {
-          rest = p.rest ++ (stuffed (code_of (row_start_in s width w.at later).state.place) ++ marker_bytes s.reset);
-          bytes_are = ap (λ z. z ++ (stuffed (code_of (row_start_in s width w.at later).state.place) ++ marker_bytes s.reset)) p.text_is ∙ append_assoc p.front p.rest (stuffed (code_of (row_start_in s width w.at later).state.place) ++ marker_bytes s.reset);
+          rest = p.rest ++ (stuffed (code_of (row_start_in image.settings image.width w.at later).state.place) ++ marker_bytes image.settings.reset);
+          bytes_are = ap (λ z. z ++ (stuffed (code_of (row_start_in image.settings image.width w.at later).state.place) ++ marker_bytes image.settings.reset)) p.text_is ∙ append_assoc p.front p.rest (stuffed (code_of (row_start_in image.settings image.width w.at later).state.place) ++ marker_bytes image.settings.reset);
         })
         raster
-        (subst (λ z. MayCome s width limit z raster) (sym (append-nil rows)) (come_first s width limit rows (row ∷ []) raster b))
-        (let long = come_long s width limit (rows ++ row ∷ []) raster b in omega (arith, long, length-append rows (row ∷ []), w.stripes.many));
+        (subst (λ z. MayCome image z raster) (sym (append-nil rows)) (come_first image rows (row ∷ []) raster b))
+        (let long = come_long image (rows ++ row ∷ []) raster b in omega (arith, long, length-append rows (row ∷ []), w.stripes.many));
   } where
-    on : IsStart s width w.at v before
+    on : IsStart image.settings image.width w.at v before
     on = w.on_course (waits_within left)
 
-    p : AppendsBeginning mid text' (move_bytes s width w.at)
-    p = cuts s width w.at on.is_held.offset_is on.is_tallied
+    p : AppendsBeginning mid text' (move_bytes image.settings image.width w.at)
+    p = cuts image.settings image.width w.at on.is_held.offset_is on.is_tallied
 
 -- ---- a row is coded
 
@@ -135,13 +136,13 @@ all_more : (width : ℕ) (rows : List (List Bool)) (row : List Bool) → AllByRe
 all_more width [] row all is = (is, tt)
 all_more width (first ∷ rows) row all is = (all.0, all_more width rows row all.1 is)
 
-module _ (s : Settings) (width limit : ℕ) (rows : List (List Bool)) (row : List Bool) (v : RowView) (before window : Held) (origin : Origin) (mid text' : Option (List ℕ)) (below : IsBelow row before window) (wide : window.width ≡ v.plan.width)
-    (r : Runs s width limit rows v before origin mid) where
+module _ (image : Image) (rows : List (List Bool)) (row : List Bool) (v : RowView) (before window : Held) (origin : Origin) (mid text' : Option (List ℕ)) (below : IsBelow row before window) (wide : window.width ≡ v.plan.width)
+    (r : Runs image rows v before origin mid) where
   abbrev mode : Mode
-  mode = mode_of s.options
+  mode = mode_of image.settings.options
 
   abbrev move : Option (ℕ × ℕ)
-  move = next_move s width r.at
+  move = next_move image.settings image.width r.at
 
   abbrev c : StripeStart
   c = r.at.carry
@@ -178,16 +179,16 @@ module _ (s : Settings) (width limit : ℕ) (rows : List (List Bool)) (row : Lis
   counted_same kept same = ap (λ o. if v.is_counted then Some (if v.plan.reset then 0 else o) else None) same
 
   pub row_coded : v.rows < v.plan.limit → v.in_stripe < v.plan.stripe_rows → v.plan.stripe_rows < 2 ^ 32 → (kept : Kept) (learned : List Estimate) (tally : Tally) (e : Encoder) (rows' in_stripe' : ℕ) → rows' ≡ v.rows + 1 → in_stripe' ≡ v.in_stripe + 1
-      → RowPut v.plan.shape v.kept kept (record { place = b.state.place; learned = v.learned }) r.pushed (lines_with b row) e learned mid text'
+      → RowPut (row_task v.plan.shape v.kept (record { place = b.state.place; learned = v.learned }) (lines_with b row)) r.pushed kept mid (encoder_state text' e learned)
       → ((lines : List Lines) (l : Lines) → length lines < 2 ^ 32 - 1 → HasLines window l → IsCountedTo v.plan.width (counted_of (record v { kept = kept })) v.tally lines → IsCountedTo v.plan.width (counted_of (record v { kept = kept })) tally (lines ++ l ∷ []))
       → is_two_line tally ≡ is_two_line v.tally → most_of tally ≡ most_of v.tally
-      → Runs s width limit (rows ++ row ∷ []) (record v { kept = kept; learned = learned; tally = tally; encoder = e; rows = rows'; in_stripe = in_stripe' }) window origin text'
+      → Runs image (rows ++ row ∷ []) (record v { kept = kept; learned = learned; tally = tally; encoder = e; rows = rows'; in_stripe = in_stripe' }) window origin text'
   row_coded left fewer few_rows kept learned tally e rows' in_stripe' rows_is in_stripe_is put counts two_line most = record {
     plan_is = r.plan_is;
     come = record {
       many = (let sum = length-append rows (row ∷ []) in omega (arith, rows_is, r.come.many, sum));
       few = (let sum = length-append rows (row ∷ []) in omega (arith, left, r.come.many, r.plan_is.limit_is, sum));
-      wide = all_more width rows row r.come.wide (lines_are.row_wide ∙ wide ∙ r.plan_is.width_is);
+      wide = all_more image.width rows row r.come.wide (lines_are.row_wide ∙ wide ∙ r.plan_is.width_is);
     };
     i = r.i;
     whole = r.whole;
@@ -211,35 +212,35 @@ module _ (s : Settings) (width limit : ℕ) (rows : List (List Bool)) (row : Lis
       }));
       two_line = two_line ∙ r.running.two_line;
       most = most ∙ r.running.most;
-      tallied = subst (λ lines. IsCountedTo width (counted_of (record v { kept = kept })) tally lines) (sym (lines_more mode move 0 (first_row_start c) r.part row))
+      tallied = subst (λ lines. IsCountedTo image.width (counted_of (record v { kept = kept })) tally lines) (sym (lines_more mode move 0 (first_row_start c) r.part row))
           (subst (λ w. IsCountedTo w (counted_of (record v { kept = kept })) tally (lines_down c.above c.second r.part ++ lines_with b row ∷ [])) r.plan_is.width_is
           (counts (lines_down c.above c.second r.part) (lines_with b row) (let many_lines = length-lines_down c.above c.second r.part in omega (arith, many_lines, fewer, few_rows, r.in_stripe)) lines_are
           (subst (λ w. IsCountedTo w (counted_of (record v { kept = kept })) v.tally (lines_down c.above c.second r.part)) (sym r.plan_is.width_is)
-          (subst (λ o. IsCountedTo width o v.tally (lines_down c.above c.second r.part)) (sym (counted_same kept put.offset_is)) r.running.tallied))));
+          (subst (λ o. IsCountedTo image.width o v.tally (lines_down c.above c.second r.part)) (sym (counted_same kept put.offset_is)) r.running.tallied))));
     };
     counts = r.counts;
-    sent = subst (Sends origin text') (append_assoc r.front (move_bytes s width r.at ++ r.pushed) put.more ∙ ap (λ z. r.front ++ z) (append_assoc (move_bytes s width r.at) r.pushed put.more))
-        (Sends-more origin mid text' (r.front ++ (move_bytes s width r.at ++ r.pushed)) put.more r.sent put.appended);
+    sent = subst (Sends origin text') (append_assoc r.front (move_bytes image.settings image.width r.at ++ r.pushed) put.more ∙ ap (λ z. r.front ++ z) (append_assoc (move_bytes image.settings image.width r.at) r.pushed put.more))
+        (Sends-more origin mid text' (r.front ++ (move_bytes image.settings image.width r.at ++ r.pushed)) put.more r.sent put.appended);
   }
 
   -- the target refused a byte of it
-  pub row_cut : WritingLaws → v.in_stripe < v.plan.stripe_rows → RowCut (record { place = b.state.place; learned = v.learned }) r.pushed (canonical_events v.plan.shape v.kept (lines_with b row)) mid text' → StreamCut s width limit (rows ++ row ∷ []) origin text'
+  pub row_cut : WritingLaws → v.in_stripe < v.plan.stripe_rows → RowCut (record { place = b.state.place; learned = v.learned }) r.pushed (canonical_events v.plan.shape v.kept (lines_with b row)) mid text' → StreamCut image (rows ++ row ∷ []) origin text'
   row_cut laws fewer cut = record {
-    bytes = (r.front ++ (move_bytes s width r.at ++ r.pushed)) ++ cut.done;
-    sent = Sends-more origin mid text' (r.front ++ (move_bytes s width r.at ++ r.pushed)) cut.done r.sent cut.appended;
-    begins = λ raster m. subst (λ z. IsBeginning z (jbg s raster)) (sym bytes_are)
-        (part_begins s width limit r.i r.whole r.at r.front r.plan_is.some r.stripes (r.part ++ row ∷ []) (move_bytes s width r.at ++ (r.pushed ++ cut.done)) few begins raster
-        (subst (λ z. MayCome s width limit z raster) all m)
-        (let long = come_long s width limit (r.whole ++ (r.part ++ row ∷ [])) raster (subst (λ z. MayCome s width limit z raster) all m) in omega (arith, long, length-append r.whole (r.part ++ row ∷ []), length-append r.part (row ∷ []), r.stripes.many)));
+    bytes = (r.front ++ (move_bytes image.settings image.width r.at ++ r.pushed)) ++ cut.done;
+    sent = Sends-more origin mid text' (r.front ++ (move_bytes image.settings image.width r.at ++ r.pushed)) cut.done r.sent cut.appended;
+    begins = λ raster m. subst (λ z. IsBeginning z (jbg image.settings raster)) (sym bytes_are)
+        (part_begins image r.i r.whole r.at r.front r.plan_is.some r.stripes (r.part ++ row ∷ []) (move_bytes image.settings image.width r.at ++ (r.pushed ++ cut.done)) few begins raster
+        (subst (λ z. MayCome image z raster) all m)
+        (let long = come_long image (r.whole ++ (r.part ++ row ∷ [])) raster (subst (λ z. MayCome image z raster) all m) in omega (arith, long, length-append r.whole (r.part ++ row ∷ []), length-append r.part (row ∷ []), r.stripes.many)));
   } where
     all : rows ++ row ∷ [] ≡ r.whole ++ (r.part ++ row ∷ [])
     all = ap (λ z. z ++ row ∷ []) r.all ∙ append_assoc r.whole r.part (row ∷ [])
 
-    few : length (r.part ++ row ∷ []) ≤ s.stripe_rows
+    few : length (r.part ++ row ∷ []) ≤ image.settings.stripe_rows
     few = let sum = length-append r.part (row ∷ []) in omega (arith, fewer, r.in_stripe, r.plan_is.stripe_rows_is, sum)
 
-    bytes_are : (r.front ++ (move_bytes s width r.at ++ r.pushed)) ++ cut.done ≡ r.front ++ (move_bytes s width r.at ++ (r.pushed ++ cut.done))
-    bytes_are = append_assoc r.front (move_bytes s width r.at ++ r.pushed) cut.done ∙ ap (λ z. r.front ++ z) (append_assoc (move_bytes s width r.at) r.pushed cut.done)
+    bytes_are : (r.front ++ (move_bytes image.settings image.width r.at ++ r.pushed)) ++ cut.done ≡ r.front ++ (move_bytes image.settings image.width r.at ++ (r.pushed ++ cut.done))
+    bytes_are = append_assoc r.front (move_bytes image.settings image.width r.at ++ r.pushed) cut.done ∙ ap (λ z. r.front ++ z) (append_assoc (move_bytes image.settings image.width r.at) r.pushed cut.done)
 
     front_is : IsStuffedFront ((r.pushed ++ cut.done) ++ cut.left) (after b.state cut.events).place
     front_is = subst (λ l. IsStuffedFront ((r.pushed ++ cut.done) ++ cut.left) (after (record { place = b.state.place; learned = l }) cut.events).place) r.running.is_held.learned_is cut.begins
@@ -247,49 +248,49 @@ module _ (s : Settings) (width limit : ℕ) (rows : List (List Bool)) (row : Lis
     at : length r.part ≡ 0 + length r.part
     at = omega arith
 
-    begins : (later : List (List Bool)) → IsBeginning (move_bytes s width r.at ++ (r.pushed ++ cut.done)) (stripe_bytes (next_stripe s width r.at ((r.part ++ row ∷ []) ++ later)))
+    begins : (later : List (List Bool)) → IsBeginning (move_bytes image.settings image.width r.at ++ (r.pushed ++ cut.done)) (stripe_bytes (next_stripe image.settings image.width r.at ((r.part ++ row ∷ []) ++ later)))
     begins later =
         let p = fails_begins laws mode move c r.part row (length (r.part ++ row ∷ []) + length later) cut.events cut.rest (r.pushed ++ cut.done) cut.left
         (ap (λ n. row_events mode (lines_with b row) (offset_at move n b.offset) b.previous (next_flag mode b row)) (sym at) ∙ sym events_are ∙ cut.all_are)
         front_is later refl in
         record {
-          rest = p.rest ++ marker_bytes s.reset;
+          rest = p.rest ++ marker_bytes image.settings.reset;
           bytes_are =
-              ap (λ z. move_bytes s width r.at ++ (z ++ marker_bytes s.reset)) p.bytes_are
-              ∙ ap (λ z. move_bytes s width r.at ++ z) (append_assoc (r.pushed ++ cut.done) p.rest (marker_bytes s.reset))
-              ∙ sym (append_assoc (move_bytes s width r.at) (r.pushed ++ cut.done) (p.rest ++ marker_bytes s.reset));
+              ap (λ z. move_bytes image.settings image.width r.at ++ (z ++ marker_bytes image.settings.reset)) p.bytes_are
+              ∙ ap (λ z. move_bytes image.settings image.width r.at ++ z) (append_assoc (r.pushed ++ cut.done) p.rest (marker_bytes image.settings.reset))
+              ∙ sym (append_assoc (move_bytes image.settings image.width r.at) (r.pushed ++ cut.done) (p.rest ++ marker_bytes image.settings.reset));
         }
 
 -- ---- where a row encoder stands
 
-module _ (s : Settings) (width limit : ℕ) (rows : List (List Bool)) (v : RowView) (window : Held) (origin : Origin) (text' : Option (List ℕ)) where
+module _ (image : Image) (rows : List (List Bool)) (v : RowView) (window : Held) (origin : Origin) (text' : Option (List ℕ)) where
   -- no stripe runs
-  pub stands_waiting : v.in_stripe ≡ 0 → Stands s width limit rows v window origin text' → Waits s width limit rows v window origin text'
+  pub stands_waiting : v.in_stripe ≡ 0 → Stands image rows v window origin text' → Waits image rows v window origin text'
   stands_waiting none (inl w) = w
   stands_waiting none (inr r) = absurd (omega (arith, r.1, none))
 
   -- one runs
-  pub stands_running : 0 < v.in_stripe → Stands s width limit rows v window origin text' → Runs s width limit rows v window origin text'
+  pub stands_running : 0 < v.in_stripe → Stands image rows v window origin text' → Runs image rows v window origin text'
   stands_running some (inl w) = absurd (omega (arith, w.in_stripe, some))
   stands_running some (inr r) = r.0
 
 -- ---- a stripe ends
 
-module _ (s : Settings) (width limit : ℕ) (rows : List (List Bool)) (v : RowView) (window : Held) (origin : Origin) (mid text' : Option (List ℕ)) (some : 0 < v.in_stripe) (r : Runs s width limit rows v window origin mid) where
+module _ (image : Image) (rows : List (List Bool)) (v : RowView) (window : Held) (origin : Origin) (mid text' : Option (List ℕ)) (some : 0 < v.in_stripe) (r : Runs image rows v window origin mid) where
   abbrev last : RowStart
-  last = row_start_in s width r.at r.part
+  last = row_start_in image.settings image.width r.at r.part
 
   some_part : 0 < length r.part
   some_part = omega (arith, some, r.in_stripe)
 
   bytes_of : (laws : WritingLaws) (code more : List ℕ) → Rattle.qm_core.specs.Code.IsCode last.state.place code → r.pushed ++ more ≡ stuffed code ++ marker_bytes v.plan.reset
-      → (r.front ++ (move_bytes s width r.at ++ r.pushed)) ++ more ≡ r.front ++ stripe_bytes (next_stripe s width r.at r.part)
+      → (r.front ++ (move_bytes image.settings image.width r.at ++ r.pushed)) ++ more ≡ r.front ++ stripe_bytes (next_stripe image.settings image.width r.at r.part)
   bytes_of laws code more is all =
-      append_assoc r.front (move_bytes s width r.at ++ r.pushed) more
-      ∙ ap (λ z. r.front ++ z) (append_assoc (move_bytes s width r.at) r.pushed more)
-      ∙ ap (λ z. r.front ++ (move_bytes s width r.at ++ z)) all
-      ∙ ap (λ z. r.front ++ (move_bytes s width r.at ++ (stuffed z ++ marker_bytes v.plan.reset))) ((laws.one_code last.state.place (rows_place laws (mode_of s.options) (next_move s width r.at) 0 (first_row_start r.at.carry) r.part laws.start_is_place)).only code is)
-      ∙ ap (λ b. r.front ++ (move_bytes s width r.at ++ (stuffed (code_of last.state.place) ++ marker_bytes b))) r.plan_is.reset_is
+      append_assoc r.front (move_bytes image.settings image.width r.at ++ r.pushed) more
+      ∙ ap (λ z. r.front ++ z) (append_assoc (move_bytes image.settings image.width r.at) r.pushed more)
+      ∙ ap (λ z. r.front ++ (move_bytes image.settings image.width r.at ++ z)) all
+      ∙ ap (λ z. r.front ++ (move_bytes image.settings image.width r.at ++ (stuffed z ++ marker_bytes v.plan.reset))) ((laws.one_code last.state.place (rows_place laws (mode_of image.settings.options) (next_move image.settings image.width r.at) 0 (first_row_start r.at.carry) r.part laws.start_is_place)).only code is)
+      ∙ ap (λ b. r.front ++ (move_bytes image.settings image.width r.at ++ (stuffed (code_of last.state.place) ++ marker_bytes b))) r.plan_is.reset_is
 
   -- what is held after its rows, and its move
   behind : IsHeldBy None 0 last v.kept v.learned window
@@ -301,38 +302,38 @@ module _ (s : Settings) (width limit : ℕ) (rows : List (List Bool)) (v : RowVi
     third = r.running.is_held.third;
     lines_are = r.running.is_held.lines_are;
   } where
-    moved : (n : ℕ) → length r.part ≡ n → offset_at (next_move s width r.at) (length r.part) last.offset ≡ last.offset
+    moved : (n : ℕ) → length r.part ≡ n → offset_at (next_move image.settings image.width r.at) (length r.part) last.offset ≡ last.offset
     moved zero e = absurd (omega (arith, e, some_part))
-    moved (suc n) e = ap (λ k. offset_at (next_move s width r.at) k last.offset) e ∙ sym (moved_before (next_move s width r.at) n last.offset r.running.is_held.at_top)
+    moved (suc n) e = ap (λ k. offset_at (next_move image.settings image.width r.at) k last.offset) e ∙ sym (moved_before (next_move image.settings image.width r.at) n last.offset r.running.is_held.at_top)
 
-  counted_none : (lines : List Lines) → counted_of v ≡ None → IsCountedTo width (counted_of v) v.tally lines → (current : ℕ) → CountsLines v.tally width current []
-  counted_none lines none counts = subst (λ o. IsCountedTo width o v.tally lines) none counts
+  counted_none : (lines : List Lines) → counted_of v ≡ None → IsCountedTo image.width (counted_of v) v.tally lines → (current : ℕ) → CountsLines v.tally image.width current []
+  counted_none lines none counts = subst (λ o. IsCountedTo image.width o v.tally lines) none counts
 
-  counted_some : (lines : List Lines) (offset : ℕ) → counted_of v ≡ Some offset → IsCountedTo width (counted_of v) v.tally lines → CountsLines v.tally width offset lines
-  counted_some lines offset is counts = subst (λ o. IsCountedTo width o v.tally lines) is counts
+  counted_some : (lines : List Lines) (offset : ℕ) → counted_of v ≡ Some offset → IsCountedTo image.width (counted_of v) v.tally lines → CountsLines v.tally image.width offset lines
+  counted_some lines offset is counts = subst (λ o. IsCountedTo image.width o v.tally lines) is counts
 
   -- what was counted chooses the next move
-  tallied : (r.i + 1) * s.stripe_rows < limit → IsTallied s width (next_encoder_start s width r.at r.part) v.tally
+  tallied : (r.i + 1) * image.settings.stripe_rows < image.limit → IsTallied image.settings image.width (next_encoder_start image.settings image.width r.at r.part) v.tally
   tallied more = by_count v.is_counted refl (λ some'. r.counts more some') where
     lines : List Lines
     lines = lines_down r.at.carry.above r.at.carry.second r.part
 
     next : EncoderStart
-    next = next_encoder_start s width r.at r.part
+    next = next_encoder_start image.settings image.width r.at r.part
 
-    current : (b : Bool) → v.plan.reset ≡ b → (if v.plan.reset then 0 else v.kept.offset) ≡ (next_stripe_start width b last).offset
+    current : (b : Bool) → v.plan.reset ≡ b → (if v.plan.reset then 0 else v.kept.offset) ≡ (next_stripe_start image.width b last).offset
     current true is = ap (λ z. if z then 0 else v.kept.offset) is
     current false is = ap (λ z. if z then 0 else v.kept.offset) is ∙ behind.offset_is
 
     same : (if v.plan.reset then 0 else v.kept.offset) ≡ next.carry.offset
-    same = current s.reset r.plan_is.reset_is
+    same = current image.settings.reset r.plan_is.reset_is
 
-    by_count : (b : Bool) → v.is_counted ≡ b → (0 < length (candidates (mode_of s.options).two_line s.most_offset) → b ≡ true) → IsTallied s width next v.tally
+    by_count : (b : Bool) → v.is_counted ≡ b → (0 < length (candidates (mode_of image.settings.options).two_line image.settings.most_offset) → b ≡ true) → IsTallied image.settings image.width next v.tally
     by_count true is counts = record {
       two_line = r.running.two_line;
       most = r.running.most;
       lines = lines;
-      counts = subst (λ o. CountsLines v.tally width o lines) same (counted_some lines (if v.plan.reset then 0 else v.kept.offset) (ap (λ z. if z then Some (if v.plan.reset then 0 else v.kept.offset) else None) is) r.running.tallied);
+      counts = subst (λ o. CountsLines v.tally image.width o lines) same (counted_some lines (if v.plan.reset then 0 else v.kept.offset) (ap (λ z. if z then Some (if v.plan.reset then 0 else v.kept.offset) else None) is) r.running.tallied);
       lines_are = λ _. refl;
     }
     by_count false is counts = record {
@@ -346,7 +347,7 @@ module _ (s : Settings) (width limit : ℕ) (rows : List (List Bool)) (v : RowVi
   pub stripe_ended : (laws : WritingLaws) (e : Encoder) (kept : Kept) (learned : List Estimate) (window' : Held) (text'' : Option (List ℕ)) (in_stripe : ℕ) → in_stripe ≡ 0 → EncoderIsAt e start []
       → ((last' : RowStart) → IsHeldBy None 0 last' v.kept v.learned window → IsHeldBy None 0 (first_row_start (next_stripe_start v.plan.width v.plan.reset last')) kept learned window')
       → (code more : List ℕ) → Rattle.qm_core.specs.Code.IsCode last.state.place code → r.pushed ++ more ≡ stuffed code ++ marker_bytes v.plan.reset → Appends mid text' more → Rattle.std.specs.Io.KnownBytes.Keeps text' text''
-      → StripeEnded s width limit v.in_stripe rows (record v { kept = kept; learned = learned; encoder = e; in_stripe = in_stripe }) window' origin text''
+      → StripeEnded image v.in_stripe rows (encoder_at (record v { kept = kept; learned = learned; encoder = e; in_stripe = in_stripe }) window' text'') origin
   stripe_ended laws e kept learned window' text'' in_stripe none codes goes code more is all put keeps = record {
     plan_is = r.plan_is;
     come = r.come;
@@ -363,15 +364,15 @@ module _ (s : Settings) (width limit : ℕ) (rows : List (List Bool)) (v : RowVi
     in_stripe = none;
     codes = codes;
     on_course = λ more'. record {
-      is_held = subst (λ w. IsHeldBy None 0 (first_row_start (next_stripe_start w s.reset last)) kept learned window') r.plan_is.width_is
+      is_held = subst (λ w. IsHeldBy None 0 (first_row_start (next_stripe_start w image.settings.reset last)) kept learned window') r.plan_is.width_is
           (subst (λ b. IsHeldBy None 0 (first_row_start (next_stripe_start v.plan.width b last)) kept learned window') r.plan_is.reset_is (goes last behind));
       is_tallied = tallied more';
     };
-    sent = Sends-keeps origin text' text'' (r.front ++ stripe_bytes (next_stripe s width r.at r.part))
-        (subst (Sends origin text') (bytes_of laws code more is all) (Sends-more origin mid text' (r.front ++ (move_bytes s width r.at ++ r.pushed)) more r.sent put)) keeps;
+    sent = Sends-keeps origin text' text'' (r.front ++ stripe_bytes (next_stripe image.settings image.width r.at r.part))
+        (subst (Sends origin text') (bytes_of laws code more is all) (Sends-more origin mid text' (r.front ++ (move_bytes image.settings image.width r.at ++ r.pushed)) more r.sent put)) keeps;
   }
 
-  pub stripe_cut : (laws : WritingLaws) (code more : List ℕ) → Rattle.qm_core.specs.Code.IsCode last.state.place code → r.pushed ++ more ≡ stuffed code ++ marker_bytes v.plan.reset → AppendsBeginning mid text' more → StripeBegun s width limit v.in_stripe rows origin text'
+  pub stripe_cut : (laws : WritingLaws) (code more : List ℕ) → Rattle.qm_core.specs.Code.IsCode last.state.place code → r.pushed ++ more ≡ stuffed code ++ marker_bytes v.plan.reset → AppendsBeginning mid text' more → StripeBegun image v.in_stripe rows origin text'
   stripe_cut laws code more is all cut = record {
     i = r.i;
     whole = r.whole;
@@ -383,22 +384,22 @@ module _ (s : Settings) (width limit : ℕ) (rows : List (List Bool)) (v : RowVi
     many = sym r.in_stripe;
     some = some_part;
     few = r.few;
-    sent = subst (SendsBeginning origin text') (bytes_of laws code more is all) (sends_after origin mid text' (r.front ++ (move_bytes s width r.at ++ r.pushed)) more r.sent cut);
+    sent = subst (SendsBeginning origin text') (bytes_of laws code more is all) (sends_after origin mid text' (r.front ++ (move_bytes image.settings image.width r.at ++ r.pushed)) more r.sent cut);
   }
 
 -- ---- from a stripe that was ended
 
-module _ (s : Settings) (width limit count : ℕ) (rows : List (List Bool)) (v : RowView) (window : Held) (origin : Origin) (text' : Option (List ℕ)) where
+module _ (image : Image) (count : ℕ) (rows : List (List Bool)) (v : RowView) (window : Held) (origin : Origin) (text' : Option (List ℕ)) where
   -- a stripe with all its rows
-  pub ended_waits : count ≡ v.plan.stripe_rows → StripeEnded s width limit count rows v window origin text' → Waits s width limit rows v window origin text'
+  pub ended_waits : count ≡ v.plan.stripe_rows → StripeEnded image count rows (encoder_at v window text') origin → Waits image rows v window origin text'
   ended_waits full e = record {
     plan_is = e.plan_is;
     come = e.come;
     i = e.i + 1;
-    at = next_encoder_start s width e.at e.part;
-    front = e.front ++ stripe_bytes (next_stripe s width e.at e.part);
-    stripes = subst (λ z. StripesWhole s width limit (e.i + 1) z (next_encoder_start s width e.at e.part) (e.front ++ stripe_bytes (next_stripe s width e.at e.part))) (sym e.all)
-        (whole_more s width limit e.i e.whole e.at e.front e.plan_is.some e.stripes e.part (e.many ∙ full ∙ e.plan_is.stripe_rows_is));
+    at = next_encoder_start image.settings image.width e.at e.part;
+    front = e.front ++ stripe_bytes (next_stripe image.settings image.width e.at e.part);
+    stripes = subst (λ z. StripesWhole image (e.i + 1) z (next_encoder_start image.settings image.width e.at e.part) (e.front ++ stripe_bytes (next_stripe image.settings image.width e.at e.part))) (sym e.all)
+        (whole_more image e.i e.whole e.at e.front e.plan_is.some e.stripes e.part (e.many ∙ full ∙ e.plan_is.stripe_rows_is));
     in_stripe = e.in_stripe;
     codes = e.codes;
     on_course = e.on_course;
@@ -406,21 +407,21 @@ module _ (s : Settings) (width limit count : ℕ) (rows : List (List Bool)) (v :
   }
 
   -- a beginning of it was written
-  pub cut_stream : 1 ≤ s.stripe_rows → count ≡ s.stripe_rows → StripeBegun s width limit count rows origin text' → StreamCut s width limit rows origin text'
+  pub cut_stream : 1 ≤ image.settings.stripe_rows → count ≡ image.settings.stripe_rows → StripeBegun image count rows origin text' → StreamCut image rows origin text'
   cut_stream some full e = record {
     bytes = e.sent.front;
     sent = e.sent.sends;
     begins = λ raster b.
-        let m : MayCome s width limit (e.whole ++ e.part) raster = subst (λ z. MayCome s width limit z raster) e.all b in
-        let long = come_long s width limit (e.whole ++ e.part) raster m in
+        let m : MayCome image (e.whole ++ e.part) raster = subst (λ z. MayCome image z raster) e.all b in
+        let long = come_long image (e.whole ++ e.part) raster m in
         let sum = length-append e.whole e.part in
-        let full_part : length e.part ≡ s.stripe_rows = e.many ∙ full in
-        front_begins s raster (e.i + 1) e.sent.front
-        (let inside = inside_of (height raster) s.stripe_rows e.i some (omega (arith, long, sum, e.stripes.many, full_part, some)) in omega (arith, inside))
+        let full_part : length e.part ≡ image.settings.stripe_rows = e.many ∙ full in
+        front_begins image.settings raster (e.i + 1) e.sent.front
+        (let inside = inside_of (height raster) image.settings.stripe_rows e.i some (omega (arith, long, sum, e.stripes.many, full_part, some)) in omega (arith, inside))
         (record {
           rest = e.sent.rest;
           bytes_are =
-              sym (stripe_more s width limit e.i e.whole e.at e.front some e.stripes e.part raster m (omega (arith, long, sum, e.stripes.many, full_part, some)) (omega (arith, long, sum, e.stripes.many, full_part)))
+              sym (stripe_more image e.i e.whole e.at e.front some e.stripes e.part raster m (omega (arith, long, sum, e.stripes.many, full_part, some)) (omega (arith, long, sum, e.stripes.many, full_part)))
               ∙ e.sent.text_is;
         });
   }
@@ -448,12 +449,12 @@ count_is n l c some from to = went (less_or_not c (stripe_count n l)) (less_or_n
 not_some : (o : Option ℕ) → o ≡ None → is_some o ≡ false
 not_some o none = ap is_some none
 
-module _ (s : Settings) (width limit : ℕ) (rows : List (List Bool)) (v : RowView) (plan : IsPlan s width limit v.plan) (come : HaveCome width limit rows v.rows) (some : 0 < v.rows) (whole : v.plan.may_end ≡ false → v.rows ≡ v.plan.limit) where
-  all_rows : s.announced ≡ None → length rows ≡ limit
-  all_rows none = (let full = whole (plan.may_end_is ∙ not_some s.announced none) in omega (arith, full, plan.limit_is, come.many))
+module _ (image : Image) (rows : List (List Bool)) (v : RowView) (plan : IsPlan image v.plan) (come : HaveCome image.width image.limit rows v.rows) (some : 0 < v.rows) (whole : v.plan.may_end ≡ false → v.rows ≡ v.plan.limit) where
+  all_rows : image.settings.announced ≡ None → length rows ≡ image.limit
+  all_rows none = (let full = whole (plan.may_end_is ∙ not_some image.settings.announced none) in omega (arith, full, plan.limit_is, come.many))
 
   -- the image itself may come
-  pub itself : MayCome s width limit rows (raster_of width rows)
+  pub itself : MayCome image rows (raster_of image.width rows)
   itself = record {
     proper = record {
       width_from = plan.width_from;
@@ -468,78 +469,78 @@ module _ (s : Settings) (width limit : ℕ) (rows : List (List Bool)) (v : RowVi
     first = take-length rows;
   }
 
-  pub announced_at : v.plan.announced ≡ unwrap_or s.announced (length rows)
-  announced_at = plan.announced_is ∙ same_announced s.announced limit (length rows) (λ none. sym (all_rows none))
+  pub announced_at : v.plan.announced ≡ unwrap_or image.settings.announced (length rows)
+  announced_at = plan.announced_is ∙ same_announced image.settings.announced image.limit (length rows) (λ none. sym (all_rows none))
 
   -- no stripe runs
-  pub waits_ended : (window : Held) (origin : Origin) (text' : Option (List ℕ)) → Waits s width limit rows v window origin text' → StripesEnded s width limit rows v origin text'
+  pub waits_ended : (window : Held) (origin : Origin) (text' : Option (List ℕ)) → Waits image rows v window origin text' → StripesEnded image rows v origin text'
   waits_ended window origin text' w = record {
     rows_are = come.many;
     reset_is = plan.reset_is;
     announced_is = announced_at;
     sent = subst (Sends origin text')
-        (w.stripes.front_is (raster_of width rows) itself
-        ∙ ap (jbg_up_to s (raster_of width rows)) (sym (count_is (length rows) s.stripe_rows w.i plan.some (omega (arith, w.stripes.many)) (omega (arith, w.stripes.many, plan.some))))) w.sent;
+        (w.stripes.front_is (raster_of image.width rows) itself
+        ∙ ap (jbg_up_to image.settings (raster_of image.width rows)) (sym (count_is (length rows) image.settings.stripe_rows w.i plan.some (omega (arith, w.stripes.many)) (omega (arith, w.stripes.many, plan.some))))) w.sent;
   }
 
-module _ (s : Settings) (width limit count : ℕ) (rows whole part : List (List Bool)) (i : ℕ) (at : EncoderStart) (front : List ℕ) (some : 1 ≤ s.stripe_rows) (all : rows ≡ whole ++ part) (stripes : StripesWhole s width limit i whole at front)
-    (some_part : 0 < length part) (few : length part ≤ s.stripe_rows) (m : MayCome s width limit rows (raster_of width rows)) where
-  sum : length rows ≡ i * s.stripe_rows + length part
+module _ (image : Image) (count : ℕ) (rows whole part : List (List Bool)) (i : ℕ) (at : EncoderStart) (front : List ℕ) (some : 1 ≤ image.settings.stripe_rows) (all : rows ≡ whole ++ part) (stripes : StripesWhole image i whole at front)
+    (some_part : 0 < length part) (few : length part ≤ image.settings.stripe_rows) (m : MayCome image rows (raster_of image.width rows)) where
+  sum : length rows ≡ i * image.settings.stripe_rows + length part
   sum = (let lengths : length rows ≡ length (whole ++ part) = ap length all in omega (arith, lengths, length-append whole part, stripes.many))
 
   -- the stripes with this one are all
-  pub last_stripe : front ++ stripe_bytes (next_stripe s width at part) ≡ jbg_up_to s (raster_of width rows) (stripe_count (length rows) s.stripe_rows)
+  pub last_stripe : front ++ stripe_bytes (next_stripe image.settings image.width at part) ≡ jbg_up_to image.settings (raster_of image.width rows) (stripe_count (length rows) image.settings.stripe_rows)
   last_stripe =
-      stripe_more s width limit i whole at front some stripes part (raster_of width rows) (subst (λ z. MayCome s width limit z (raster_of width rows)) all m) (omega (arith, sum, some_part)) (omega (arith, sum, few))
-      ∙ ap (jbg_up_to s (raster_of width rows)) (sym (count_is (length rows) s.stripe_rows (i + 1) some (omega (arith, sum, few, product)) (omega (arith, sum, some_part, product))))
+      stripe_more image i whole at front some stripes part (raster_of image.width rows) (subst (λ z. MayCome image z (raster_of image.width rows)) all m) (omega (arith, sum, some_part)) (omega (arith, sum, few))
+      ∙ ap (jbg_up_to image.settings (raster_of image.width rows)) (sym (count_is (length rows) image.settings.stripe_rows (i + 1) some (omega (arith, sum, few, product)) (omega (arith, sum, some_part, product))))
     where
-      product : (i + 1) * s.stripe_rows ≡ i * s.stripe_rows + 1 * s.stripe_rows
-      product = Rattle.std.proofs.Math.Nat.add-mul i 1 s.stripe_rows
+      product : (i + 1) * image.settings.stripe_rows ≡ i * image.settings.stripe_rows + 1 * image.settings.stripe_rows
+      product = Rattle.std.proofs.Math.Nat.add-mul i 1 image.settings.stripe_rows
 
-pub ended_stripes : (s : Settings) (width limit count : ℕ) (rows : List (List Bool)) (v v' : RowView) (window window' : Held) (origin : Origin) (mid text' : Option (List ℕ)) → 0 < v.rows → (v.plan.may_end ≡ false → v.rows ≡ v.plan.limit)
-    → Runs s width limit rows v window origin mid → StripeEnded s width limit count rows v' window' origin text' → StripesEnded s width limit rows v' origin text'
-ended_stripes s width limit count rows v v' window window' origin mid text' some whole r e = record {
+pub ended_stripes : (image : Image) (count : ℕ) (rows : List (List Bool)) (v v' : RowView) (window window' : Held) (origin : Origin) (mid text' : Option (List ℕ)) → 0 < v.rows → (v.plan.may_end ≡ false → v.rows ≡ v.plan.limit)
+    → Runs image rows v window origin mid → StripeEnded image count rows (encoder_at v' window' text') origin → StripesEnded image rows v' origin text'
+ended_stripes image count rows v v' window window' origin mid text' some whole r e = record {
   rows_are = e.come.many;
   reset_is = e.plan_is.reset_is;
-  announced_is = e.plan_is.announced_is ∙ same_announced s.announced limit (length rows) (λ none. sym (all_rows s width limit rows v r.plan_is r.come some whole none));
-  sent = subst (Sends origin text') (last_stripe s width limit count rows e.whole e.part e.i e.at e.front r.plan_is.some e.all e.stripes e.some e.few (itself s width limit rows v r.plan_is r.come some whole)) e.sent;
+  announced_is = e.plan_is.announced_is ∙ same_announced image.settings.announced image.limit (length rows) (λ none. sym (all_rows image rows v r.plan_is r.come some whole none));
+  sent = subst (Sends origin text') (last_stripe image count rows e.whole e.part e.i e.at e.front r.plan_is.some e.all e.stripes e.some e.few (itself image rows v r.plan_is r.come some whole)) e.sent;
 }
 
 -- no more than a beginning of the last stripe was written
-pub cut_stripes : (s : Settings) (width limit count : ℕ) (rows : List (List Bool)) (v : RowView) (window : Held) (origin : Origin) (mid text' : Option (List ℕ)) → 0 < v.rows → (v.plan.may_end ≡ false → v.rows ≡ v.plan.limit)
-    → Runs s width limit rows v window origin mid → StripeBegun s width limit count rows origin text' → SendsBeginning origin text' (jbg s (raster_of width rows))
-cut_stripes s width limit count rows v window origin mid text' some whole r e =
-    sends_longer origin text' (jbg_up_to s (raster_of width rows) (stripe_count (length rows) s.stripe_rows)) (ending s (length rows))
-    (subst (SendsBeginning origin text') (last_stripe s width limit count rows e.whole e.part e.i e.at e.front r.plan_is.some e.all e.stripes e.some e.few (itself s width limit rows v r.plan_is r.come some whole)) e.sent)
+pub cut_stripes : (image : Image) (count : ℕ) (rows : List (List Bool)) (v : RowView) (window : Held) (origin : Origin) (mid text' : Option (List ℕ)) → 0 < v.rows → (v.plan.may_end ≡ false → v.rows ≡ v.plan.limit)
+    → Runs image rows v window origin mid → StripeBegun image count rows origin text' → SendsBeginning origin text' (jbg image.settings (raster_of image.width rows))
+cut_stripes image count rows v window origin mid text' some whole r e =
+    sends_longer origin text' (jbg_up_to image.settings (raster_of image.width rows) (stripe_count (length rows) image.settings.stripe_rows)) (ending image.settings (length rows))
+    (subst (SendsBeginning origin text') (last_stripe image count rows e.whole e.part e.i e.at e.front r.plan_is.some e.all e.stripes e.some e.few (itself image rows v r.plan_is r.come some whole)) e.sent)
 
-module _ (s : Settings) (width limit : ℕ) (rows : List (List Bool)) (v : RowView) (origin : Origin) (mid text' : Option (List ℕ)) (e : StripesEnded s width limit rows v origin mid) where
-  ending_is : ending_of v.plan.announced v.plan.reset v.rows ≡ ending s (length rows)
+module _ (image : Image) (rows : List (List Bool)) (v : RowView) (origin : Origin) (mid text' : Option (List ℕ)) (e : StripesEnded image rows v origin mid) where
+  ending_is : ending_of v.plan.announced v.plan.reset v.rows ≡ ending image.settings (length rows)
   ending_is =
-      ap (λ n. ending_of n v.plan.reset v.rows) e.announced_is ∙ ap (λ b. ending_of (unwrap_or s.announced (length rows)) b v.rows) e.reset_is ∙ ap (ending_of (unwrap_or s.announced (length rows)) s.reset) e.rows_are
+      ap (λ n. ending_of n v.plan.reset v.rows) e.announced_is ∙ ap (λ b. ending_of (unwrap_or image.settings.announced (length rows)) b v.rows) e.reset_is ∙ ap (ending_of (unwrap_or image.settings.announced (length rows)) image.settings.reset) e.rows_are
 
-  pub stream_ended : Appends mid text' (ending_of v.plan.announced v.plan.reset v.rows) → Sends origin text' (jbg s (raster_of width rows))
-  stream_ended last = Sends-more origin mid text' (jbg_up_to s (raster_of width rows) (stripe_count (length rows) s.stripe_rows)) (ending s (length rows)) e.sent (subst (Appends mid text') ending_is last)
+  pub stream_ended : Appends mid text' (ending_of v.plan.announced v.plan.reset v.rows) → Sends origin text' (jbg image.settings (raster_of image.width rows))
+  stream_ended last = Sends-more origin mid text' (jbg_up_to image.settings (raster_of image.width rows) (stripe_count (length rows) image.settings.stripe_rows)) (ending image.settings (length rows)) e.sent (subst (Appends mid text') ending_is last)
 
-  pub ending_cut : AppendsBeginning mid text' (ending_of v.plan.announced v.plan.reset v.rows) → SendsBeginning origin text' (jbg s (raster_of width rows))
-  ending_cut last = sends_after origin mid text' (jbg_up_to s (raster_of width rows) (stripe_count (length rows) s.stripe_rows)) (ending s (length rows)) e.sent (subst (AppendsBeginning mid text') ending_is last)
+  pub ending_cut : AppendsBeginning mid text' (ending_of v.plan.announced v.plan.reset v.rows) → SendsBeginning origin text' (jbg image.settings (raster_of image.width rows))
+  ending_cut last = sends_after origin mid text' (jbg_up_to image.settings (raster_of image.width rows) (stripe_count (length rows) image.settings.stripe_rows)) (ending image.settings (length rows)) e.sent (subst (AppendsBeginning mid text') ending_is last)
 
 -- ---- an image begins
 
-pub none_stand : (s : Settings) (width limit : ℕ) (v : RowView) (window : Held) (text text' : Option (List ℕ)) → IsPlan s width limit v.plan → v.rows ≡ 0 → v.in_stripe ≡ 0 → EncoderIsAt v.encoder start [] → v.kept.offset ≡ 0 → v.kept.previous_typical ≡ false → v.learned ≡ fresh
-    → HasLines window (white_lines width) → is_two_line v.tally ≡ (mode_of s.options).two_line → most_of v.tally ≡ s.most_offset → ((width' current : ℕ) → CountsLines v.tally width' current []) → Appends text text' (head_of s width limit)
-    → Stands s width limit [] v window (here text) text'
-none_stand s width limit v window text text' plan rows_is none codes offset previous learned white two_line most counts put = inl (record {
+pub none_stand : (image : Image) (v : RowView) (window : Held) (text text' : Option (List ℕ)) → IsPlan image v.plan → v.rows ≡ 0 → v.in_stripe ≡ 0 → EncoderIsAt v.encoder start [] → v.kept.offset ≡ 0 → v.kept.previous_typical ≡ false → v.learned ≡ fresh
+    → HasLines window (white_lines image.width) → is_two_line v.tally ≡ (mode_of image.settings.options).two_line → most_of v.tally ≡ image.settings.most_offset → ((width' current : ℕ) → CountsLines v.tally width' current []) → Appends text text' (head_of image.settings image.width image.limit)
+    → Stands image [] v window (here text) text'
+none_stand image v window text text' plan rows_is none codes offset previous learned white two_line most counts put = inl (record {
   plan_is = plan;
   come = record { many = rows_is; few = omega arith; wide = tt };
   i = 0;
-  at = first_encoder_start width;
-  front = head_of s width limit;
-  stripes = none_whole s width limit;
+  at = first_encoder_start image.width;
+  front = head_of image.settings image.width image.limit;
+  stripes = none_whole image;
   in_stripe = none;
   codes = codes;
   on_course = λ _. record {
-    is_held = record { at_top = tt; offset_is = offset; previous_is = previous; learned_is = learned; third = white_row width; lines_are = white };
-    is_tallied = record { two_line = two_line; most = most; lines = []; counts = counts width 0; lines_are = λ _. refl };
+    is_held = record { at_top = tt; offset_is = offset; previous_is = previous; learned_is = learned; third = white_row image.width; lines_are = white };
+    is_tallied = record { two_line = two_line; most = most; lines = []; counts = counts image.width 0; lines_are = λ _. refl };
   };
   sent = sent_here text text' _ put;
 })

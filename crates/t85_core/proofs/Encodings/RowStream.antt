@@ -12,13 +12,14 @@ use Rattle.t85_core.specs.Jbg.{Settings, coding_of, coded_stripe, head_of, strip
 use Rattle.t85_core.specs.Encode.{IsBeginning}
 use Rattle.t85_core.specs.Steps.Written.{EncoderStart, first_encoder_start, next_stripe, next_encoder_start}
 use Rattle.t85_core.specs.Steps.Looked.{CourseAt}
-use Rattle.t85_core.specs.Steps.ByRow.{MayCome, StripesWhole}
+use Rattle.t85_core.specs.Steps.ByRow.{StripesWhole}
+use Rattle.t85_core.specs.RowImage.{MayCome, Image}
 use Rattle.t85_core.proofs.Encodings.EncoderStarts.{CourseGoes, course_begins, course_step, stripes_more}
 use Rattle.t85_core.proofs.Encodings.RowsOn.{RowsGoOn, front_splits, rows_continue, rows_go_on}
 
 -- a raster that begins with rows begins with the first of them
-pub come_first : (s : Settings) (width limit : ℕ) (first rows : List (List Bool)) (raster : Raster) → MayCome s width limit (first ++ rows) raster → MayCome s width limit first raster
-come_first s width limit first rows raster b = record {
+pub come_first : (image : Image) (first rows : List (List Bool)) (raster : Raster) → MayCome image (first ++ rows) raster → MayCome image first raster
+come_first image first rows raster b = record {
   proper = b.proper;
   width_is = b.width_is;
   height_to = b.height_to;
@@ -29,26 +30,26 @@ come_first s width limit first rows raster b = record {
 }
 
 -- it has them all
-pub come_long : (s : Settings) (width limit : ℕ) (rows : List (List Bool)) (raster : Raster) → MayCome s width limit rows raster → length rows ≤ height raster
-come_long s width limit rows raster b = (front_splits raster.rows rows b.first).0
+pub come_long : (image : Image) (rows : List (List Bool)) (raster : Raster) → MayCome image rows raster → length rows ≤ height raster
+come_long image rows raster b = (front_splits raster.rows rows b.first).0
 
 pub same_announced : (o : Option ℕ) (a b : ℕ) → (o ≡ None → a ≡ b) → unwrap_or o a ≡ unwrap_or o b
 same_announced None a b h = h refl
 same_announced (Some n) a b h = refl
 
 -- the head of each raster that may come
-pub come_head : (s : Settings) (width limit : ℕ) (rows : List (List Bool)) (raster : Raster) → MayCome s width limit rows raster → head_of s width limit ≡ head_of s raster.width (height raster)
-come_head s width limit rows raster b =
-    ap (λ w. head_of s w limit) (sym b.width_is)
-    ∙ ap (λ n. header_bytes (record { xd = raster.width; yd = n; l0 = s.stripe_rows; mx = s.most_offset; options = written_options s }) ++ flat_map segment_bytes (map Comment (option_to_list s.comment)))
-    (same_announced s.announced limit (height raster) (λ none. sym (b.height_is none)))
+pub come_head : (image : Image) (rows : List (List Bool)) (raster : Raster) → MayCome image rows raster → head_of image.settings image.width image.limit ≡ head_of image.settings raster.width (height raster)
+come_head image rows raster b =
+    ap (λ w. head_of image.settings w image.limit) (sym b.width_is)
+    ∙ ap (λ n. header_bytes (record { xd = raster.width; yd = n; l0 = image.settings.stripe_rows; mx = image.settings.most_offset; options = written_options image.settings }) ++ flat_map segment_bytes (map Comment (option_to_list image.settings.comment)))
+    (same_announced image.settings.announced image.limit (height raster) (λ none. sym (b.height_is none)))
 
 -- nothing but the head
-pub none_whole : (s : Settings) (width limit : ℕ) → StripesWhole s width limit 0 [] (first_encoder_start width) (head_of s width limit)
-none_whole s width limit = record {
+pub none_whole : (image : Image) → StripesWhole image 0 [] (first_encoder_start image.width) (head_of image.settings image.width image.limit)
+none_whole image = record {
   many = omega arith;
-  front_is = λ raster b. come_head s width limit [] raster b ∙ sym (append-nil (head_of s raster.width (height raster)));
-  course = λ raster b _. subst (λ w. CourseAt s raster 0 (first_encoder_start w)) b.width_is (course_begins s raster);
+  front_is = λ raster b. come_head image [] raster b ∙ sym (append-nil (head_of image.settings raster.width (height raster)));
+  course = λ raster b _. subst (λ w. CourseAt image.settings raster 0 (first_encoder_start w)) b.width_is (course_begins image.settings raster);
 }
 
 pub less_or_not : (a b : ℕ) → (a < b) ⊎ (b ≤ a)
@@ -109,70 +110,70 @@ up_to_more s raster i =
     ap (λ z. head_of s raster.width (height raster) ++ z) (stripes_more s raster i)
     ∙ sym (append_assoc (head_of s raster.width (height raster)) (stripes_up_to s raster i) (stripe_bytes (coded_stripe (coding_of s raster) i)))
 
-module _ (s : Settings) (width limit i : ℕ) (whole : List (List Bool)) (at : EncoderStart) (front : List ℕ) (some : 1 ≤ s.stripe_rows) (so : StripesWhole s width limit i whole at front) where
+module _ (image : Image) (i : ℕ) (whole : List (List Bool)) (at : EncoderStart) (front : List ℕ) (some : 1 ≤ image.settings.stripe_rows) (so : StripesWhole image i whole at front) where
   abbrev l : ℕ
-  l = s.stripe_rows
+  l = image.settings.stripe_rows
 
   -- the stripe of a raster that begins so
-  pub stripe_comes : (part : List (List Bool)) (raster : Raster) → MayCome s width limit (whole ++ part) raster → i * l < height raster → length part ≡ min l (height raster - i * l) → CourseGoes s raster i at part
+  pub stripe_comes : (part : List (List Bool)) (raster : Raster) → MayCome image (whole ++ part) raster → i * l < height raster → length part ≡ min l (height raster - i * l) → CourseGoes image.settings raster i at part
   stripe_comes part raster b within enough =
-      course_step s raster i at part some (inside_of (height raster) l i some within) (so.course raster (come_first s width limit whole part raster b) within)
+      course_step image.settings raster i at part some (inside_of (height raster) l i some within) (so.course raster (come_first image whole part raster b) within)
       (rows_continue (white_row raster.width) raster.rows whole part (i * l) b.first so.many) enough
 
-  next_bytes : (part : List (List Bool)) (raster : Raster) → raster.width ≡ width → CourseGoes s raster i at part → stripe_bytes (next_stripe s width at part) ≡ stripe_bytes (coded_stripe (coding_of s raster) i)
-  next_bytes part raster wide goes = ap stripe_bytes (subst (λ w. next_stripe s w at part ≡ coded_stripe (coding_of s raster) i) wide goes.stripe)
+  next_bytes : (part : List (List Bool)) (raster : Raster) → raster.width ≡ image.width → CourseGoes image.settings raster i at part → stripe_bytes (next_stripe image.settings image.width at part) ≡ stripe_bytes (coded_stripe (coding_of image.settings raster) i)
+  next_bytes part raster wide goes = ap stripe_bytes (subst (λ w. next_stripe image.settings w at part ≡ coded_stripe (coding_of image.settings raster) i) wide goes.stripe)
 
   -- the stream up to there, with this stripe
-  pub stripe_more : (part : List (List Bool)) (raster : Raster) → MayCome s width limit (whole ++ part) raster → i * l < height raster → length part ≡ min l (height raster - i * l) → front ++ stripe_bytes (next_stripe s width at part) ≡ jbg_up_to s raster (i + 1)
+  pub stripe_more : (part : List (List Bool)) (raster : Raster) → MayCome image (whole ++ part) raster → i * l < height raster → length part ≡ min l (height raster - i * l) → front ++ stripe_bytes (next_stripe image.settings image.width at part) ≡ jbg_up_to image.settings raster (i + 1)
   stripe_more part raster b within enough =
-      ap (λ z. z ++ stripe_bytes (next_stripe s width at part)) (so.front_is raster (come_first s width limit whole part raster b))
-      ∙ ap (λ z. jbg_up_to s raster i ++ z) (next_bytes part raster b.width_is (stripe_comes part raster b within enough))
-      ∙ sym (up_to_more s raster i)
+      ap (λ z. z ++ stripe_bytes (next_stripe image.settings image.width at part)) (so.front_is raster (come_first image whole part raster b))
+      ∙ ap (λ z. jbg_up_to image.settings raster i ++ z) (next_bytes part raster b.width_is (stripe_comes part raster b within enough))
+      ∙ sym (up_to_more image.settings raster i)
 
   -- a beginning of each stripe that begins with these rows, after those that are whole
-  pub part_begins : (part : List (List Bool)) (bytes : List ℕ) → length part ≤ l → ((later : List (List Bool)) → IsBeginning bytes (stripe_bytes (next_stripe s width at (part ++ later))))
-      → (raster : Raster) → MayCome s width limit (whole ++ part) raster → i * l < height raster → IsBeginning (front ++ bytes) (jbg s raster)
+  pub part_begins : (part : List (List Bool)) (bytes : List ℕ) → length part ≤ l → ((later : List (List Bool)) → IsBeginning bytes (stripe_bytes (next_stripe image.settings image.width at (part ++ later))))
+      → (raster : Raster) → MayCome image (whole ++ part) raster → i * l < height raster → IsBeginning (front ++ bytes) (jbg image.settings raster)
   part_begins part bytes few begins raster b within =
-      front_begins s raster (i + 1) (front ++ bytes) (let inside = inside_of (height raster) l i some within in omega (arith, inside)) (record {
+      front_begins image.settings raster (i + 1) (front ++ bytes) (let inside = inside_of (height raster) l i some within in omega (arith, inside)) (record {
         rest = p.rest;
         bytes_are =
-            up_to_more s raster i
-            ∙ ap (λ z. z ++ stripe_bytes (coded_stripe (coding_of s raster) i)) (sym (so.front_is raster first))
+            up_to_more image.settings raster i
+            ∙ ap (λ z. z ++ stripe_bytes (coded_stripe (coding_of image.settings raster) i)) (sym (so.front_is raster first))
             ∙ ap (λ z. front ++ z) (sym (next_bytes (part ++ go.later) raster b.width_is goes) ∙ p.bytes_are)
             ∙ sym (append_assoc front bytes p.rest);
       })
     where
-      first : MayCome s width limit whole raster
-      first = come_first s width limit whole part raster b
+      first : MayCome image whole raster
+      first = come_first image whole part raster b
 
       long : length part ≤ min l (height raster - i * l)
-      long = (let all = come_long s width limit (whole ++ part) raster b in omega (arith, all, length-append whole part, so.many, few))
+      long = (let all = come_long image (whole ++ part) raster b in omega (arith, all, length-append whole part, so.many, few))
 
       go : RowsGoOn (white_row raster.width) raster.rows (i * l) l part
       go = rows_go_on (white_row raster.width) raster.rows whole part (i * l) l b.first so.many long
 
-      goes : CourseGoes s raster i at (part ++ go.later)
-      goes = course_step s raster i at (part ++ go.later) some (inside_of (height raster) l i some within) (so.course raster first within) go.continues (length-append part go.later ∙ go.many)
+      goes : CourseGoes image.settings raster i at (part ++ go.later)
+      goes = course_step image.settings raster i at (part ++ go.later) some (inside_of (height raster) l i some within) (so.course raster first within) go.continues (length-append part go.later ∙ go.many)
 
-      p : IsBeginning bytes (stripe_bytes (next_stripe s width at (part ++ go.later)))
+      p : IsBeginning bytes (stripe_bytes (next_stripe image.settings image.width at (part ++ go.later)))
       p = begins go.later
 
   -- a stripe with all its rows
-  pub whole_more : (part : List (List Bool)) → length part ≡ l → StripesWhole s width limit (i + 1) (whole ++ part) (next_encoder_start s width at part) (front ++ stripe_bytes (next_stripe s width at part))
+  pub whole_more : (part : List (List Bool)) → length part ≡ l → StripesWhole image (i + 1) (whole ++ part) (next_encoder_start image.settings image.width at part) (front ++ stripe_bytes (next_stripe image.settings image.width at part))
   whole_more part enough = record {
     many = sum;
     front_is = λ raster b. stripe_more part raster b (within raster b) (all raster b);
-    course = λ raster b more. subst (λ w. CourseAt s raster (i + 1) (next_encoder_start s w at part)) b.width_is
+    course = λ raster b more. subst (λ w. CourseAt image.settings raster (i + 1) (next_encoder_start image.settings w at part)) b.width_is
         ((stripe_comes part raster b (within raster b) (all raster b)).next (inside_of (height raster) l (i + 1) some more));
   } where
     sum : length (whole ++ part) ≡ (i + 1) * l
     sum = let product : (i + 1) * l ≡ i * l + 1 * l = Rattle.std.proofs.Math.Nat.add-mul i 1 l in omega (arith, length-append whole part, so.many, enough, product)
 
-    long : (raster : Raster) → MayCome s width limit (whole ++ part) raster → i * l + l ≤ height raster
-    long raster b = (let has = come_long s width limit (whole ++ part) raster b in omega (arith, has, length-append whole part, so.many, enough))
+    long : (raster : Raster) → MayCome image (whole ++ part) raster → i * l + l ≤ height raster
+    long raster b = (let has = come_long image (whole ++ part) raster b in omega (arith, has, length-append whole part, so.many, enough))
 
-    within : (raster : Raster) → MayCome s width limit (whole ++ part) raster → i * l < height raster
+    within : (raster : Raster) → MayCome image (whole ++ part) raster → i * l < height raster
     within raster b = omega (arith, long raster b, some)
 
-    all : (raster : Raster) → MayCome s width limit (whole ++ part) raster → length part ≡ min l (height raster - i * l)
+    all : (raster : Raster) → MayCome image (whole ++ part) raster → length part ≡ min l (height raster - i * l)
     all raster b = omega (arith, long raster b, enough)

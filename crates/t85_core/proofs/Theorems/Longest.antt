@@ -7,7 +7,7 @@ use Rattle.std.proofs.lemmas.List.{length-map}
 use Rattle.std.proofs.Math.Nat.{mul-le-mul_right}
 use Rattle.raster_core.specs.Raster.{white_row}
 use Rattle.raster_core.specs.Lines.{Mode, numbers_from, IsLegalFlag}
-use Rattle.t85_core.specs.Coding.{Coding, events_of_row, events_of, learned_at, place_of, begun, HasLegalFlags, mode_of, move_of}
+use Rattle.t85_core.specs.Coding.{Coding, events_of_row, events_of, learned_at, place_of, begun, HasLegalFlags, mode_of, move_of, flagged}
 use Rattle.t85_core.specs.Header.{Fields, IsAccepted}
 use Rattle.t85_core.specs.Grammar.{Stripe}
 use Rattle.t85_core.specs.Denotes.{coding_in}
@@ -122,7 +122,7 @@ module _ (w : ℕ) (mode : Mode) (l : ℕ) (some : 0 < l) (moves : List (Option 
 
 module _ (q : CoderLaws) (h : Fields) (height : ℕ) (ok : IsAccepted h) (stripes : List Stripe) (n : ℕ) (code : List ℕ) (last : length stripes ≡ n + 1) where
   abbrev Decided : List Bool → List (List Bool) → Type 0
-  Decided flags rows = AreDecided h height stripes n code flags rows
+  Decided flags rows = AreDecided h height stripes n code (flagged rows flags)
 
   abbrev the_moves : List (Option (ℕ × ℕ))
   the_moves = map (λ s. move_of s.segments) stripes

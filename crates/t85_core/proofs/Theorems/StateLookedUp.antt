@@ -6,7 +6,7 @@ use Rattle.qm_core.specs.Place.{after}
 use Rattle.raster_core.specs.Raster.{row_above, white_row}
 use Rattle.raster_core.specs.Lines.{Lines, row_events, numbers_from, IsLegalFlag}
 use Rattle.t85_core.specs.Coding.{Coding, fresh_stripe, top_of, lines_of, moved_at, offset_of, last_or, previous_of, flag_of, events_of_row, learned_at, begun}
-use Rattle.t85_core.specs.Steps.State.{RowStart, StripeStart, offset_at, lines_with, after_row, first_row_start, Run}
+use Rattle.t85_core.specs.Steps.State.{RowStart, StripeStart, offset_at, lines_with, after_row, first_row_start, Run, row_coding}
 use Rattle.t85_core.specs.Steps.Looked.{offset_before, flag_before, top, CarryAt}
 use Rattle.t85_core.proofs.Bytes.Elements.{Continues, continues_first, continues_rest}
 use Rattle.t85_core.proofs.Theorems.Joined.{one_row_more, one_more_move, fresh_le, stripe_at, top_in, row_above_step, row_here}
@@ -135,7 +135,7 @@ module _ (c : Coding) (i : ℕ) where
   pub rows_run : (move : Option (ℕ × ℕ)) → slice_index_or c.moves i None ≡ move → (rows : List (List Bool)) (flags : List Bool) (r y : ℕ) (b last : RowStart) →
       r + length rows ≤ c.stripe_rows → y ≡ i * c.stripe_rows + r → CarriedAt c i r y b →
       Continues (white_row c.raster.width) c.raster.rows y rows → Continues false c.flags y flags →
-      Run c.raster.width c.mode move r b rows flags last → Ran r y (length rows) last
+      Run (row_coding c.raster.width c.mode move) r b rows flags last → Ran r y (length rows) last
   rows_run move move_is [] [] r y b last few y_is h rows_at flags_at run =
       let r0 : r ≡ r + 0 = omega arith in
       let y0 : y ≡ y + 0 = omega arith in

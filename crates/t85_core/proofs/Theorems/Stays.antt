@@ -7,7 +7,7 @@ use Rattle.std.proofs.lemmas.List.{length-map}
 use Rattle.std.proofs.Math.Nat.{mul-le-mul_right, lt_of_mul-lt-mul_right}
 use Rattle.raster_core.specs.Raster.{Raster, white_row}
 use Rattle.raster_core.specs.Lines.{numbers_from, IsLegalFlag}
-use Rattle.t85_core.specs.Coding.{events_of_row, events_of, learned_at, place_of, begun, HasLegalFlags, mode_of, move_of}
+use Rattle.t85_core.specs.Coding.{events_of_row, events_of, learned_at, place_of, begun, HasLegalFlags, mode_of, move_of, flagged}
 use Rattle.t85_core.specs.Header.{Fields, IsAccepted}
 use Rattle.t85_core.specs.Grammar.{Segment, Stripe}
 use Rattle.t85_core.specs.Denotes.{EachLies, coding_in, DenotesAt}
@@ -85,7 +85,7 @@ module _ (q : CoderLaws) (h : Fields) (height : ℕ) (ok : IsAccepted h) (stripe
   in_short i le = omega (arith, le, length-map short (λ (s : Stripe). s.code), begun_length stripes segments code)
 
   -- a code that goes on still lies where the decided rows lead
-  pub long_lies : (flags : List Bool) (rows : List (List Bool)) → AreDecided h height short n code flags rows → EachLies (coding_in h long flags rows) (map (λ (s : Stripe). s.code) long)
+  pub long_lies : (flags : List Bool) (rows : List (List Bool)) → AreDecided h height short n code (flagged rows flags) → EachLies (coding_in h long flags rows) (map (λ (s : Stripe). s.code) long)
   long_lies flags rows d i lt = went (cases_lt i n) where
     small : i < n + 1
     small = omega (arith, lt, length-map long (λ (s : Stripe). s.code), begun_length stripes segments (code ++ more))
@@ -103,10 +103,10 @@ module _ (q : CoderLaws) (h : Fields) (height : ℕ) (ok : IsAccepted h) (stripe
         (subst (λ u. Lies u (place_of (coding_in h short flags rows) n)) (code_at code) (d.lies n (in_short n (omega arith))))
         (bytes_in_start (code ++ more) (bytes_both code more bytes others)))))
 
-  pub long_legal : (flags : List Bool) (rows : List (List Bool)) → AreDecided h height short n code flags rows → HasLegalFlags (coding_in h long flags rows)
+  pub long_legal : (flags : List Bool) (rows : List (List Bool)) → AreDecided h height short n code (flagged rows flags) → HasLegalFlags (coding_in h long flags rows)
   long_legal flags rows d = subst HasLegalFlags (same_coding flags rows) d.legal
 
-  pub long_lying : (flags : List Bool) (rows : List (List Bool)) → AreDecided h height short n code flags rows → AreLying h long n flags rows
+  pub long_lying : (flags : List Bool) (rows : List (List Bool)) → AreDecided h height short n code (flagged rows flags) → AreLying h long n flags rows
   long_lying flags rows d = record { wide = d.wide; from = d.from; to = (let to = d.to in omega (arith, to)); legal = long_legal flags rows d; lies = long_lies flags rows d }
 
   -- ---- a whole raster, cut after as many rows
@@ -254,7 +254,7 @@ lying_in_raster q h height stripes segments code more reset later flags rows bod
 pub lying_in_rows : (q : CoderLaws) (h : Fields) (height : ℕ) (stripes : List Stripe) (segments : List Segment) (code more : List ℕ) (reset : Bool) (later : List Stripe) (flags : List Bool) (rows : List (List Bool))
     (all : List Stripe) (segments' : List Segment) (code' : List ℕ) (flags' : List Bool) (rows' : List (List Bool)) →
     IsAccepted h → IsBytes code → IsBytes more → AreLying h (begun_stripes stripes segments (code ++ more)) (length stripes) flags rows →
-    AreDecided h height (begun_stripes all segments' code') (length all) code' flags' rows' → all ≡ stripes ++ record { segments = segments; code = code ++ more; reset = reset } ∷ later →
+    AreDecided h height (begun_stripes all segments' code') (length all) code' (flagged rows' flags') → all ≡ stripes ++ record { segments = segments; code = code ++ more; reset = reset } ∷ later →
     take (length rows) rows' ≡ rows
 lying_in_rows q h height stripes segments code more reset later flags rows all segments' code' flags' rows' ok bytes others d p e =
     let behind : length stripes + 1 ≤ length all = (let k = ap length e ∙ length-append stripes (broken_one segments (code ++ more) reset ∷ later) in omega (arith, k)) in
@@ -271,8 +271,8 @@ lying_in_rows q h height stripes segments code more reset later flags rows all s
 
 -- what a code decides, it decides where it goes on
 pub decided_longer : (q : CoderLaws) (h : Fields) (height : ℕ) (stripes : List Stripe) (segments : List Segment) (code more : List ℕ) (flags : List Bool) (rows : List (List Bool)) →
-    IsAccepted h → IsBytes code → IsBytes more → AreDecided h height (begun_stripes stripes segments code) (length stripes) code flags rows →
-    AreDecided h height (begun_stripes stripes segments (code ++ more)) (length stripes) (code ++ more) flags rows
+    IsAccepted h → IsBytes code → IsBytes more → AreDecided h height (begun_stripes stripes segments code) (length stripes) code (flagged rows flags) →
+    AreDecided h height (begun_stripes stripes segments (code ++ more)) (length stripes) (code ++ more) (flagged rows flags)
 decided_longer q h height stripes segments code more flags rows ok bytes others d =
     let l = long_lying q h height ok stripes segments code more bytes others flags rows d in
     record {
@@ -288,7 +288,7 @@ decided_longer q h height stripes segments code more flags rows ok bytes others 
     }
 
 pub decided_stays_at : (q : CoderLaws) (h : Fields) (height : ℕ) (stripes : List Stripe) (segments : List Segment) (code more : List ℕ) (reset : Bool) (later : List Stripe) (flags : List Bool) (rows : List (List Bool)) (body : List ℕ) (raster : Raster) →
-    IsAccepted h → IsBytes code → IsBytes more → AreDecided h height (begun_stripes stripes segments code) (length stripes) code flags rows →
+    IsAccepted h → IsBytes code → IsBytes more → AreDecided h height (begun_stripes stripes segments code) (length stripes) code (flagged rows flags) →
     (p : DenotesAt h height body raster) → p.parts.stripes ≡ stripes ++ record { segments = segments; code = code ++ more; reset = reset } ∷ later →
     take (length rows) raster.rows ≡ rows
 decided_stays_at q h height stripes segments code more reset later flags rows body raster ok bytes others d p e =

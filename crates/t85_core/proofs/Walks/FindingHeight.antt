@@ -9,7 +9,8 @@ use Rattle.t85_core.specs.Grammar.{stripe_count}
 use Rattle.t85_core.specs.Height.{IsHeight}
 use Rattle.t85_core.specs.Failures.{Ends, reads_after}
 use Rattle.t85_core.specs.Decode.{FindHeight}
-use Rattle.t85_core.specs.Steps.HeightWalk.{SkipsFault, FindsGiven, FindsOpen}
+use Rattle.t85_core.specs.Steps.HeightWalk.{SkipsFault, FindsGiven, FindsOpen, search_place, search_end}
+use Rattle.t85_core.specs.Steps.Buffers.{reading}
 use Rattle.t85_core.proofs.Walks.HeightFound.{skipped_height, open_of_skipped}
 use Rattle.t85_core.proofs.Walks.Found.{skips_faults}
 use Rattle.t85_core.proofs.Bytes.Held.{Keeps-same}
@@ -41,7 +42,7 @@ fixed_height h ok known reads fixed = headers_height h ok known known reads read
   went (Some body) = inr (refl, λ n g. true≢false (sym g.variable ∙ fixed))
 
 -- it was given
-pub height_given : (h : Fields) → IsAccepted h → (old mid new : Option (List ℕ)) (reads_old reads_new entities moves comments part_moves part_comments n : ℕ) → FindsGiven h old mid entities moves comments part_moves part_comments n → reads_new ≡ reads_old →
+pub height_given : (h : Fields) → IsAccepted h → (old mid new : Option (List ℕ)) (reads_old reads_new entities moves comments part_moves part_comments n : ℕ) → FindsGiven h (reading old mid) (search_end entities moves comments part_moves part_comments) n → reads_new ≡ reads_old →
     FindHeight h (between old new reads_old reads_new) (Ok n)
 height_given h ok old mid new reads_old reads_new entities moves comments part_moves part_comments n f counted = record {
   found = given_height h ok old mid entities moves comments part_moves part_comments n f;
@@ -55,7 +56,7 @@ height_given h ok old mid new reads_old reads_new entities moves comments part_m
 }
 
 -- the stream breaks before it is given
-pub height_broken : (h : Fields) → IsAccepted h → (old mid new : Option (List ℕ)) (reads_old reads_new : ℕ) (f : Fault) → Ends Truncated old mid (SkipsFault h 0 (stripe_count h.yd h.l0) false false) f → f ≢ Read → reads_new ≡ reads_after f reads_old → is_variable h ≡ true →
+pub height_broken : (h : Fields) → IsAccepted h → (old mid new : Option (List ℕ)) (reads_old reads_new : ℕ) (f : Fault) → Ends Truncated old mid (SkipsFault h (search_place 0 false false) (stripe_count h.yd h.l0)) f → f ≢ Read → reads_new ≡ reads_after f reads_old → is_variable h ≡ true →
     FindHeight h (between old new reads_old reads_new) (Ok h.yd)
 height_broken h ok old mid new reads_old reads_new f e other counted variable =
     headers_height h ok old new reads_old reads_new (skipped_height h ok old mid f e other)

@@ -9,9 +9,10 @@ use Rattle.t85_core.specs.declared.fault.Fault.TheVariants.{Truncated}
 use Rattle.t85_core.specs.Header.{Fields}
 use Rattle.t85_core.specs.Grammar.{Segment, segment_bytes, is_move, is_nil, lengths, all_segments, Stripe, stripe_bytes, marker_bytes, stripe_count, IsLegal, IsBegun, AreStripes, GiveOnly, Parts}
 use Rattle.t85_core.specs.Refusal.{rest_fault, StripesFault}
-use Rattle.t85_core.specs.Steps.HeightWalk.{moved_behind, IsAlone, SkipFault, SkipsStripes, SkipsFault, Sought}
+use Rattle.t85_core.specs.Steps.HeightWalk.{moved_behind, IsAlone, SkipFault, SkipsStripes, SkipsFault, Sought, search_place, search_end, segment_counts}
 use Rattle.t85_core.specs.Failures.{Ends, counted_as}
 use Rattle.t85_core.specs.Info.{IsWalkFault}
+use Rattle.t85_core.specs.Steps.Buffers.{reading}
 use Rattle.t85_core.proofs.Grammar.Faults.{rest_faults, uncounted}
 use Rattle.t85_core.proofs.Bytes.Lists.{All-append}
 use Rattle.t85_core.proofs.Bytes.Lengths.{many_lengths, gives_none, gives_both, gives_left, gives_right}
@@ -79,7 +80,7 @@ module _ (h : Fields) (height : ℕ) (ss : List Stripe) (front : List Segment) (
 
   -- a stripe that breaks after them
   broken_in : (count : ℕ) (ts : List Stripe) (tail : List ℕ) (f : Fault) → length ss + length ts < count → AreStripes h ts → IsAlone moved ts → lengths (all_segments ts) ≡ [] →
-      SkipFault h (length ss + length ts) given (moved_behind moved ts) tail f → StripesFault h height count (flat_map stripe_bytes ss ++ (flat_map segment_bytes front ++ (flat_map stripe_bytes ts ++ tail))) f
+      SkipFault h (search_place (length ss + length ts) given (moved_behind moved ts)) tail f → StripesFault h height count (flat_map stripe_bytes ss ++ (flat_map segment_bytes front ++ (flat_map stripe_bytes ts ++ tail))) f
   broken_in count [] tail f fewer all alone none q = record {
     stripes = ss;
     tail = flat_map segment_bytes front ++ tail;
@@ -128,9 +129,9 @@ module _ (h : Fields) (height : ℕ) (ss : List Stripe) (front : List Segment) (
     };
   }
 
-  pub broken_behind : (from count : ℕ) (bytes : List ℕ) (f : Fault) → from ≡ length ss → SkipsFault h from count given moved bytes f → StripesFault h height count (flat_map stripe_bytes ss ++ (flat_map segment_bytes front ++ bytes)) f
+  pub broken_behind : (from count : ℕ) (bytes : List ℕ) (f : Fault) → from ≡ length ss → SkipsFault h (search_place from given moved) count bytes f → StripesFault h height count (flat_map stripe_bytes ss ++ (flat_map segment_bytes front ++ bytes)) f
   broken_behind from count bytes f at q =
-      let q' : SkipsFault h (length ss) count given moved bytes f = subst (λ n. SkipsFault h n count given moved bytes f) at q in
+      let q' : SkipsFault h (search_place (length ss) given moved) count bytes f = subst (λ n. SkipsFault h (search_place n given moved) count bytes f) at q in
       subst (λ z. StripesFault h height count (flat_map stripe_bytes ss ++ (flat_map segment_bytes front ++ z)) f) (sym q'.bytes_are)
       (broken_in count q'.stripes q'.tail f q'.fewer q'.each q'.alone q'.none q'.tail_has)
 
@@ -162,12 +163,12 @@ which_end : (f : Fault) → (f ≡ Truncated) ⊎ (f ≢ Truncated)
 which_end Truncated = inl refl
 which_end f = inr (λ e. cc)
 
-pub skips_longer : (h : Fields) (from count : ℕ) (given moved : Bool) (bytes more : List ℕ) (f : Fault) → SkipsFault h from count given moved bytes f → (f ≡ Truncated) ⊎ SkipsFault h from count given moved (bytes ++ more) f
+pub skips_longer : (h : Fields) (from count : ℕ) (given moved : Bool) (bytes more : List ℕ) (f : Fault) → SkipsFault h (search_place from given moved) count bytes f → (f ≡ Truncated) ⊎ SkipsFault h (search_place from given moved) count (bytes ++ more) f
 skips_longer h from count given moved bytes more f p = went (which_end f) where
-  q : SkipFault h (from + length p.stripes) given (moved_behind moved p.stripes) p.tail f
+  q : SkipFault h (search_place (from + length p.stripes) given (moved_behind moved p.stripes)) p.tail f
   q = p.tail_has
 
-  longer : f ≢ Truncated → SkipFault h (from + length p.stripes) given (moved_behind moved p.stripes) (p.tail ++ more) f
+  longer : f ≢ Truncated → SkipFault h (search_place (from + length p.stripes) given (moved_behind moved p.stripes)) (p.tail ++ more) f
   longer other = record {
     segments = q.segments;
     code = q.code;
@@ -183,7 +184,7 @@ skips_longer h from count given moved bytes more f p = went (which_end f) where
     stays n (inl e) = absurd (other e)
     stays n (inr e) = e
 
-  went : (f ≡ Truncated) ⊎ (f ≢ Truncated) → (f ≡ Truncated) ⊎ SkipsFault h from count given moved (bytes ++ more) f
+  went : (f ≡ Truncated) ⊎ (f ≢ Truncated) → (f ≡ Truncated) ⊎ SkipsFault h (search_place from given moved) count (bytes ++ more) f
   went (inl e) = inl e
   went (inr other) = inr (record {
     stripes = p.stripes;
@@ -197,14 +198,14 @@ skips_longer h from count given moved bytes more f p = went (which_end f) where
   })
 
 -- it is one of a walk
-pub skips_faults : (h : Fields) (from count : ℕ) (given moved : Bool) {old new : Option (List ℕ)} {f : Fault} → Ends Truncated old new (SkipsFault h from count given moved) f → IsWalkFault f
+pub skips_faults : (h : Fields) (from count : ℕ) (given moved : Bool) {old new : Option (List ℕ)} {f : Fault} → Ends Truncated old new (SkipsFault h (search_place from given moved) count) f → IsWalkFault f
 skips_faults h from count given moved {f = f} e =
     let q = e.has_fault in
     uncounted Truncated f (rest_faults h (record { height = 0; entities = from + length q.stripes; heights = cond given 1 0 }) (cond (moved_behind moved q.stripes) 1 0 + count_by is_move q.tail_has.segments) (not (is_nil q.tail_has.code)) q.tail_has.rest
     (counted_as Truncated f) (q.tail_has.rest_has 0))
 
 -- no height comes after one
-pub sought_whole : (h : Fields) (from count : ℕ) (moved : Bool) (old new : Option (List ℕ)) (entities moves comments part_moves part_comments : ℕ) (o : Option ℕ) → Sought h from count true moved old new entities moves comments part_moves part_comments o →
-    SkipsStripes h moved (count - from) old new moves comments
+pub sought_whole : (h : Fields) (from count : ℕ) (moved : Bool) (old new : Option (List ℕ)) (entities moves comments part_moves part_comments : ℕ) (o : Option ℕ) → Sought h (search_place from true moved) count (reading old new) (search_end entities moves comments part_moves part_comments) o →
+    SkipsStripes h moved (count - from) (reading old new) (segment_counts moves comments)
 sought_whole h from count moved old new entities moves comments part_moves part_comments None s = s.2
 sought_whole h from count moved old new entities moves comments part_moves part_comments (Some n) s = absurd (true≢false s.1.part.ungiven)

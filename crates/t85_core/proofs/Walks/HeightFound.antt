@@ -12,7 +12,8 @@ use Rattle.t85_core.specs.Grammar.{Segment, NewLength, Move, Comment, segment_by
 use Rattle.t85_core.specs.Refusal.{rest_fault, StripesFault}
 use Rattle.t85_core.specs.Height.{GivesHeight, IsHeight, IsOpen}
 use Rattle.t85_core.specs.Failures.{Ends}
-use Rattle.t85_core.specs.Steps.HeightWalk.{moved_behind, SkipsStripes, SkipsFault, Sought, LooksTo, LookEnds, LookOpen, FindsGiven, FindsNone, Finds, FindsOpen, BodyRefused, BodyUnfinished}
+use Rattle.t85_core.specs.Steps.HeightWalk.{moved_behind, SkipsStripes, SkipsFault, Sought, LooksTo, LookEnds, LookOpen, FindsGiven, FindsNone, Finds, FindsOpen, BodyRefused, BodyUnfinished, search_place, search_end, segment_counts}
+use Rattle.t85_core.specs.Steps.Buffers.{reading}
 use Rattle.t85_core.proofs.Bytes.Streams.{Consumes-more}
 use Rattle.t85_core.proofs.Bytes.Lengths.{lengths_append, gives_none, valid_parts}
 use Rattle.t85_core.proofs.Walks.Segments.{length_whole}
@@ -30,7 +31,7 @@ none_some : {f : Fault} → None ≡ Some f → ⊥
 none_some e = cc
 
 -- at each height the body has this fault
-abbrev pub broken_at : (h : Fields) (height count : ℕ) (body : List ℕ) (f : Fault) → SkipsFault h 0 count false false body f → StripesFault h height count body f
+abbrev pub broken_at : (h : Fields) (height count : ℕ) (body : List ℕ) (f : Fault) → SkipsFault h (search_place 0 false false) count body f → StripesFault h height count body f
 broken_at h height count body f q = record {
   stripes = q.stripes;
   tail = q.tail;
@@ -59,17 +60,17 @@ some_map None k p = tt
 some_map (Some x) k p = k x p
 
 -- what is after the bytes that came belongs to the body, too
-pub skipped_whole : (h : Fields) (from count : ℕ) (given moved : Bool) (old new : Option (List ℕ)) (f : Fault) → Ends Truncated old new (SkipsFault h from count given moved) f → f ≢ Read → IfSome old (λ body. SkipsFault h from count given moved body f)
+pub skipped_whole : (h : Fields) (from count : ℕ) (given moved : Bool) (old new : Option (List ℕ)) (f : Fault) → Ends Truncated old new (SkipsFault h (search_place from given moved) count) f → f ≢ Read → IfSome old (λ body. SkipsFault h (search_place from given moved) count body f)
 skipped_whole h from count given moved old new f e other = went old new e.taken e.at_end where
-  went : (old new : Option (List ℕ)) → Consumes old new e.given → (f ≡ Truncated → IsAtEnd new) → IfSome old (λ body. SkipsFault h from count given moved body f)
+  went : (old new : Option (List ℕ)) → Consumes old new e.given → (f ≡ Truncated → IsAtEnd new) → IfSome old (λ body. SkipsFault h (search_place from given moved) count body f)
   went None new taken end = tt
   went (Some body) None taken end = absurd taken
-  went (Some body) (Some left) taken end = subst (λ z. SkipsFault h from count given moved z f) (sym taken) (all (skips_longer h from count given moved e.given left f has)) where
-    has : SkipsFault h from count given moved e.given f
-    has = subst (SkipsFault h from count given moved e.given) (counted-other Truncated f other) e.has_fault
+  went (Some body) (Some left) taken end = subst (λ z. SkipsFault h (search_place from given moved) count z f) (sym taken) (all (skips_longer h from count given moved e.given left f has)) where
+    has : SkipsFault h (search_place from given moved) count e.given f
+    has = subst (SkipsFault h (search_place from given moved) count e.given) (counted-other Truncated f other) e.has_fault
 
-    all : (f ≡ Truncated) ⊎ SkipsFault h from count given moved (e.given ++ left) f → SkipsFault h from count given moved (e.given ++ left) f
-    all (inl ended) = subst (λ z. SkipsFault h from count given moved z f) (sym (ap (λ z. e.given ++ z) (end ended) ∙ append-nil e.given)) has
+    all : (f ≡ Truncated) ⊎ SkipsFault h (search_place from given moved) count (e.given ++ left) f → SkipsFault h (search_place from given moved) count (e.given ++ left) f
+    all (inl ended) = subst (λ z. SkipsFault h (search_place from given moved) count z f) (sym (ap (λ z. e.given ++ z) (end ended) ∙ append-nil e.given)) has
     all (inr q) = q
 
 -- a header's fields are accepted
@@ -88,7 +89,7 @@ accepted header = record {
 
 module _ (h : Fields) (ok : IsAccepted h) where
   -- and gives no height
-  pub height_of_skipped : (body : List ℕ) (f : Fault) → SkipsFault h 0 (stripe_count h.yd h.l0) false false body f → IsHeight h body h.yd
+  pub height_of_skipped : (body : List ℕ) (f : Fault) → SkipsFault h (search_place 0 false false) (stripe_count h.yd h.l0) body f → IsHeight h body h.yd
   height_of_skipped body f q = inr (refl, never) where
     b : StripesFault h 0 (stripe_count h.yd h.l0) body f
     b = broken_at h 0 (stripe_count h.yd h.l0) body f q
@@ -122,11 +123,11 @@ module _ (h : Fields) (ok : IsAccepted h) where
           (q.tail_has.rest_has n))
 
   -- the body is refused at the header's height
-  pub skipped_refused : (old new : Option (List ℕ)) (f : Fault) → Ends Truncated old new (SkipsFault h 0 (stripe_count h.yd h.l0) false false) f → f ≢ Read → IfSome old (BodyRefused h f)
+  pub skipped_refused : (old new : Option (List ℕ)) (f : Fault) → Ends Truncated old new (SkipsFault h (search_place 0 false false) (stripe_count h.yd h.l0)) f → f ≢ Read → IfSome old (BodyRefused h f)
   skipped_refused old new f e other = some_map old (λ body q. record { height = h.yd; height_is = height_of_skipped body f q; broken = broken_at h h.yd (stripe_count h.yd h.l0) body f q })
       (skipped_whole h 0 (stripe_count h.yd h.l0) false false old new f e other)
 
-  pub skipped_height : (old new : Option (List ℕ)) (f : Fault) → Ends Truncated old new (SkipsFault h 0 (stripe_count h.yd h.l0) false false) f → f ≢ Read → IfSome old (λ body. IsHeight h body h.yd)
+  pub skipped_height : (old new : Option (List ℕ)) (f : Fault) → Ends Truncated old new (SkipsFault h (search_place 0 false false) (stripe_count h.yd h.l0)) f → f ≢ Read → IfSome old (λ body. IsHeight h body h.yd)
   skipped_height old new f e other = some_map old (λ body q. height_of_skipped body f q) (skipped_whole h 0 (stripe_count h.yd h.l0) false false old new f e other)
 
   pub open_unfinished : (given : List ℕ) → FindsOpen h given → BodyUnfinished h given
@@ -159,15 +160,15 @@ module _ (h : Fields) (ok : IsAccepted h) where
 
   -- ---- what was found
 
-  pub found_given : (old new : Option (List ℕ)) (count entities moves comments part_moves part_comments n : ℕ) → count ≡ stripe_count h.yd h.l0 → Sought h 0 count false false old new entities moves comments part_moves part_comments (Some n) →
-      FindsGiven h old new entities moves comments part_moves part_comments n
+  pub found_given : (old new : Option (List ℕ)) (count entities moves comments part_moves part_comments n : ℕ) → count ≡ stripe_count h.yd h.l0 → Sought h (search_place 0 false false) count (reading old new) (search_end entities moves comments part_moves part_comments) (Some n) →
+      FindsGiven h (reading old new) (search_end entities moves comments part_moves part_comments) n
   found_given old new count entities moves comments part_moves part_comments n all s =
       let so = s.1 in
       let same : so.count ≡ entities = (let e = so.entities_are in omega (arith, e)) in
       let less : entities < stripe_count h.yd h.l0 = (let l = s.0 in omega (arith, l, all)) in
       record {
         mid = so.mid;
-        before = subst (λ k. SkipsStripes h false k old so.mid moves comments) same so.before;
+        before = subst (λ k. SkipsStripes h false k (reading old so.mid) (segment_counts moves comments)) same so.before;
         segments = so.part.segments;
         begun = so.part.begun;
         none = so.part.none;
@@ -180,22 +181,22 @@ module _ (h : Fields) (ok : IsAccepted h) where
         taken = so.part.taken;
       }
 
-  module _ (old mid : Option (List ℕ)) (count entities moves comments part_moves part_comments : ℕ) (all : count ≡ stripe_count h.yd h.l0) (s : Sought h 0 count false false old mid entities moves comments part_moves part_comments None) where
+  module _ (old mid : Option (List ℕ)) (count entities moves comments part_moves part_comments : ℕ) (all : count ≡ stripe_count h.yd h.l0) (s : Sought h (search_place 0 false false) count (reading old mid) (search_end entities moves comments part_moves part_comments) None) where
     many : entities ≡ stripe_count h.yd h.l0
     many = s.0 ∙ all
 
-    before : SkipsStripes h false entities old mid moves comments
-    before = let e : count - 0 ≡ entities = (let a = s.0 in omega (arith, a)) in subst (λ k. SkipsStripes h false k old mid moves comments) e s.2
+    before : SkipsStripes h false entities (reading old mid) (segment_counts moves comments)
+    before = let e : count - 0 ≡ entities = (let a = s.0 in omega (arith, a)) in subst (λ k. SkipsStripes h false k (reading old mid) (segment_counts moves comments)) e s.2
 
     -- the header's height is fixed
-    pub found_fixed : is_variable h ≡ false → FindsNone h old mid entities moves comments
+    pub found_fixed : is_variable h ≡ false → FindsNone h (reading old mid) entities (segment_counts moves comments)
     found_fixed fixed = record { mid = mid; before = before; all = many; height_is = went old } where
       went : (old : Option (List ℕ)) → IfSome old (λ body. IsHeight h body h.yd)
       went None = tt
       went (Some body) = inr (refl, λ n g. true≢false (sym g.variable ∙ fixed))
 
     -- no height is after the stripes
-    found_none : IfSome mid (LookEnds h entities) → FindsNone h old mid entities moves comments
+    found_none : IfSome mid (LookEnds h entities) → FindsNone h (reading old mid) entities (segment_counts moves comments)
     found_none looked = record { mid = mid; before = before; all = many; height_is = went old mid before.taken looked } where
       went : (old mid : Option (List ℕ)) → Consumes old mid (flat_map stripe_bytes before.stripes) → IfSome mid (LookEnds h entities) → IfSome old (λ body. IsHeight h body h.yd)
       went None mid taken l = tt
@@ -203,7 +204,7 @@ module _ (h : Fields) (ok : IsAccepted h) where
       went (Some body) (Some rest) taken l = height_of_ended h ok body before.stripes rest l.segments l.last (before.count_is ∙ many) before.each (gives_none 0 0 (all_segments before.stripes) (omega arith) before.none) taken l.are.comments l.are.legal
           (λ n z valid e. l.no_height n z (subst (λ k. is_valid_length h k n ≡ true) before.count_is valid) e) l.no_comment l.rest_is
 
-    found_behind : (new : Option (List ℕ)) (n : ℕ) → LooksTo h entities mid new n → FindsGiven h old new entities moves comments part_moves part_comments n
+    found_behind : (new : Option (List ℕ)) (n : ℕ) → LooksTo h entities mid new n → FindsGiven h (reading old new) (search_end entities moves comments part_moves part_comments) n
     found_behind new n l = record {
       mid = mid;
       before = before;
@@ -225,7 +226,7 @@ module _ (h : Fields) (ok : IsAccepted h) where
       no_moves (Comment text ∷ cs) c = no_moves cs c.1
 
     -- the look answered
-    pub found_looking : (new : Option (List ℕ)) (height : Option ℕ) → IfSome height (LooksTo h entities mid new) → (height ≡ None → IfSome mid (LookEnds h entities)) → Finds h old new entities moves comments part_moves part_comments height
+    pub found_looking : (new : Option (List ℕ)) (height : Option ℕ) → IfSome height (LooksTo h entities mid new) → (height ≡ None → IfSome mid (LookEnds h entities)) → Finds h (reading old new) (search_end entities moves comments part_moves part_comments) height
     found_looking new None found none = (let r = found_none (none refl) in record { mid = r.mid; before = r.before; all = r.all; height_is = r.height_is })
     found_looking new (Some n) found none = found_behind new n found
 

@@ -18,7 +18,7 @@ use Rattle.t85_core.specs.Header.{Fields, is_variable, HeaderOf, header_fault}
 use Rattle.t85_core.specs.Grammar.{Segment, NewLength, Move, Comment, segment_bytes, is_move, is_comment, is_nil, lengths, Stripe, stripe_bytes, marker_bytes, all_segments, stripe_count, is_valid_length, IsLegal, IsBegun, AreStripes, GiveOnly}
 use Rattle.t85_core.specs.Refusal.{BodyFault, rest_fault}
 use Rattle.t85_core.specs.Height.{GivesHeight, IsHeight}
-use Rattle.t85_core.specs.Steps.HeightWalk.{moved_behind, IsAlone, SkipsFault, LooksTo, LookEnds}
+use Rattle.t85_core.specs.Steps.HeightWalk.{moved_behind, IsAlone, SkipsFault, LooksTo, LookEnds, search_place}
 use Rattle.t85_core.specs.Parts.{Passed, Nothing, Behind, TellsNext, TellsOfAny, passed_bytes, EndsInHeight, IsTail, IsUngiven, IsGiven, StandsBehind, Adds, IsBehind, TakesPart, IsWholeStream, BreaksAt}
 use Rattle.t85_core.specs.Steps.PartSteps.{ReadsPart, MissesPart, IsSegment, place_before, kind_of, part_told, walk_behind, is_given, height_told, stripes_in_use, header_part, header_walk, CanPass, TellsThere, TellsBehind, TellsBefore, SeesHeight, ComesOrEnds, IsDone, TailIs}
 use Rattle.t85_core.proofs.Bytes.Lists.{All-append}
@@ -358,7 +358,7 @@ module _ {stream : List ℕ} {w : PartWalk} {h : Fields} {ss : List Stripe} {gs 
     }
 
     -- before a height is given
-    skips : IsUngiven w h ss gs (drop 20 stream) → length ss < stripe_count h.yd h.l0 → SkipsFault h 0 (stripe_count h.yd h.l0) false false (drop 20 stream) f
+    skips : IsUngiven w h ss gs (drop 20 stream) → length ss < stripe_count h.yd h.l0 → SkipsFault h (search_place 0 false false) (stripe_count h.yd h.l0) (drop 20 stream) f
     skips u less = record {
       stripes = ss;
       tail = flat_map segment_bytes gs ++ drop w.offset stream;

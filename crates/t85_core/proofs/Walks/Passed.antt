@@ -13,7 +13,7 @@ use Rattle.t85_core.specs.Grammar.{Segment, NewLength, Move, Comment, lengths, G
 use Rattle.t85_core.specs.Coding.{move_of}
 use Rattle.t85_core.specs.Refusal.{Spot, spot_behind, rest_fault, StripeFault}
 use Rattle.t85_core.specs.Failures.{Ends, counted_as}
-use Rattle.t85_core.specs.Steps.Segments.{HasPassed, spot_at, CodeFault, HeadFault, PieceFault, next_bytes, IsNextItem, PassesCode, PassesSegment, PassesSegments, SegmentsFault}
+use Rattle.t85_core.specs.Steps.Segments.{HasPassed, spot_at, CodeFault, HeadFault, PieceFault, next_bytes, IsNextItem, PassesCode, PassesSegment, PassesSegments, SegmentsFault, segments_so_far}
 use Rattle.t85_core.specs.declared.segments.Next.{Next}
 use Rattle.t85_core.specs.declared.segments.Next.TheVariants as next
 use Rattle.t85_core.specs.declared.segments.Place.{Place}
@@ -34,7 +34,7 @@ few_byte : (t : Bool) → cond t 1 0 ≤ 1
 few_byte true = omega arith
 few_byte false = omega arith
 
-pub passed_none : (h : Fields) (place : Place) (before : Bool) (a : Option (List ℕ)) → HasPassed h place before a a None before place.given 0
+pub passed_none : (h : Fields) (place : Place) (before : Bool) (a : Option (List ℕ)) → HasPassed h place before a a (segments_so_far None before place.given 0)
 passed_none h place before a = record {
   segments = [];
   begun = record { legal = tt; one_move = omega arith; bytes = tt };
@@ -71,9 +71,9 @@ gives_more place segments s g k = gives_both place.height (cond place.given 1 0)
 few_moves : (before moved : Bool) (n : ℕ) → cond moved 1 0 ≡ cond before 1 0 + n → cond before 1 0 + n ≤ 1
 few_moves before moved n e = let few = few_byte moved in omega (arith, e, few)
 
-module _ {h : Fields} {place : Place} {before : Bool} {a b c : Option (List ℕ)} {at : Option move.Move} {moved given : Bool} {comments : ℕ} (p : HasPassed h place before a b at moved given comments) where
+module _ {h : Fields} {place : Place} {before : Bool} {a b c : Option (List ℕ)} {at : Option move.Move} {moved given : Bool} {comments : ℕ} (p : HasPassed h place before a b (segments_so_far at moved given comments)) where
   -- the height in use was given
-  pub passed_length : (n : ℕ) → given ≡ false → n ≡ place.height → PassesSegment h b c (NewLength n) → HasPassed h place before a c at moved true comments
+  pub passed_length : (n : ℕ) → given ≡ false → n ≡ place.height → PassesSegment h b c (NewLength n) → HasPassed h place before a c (segments_so_far at moved true comments)
   passed_length n none same s =
       let segment : Segment = NewLength n in
       let count = count_push is_move p.segments segment in
@@ -91,7 +91,7 @@ module _ {h : Fields} {place : Place} {before : Bool} {a b c : Option (List ℕ)
         taken = subst (λ z. Consumes a c z) (sym (flat_map_push segment_bytes p.segments segment)) (Consumes-more a b c _ _ p.taken s.taken);
       }
 
-  pub passed_move : (to : move.Move) → moved ≡ false → PassesSegment h b c (Move to.row to.offset) → HasPassed h place before a c (Some to) true given comments
+  pub passed_move : (to : move.Move) → moved ≡ false → PassesSegment h b c (Move to.row to.offset) → HasPassed h place before a c (segments_so_far (Some to) true given comments)
   passed_move to none s =
       let segment : Segment = Move to.row to.offset in
       let no_move : cond before 1 0 + count_by is_move p.segments ≡ 0 = sym p.counted ∙ ap (λ t. cond t 1 0) none in
@@ -110,7 +110,7 @@ module _ {h : Fields} {place : Place} {before : Bool} {a b c : Option (List ℕ)
         taken = subst (λ z. Consumes a c z) (sym (flat_map_push segment_bytes p.segments segment)) (Consumes-more a b c _ _ p.taken s.taken);
       }
 
-  pub passed_comment : (more_comments : ℕ) (text : List ℕ) → PassesSegment h b c (Comment text) → more_comments ≡ min (comments + 1) (2 ^ 64 - 1) → HasPassed h place before a c at moved given more_comments
+  pub passed_comment : (more_comments : ℕ) (text : List ℕ) → PassesSegment h b c (Comment text) → more_comments ≡ min (comments + 1) (2 ^ 64 - 1) → HasPassed h place before a c (segments_so_far at moved given more_comments)
   passed_comment more_comments text s told =
       let segment : Segment = Comment text in
       let count = count_push is_move p.segments segment in

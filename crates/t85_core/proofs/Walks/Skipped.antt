@@ -16,7 +16,8 @@ use Rattle.t85_core.specs.Grammar.{segment_bytes, is_move, lengths, all_segments
 use Rattle.t85_core.specs.Refusal.{rest_fault}
 use Rattle.t85_core.specs.Failures.{Ends}
 use Rattle.t85_core.specs.Steps.Segments.{IsNextItem, next_bytes, PassesSegments, SegmentsFault}
-use Rattle.t85_core.specs.Steps.HeightWalk.{PassesRest, RestBreaks, SkipsStripe, SkipsTo, SkipFault, moved_behind, IsAlone, SkipsStripes, SkipsStripesTo, SkipsFault}
+use Rattle.t85_core.specs.Steps.HeightWalk.{PassesRest, RestBreaks, SkipsStripe, SkipsTo, SkipFault, moved_behind, IsAlone, SkipsStripes, SkipsStripesTo, SkipsFault, search_place, search_end, segment_counts}
+use Rattle.t85_core.specs.Steps.Buffers.{reading}
 use Rattle.t85_core.proofs.Bytes.Streams.{Consumes-more}
 use Rattle.t85_core.proofs.Bytes.Ends.{Ends-after}
 use Rattle.t85_core.proofs.Bytes.Lists.{All-push, flat_map_push}
@@ -40,7 +41,7 @@ module _ {h : Fields} {entities : ℕ} {given before : Bool} {a b : Option (List
   gives_nothing = legal_give_none h p.segments p.begun.legal p.gives.this
 
   -- the data entity was skipped, too
-  pub stripe_skipped : {c : Option (List ℕ)} (first : Code) (moves : ℕ) → s.next ≡ next.Code first → PassesRest first b c → moves ≡ count_by is_move p.segments → SkipsStripe h before a c moves s.comments
+  pub stripe_skipped : {c : Option (List ℕ)} (first : Code) (moves : ℕ) → s.next ≡ next.Code first → PassesRest first b c → moves ≡ count_by is_move p.segments → SkipsStripe h before (reading a c) (segment_counts moves s.comments)
   stripe_skipped {c} (code.Byte byte) moves is rest counted =
       let front : List ℕ = flat_map segment_bytes p.segments in
       let small : byte < 256 = subst (IsNextItem h (record { height = 0; entities = entities; given = given }) s.given) is p.next_is in
@@ -68,7 +69,7 @@ module _ {h : Fields} {entities : ℕ} {given before : Bool} {a b : Option (List
   }
 
   -- a height is after the segments
-  pub skipped_to : (n moves : ℕ) → s.next ≡ next.Height n → moves ≡ count_by is_move p.segments → SkipsTo h entities given before a b moves s.comments n
+  pub skipped_to : (n moves : ℕ) → s.next ≡ next.Height n → moves ≡ count_by is_move p.segments → SkipsTo h (search_place entities given before) (reading a b) (segment_counts moves s.comments) n
   skipped_to n moves is counted =
       let next_is : IsNextItem h (record { height = 0; entities = entities; given = given }) s.given (next.Height n) = subst (IsNextItem h (record { height = 0; entities = entities; given = given }) s.given) is p.next_is in
       record {
@@ -85,7 +86,7 @@ module _ {h : Fields} {entities : ℕ} {given before : Bool} {a b : Option (List
       }
 
   -- the data entity breaks
-  pub cut_rest : {c : Option (List ℕ)} {f : Fault} (first : Code) → s.next ≡ next.Code first → Ends Truncated b c (RestBreaks first) f → Ends Truncated a c (SkipFault h entities given before) f
+  pub cut_rest : {c : Option (List ℕ)} {f : Fault} (first : Code) → s.next ≡ next.Code first → Ends Truncated b c (RestBreaks first) f → Ends Truncated a c (SkipFault h (search_place entities given before)) f
   cut_rest {c} {f} (code.Byte byte) is e =
       let front : List ℕ = flat_map segment_bytes p.segments in
       let small : byte < 256 = subst (IsNextItem h (record { height = 0; entities = entities; given = given }) s.given) is p.next_is in
@@ -103,9 +104,9 @@ module _ {h : Fields} {entities : ℕ} {given before : Bool} {a b : Option (List
   cut_rest {c} {f} (code.Marker reset) is e = absurd e.has_fault
 
 -- a stripe that breaks before its code begins
-pub cut_pieces : {h : Fields} {entities : ℕ} {given before : Bool} {a b : Option (List ℕ)} {f : Fault} → Ends Truncated a b (SegmentsFault h (record { height = 0; entities = entities; given = given }) before) f → Ends Truncated a b (SkipFault h entities given before) f
+pub cut_pieces : {h : Fields} {entities : ℕ} {given before : Bool} {a b : Option (List ℕ)} {f : Fault} → Ends Truncated a b (SegmentsFault h (record { height = 0; entities = entities; given = given }) before) f → Ends Truncated a b (SkipFault h (search_place entities given before)) f
 cut_pieces {h} {entities} {given} {before} {a} {b} {f} e = Ends-after {a = a} {b = a} [] (Consumes-none a) (λ bytes fault has. broken bytes fault has) e where
-  broken : (bytes : List ℕ) (fault : Fault) → SegmentsFault h (record { height = 0; entities = entities; given = given }) before bytes fault → SkipFault h entities given before bytes fault
+  broken : (bytes : List ℕ) (fault : Fault) → SegmentsFault h (record { height = 0; entities = entities; given = given }) before bytes fault → SkipFault h (search_place entities given before) bytes fault
   broken bytes fault q =
       let none = legal_give_none h q.segments q.begun.legal q.gives.this in
       let zero : cond given 1 0 + length (lengths q.segments) ≡ cond given 1 0 = (let z = ap length none in omega (arith, z)) in
@@ -124,7 +125,7 @@ cut_pieces {h} {entities} {given} {before} {a} {b} {f} e = Ends-after {a = a} {b
 
 -- stripes so far, and whether a move stands before what is next
 pub record HasStripes (h : Fields) (before : Bool) (count : ℕ) (old new : Option (List ℕ)) (moved : Bool) (moves comments : ℕ) : Type 0 where
-  pub so : SkipsStripes h before count old new moves comments
+  pub so : SkipsStripes h before count (reading old new) (segment_counts moves comments)
   pub moved_is : moved ≡ moved_behind before so.stripes
 
 pub stripes_none : (h : Fields) (before : Bool) (count : ℕ) (a : Option (List ℕ)) → count ≡ 0 → HasStripes h before count a a before 0 0
@@ -143,7 +144,7 @@ moved_push before (t ∷ ss) s = refl
 
 module _ {h : Fields} {before : Bool} {count moves comments : ℕ} {moved : Bool} {a b c : Option (List ℕ)} (p : HasStripes h before count a b moved moves comments) where
   -- a stripe more
-  pub stripes_more : {more_moves more_comments : ℕ} (all_comments next_count : ℕ) → next_count ≡ count + 1 → SkipsStripe h moved b c more_moves more_comments → all_comments ≡ min (comments + more_comments) (2 ^ 64 - 1) →
+  pub stripes_more : {more_moves more_comments : ℕ} (all_comments next_count : ℕ) → next_count ≡ count + 1 → SkipsStripe h moved (reading b c) (segment_counts more_moves more_comments) → all_comments ≡ min (comments + more_comments) (2 ^ 64 - 1) →
       HasStripes h before next_count a c false (moves + more_moves) all_comments
   stripes_more all_comments next_count next s told =
       let moves_all = sum_push moves_in p.so.stripes s.stripe in
@@ -163,17 +164,17 @@ module _ {h : Fields} {before : Bool} {count moves comments : ℕ} {moved : Bool
       }
 
   -- a height is after them
-  pub stripes_to : {given : Bool} {part_moves part_comments n : ℕ} (from entities : ℕ) → entities ≡ from + count → SkipsTo h entities given moved b c part_moves part_comments n → SkipsStripesTo h from given before a c entities moves comments part_moves part_comments n
+  pub stripes_to : {given : Bool} {part_moves part_comments n : ℕ} (from entities : ℕ) → entities ≡ from + count → SkipsTo h (search_place entities given moved) (reading b c) (segment_counts part_moves part_comments) n → SkipsStripesTo h (search_place from given before) (reading a c) (search_end entities moves comments part_moves part_comments) n
   stripes_to {given} {part_moves} {part_comments} {n} from entities at s = record {
     mid = b;
     count = count;
     entities_are = at;
     before = p.so;
-    part = subst (λ m. SkipsTo h entities given m b c part_moves part_comments n) p.moved_is s;
+    part = subst (λ m. SkipsTo h (search_place entities given m) (reading b c) (segment_counts part_moves part_comments) n) p.moved_is s;
   }
 
   -- and after them one that breaks
-  pub cut_stripes : {given : Bool} {f : Fault} (from entities wanted : ℕ) → entities ≡ from + count → entities < wanted → Ends Truncated b c (SkipFault h entities given moved) f → Ends Truncated a c (SkipsFault h from wanted given before) f
+  pub cut_stripes : {given : Bool} {f : Fault} (from entities wanted : ℕ) → entities ≡ from + count → entities < wanted → Ends Truncated b c (SkipFault h (search_place entities given moved)) f → Ends Truncated a c (SkipsFault h (search_place from given before) wanted) f
   cut_stripes {given} from entities wanted at fewer e = Ends-after (flat_map stripe_bytes p.so.stripes) p.so.taken (λ bytes fault has. record {
     stripes = p.so.stripes;
     tail = bytes;
@@ -183,5 +184,5 @@ module _ {h : Fields} {before : Bool} {count moves comments : ℕ} {moved : Bool
     alone = p.so.alone;
     none = p.so.none;
     tail_has = (let n : entities ≡ from + length p.so.stripes = omega (arith, p.so.count_is, at) in
-        subst (λ k. SkipFault h k given (moved_behind before p.so.stripes) bytes fault) n (subst (λ m. SkipFault h entities given m bytes fault) p.moved_is has));
+        subst (λ k. SkipFault h (search_place k given (moved_behind before p.so.stripes)) bytes fault) n (subst (λ m. SkipFault h (search_place entities given m) bytes fault) p.moved_is has));
   }) e

@@ -6,22 +6,22 @@ use Rattle.std.proofs.lemmas.Nat.Bits.{and_pow}
 use Rattle.qm_core.specs.Code.{IsBytes}
 use Rattle.t85_core.specs.Header.{Fields}
 use Rattle.t85_core.specs.Grammar.{Segment}
-use Rattle.t85_core.specs.Coding.{has_bit, mode_of, move_of}
-use Rattle.t85_core.specs.Steps.State.{StripeStart, first_row_start}
-use Rattle.t85_core.specs.Steps.Cut.{BegunRun}
+use Rattle.t85_core.specs.Coding.{has_bit}
+use Rattle.t85_core.specs.Steps.State.{StripeStart, first_row_start, stripe_coding}
+use Rattle.t85_core.specs.Steps.Cut.{BegunRun, open_stripe}
 use Rattle.t85_core.proofs.Theorems.Built.{bytes_in_start}
 use Rattle.t85_core.proofs.Decodings.Runs.{none_decided}
 
 -- ---- a stripe that breaks before a row is decided
 
-pub begun_none : (h : Fields) (count : ℕ) (c : StripeStart) (segments : List Segment) (code : List ℕ) → 1 ≤ h.xd → IsBytes code → length code ≤ 1 → BegunRun h count c segments code [] []
+pub begun_none : (h : Fields) (count : ℕ) (c : StripeStart) (segments : List Segment) (code : List ℕ) → 1 ≤ h.xd → IsBytes code → length code ≤ 1 → BegunRun (open_stripe h c segments) count code [] []
 begun_none h count c segments code some bytes few = record {
   last = first_row_start c;
   run = refl;
   few = omega arith;
   lies = bytes_in_start code bytes;
   enough = tt;
-  ends = inr (none_decided h.xd (mode_of h.options) (move_of segments) 0 (first_row_start c) code some few);
+  ends = inr (none_decided (stripe_coding h segments) 0 (first_row_start c) code some few);
 }
 
 -- ---- the options by their masks

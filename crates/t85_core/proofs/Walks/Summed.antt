@@ -13,7 +13,8 @@ use Rattle.t85_core.specs.Header.{Fields, IsAccepted}
 use Rattle.t85_core.specs.Grammar.{NewLength, segment_bytes, is_move, is_comment, lengths, all_segments, Stripe, stripe_bytes, stripe_count, is_valid_length, IsLegal, IsBegun, GiveOnly, moves_in, comments_in}
 use Rattle.t85_core.specs.Height.{GivesHeight, IsHeight}
 use Rattle.t85_core.specs.Failures.{Ends, counted_as}
-use Rattle.t85_core.specs.Steps.HeightWalk.{IsAlone, SkipsStripes, SkipsFault, FindsGiven, FindsNone, BodyNumbers, BodyRefused, BodyUnfinished}
+use Rattle.t85_core.specs.Steps.HeightWalk.{IsAlone, SkipsStripes, SkipsFault, FindsGiven, FindsNone, BodyNumbers, BodyRefused, BodyUnfinished, search_place, search_end, segment_counts}
+use Rattle.t85_core.specs.Steps.Buffers.{reading}
 use Rattle.t85_core.proofs.Bytes.Streams.{Consumes-more}
 use Rattle.t85_core.proofs.Bytes.Lists.{All-push, count_push, flat_map_push}
 use Rattle.t85_core.proofs.Bytes.Lengths.{lengths_append, gives_none, valid_in_use}
@@ -28,7 +29,7 @@ same_numbers h height count moves comments count' moves' comments' a b c =
     ∙ ap (λ n. (h.xd ∷ h.yd ∷ h.l0 ∷ h.mx ∷ h.options ∷ height ∷ count' ∷ moves' ∷ n ∷ [])) c
 
 -- no height is given
-pub none_numbers : (h : Fields) (old new : Option (List ℕ)) (entities moves comments : ℕ) (numbers : List ℕ) → FindsNone h old new entities moves comments →
+pub none_numbers : (h : Fields) (old new : Option (List ℕ)) (entities moves comments : ℕ) (numbers : List ℕ) → FindsNone h (reading old new) entities (segment_counts moves comments) →
     numbers ≡ (h.xd ∷ h.yd ∷ h.l0 ∷ h.mx ∷ h.options ∷ h.yd ∷ entities ∷ moves ∷ comments ∷ []) → IfSome old (BodyNumbers h numbers)
 none_numbers h old new entities moves comments numbers f is = went old f.mid f.before.taken f.height_is where
   went : (old mid : Option (List ℕ)) → Consumes old mid (flat_map stripe_bytes f.before.stripes) → IfSome old (λ body. IsHeight h body h.yd) → IfSome old (BodyNumbers h numbers)
@@ -82,7 +83,7 @@ one_or_none : (m : ℕ) → m ≤ 1 → cond {A = ℕ} (nat_lt 0 m) 1 0 ≡ m
 one_or_none zero few = refl
 one_or_none (suc m) few = let t : nat_lt 0 (suc m) ≡ true = grind (arith, nat_tests) in ap (λ (b : Bool). cond {A = ℕ} b 1 0) t ∙ (let e : 1 ≡ suc m = omega (arith, few) in e)
 
-module _ (h : Fields) (ok : IsAccepted h) (old mid : Option (List ℕ)) (entities moves comments part_moves part_comments n : ℕ) (f : FindsGiven h old mid entities moves comments part_moves part_comments n) where
+module _ (h : Fields) (ok : IsAccepted h) (old mid : Option (List ℕ)) (entities moves comments part_moves part_comments n : ℕ) (f : FindsGiven h (reading old mid) (search_end entities moves comments part_moves part_comments) n) where
   front_bytes : flat_map segment_bytes (f.segments ++ NewLength n ∷ []) ≡ flat_map segment_bytes f.segments ++ segment_bytes (NewLength n)
   front_bytes = flat_map_push segment_bytes f.segments (NewLength n)
 
@@ -164,7 +165,7 @@ module _ (h : Fields) (ok : IsAccepted h) (old mid : Option (List ℕ)) (entitie
 
   -- the rest of its stripes was skipped after it
   module _ (few : part_moves ≤ 1) (new : Option (List ℕ)) where
-    pub joined_numbers : (count more_moves more_comments all_moves some_comments all_comments : ℕ) (numbers : List ℕ) → count ≡ stripe_count n h.l0 → entities < count → SkipsStripes h (nat_lt 0 part_moves) (count - entities) mid new more_moves more_comments →
+    pub joined_numbers : (count more_moves more_comments all_moves some_comments all_comments : ℕ) (numbers : List ℕ) → count ≡ stripe_count n h.l0 → entities < count → SkipsStripes h (nat_lt 0 part_moves) (count - entities) (reading mid new) (segment_counts more_moves more_comments) →
         all_moves ≡ (moves + part_moves) + more_moves → some_comments ≡ min (comments + part_comments) (2 ^ 64 - 1) → all_comments ≡ min (some_comments + more_comments) (2 ^ 64 - 1) →
         numbers ≡ (h.xd ∷ h.yd ∷ h.l0 ∷ h.mx ∷ h.options ∷ n ∷ count ∷ all_moves ∷ all_comments ∷ []) → IfSome old (BodyNumbers h numbers)
     joined_numbers count more_moves more_comments all_moves some_comments all_comments numbers is less s moves_told some_told all_told numbers_told = by s.stripes refl where
@@ -210,25 +211,25 @@ module _ (h : Fields) (ok : IsAccepted h) (old mid : Option (List ℕ)) (entitie
                   (min (sum_by comments_in (f.before.stripes ++ joined_to (f.segments ++ NewLength n ∷ []) t ∷ ts)) (2 ^ 64 - 1)) (is ∙ sym p.count) moves_are comments_are;
             }
 
-    broken : (count : ℕ) (tail : List ℕ) (fault : Fault) → count ≡ stripe_count n h.l0 → SkipsFault h entities count true (nat_lt 0 part_moves) tail fault →
+    broken : (count : ℕ) (tail : List ℕ) (fault : Fault) → count ≡ stripe_count n h.l0 → SkipsFault h (search_place entities true (nat_lt 0 part_moves)) count tail fault →
         BodyRefused h fault (flat_map stripe_bytes f.before.stripes ++ (flat_map segment_bytes (f.segments ++ NewLength n ∷ []) ++ tail))
     broken count tail fault is q = record {
       height = n;
       height_is = inl (gives_height tail);
       broken = broken_behind h n f.before.stripes (f.segments ++ NewLength n ∷ []) f.before.each begun gives true (nat_lt 0 part_moves) given_is (moved_is few) entities (stripe_count n h.l0) tail fault (sym f.before.count_is)
-          (subst (λ k. SkipsFault h entities k true (nat_lt 0 part_moves) tail fault) is q);
+          (subst (λ k. SkipsFault h (search_place entities true (nat_lt 0 part_moves)) k tail fault) is q);
     }
 
-    pub joined_refused : (count : ℕ) (fault : Fault) → count ≡ stripe_count n h.l0 → Ends Truncated mid new (SkipsFault h entities count true (nat_lt 0 part_moves)) fault → fault ≢ Read → IfSome old (BodyRefused h fault)
+    pub joined_refused : (count : ℕ) (fault : Fault) → count ≡ stripe_count n h.l0 → Ends Truncated mid new (SkipsFault h (search_place entities true (nat_lt 0 part_moves)) count) fault → fault ≢ Read → IfSome old (BodyRefused h fault)
     joined_refused count fault is e other = went old mid taken (skipped_whole h entities count true (nat_lt 0 part_moves) mid new fault e other) where
-      went : (old mid : Option (List ℕ)) → Consumes old mid (flat_map stripe_bytes f.before.stripes ++ flat_map segment_bytes (f.segments ++ NewLength n ∷ [])) → IfSome mid (λ body. SkipsFault h entities count true (nat_lt 0 part_moves) body fault) → IfSome old (BodyRefused h fault)
+      went : (old mid : Option (List ℕ)) → Consumes old mid (flat_map stripe_bytes f.before.stripes ++ flat_map segment_bytes (f.segments ++ NewLength n ∷ [])) → IfSome mid (λ body. SkipsFault h (search_place entities true (nat_lt 0 part_moves)) count body fault) → IfSome old (BodyRefused h fault)
       went None mid a q = tt
       went (Some body) None a q = absurd a
       went (Some body) (Some rest) a q = subst (BodyRefused h fault) (sym (a ∙ behind_front rest)) (broken count rest fault is q)
 
-    pub joined_unread : (count : ℕ) (fault : Fault) → count ≡ stripe_count n h.l0 → Ends Truncated mid new (SkipsFault h entities count true (nat_lt 0 part_moves)) fault → fault ≡ Read → (given : List ℕ) × Consumes old new given × BodyUnfinished h given
+    pub joined_unread : (count : ℕ) (fault : Fault) → count ≡ stripe_count n h.l0 → Ends Truncated mid new (SkipsFault h (search_place entities true (nat_lt 0 part_moves)) count) fault → fault ≡ Read → (given : List ℕ) × Consumes old new given × BodyUnfinished h given
     joined_unread count fault is e read = (
       (flat_map stripe_bytes f.before.stripes ++ flat_map segment_bytes (f.segments ++ NewLength n ∷ [])) ++ e.given,
       Consumes-more old mid new (flat_map stripe_bytes f.before.stripes ++ flat_map segment_bytes (f.segments ++ NewLength n ∷ [])) e.given taken e.taken,
-      inl (subst (BodyRefused h Truncated) (sym (behind_front e.given)) (broken count e.given Truncated is (subst (λ x. SkipsFault h entities count true (nat_lt 0 part_moves) e.given (counted_as Truncated x)) read e.has_fault))),
+      inl (subst (BodyRefused h Truncated) (sym (behind_front e.given)) (broken count e.given Truncated is (subst (λ x. SkipsFault h (search_place entities true (nat_lt 0 part_moves)) count e.given (counted_as Truncated x)) read e.has_fault))),
     )

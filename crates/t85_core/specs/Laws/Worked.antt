@@ -1,15 +1,12 @@
 -- Streams that were worked out by hand.
-use Rattle.std.specs.Prelude.{ℕ, ◌≡◌, Bool, true, false, List, [], ◌∷◌, ◌++◌, Option, Some, None}
+use Rattle.std.specs.Prelude.{ℕ, ◌≡◌, Bool, true, false, List, [], ◌∷◌, ◌++◌, Some, None}
 use Rattle.raster_core.specs.Raster.{Raster}
 use Rattle.t85_core.specs.declared.fault.Fault.TheVariants.{LengthRefused, SecondLength, Changed}
 use Rattle.t85_core.specs.Header.{Fields}
 use Rattle.t85_core.specs.Refusal.{BodyFault}
 use Rattle.t85_core.specs.Height.{IsHeight}
 use Rattle.t85_core.specs.Info.{HasLine, line_text}
-use Rattle.t85_core.specs.Jbg.{Settings, jbg}
-
-abbrev pub settings : ℕ → ℕ → ℕ → Option ℕ → Bool → Option (List ℕ) → Settings
-settings p s m announced reset comment = record { options = p; stripe_rows = s; most_offset = m; announced = announced; reset = reset; comment = comment }
+use Rattle.t85_core.specs.Jbg.{settings, jbg}
 
 abbrev pub rows_as : ℕ → List (List Bool) → Raster
 rows_as width rows = record { width = width; rows = rows }

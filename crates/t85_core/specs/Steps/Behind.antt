@@ -11,7 +11,15 @@ use Rattle.t85_core.specs.declared.segments.Place.{Place}
 use Rattle.t85_core.specs.Header.{Fields}
 use Rattle.t85_core.specs.Grammar.{NewLength, ESC, COMMENT, segment_bytes, IsLegal, is_valid_length}
 use Rattle.t85_core.specs.Failures.{Ends, counted_as}
-use Rattle.t85_core.specs.Steps.Segments.{HasPassed, PieceFault, IsByteOrMarker, code_bytes}
+use Rattle.t85_core.specs.Steps.Segments.{HasPassed, segments_so_far, PieceFault, IsByteOrMarker, code_bytes}
+
+-- Where behind an end marker one is, and whether the last stripe is over.
+pub record BehindPlace : Type 0 where
+  pub place : Place
+  pub last : Bool
+
+abbrev pub behind_at : Place → Bool → BehindPlace
+behind_at place last = record { place = place; last = last }
 
 -- whether a move may not come
 abbrev pub move_came : Bool → Option move.Move → Bool
@@ -23,16 +31,16 @@ CommentBegun None front back = back ≡ front
 CommentBegun (Some left) front back = (part : List ℕ) × (length part + left < 2 ^ 32) × (back ≡ front ++ (ESC ∷ COMMENT ∷ (big_bytes 4 (length part + left) ++ part)))
 
 -- These bytes came behind a marker: whole segments, and what has begun of a comment.
-pub record BehindStands (h : Fields) (place : Place) (last : Bool) (b : Behind) (back : List ℕ) : Type 0 where
+pub record BehindStands (h : Fields) (here : BehindPlace) (b : Behind) (back : List ℕ) : Type 0 where
   pub front : List ℕ
   pub comments : ℕ
-  pub passed : HasPassed h place last (Some front) (Some []) b.at (move_came last b.at) false comments
+  pub passed : HasPassed h here.place here.last (Some front) (Some []) (segments_so_far b.at (move_came here.last b.at) false comments)
   pub at_is : IfSome b.at (λ to. to.offset ≤ 127)
   pub begun : CommentBegun b.comment front back
 
 -- More bytes came.
-abbrev pub BehindOn : Fields → Place → Bool → Behind → Behind → List ℕ → List ℕ → Type 0
-BehindOn h place last b b' piece piece' = (back : List ℕ) → BehindStands h place last b back → (given : List ℕ) × (piece ≡ given ++ piece') × BehindStands h place last b' (back ++ given)
+abbrev pub BehindOn : Fields → BehindPlace → Behind → Behind → List ℕ → List ℕ → Type 0
+BehindOn h here b b' piece piece' = (back : List ℕ) → BehindStands h here b back → (given : List ℕ) × (piece ≡ given ++ piece') × BehindStands h here b' (back ++ given)
 
 -- what comes next is a valid height or what a code begins with
 abbrev pub ComesBehind : Fields → Place → Next → List ℕ → List ℕ → Type 0
@@ -40,11 +48,12 @@ ComesBehind h place (next.Height n) piece rest = (is_valid_length h place.entiti
 ComesBehind h place (next.Code c) piece rest = IsByteOrMarker c × (piece ≡ code_bytes c ++ rest)
 
 -- what is left of the piece breaks, or ends too early: before a segment, or in a comment
-abbrev pub BreaksBehind : Fields → Place → Bool → Behind → Option ℕ → List ℕ → Fault → Type 0
-BreaksBehind h place last b None piece fault = (unread : List ℕ) × Ends Truncated (Some piece) (Some unread) (PieceFault h place (move_came last b.at)) fault
-BreaksBehind h place last b (Some left) piece fault = (length piece < left) × (fault ≡ Truncated)
+abbrev pub BreaksBehind : Fields → BehindPlace → Behind → Option ℕ → List ℕ → Fault → Type 0
+BreaksBehind h here b None piece fault = (unread : List ℕ) × Ends Truncated (Some piece) (Some unread) (PieceFault h here.place (move_came here.last b.at)) fault
+BreaksBehind h here b (Some left) piece fault = (length piece < left) × (fault ≡ Truncated)
 
-pub record StopsBehind (h : Fields) (place : Place) (last : Bool) (b : Behind) (piece : List ℕ) (fault : Fault) : Type 0 where
+-- How a step behind an end marker stops: how few bytes it leaves where more are to come, and why it can't go on.
+pub record StopsBehind (h : Fields) (here : BehindPlace) (b : Behind) (piece : List ℕ) (fault : Fault) : Type 0 where
   pub counted : counted_as Truncated fault ≡ fault
   pub few : fault ≡ Truncated → length piece ≤ 7
-  pub breaks : BreaksBehind h place last b b.comment piece fault
+  pub breaks : BreaksBehind h here b b.comment piece fault

@@ -30,6 +30,14 @@ pub record SourceView : Type 0 where
   pub failures : ℕ
   pub source : ℕ
 
+-- What is known of the bytes that a reader has still to give, before and after a step.
+pub record Reading : Type 0 where
+  pub old : Option (List ℕ)
+  pub new : Option (List ℕ)
+
+abbrev pub reading : Option (List ℕ) → Option (List ℕ) → Reading
+reading old new = record { old = old; new = new }
+
 -- What a call leaves of a source besides the bytes that it takes: the reader, its count, and after a failed read nothing
 -- that was held.
 pub record ReadsOn {T : Type 0} (old new : SourceView) (result : Result T Fault) : Type 0 where

@@ -1,10 +1,10 @@
 -- What a row encoder holds, and what stands of a stream, after some rows.
-use Rattle.std.specs.Prelude.{ℕ, ◌+◌, ◌*◌, ◌^◌, ◌≡◌, ◌≤◌, ◌<◌, ◌⊎◌, Bool, true, false, List, [], ◌∷◌, ◌++◌, length, take, nat_lt, flat_map, if◌then◌else◌, Option, None, Some, IfSome, is_some, unwrap_or}
+use Rattle.std.specs.Prelude.{ℕ, ◌+◌, ◌*◌, ◌^◌, ◌≡◌, ◌≤◌, ◌<◌, ◌⊎◌, Bool, true, false, List, [], ◌∷◌, ◌++◌, length, nat_lt, flat_map, if◌then◌else◌, Option, None, Some, IfSome, is_some, unwrap_or}
 use Rattle.std.specs.List.{AllByRecursion}
 use Rattle.qm_core.specs.Place.{Estimate, Place, start}
 use Rattle.qm_core.specs.Encoder.{EncoderIsAt, event_count, has_failed}
 use Rattle.qm_core.specs.declared.encoder.Encoder.{Encoder}
-use Rattle.raster_core.specs.Raster.{Raster, IsRaster, height}
+use Rattle.raster_core.specs.Raster.{Raster, height}
 use Rattle.raster_core.specs.Lines.{Lines}
 use Rattle.raster_core.specs.Offset.{candidates}
 use Rattle.raster_core.specs.Packed.{Held, HasLines}
@@ -18,6 +18,7 @@ use Rattle.t85_core.specs.Grammar.{segment_bytes}
 use Rattle.t85_core.specs.Coding.{mode_of}
 use Rattle.t85_core.specs.Encode.{IsBeginning, HoldsStripes, raster_of}
 use Rattle.t85_core.specs.Jbg.{Settings, jbg, jbg_up_to, move_segments}
+use Rattle.t85_core.specs.RowImage.{Image, MayCome}
 use Rattle.t85_core.specs.Steps.State.{RowStart, first_row_start, offset_at}
 use Rattle.t85_core.specs.Steps.Written.{EncoderStart, next_move, row_start_in, lines_down}
 use Rattle.t85_core.specs.Steps.EncodeRows.{IsShape, IsCountedTo}
@@ -25,25 +26,17 @@ use Rattle.t85_core.specs.Steps.EncodeStripes.{IsTallied}
 use Rattle.t85_core.specs.Steps.Looked.{CourseAt}
 use Rattle.t85_core.specs.Steps.Sent.{Origin, Sends, SendsBeginning}
 
--- a raster of at most this height that begins with these rows; where no height is announced, of just this height
-pub record MayCome (s : Settings) (width limit : ℕ) (rows : List (List Bool)) (raster : Raster) : Type 0 where
-  pub proper : IsRaster raster
-  pub width_is : raster.width ≡ width
-  pub height_to : height raster ≤ limit
-  pub height_is : s.announced ≡ None → height raster ≡ limit
-  pub first : take (length rows) raster.rows ≡ rows
-
 -- What was written is a beginning of the stream of each raster that may still come.
-pub record StreamCut (s : Settings) (width limit : ℕ) (rows : List (List Bool)) (origin : Origin) (text : Option (List ℕ)) : Type 0 where
+pub record StreamCut (image : Image) (rows : List (List Bool)) (origin : Origin) (text : Option (List ℕ)) : Type 0 where
   pub bytes : List ℕ
   pub sent : Sends origin text bytes
-  pub begins : (raster : Raster) → MayCome s width limit rows raster → IsBeginning bytes (jbg s raster)
+  pub begins : (raster : Raster) → MayCome image rows raster → IsBeginning bytes (jbg image.settings raster)
 
 -- The same, with each stripe whose rows all came.
-pub record StreamFront (s : Settings) (width limit : ℕ) (rows : List (List Bool)) (origin : Origin) (text : Option (List ℕ)) : Type 0 where
+pub record StreamFront (image : Image) (rows : List (List Bool)) (origin : Origin) (text : Option (List ℕ)) : Type 0 where
   pub bytes : List ℕ
   pub sent : Sends origin text bytes
-  pub begun : (raster : Raster) → MayCome s width limit rows raster → HoldsStripes s raster (length rows) bytes
+  pub begun : (raster : Raster) → MayCome image rows raster → HoldsStripes image.settings raster (length rows) bytes
 
 -- what was chosen for a stream
 pub record RowPlan : Type 0 where
@@ -117,19 +110,19 @@ pub record MayGoOn (e : RowEncoder) : Type 0 where
   pub fewer : e.in_stripe < e.stripe_rows
 
 -- the plan is that of these settings
-pub record IsPlan (s : Settings) (width limit : ℕ) (p : RowPlan) : Type 0 where
-  pub width_is : p.width ≡ width
-  pub limit_is : p.limit ≡ limit
-  pub shape_is : IsShape s width p.shape
-  pub stripe_rows_is : p.stripe_rows ≡ s.stripe_rows
-  pub some : 1 ≤ s.stripe_rows
-  pub announced_is : p.announced ≡ unwrap_or s.announced limit
-  pub may_end_is : p.may_end ≡ is_some s.announced
-  pub candidates_are : p.has_candidates ≡ nat_lt 0 (length (candidates (mode_of s.options).two_line s.most_offset))
-  pub reset_is : p.reset ≡ s.reset
-  pub width_from : 1 ≤ width
-  pub width_to : width ≤ 1048576
-  pub limit_to : limit < 2 ^ 32
+pub record IsPlan (image : Image) (p : RowPlan) : Type 0 where
+  pub width_is : p.width ≡ image.width
+  pub limit_is : p.limit ≡ image.limit
+  pub shape_is : IsShape image.settings image.width p.shape
+  pub stripe_rows_is : p.stripe_rows ≡ image.settings.stripe_rows
+  pub some : 1 ≤ image.settings.stripe_rows
+  pub announced_is : p.announced ≡ unwrap_or image.settings.announced image.limit
+  pub may_end_is : p.may_end ≡ is_some image.settings.announced
+  pub candidates_are : p.has_candidates ≡ nat_lt 0 (length (candidates (mode_of image.settings.options).two_line image.settings.most_offset))
+  pub reset_is : p.reset ≡ image.settings.reset
+  pub width_from : 1 ≤ image.width
+  pub width_to : image.width ≤ 1048576
+  pub limit_to : image.limit < 2 ^ 32
 
 -- these rows came, so many
 pub record HaveCome (width limit : ℕ) (rows : List (List Bool)) (count : ℕ) : Type 0 where
@@ -138,10 +131,10 @@ pub record HaveCome (width limit : ℕ) (rows : List (List Bool)) (count : ℕ) 
   pub wide : AllByRecursion (λ row. length row ≡ width) rows
 
 -- i stripes are whole, and this is the stream up to there and what is carried on
-pub record StripesWhole (s : Settings) (width limit i : ℕ) (rows : List (List Bool)) (at : EncoderStart) (front : List ℕ) : Type 0 where
-  pub many : length rows ≡ i * s.stripe_rows
-  pub front_is : (raster : Raster) → MayCome s width limit rows raster → front ≡ jbg_up_to s raster i
-  pub course : (raster : Raster) → MayCome s width limit rows raster → i * s.stripe_rows < height raster → CourseAt s raster i at
+pub record StripesWhole (image : Image) (i : ℕ) (rows : List (List Bool)) (at : EncoderStart) (front : List ℕ) : Type 0 where
+  pub many : length rows ≡ i * image.settings.stripe_rows
+  pub front_is : (raster : Raster) → MayCome image rows raster → front ≡ jbg_up_to image.settings raster i
+  pub course : (raster : Raster) → MayCome image rows raster → i * image.settings.stripe_rows < height raster → CourseAt image.settings raster i at
 
 -- what is held before row r of a stripe, whose move is made
 pub record IsHeldBy (move : Option (ℕ × ℕ)) (r : ℕ) (b : RowStart) (kept : Kept) (learned : List Estimate) (window : Held) : Type 0 where
@@ -165,30 +158,30 @@ abbrev pub CountsForNext : Settings → ℕ → ℕ → RowView → Type 0
 CountsForNext s limit i v = (i + 1) * s.stripe_rows < limit → 0 < length (candidates (mode_of s.options).two_line s.most_offset) → v.is_counted ≡ true
 
 -- These rows of a stripe came, and the stripe's move and the code that is sure were written.
-pub record IsRunning (s : Settings) (width : ℕ) (at : EncoderStart) (part : List (List Bool)) (v : RowView) (window : Held) (pushed : List ℕ) : Type 0 where
-  pub codes : EncoderIsAt v.encoder (row_start_in s width at part).state.place pushed
-  pub is_held : IsHeldBy (next_move s width at) (length part) (row_start_in s width at part) v.kept v.learned window
-  pub two_line : is_two_line v.tally ≡ (mode_of s.options).two_line
-  pub most : most_of v.tally ≡ s.most_offset
-  pub tallied : IsCountedTo width (counted_of v) v.tally (lines_down at.carry.above at.carry.second part)
+pub record IsRunning (image : Image) (at : EncoderStart) (part : List (List Bool)) (v : RowView) (window : Held) (pushed : List ℕ) : Type 0 where
+  pub codes : EncoderIsAt v.encoder (row_start_in image.settings image.width at part).state.place pushed
+  pub is_held : IsHeldBy (next_move image.settings image.width at) (length part) (row_start_in image.settings image.width at part) v.kept v.learned window
+  pub two_line : is_two_line v.tally ≡ (mode_of image.settings.options).two_line
+  pub most : most_of v.tally ≡ image.settings.most_offset
+  pub tallied : IsCountedTo image.width (counted_of v) v.tally (lines_down at.carry.above at.carry.second part)
 
 -- A stripe runs, after some that are whole.
-pub record Runs (s : Settings) (width limit : ℕ) (rows : List (List Bool)) (v : RowView) (window : Held) (origin : Origin) (text : Option (List ℕ)) : Type 0 where
-  pub plan_is : IsPlan s width limit v.plan
-  pub come : HaveCome width limit rows v.rows
+pub record Runs (image : Image) (rows : List (List Bool)) (v : RowView) (window : Held) (origin : Origin) (text : Option (List ℕ)) : Type 0 where
+  pub plan_is : IsPlan image v.plan
+  pub come : HaveCome image.width image.limit rows v.rows
   pub i : ℕ
   pub whole : List (List Bool)
   pub part : List (List Bool)
   pub all : rows ≡ whole ++ part
   pub at : EncoderStart
   pub front : List ℕ
-  pub stripes : StripesWhole s width limit i whole at front
+  pub stripes : StripesWhole image i whole at front
   pub in_stripe : v.in_stripe ≡ length part
-  pub few : length part ≤ s.stripe_rows
+  pub few : length part ≤ image.settings.stripe_rows
   pub pushed : List ℕ
-  pub running : IsRunning s width at part v window pushed
-  pub counts : CountsForNext s limit i v
-  pub sent : Sends origin text (front ++ (move_bytes s width at ++ pushed))
+  pub running : IsRunning image at part v window pushed
+  pub counts : CountsForNext image.settings image.limit i v
+  pub sent : Sends origin text (front ++ (move_bytes image.settings image.width at ++ pushed))
 
 -- what is held where a stripe begins
 pub record IsStart (s : Settings) (width : ℕ) (at : EncoderStart) (v : RowView) (window : Held) : Type 0 where
@@ -196,46 +189,59 @@ pub record IsStart (s : Settings) (width : ℕ) (at : EncoderStart) (v : RowView
   pub is_tallied : IsTallied s width at v.tally
 
 -- No stripe runs: some are whole.
-pub record Waits (s : Settings) (width limit : ℕ) (rows : List (List Bool)) (v : RowView) (window : Held) (origin : Origin) (text : Option (List ℕ)) : Type 0 where
-  pub plan_is : IsPlan s width limit v.plan
-  pub come : HaveCome width limit rows v.rows
+pub record Waits (image : Image) (rows : List (List Bool)) (v : RowView) (window : Held) (origin : Origin) (text : Option (List ℕ)) : Type 0 where
+  pub plan_is : IsPlan image v.plan
+  pub come : HaveCome image.width image.limit rows v.rows
   pub i : ℕ
   pub at : EncoderStart
   pub front : List ℕ
-  pub stripes : StripesWhole s width limit i rows at front
+  pub stripes : StripesWhole image i rows at front
   pub in_stripe : v.in_stripe ≡ 0
   pub codes : EncoderIsAt v.encoder start []
-  pub on_course : i * s.stripe_rows < limit → IsStart s width at v window
+  pub on_course : i * image.settings.stripe_rows < image.limit → IsStart image.settings image.width at v window
   pub sent : Sends origin text front
 
 -- After these rows of an image of this width, and of this height or, where a height is announced, at most this one.
-abbrev pub Stands : Settings → ℕ → ℕ → List (List Bool) → RowView → Held → Origin → Option (List ℕ) → Type 0
-Stands s width limit rows v window origin text =
-    Waits s width limit rows v window origin text ⊎ (Runs s width limit rows v window origin text × (0 < v.in_stripe) × (v.in_stripe < v.plan.stripe_rows))
+abbrev pub Stands : Image → List (List Bool) → RowView → Held → Origin → Option (List ℕ) → Type 0
+Stands image rows v window origin text =
+    Waits image rows v window origin text ⊎ (Runs image rows v window origin text × (0 < v.in_stripe) × (v.in_stripe < v.plan.stripe_rows))
 
 -- this row is below the lines that the window had
 abbrev pub IsBelow : List Bool → Held → Held → Type 0
 IsBelow row old new = (lines : Lines) → HasLines old lines → HasLines new (record { row = row; above = lines.row; second = lines.above })
 
+-- An encoder between two steps: what it holds, the window that it is lent, and what was written.
+pub record EncoderAt : Type 0 where
+  pub view : RowView
+  pub window : Held
+  pub text : Option (List ℕ)
+
+abbrev pub encoder_at : RowView → Held → Option (List ℕ) → EncoderAt
+encoder_at view window text = record { view = view; window = window; text = text }
+
+-- with what it is lent
+abbrev pub lent_to : RowEncoder → Learning → Held → Option (List ℕ) → EncoderAt
+lent_to e learning window text = encoder_at (view_of e learning) window text
+
 -- A row is taken, in whatever stream: what stood then stands with this row, too.
-abbrev pub TakesNextRow : List Bool → RowView → RowView → Held → Held → Option (List ℕ) → Option (List ℕ) → Type 0
-TakesNextRow row v v' window window' old new =
-    (s : Settings) (width limit : ℕ) (rows : List (List Bool)) (origin : Origin) → Stands s width limit rows v window origin old →
-    Stands s width limit (rows ++ row ∷ []) v' window' origin new
+abbrev pub TakesNextRow : List Bool → EncoderAt → EncoderAt → Type 0
+TakesNextRow row e e' =
+    (image : Image) (rows : List (List Bool)) (origin : Origin) → Stands image rows e.view e.window origin e.text →
+    Stands image (rows ++ row ∷ []) e'.view e'.window origin e'.text
 
 -- no more than a beginning was written
 abbrev pub CutsRow : List Bool → RowView → Held → Option (List ℕ) → Option (List ℕ) → Type 0
 CutsRow row v window old new =
-    (s : Settings) (width limit : ℕ) (rows : List (List Bool)) (origin : Origin) → Stands s width limit rows v window origin old →
-    StreamCut s width limit (rows ++ row ∷ []) origin new
+    (image : Image) (rows : List (List Bool)) (origin : Origin) → Stands image rows v window origin old →
+    StreamCut image (rows ++ row ∷ []) origin new
 
 -- an image ends, in whatever stream
 abbrev pub EndsImage : RowView → Held → Option (List ℕ) → Option (List ℕ) → Type 0
 EndsImage v window old new =
-    (s : Settings) (width limit : ℕ) (rows : List (List Bool)) (origin : Origin) → Stands s width limit rows v window origin old →
-    Sends origin new (jbg s (raster_of width rows))
+    (image : Image) (rows : List (List Bool)) (origin : Origin) → Stands image rows v window origin old →
+    Sends origin new (jbg image.settings (raster_of image.width rows))
 
 abbrev pub CutsImage : RowView → Held → Option (List ℕ) → Option (List ℕ) → Type 0
 CutsImage v window old new =
-    (s : Settings) (width limit : ℕ) (rows : List (List Bool)) (origin : Origin) → Stands s width limit rows v window origin old →
-    SendsBeginning origin new (jbg s (raster_of width rows))
+    (image : Image) (rows : List (List Bool)) (origin : Origin) → Stands image rows v window origin old →
+    SendsBeginning origin new (jbg image.settings (raster_of image.width rows))

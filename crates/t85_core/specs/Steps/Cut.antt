@@ -6,8 +6,7 @@ use Rattle.raster_core.specs.Lines.{Mode, row_events, IsLegalFlag, Lines}
 use Rattle.raster_core.specs.Enough.{AreEnough}
 use Rattle.t85_core.specs.Header.{Fields}
 use Rattle.t85_core.specs.Grammar.{Segment}
-use Rattle.t85_core.specs.Coding.{mode_of, move_of}
-use Rattle.t85_core.specs.Steps.State.{RowStart, StripeStart, first_row_start, after_row, lines_with, offset_at, Run}
+use Rattle.t85_core.specs.Steps.State.{RowStart, StripeStart, first_row_start, after_row, lines_with, offset_at, RowCoding, stripe_coding, Run}
 use Rattle.qm_core.specs.Source.{bytes_of, heard_of}
 use Rattle.qm_core.specs.declared.source.Pulled.{Pulled}
 use Rattle.qm_core.specs.declared.source.Heard.TheVariants.{More}
@@ -20,47 +19,64 @@ abbrev pub events_with : Mode → Option (ℕ × ℕ) → ℕ → RowStart → L
 events_with mode move r b row flag = row_events mode (lines_with b row) (offset_at move r b.offset) b.previous flag
 
 -- this many bytes decide each of these rows, from row r on
-abbrev pub RunEnough : ℕ → Mode → Option (ℕ × ℕ) → ℕ → RowStart → List (List Bool) → List Bool → Type 0
-RunEnough count mode move r b [] flags = ⊤
-RunEnough count mode move r b (row ∷ rows) [] = ⊤
-RunEnough count mode move r b (row ∷ rows) (flag ∷ flags) =
-    AreEnough count b.state (events_with mode move r b row flag) × RunEnough count mode move (r + 1) (after_row mode move r b row flag) rows flags
+abbrev pub RunEnough : ℕ → RowCoding → ℕ → RowStart → List (List Bool) → List Bool → Type 0
+RunEnough count coding r b [] flags = ⊤
+RunEnough count coding r b (row ∷ rows) [] = ⊤
+RunEnough count coding r b (row ∷ rows) (flag ∷ flags) =
+    AreEnough count b.state (events_with coding.mode coding.move r b row flag)
+    × RunEnough count coding (r + 1) (after_row coding.mode coding.move r b row flag) rows flags
 
--- no next row of this width has events that are all decided by the bytes of the code
-abbrev pub NoneDecided : ℕ → Mode → Option (ℕ × ℕ) → ℕ → RowStart → List ℕ → Type 0
-NoneDecided width mode move r b code =
-    (row : List Bool) (flag : Bool) → length row ≡ width → IsLegalFlag mode (lines_with b row) flag →
-    Lies code (after b.state (events_with mode move r b row flag)).place →
-    AreEnough (length code) b.state (events_with mode move r b row flag) → ⊥
+-- no next row has events that are all decided by the bytes of the code
+abbrev pub NoneDecided : RowCoding → ℕ → RowStart → List ℕ → Type 0
+NoneDecided coding r b code =
+    (row : List Bool) (flag : Bool) → length row ≡ coding.width → IsLegalFlag coding.mode (lines_with b row) flag →
+    Lies code (after b.state (events_with coding.mode coding.move r b row flag)).place →
+    AreEnough (length code) b.state (events_with coding.mode coding.move r b row flag) → ⊥
 
--- The first rows of a stripe of this many rows, of which these segments and this code came: the code decides them, and
--- they are all of the stripe's rows, or it decides no row more.
-pub record BegunRun (h : Fields) (count : ℕ) (c : StripeStart) (segments : List Segment) (code : List ℕ) (rows : List (List Bool)) (flags : List Bool) : Type 0 where
+-- A stripe whose code is being decoded: the fields of its header, what is carried to it, and its segments.
+pub record OpenStripe : Type 0 where
+  pub fields : Fields
+  pub start : StripeStart
+  pub segments : List Segment
+
+abbrev pub open_stripe : Fields → StripeStart → List Segment → OpenStripe
+open_stripe h c segments = record { fields = h; start = c; segments = segments }
+
+-- how its rows are coded, and what its first row starts from
+abbrev pub rows_coding : OpenStripe → RowCoding
+rows_coding stripe = stripe_coding stripe.fields stripe.segments
+
+abbrev pub rows_start : OpenStripe → RowStart
+rows_start stripe = first_row_start stripe.start
+
+-- The first rows of a stripe of this many rows, of which this code came: the code decides them, and they are all of the
+-- stripe's rows, or it decides no row more.
+pub record BegunRun (stripe : OpenStripe) (count : ℕ) (code : List ℕ) (rows : List (List Bool)) (flags : List Bool) : Type 0 where
   pub last : RowStart
-  pub run : Run h.xd (mode_of h.options) (move_of segments) 0 (first_row_start c) rows flags last
+  pub run : Run (rows_coding stripe) 0 (rows_start stripe) rows flags last
   pub few : length rows ≤ count
   pub lies : Lies code last.state.place
-  pub enough : RunEnough (length code) (mode_of h.options) (move_of segments) 0 (first_row_start c) rows flags
-  pub ends : (length rows ≡ count) ⊎ NoneDecided h.xd (mode_of h.options) (move_of segments) (length rows) last code
+  pub enough : RunEnough (length code) (rows_coding stripe) 0 (rows_start stripe) rows flags
+  pub ends : (length rows ≡ count) ⊎ NoneDecided (rows_coding stripe) (length rows) last code
 
--- The first rows of a stripe of this many rows, of which these segments and this code came: the code lies where they lead.
-pub record FrontRun (h : Fields) (count : ℕ) (c : StripeStart) (segments : List Segment) (code : List ℕ) (rows : List (List Bool)) (flags : List Bool) : Type 0 where
+-- The first rows of a stripe of this many rows, of which this code came: the code lies where they lead.
+pub record FrontRun (stripe : OpenStripe) (count : ℕ) (code : List ℕ) (rows : List (List Bool)) (flags : List Bool) : Type 0 where
   pub last : RowStart
-  pub run : Run h.xd (mode_of h.options) (move_of segments) 0 (first_row_start c) rows flags last
+  pub run : Run (rows_coding stripe) 0 (rows_start stripe) rows flags last
   pub few : length rows ≤ count
   pub lies : Lies code last.state.place
 
--- First rows of a stripe with these segments, of which the source has answered so.
-pub record RowsSoFar (h : Fields) (c : StripeStart) (segments : List Segment) (answers : List Pulled) (rows : List (List Bool)) (flags : List Bool) (last : RowStart) : Type 0 where
-  pub run : Run h.xd (mode_of h.options) (move_of segments) 0 (first_row_start c) rows flags last
+-- First rows of a stripe, of which the source has answered so.
+pub record RowsSoFar (stripe : OpenStripe) (answers : List Pulled) (rows : List (List Bool)) (flags : List Bool) (last : RowStart) : Type 0 where
+  pub run : Run (rows_coding stripe) 0 (rows_start stripe) rows flags last
   -- while the code goes on, the bytes that came decide the rows
-  pub enough : heard_of answers ≡ More → RunEnough (length (bytes_of answers)) (mode_of h.options) (move_of segments) 0 (first_row_start c) rows flags
+  pub enough : heard_of answers ≡ More → RunEnough (length (bytes_of answers)) (rows_coding stripe) 0 (rows_start stripe) rows flags
 
 -- What row r of a stripe is decoded with is what is carried to it. Its move is made.
-pub record IsReady (h : Fields) (shape : Shape) (kept : Kept) (lines : Lines) (move : Option (ℕ × ℕ)) (r : ℕ) (b : RowStart) : Type 0 where
-  pub width_is : shape.width ≡ h.xd
-  pub mode_is : shape_mode shape ≡ mode_of h.options
-  pub offset_is : kept.offset ≡ offset_at move r b.offset
+pub record IsReady (coding : RowCoding) (shape : Shape) (kept : Kept) (lines : Lines) (r : ℕ) (b : RowStart) : Type 0 where
+  pub width_is : shape.width ≡ coding.width
+  pub mode_is : shape_mode shape ≡ coding.mode
+  pub offset_is : kept.offset ≡ offset_at coding.move r b.offset
   pub previous_is : kept.previous_typical ≡ b.previous
   pub above_is : lines.above ≡ b.above
   pub second_is : lines.second ≡ b.second

@@ -1,5 +1,5 @@
 -- What a decoder of the rows of a stripe leaves.
-use Rattle.std.specs.Prelude.{ℕ, ◌≡◌, Bool, true, List, ◌++◌, length, replicate, Option, flat_map}
+use Rattle.std.specs.Prelude.{ℕ, ◌+◌, ◌≡◌, Bool, true, List, ◌++◌, length, replicate, Option, flat_map}
 use Rattle.std.specs.Io.KnownBytes.{Appends}
 use Rattle.qm_core.specs.Source.{heard_of, Gives}
 use Rattle.qm_core.specs.Decoder.{DecoderIsAt}
@@ -13,9 +13,9 @@ use Rattle.t85_core.specs.Lent.{Carried}
 use Rattle.t85_core.specs.declared.segments.Move.{Move}
 use Rattle.t85_core.specs.Header.{Fields}
 use Rattle.t85_core.specs.Grammar.{Segment}
-use Rattle.t85_core.specs.Coding.{mode_of, move_of}
+use Rattle.t85_core.specs.Coding.{FlaggedRows, flagged, mode_of, move_of}
 use Rattle.t85_core.specs.Steps.State.{RowStart, StripeStart, first_row_start, image_start}
-use Rattle.t85_core.specs.Steps.Cut.{RowsSoFar}
+use Rattle.t85_core.specs.Steps.Cut.{OpenStripe, open_stripe, RowsSoFar}
 
 -- a move as the grammar sees it
 abbrev pub pair_of : Move → ℕ × ℕ
@@ -34,36 +34,48 @@ pub record IsCarried (b : RowStart) (carried : Carried) : Type 0 where
   pub third : List Bool
   pub lines_are : HasLines carried.held (record { row = b.above; above = b.second; second = third })
 
--- The first rows of a stripe with these segments: decoded from what the source answered, and written.
-pub record RowsRead {S : Type 0} (pull : S → Pulled → S → Type 0) (from to : S) (h : Fields) (shape : Shape) (c : StripeStart) (segments : List Segment) (count : ℕ)
-    (carried : Carried) (d : Decoder) (text text' : Option (List ℕ)) : Type 0 where
+-- these answers lead a source from one state to another
+abbrev pub Leads : {S : Type 0} → (S → Pulled → S → Type 0) → S → S → List Pulled → Type 0
+Leads pull from to answers = Gives pull from answers to
+
+-- Rows of a stripe that are decoded: how many, what is carried to the next one, and the decoder of its pixels.
+pub record RowsDone : Type 0 where
+  pub row : ℕ
+  pub carried : Carried
+  pub decoder : Decoder
+
+abbrev pub rows_done : ℕ → Carried → Decoder → RowsDone
+rows_done row carried decoder = record { row = row; carried = carried; decoder = decoder }
+
+-- The first rows of a stripe: decoded from what came, and written.
+pub record RowsRead (came : List Pulled → Type 0) (stripe : OpenStripe) (shape : Shape) (done : RowsDone) (text text' : Option (List ℕ)) : Type 0 where
   pub answers : List Pulled
-  pub gives : Gives pull from answers to
+  pub gives : came answers
   pub rows : List (List Bool)
   pub flags : List Bool
   pub last : RowStart
-  pub so_far : RowsSoFar h c segments answers rows flags last
-  pub many : length rows ≡ count
-  pub stands : DecoderIsAt d last.state.place answers
+  pub so_far : RowsSoFar stripe answers rows flags last
+  pub many : length rows ≡ done.row
+  pub stands : DecoderIsAt done.decoder last.state.place answers
   pub unstopped : heard_of answers ≡ Stopped → ⊥
-  pub shape_is : IsShapeOf h shape
-  pub is_carried : IsCarried last carried
+  pub shape_is : IsShapeOf stripe.fields shape
+  pub is_carried : IsCarried last done.carried
   pub appended : Appends text text' (flat_map packed_row rows)
 
--- First rows of a stripe, and then as many as `count` that equal the last of them.
-pub record RowsRepeated (h : Fields) (c : StripeStart) (segments : List Segment) (answers : List Pulled) (rows : List (List Bool)) (flags : List Bool) (before : RowStart) (count : ℕ)
-    (carried : Carried) (d : Decoder) : Type 0 where
+-- First rows of a stripe, and then as many as `count` that equal the last of them: with those, so many are decoded.
+pub record RowsRepeated (stripe : OpenStripe) (answers : List Pulled) (coded : FlaggedRows) (before : RowStart) (count : ℕ) (done : RowsDone) : Type 0 where
   pub last : RowStart
-  pub so_far : RowsSoFar h c segments answers (rows ++ replicate count before.above) (flags ++ replicate count true) last
-  pub stands : DecoderIsAt d last.state.place answers
-  pub is_carried : IsCarried last carried
+  pub so_far : RowsSoFar stripe answers (coded.rows ++ replicate count before.above) (coded.flags ++ replicate count true) last
+  pub many : length coded.rows + count ≡ done.row
+  pub stands : DecoderIsAt done.decoder last.state.place answers
+  pub is_carried : IsCarried last done.carried
 
 -- rows more that equal the one before, in whatever stripe
-abbrev pub RepeatsRows : Shape → Option (ℕ × ℕ) → ℕ → ℕ → Carried → Carried → Decoder → Decoder → Type 0
-RepeatsRows shape move row count carried carried' d d' =
+abbrev pub RepeatsRows : Shape → Option (ℕ × ℕ) → ℕ → RowsDone → RowsDone → Type 0
+RepeatsRows shape move count done done' =
     (h : Fields) (c : StripeStart) (segments : List Segment) (answers : List Pulled) (rows : List (List Bool)) (flags : List Bool) (last : RowStart) → move ≡ move_of segments → IsShapeOf h shape →
-    RowsSoFar h c segments answers rows flags last → length rows ≡ row → DecoderIsAt d last.state.place answers → IsCarried last carried →
-    RowsRepeated h c segments answers rows flags last count carried' d'
+    RowsSoFar (open_stripe h c segments) answers rows flags last → length rows ≡ done.row → DecoderIsAt done.decoder last.state.place answers → IsCarried last done.carried →
+    RowsRepeated (open_stripe h c segments) answers (flagged rows flags) last count done'
 
 -- at the top of an image, and after a reset
 abbrev pub IsFirst : Carried → Type 0

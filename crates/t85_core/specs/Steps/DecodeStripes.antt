@@ -13,9 +13,10 @@ use Rattle.t85_core.specs.Denotes.{DenotesAt}
 use Rattle.t85_core.specs.Fixed.{Fixes}
 use Rattle.t85_core.specs.declared.fault.Fault.{Fault}
 use Rattle.t85_core.specs.declared.fault.Fault.TheVariants.{Truncated}
-use Rattle.t85_core.specs.Coding.{mode_of, move_of}
-use Rattle.t85_core.specs.Steps.State.{StripeStart, first_row_start, image_start, StripeRun, StripesRun}
-use Rattle.t85_core.specs.Steps.Cut.{BegunRun, FrontRun, RunEnough}
+use Rattle.t85_core.specs.Coding.{FlaggedRows, flagged}
+use Rattle.t85_core.specs.Steps.State.{StripeStart, first_row_start, image_start, StripeRun, StripesRun, stripe_coding}
+use Rattle.t85_core.specs.Steps.Cut.{BegunRun, FrontRun, RunEnough, open_stripe}
+use Rattle.t85_core.specs.Steps.Passage.{Passage}
 use Rattle.t85_core.specs.Outcome.{IsOutcome, pbm_rows}
 use Rattle.t85_core.specs.Steps.DecodeRows.{IsCarried}
 
@@ -24,76 +25,86 @@ pub record GivesIn (spot : Spot) (heights : ℕ) (segments : List Segment) : Typ
   pub gives : GiveOnly spot.height spot.heights segments
   pub heights_are : heights ≡ spot.heights + length (lengths segments)
 
+-- Where a stripe begins: its place in the body, what is carried to it, and how many rows it has.
+pub record StripePlace : Type 0 where
+  pub spot : Spot
+  pub start : StripeStart
+  pub count : ℕ
+
+abbrev pub stripe_place : Spot → StripeStart → ℕ → StripePlace
+stripe_place spot c count = record { spot = spot; start = c; count = count }
+
 -- A whole stripe was decoded and written.
-pub record StripeRead (h : Fields) (spot : Spot) (heights : ℕ) (c : StripeStart) (known known' : Option (List ℕ)) (count : ℕ) (carried : Carried) (text text' : Option (List ℕ)) : Type 0 where
+pub record StripeRead (h : Fields) (place : StripePlace) (heights : ℕ) (bytes : Passage) (carried : Carried) : Type 0 where
   pub stripe : Stripe
-  pub taken : Consumes known known' (stripe_bytes stripe)
-  pub gives_in : GivesIn spot heights stripe.segments
+  pub taken : Consumes bytes.input bytes.input_after (stripe_bytes stripe)
+  pub gives_in : GivesIn place.spot heights stripe.segments
   pub rows : List (List Bool)
   pub flags : List Bool
   pub next : StripeStart
-  pub run : StripeRun h count c stripe rows flags next
+  pub run : StripeRun h place.count place.start stripe (flagged rows flags) next
   pub is_carried : IsCarried (first_row_start next) carried
-  pub appended : Appends text text' (flat_map packed_row rows)
+  pub appended : Appends bytes.output bytes.output_after (flat_map packed_row rows)
 
 -- a fault of a stripe, of which what came decides these rows
-abbrev pub DecidesRows : Fields → Spot → StripeStart → ℕ → List (List Bool) → List Bool → List ℕ → Fault → Type 0
-DecidesRows h spot c count rows flags given fault = (broken : StripeFault h spot given fault) × BegunRun h count c broken.segments broken.code rows flags
+abbrev pub DecidesRows : Fields → StripePlace → FlaggedRows → List ℕ → Fault → Type 0
+DecidesRows h place coded given fault =
+    (broken : StripeFault h place.spot given fault) × BegunRun (open_stripe h place.start broken.segments) place.count broken.code coded.rows coded.flags
 
 -- A stripe that breaks: the rows that what came decides were written.
-pub record StripeCut (h : Fields) (spot : Spot) (c : StripeStart) (known known' : Option (List ℕ)) (count : ℕ) (text text' : Option (List ℕ)) (fault : Fault) : Type 0 where
+pub record StripeCut (h : Fields) (place : StripePlace) (bytes : Passage) (fault : Fault) : Type 0 where
   pub rows : List (List Bool)
   pub flags : List Bool
-  pub ends : Ends Truncated known known' (DecidesRows h spot c count rows flags) fault
-  pub appended : Appends text text' (flat_map packed_row rows)
+  pub ends : Ends Truncated bytes.input bytes.input_after (DecidesRows h place (flagged rows flags)) fault
+  pub appended : Appends bytes.output bytes.output_after (flat_map packed_row rows)
 
 -- This many stripes were decoded and written.
-pub record StripesRead (h : Fields) (height : ℕ) (known known' : Option (List ℕ)) (count heights : ℕ) (carried : Carried) (text text' : Option (List ℕ)) : Type 0 where
+pub record StripesRead (h : Fields) (height : ℕ) (bytes : Passage) (count heights : ℕ) (carried : Carried) : Type 0 where
   pub stripes : List Stripe
   pub many : length stripes ≡ count
   pub gives_in : GivesIn (record { height = height; entities = 0; heights = 0 }) heights (all_segments stripes)
-  pub taken : Consumes known known' (flat_map stripe_bytes stripes)
+  pub taken : Consumes bytes.input bytes.input_after (flat_map stripe_bytes stripes)
   pub rows : List (List Bool)
   pub flags : List Bool
   pub next : StripeStart
-  pub run : StripesRun h height (image_start h.xd) stripes rows flags next
+  pub run : StripesRun h height (image_start h.xd) stripes (flagged rows flags) next
   pub is_carried : IsCarried (first_row_start next) carried
-  pub appended : Appends text text' (flat_map packed_row rows)
+  pub appended : Appends bytes.output bytes.output_after (flat_map packed_row rows)
 
 -- An image was decoded and written, whatever comes after it.
-pub record ImageRead (h : Fields) (height : ℕ) (known known' text text' : Option (List ℕ)) : Type 0 where
+pub record ImageRead (h : Fields) (height : ℕ) (bytes : Passage) : Type 0 where
   pub given : List ℕ
-  pub taken : Consumes known known' given
+  pub taken : Consumes bytes.input bytes.input_after given
   pub rows : List (List Bool)
   pub denotes : (rest : List ℕ) → DenotesAt h height (given ++ rest) (record { width = h.xd; rows = rows })
-  pub appended : Appends text text' (flat_map packed_row rows)
+  pub appended : Appends bytes.output bytes.output_after (flat_map packed_row rows)
 
 -- An image breaks: the rows that what came fixes were written.
-pub record ImageCut (h : Fields) (height : ℕ) (known known' text text' : Option (List ℕ)) (fault : Fault) : Type 0 where
+pub record ImageCut (h : Fields) (height : ℕ) (bytes : Passage) (fault : Fault) : Type 0 where
   pub rows : List (List Bool)
-  pub ends : Ends Truncated known known' (λ given why. Fixes h height given why rows) fault
-  pub appended : Appends text text' (flat_map packed_row rows)
+  pub ends : Ends Truncated bytes.input bytes.input_after (λ given why. Fixes h height given why rows) fault
+  pub appended : Appends bytes.output bytes.output_after (flat_map packed_row rows)
 
 -- These bytes begin the stripe and decide these first rows of it: they are its segments and bytes of
 -- its code that are enough for the rows, or the whole stripe.
-pub record StripeDecides (h : Fields) (spot : Spot) (c : StripeStart) (count : ℕ) (given : List ℕ) (rows : List (List Bool)) (flags : List Bool) : Type 0 where
+pub record StripeDecides (h : Fields) (place : StripePlace) (given : List ℕ) (coded : FlaggedRows) : Type 0 where
   pub segments : List Segment
   pub code : List ℕ
   pub begun : IsBegun h segments code
-  pub gives : GiveOnly spot.height spot.heights segments
-  pub front : FrontRun h count c segments code rows flags
-  pub decides : ((given ≡ flat_map segment_bytes segments ++ stuffed code) × RunEnough (length code) (mode_of h.options) (move_of segments) 0 (first_row_start c) rows flags)
+  pub gives : GiveOnly place.spot.height place.spot.heights segments
+  pub front : FrontRun (open_stripe h place.start segments) place.count code coded.rows coded.flags
+  pub decides : ((given ≡ flat_map segment_bytes segments ++ stuffed code) × RunEnough (length code) (stripe_coding h segments) 0 (first_row_start place.start) coded.rows coded.flags)
       ⊎ ((reset : Bool) × (given ≡ stripe_bytes (record { segments = segments; code = code; reset = reset })))
 
 -- A beginning of a stripe's rows was written, of those that what came decides.
-pub record StripeUnwritten (h : Fields) (spot : Spot) (c : StripeStart) (known known' : Option (List ℕ)) (count : ℕ) (text text' : Option (List ℕ)) : Type 0 where
+pub record StripeUnwritten (h : Fields) (place : StripePlace) (bytes : Passage) : Type 0 where
   pub given : List ℕ
   pub ahead : List ℕ
-  pub taken : Consumes known known' (given ++ ahead)
+  pub taken : Consumes bytes.input bytes.input_after (given ++ ahead)
   pub rows : List (List Bool)
   pub flags : List Bool
-  pub decides : StripeDecides h spot c count given rows flags
-  pub appended : AppendsBeginning text text' (flat_map packed_row rows)
+  pub decides : StripeDecides h place given (flagged rows flags)
+  pub appended : AppendsBeginning bytes.output bytes.output_after (flat_map packed_row rows)
 
 -- However a body goes on that begins so, what is to be written for it begins with these rows.
 abbrev pub AreFirst : Fields → ℕ → List ℕ → List (List Bool) → Type 0
@@ -102,10 +113,10 @@ AreFirst h height given rows =
     (behind : List ℕ) × (text ≡ pbm_rows h.xd height rows ++ behind)
 
 -- A beginning of first rows of an image was written, which are decided however the body goes on.
-pub record ImageUnwritten (h : Fields) (height : ℕ) (known known' text text' : Option (List ℕ)) : Type 0 where
+pub record ImageUnwritten (h : Fields) (height : ℕ) (bytes : Passage) : Type 0 where
   pub given : List ℕ
   pub ahead : List ℕ
-  pub taken : Consumes known known' (given ++ ahead)
+  pub taken : Consumes bytes.input bytes.input_after (given ++ ahead)
   pub rows : List (List Bool)
   pub first : AreFirst h height given rows
-  pub appended : AppendsBeginning text text' (flat_map packed_row rows)
+  pub appended : AppendsBeginning bytes.output bytes.output_after (flat_map packed_row rows)

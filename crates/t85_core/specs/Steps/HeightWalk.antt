@@ -5,19 +5,53 @@ use Rattle.std.specs.Io.KnownBytes.{Consumes}
 use Rattle.qm_core.specs.Code.{stuffed}
 use Rattle.t85_core.specs.declared.fault.Fault.{Fault}
 use Rattle.t85_core.specs.declared.fault.Fault.TheVariants.{Truncated}
+use Rattle.t85_core.specs.declared.height.Reached.{Reached}
 use Rattle.t85_core.specs.Header.{Fields}
 use Rattle.t85_core.specs.Grammar.{Segment, NewLength, Comment, segment_bytes, is_move, is_comment, lengths, is_nil, Stripe, stripe_bytes, all_segments, stripe_count, moves_in, comments_in, is_valid_length, IsLegal, IsBegun, AreStripes, Parts}
 use Rattle.t85_core.specs.Refusal.{rest_fault, BodyFault}
 use Rattle.t85_core.specs.declared.segments.Code.{Code}
 use Rattle.t85_core.specs.declared.segments.Code.TheVariants as code
+use Rattle.t85_core.specs.Steps.Buffers.{Reading, reading}
 use Rattle.t85_core.specs.Steps.Segments.{PassesCode, CodeFault}
 use Rattle.t85_core.specs.Info.{numbers_of}
 use Rattle.t85_core.specs.Height.{IsHeight, IsOpen}
 
--- The fault of a rest after this many entities, whatever the height in use is.
-abbrev pub FaultAnyHeight : Fields → ℕ → Bool → ℕ → Bool → List ℕ → Fault → Type 0
-FaultAnyHeight h entities given moves in_code rest fault =
-    (height : ℕ) → rest_fault h (record { height = height; entities = entities; heights = if given then 1 else 0 }) moves in_code rest ≡ Some fault
+-- Where in a stripe a search for the height goes on: after how many data entities, whether a height was given before,
+-- and whether a move of the stripe came.
+pub record SearchPlace : Type 0 where
+  pub entities : ℕ
+  pub given : Bool
+  pub moved : Bool
+
+abbrev pub search_place : ℕ → Bool → Bool → SearchPlace
+search_place entities given moved = record { entities = entities; given = given; moved = moved }
+
+-- How many moves and comments were skipped.
+pub record SegmentCounts : Type 0 where
+  pub moves : ℕ
+  pub comments : ℕ
+
+abbrev pub segment_counts : ℕ → ℕ → SegmentCounts
+segment_counts moves comments = record { moves = moves; comments = comments }
+
+-- Where a search for the height ended: after how many data entities, what came with these, and what came behind them.
+pub record SearchEnd : Type 0 where
+  pub entities : ℕ
+  pub passed : SegmentCounts
+  pub part : SegmentCounts
+
+abbrev pub search_end : ℕ → (moves comments : ℕ) → (part_moves part_comments : ℕ) → SearchEnd
+search_end entities moves comments part_moves part_comments =
+    record { entities = entities; passed = segment_counts moves comments; part = segment_counts part_moves part_comments }
+
+-- there a search ended that reached this
+abbrev pub search_end_of : Reached → SearchEnd
+search_end_of r = search_end r.entities r.passed.moves r.passed.comments r.part.moves r.part.comments
+
+-- The fault of a rest behind these segments and this code of a stripe, whatever the height in use is.
+abbrev pub FaultAnyHeight : Fields → SearchPlace → List Segment → List ℕ → List ℕ → Fault → Type 0
+FaultAnyHeight h at segments code rest fault =
+    (height : ℕ) → rest_fault h (record { height = height; entities = at.entities; heights = if at.given then 1 else 0 }) ((if at.moved then 1 else 0) + count_by is_move segments) (not (is_nil code)) rest ≡ Some fault
 
 -- The code begins so, and is skipped with its end marker.
 abbrev pub PassesRest : Code → Option (List ℕ) → Option (List ℕ) → Type 0
@@ -31,43 +65,43 @@ RestBreaks (code.Marker reset) given fault = ⊥
 
 -- A whole stripe, in which no height is given; of it, or of what is left of it after a move, how many moves and comments
 -- it has.
-pub record SkipsStripe (h : Fields) (moved : Bool) (old new : Option (List ℕ)) (moves comments : ℕ) : Type 0 where
+pub record SkipsStripe (h : Fields) (moved : Bool) (known : Reading) (counts : SegmentCounts) : Type 0 where
   pub stripe : Stripe
   pub whole : IsBegun h stripe.segments stripe.code
   pub alone : (if moved then 1 else 0) + count_by is_move stripe.segments ≤ 1
   pub none : lengths stripe.segments ≡ []
-  pub moves_are : moves ≡ moves_in stripe
-  pub comments_are : comments ≡ min (comments_in stripe) (2 ^ 64 - 1)
-  pub taken : Consumes old new (stripe_bytes stripe)
+  pub moves_are : counts.moves ≡ moves_in stripe
+  pub comments_are : counts.comments ≡ min (comments_in stripe) (2 ^ 64 - 1)
+  pub taken : Consumes known.old known.new (stripe_bytes stripe)
 
 -- Segments of a stripe, and after them the first valid height.
-pub record SkipsTo (h : Fields) (entities : ℕ) (given moved : Bool) (old new : Option (List ℕ)) (moves comments height : ℕ) : Type 0 where
+pub record SkipsTo (h : Fields) (at : SearchPlace) (known : Reading) (counts : SegmentCounts) (height : ℕ) : Type 0 where
   pub segments : List Segment
   pub begun : IsBegun h segments []
-  pub alone : (if moved then 1 else 0) + count_by is_move segments ≤ 1
+  pub alone : (if at.moved then 1 else 0) + count_by is_move segments ≤ 1
   pub none : lengths segments ≡ []
-  pub ungiven : given ≡ false
+  pub ungiven : at.given ≡ false
   pub legal : IsLegal h (NewLength height)
-  pub valid : is_valid_length h entities height ≡ true
-  pub moves_are : moves ≡ count_by is_move segments
-  pub comments_are : comments ≡ min (count_by is_comment segments) (2 ^ 64 - 1)
-  pub taken : Consumes old new (flat_map segment_bytes segments ++ segment_bytes (NewLength height))
+  pub valid : is_valid_length h at.entities height ≡ true
+  pub moves_are : counts.moves ≡ count_by is_move segments
+  pub comments_are : counts.comments ≡ min (count_by is_comment segments) (2 ^ 64 - 1)
+  pub taken : Consumes known.old known.new (flat_map segment_bytes segments ++ segment_bytes (NewLength height))
 
 -- the one or the other
-abbrev pub SkipsParts : Fields → ℕ → Bool → Bool → Option (List ℕ) → Option (List ℕ) → ℕ → ℕ → Option ℕ → Type 0
-SkipsParts h entities given moved old new moves comments None = SkipsStripe h moved old new moves comments
-SkipsParts h entities given moved old new moves comments (Some height) = SkipsTo h entities given moved old new moves comments height
+abbrev pub SkipsParts : Fields → SearchPlace → Reading → SegmentCounts → Option ℕ → Type 0
+SkipsParts h at known counts None = SkipsStripe h at.moved known counts
+SkipsParts h at known counts (Some height) = SkipsTo h at known counts height
 
 -- A stripe that breaks before a height is given in it.
-pub record SkipFault (h : Fields) (entities : ℕ) (given moved : Bool) (bytes : List ℕ) (fault : Fault) : Type 0 where
+pub record SkipFault (h : Fields) (at : SearchPlace) (bytes : List ℕ) (fault : Fault) : Type 0 where
   pub segments : List Segment
   pub code : List ℕ
   pub rest : List ℕ
   pub bytes_are : bytes ≡ flat_map segment_bytes segments ++ (stuffed code ++ rest)
   pub begun : IsBegun h segments code
-  pub alone : (if moved then 1 else 0) + count_by is_move segments ≤ 1
+  pub alone : (if at.moved then 1 else 0) + count_by is_move segments ≤ 1
   pub none : lengths segments ≡ []
-  pub rest_has : FaultAnyHeight h entities given ((if moved then 1 else 0) + count_by is_move segments) (not (is_nil code)) rest fault
+  pub rest_has : FaultAnyHeight h at segments code rest fault
 
 -- whether a move came before what is next: none after a whole stripe
 abbrev pub moved_behind : Bool → List Stripe → Bool
@@ -80,41 +114,39 @@ IsAlone moved [] = ⊤
 IsAlone moved (s ∷ stripes) = (if moved then 1 else 0) + count_by is_move s.segments ≤ 1
 
 -- This many whole stripes, in which no height is given.
-pub record SkipsStripes (h : Fields) (moved : Bool) (count : ℕ) (old new : Option (List ℕ)) (moves comments : ℕ) : Type 0 where
+pub record SkipsStripes (h : Fields) (moved : Bool) (count : ℕ) (known : Reading) (counts : SegmentCounts) : Type 0 where
   pub stripes : List Stripe
   pub count_is : length stripes ≡ count
   pub each : AreStripes h stripes
   pub alone : IsAlone moved stripes
   pub none : lengths (all_segments stripes) ≡ []
-  pub moves_are : moves ≡ sum_by moves_in stripes
-  pub comments_are : comments ≡ min (sum_by comments_in stripes) (2 ^ 64 - 1)
-  pub taken : Consumes old new (flat_map stripe_bytes stripes)
+  pub moves_are : counts.moves ≡ sum_by moves_in stripes
+  pub comments_are : counts.comments ≡ min (sum_by comments_in stripes) (2 ^ 64 - 1)
+  pub taken : Consumes known.old known.new (flat_map stripe_bytes stripes)
 
 -- stripes, and after them segments and the first valid height
-pub record SkipsStripesTo (h : Fields) (from : ℕ) (given moved : Bool) (old new : Option (List ℕ)) (entities moves comments part_moves part_comments height : ℕ) : Type 0 where
+pub record SkipsStripesTo (h : Fields) (from : SearchPlace) (known : Reading) (to : SearchEnd) (height : ℕ) : Type 0 where
   pub mid : Option (List ℕ)
   pub count : ℕ
-  pub entities_are : entities ≡ from + count
-  pub before : SkipsStripes h moved count old mid moves comments
-  pub part : SkipsTo h entities given (moved_behind moved before.stripes) mid new part_moves part_comments height
+  pub entities_are : to.entities ≡ from.entities + count
+  pub before : SkipsStripes h from.moved count (reading known.old mid) to.passed
+  pub part : SkipsTo h (search_place to.entities from.given (moved_behind from.moved before.stripes)) (reading mid known.new) to.part height
 
 -- stripes, and after them one that breaks before a height is given
-pub record SkipsFault (h : Fields) (from count : ℕ) (given moved : Bool) (bytes : List ℕ) (fault : Fault) : Type 0 where
+pub record SkipsFault (h : Fields) (from : SearchPlace) (count : ℕ) (bytes : List ℕ) (fault : Fault) : Type 0 where
   pub stripes : List Stripe
   pub tail : List ℕ
   pub bytes_are : bytes ≡ flat_map stripe_bytes stripes ++ tail
-  pub fewer : from + length stripes < count
+  pub fewer : from.entities + length stripes < count
   pub each : AreStripes h stripes
-  pub alone : IsAlone moved stripes
+  pub alone : IsAlone from.moved stripes
   pub none : lengths (all_segments stripes) ≡ []
-  pub tail_has : SkipFault h (from + length stripes) given (moved_behind moved stripes) tail fault
+  pub tail_has : SkipFault h (search_place (from.entities + length stripes) from.given (moved_behind from.moved stripes)) tail fault
 
 -- all stripes, or some and a height after them
-abbrev pub Sought : Fields → ℕ → ℕ → Bool → Bool → Option (List ℕ) → Option (List ℕ) → ℕ → ℕ → ℕ → ℕ → ℕ → Option ℕ → Type 0
-Sought h from count given moved old new entities moves comments part_moves part_comments None =
-    (entities ≡ count) × (part_moves ≡ 0) × SkipsStripes h moved (count - from) old new moves comments
-Sought h from count given moved old new entities moves comments part_moves part_comments (Some height) =
-    (entities < count) × SkipsStripesTo h from given moved old new entities moves comments part_moves part_comments height
+abbrev pub Sought : Fields → SearchPlace → ℕ → Reading → SearchEnd → Option ℕ → Type 0
+Sought h from count known to None = (to.entities ≡ count) × (to.part.moves ≡ 0) × SkipsStripes h from.moved (count - from.entities) known to.passed
+Sought h from count known to (Some height) = (to.entities < count) × SkipsStripesTo h from known to height
 
 -- after the last stripe: comments
 pub record Comments (h : Fields) (segments : List Segment) : Type 0 where
@@ -144,38 +176,42 @@ pub record LookOpen (h : Fields) (entities : ℕ) (given : List ℕ) : Type 0 wh
   pub rest : List ℕ
   pub are : Comments h segments
   pub given_is : given ≡ flat_map segment_bytes segments ++ rest
-  pub cut : FaultAnyHeight h entities false 1 false rest Truncated
+  pub cut : FaultAnyHeight h (search_place entities false true) [] [] rest Truncated
 
 -- The height that the body gives was found.
-pub record FindsGiven (h : Fields) (old new : Option (List ℕ)) (entities moves comments part_moves part_comments height : ℕ) : Type 0 where
+pub record FindsGiven (h : Fields) (known : Reading) (to : SearchEnd) (height : ℕ) : Type 0 where
   pub mid : Option (List ℕ)
-  pub before : SkipsStripes h false entities old mid moves comments
+  pub before : SkipsStripes h false to.entities (reading known.old mid) to.passed
   pub segments : List Segment
   pub begun : IsBegun h segments []
   pub none : lengths segments ≡ []
   pub legal : IsLegal h (NewLength height)
-  pub valid : is_valid_length h entities height ≡ true
-  pub within : entities ≤ stripe_count h.yd h.l0
-  pub behind : entities ≡ stripe_count h.yd h.l0 → AllByRecursion (λ s. IsTrue (is_comment s)) segments
-  pub part_moves_are : part_moves ≡ count_by is_move segments
-  pub part_comments_are : entities < stripe_count h.yd h.l0 → part_comments ≡ min (count_by is_comment segments) (2 ^ 64 - 1)
-  pub taken : Consumes mid new (flat_map segment_bytes segments ++ segment_bytes (NewLength height))
+  pub valid : is_valid_length h to.entities height ≡ true
+  pub within : to.entities ≤ stripe_count h.yd h.l0
+  pub behind : to.entities ≡ stripe_count h.yd h.l0 → AllByRecursion (λ s. IsTrue (is_comment s)) segments
+  pub part_moves_are : to.part.moves ≡ count_by is_move segments
+  pub part_comments_are : to.entities < stripe_count h.yd h.l0 → to.part.comments ≡ min (count_by is_comment segments) (2 ^ 64 - 1)
+  pub taken : Consumes mid known.new (flat_map segment_bytes segments ++ segment_bytes (NewLength height))
+
+-- It was found so, behind whichever bytes.
+abbrev pub WhereFound : Fields → Option (List ℕ) → SearchEnd → ℕ → (Option (List ℕ) → Type 0) → Type 0
+WhereFound h rest to height Leaves = (known : Option (List ℕ)) → FindsGiven h (reading known rest) to height → Leaves known
 
 -- All stripes that the header's height makes were skipped, and the body gives no height.
-pub record FindsNone (h : Fields) (old new : Option (List ℕ)) (entities moves comments : ℕ) : Type 0 where
+pub record FindsNone (h : Fields) (known : Reading) (entities : ℕ) (counts : SegmentCounts) : Type 0 where
   pub mid : Option (List ℕ)
-  pub before : SkipsStripes h false entities old mid moves comments
+  pub before : SkipsStripes h false entities (reading known.old mid) counts
   pub all : entities ≡ stripe_count h.yd h.l0
-  pub height_is : IfSome old (λ body. IsHeight h body h.yd)
+  pub height_is : IfSome known.old (λ body. IsHeight h body h.yd)
 
 -- the one or the other
-abbrev pub Finds : Fields → Option (List ℕ) → Option (List ℕ) → ℕ → ℕ → ℕ → ℕ → ℕ → Option ℕ → Type 0
-Finds h old new entities moves comments part_moves part_comments None = FindsNone h old new entities moves comments
-Finds h old new entities moves comments part_moves part_comments (Some height) = FindsGiven h old new entities moves comments part_moves part_comments height
+abbrev pub Finds : Fields → Reading → SearchEnd → Option ℕ → Type 0
+Finds h known to None = FindsNone h known to.entities to.passed
+Finds h known to (Some height) = FindsGiven h known to height
 
 -- a read failed before it was known whether the body gives a height: in the stripes, or after the last of them
 abbrev pub FindsOpen : Fields → List ℕ → Type 0
-FindsOpen h given = SkipsFault h 0 (stripe_count h.yd h.l0) false false given Truncated ⊎ IsOpen h given
+FindsOpen h given = SkipsFault h (search_place 0 false false) (stripe_count h.yd h.l0) given Truncated ⊎ IsOpen h given
 
 -- The numbers of a body at its height.
 pub record BodyNumbers (h : Fields) (numbers body : List ℕ) : Type 0 where

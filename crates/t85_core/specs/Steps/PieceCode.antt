@@ -7,7 +7,7 @@ use Rattle.qm_core.specs.declared.source.Pulled.{Pulled}
 use Rattle.qm_core.specs.declared.source.Heard.TheVariants.{More, Ended, Stopped}
 use Rattle.qm_core.specs.declared.decoder.Decoder.{Decoder}
 use Rattle.raster_core.specs.Packed.{packed_row}
-use Rattle.raster_core.specs.Row.{StandsInRow}
+use Rattle.raster_core.specs.Row.{StandsInRow, row_task}
 use Rattle.raster_core.specs.declared.place.RowPlace.{RowPlace}
 use Rattle.raster_core.specs.declared.shape.Shape.{Shape}
 use Rattle.t85_core.specs.declared.fault.Fault.{Fault}
@@ -21,16 +21,16 @@ use Rattle.t85_core.specs.Coding.{move_of}
 use Rattle.t85_core.specs.Failures.{counted_as}
 use Rattle.t85_core.specs.Steps.Segments.{IsByteOrMarker, RestFault, code_bytes}
 use Rattle.t85_core.specs.Steps.State.{StripeStart, offset_at}
-use Rattle.t85_core.specs.Steps.Cut.{BegunRun}
-use Rattle.t85_core.specs.Steps.DecodeRows.{RowsRead}
+use Rattle.t85_core.specs.Steps.Cut.{OpenStripe, open_stripe, BegunRun}
+use Rattle.t85_core.specs.Steps.DecodeRows.{Leads, RowsDone, rows_done, RowsRead}
 
 -- a source of which only the answers count
 abbrev pub Anything : Unit {0} → Pulled → Unit {0} → Type 0
 Anything s answer t = Unit {0}
 
--- the first rows of a stripe with these segments: decoded from these answers, and handed out
-abbrev pub RowsKnown : Fields → Shape → StripeStart → List Segment → ℕ → Carried → Decoder → List ℕ → List ℕ → Type 0
-RowsKnown h shape c segments count carried d began out = RowsRead Anything tt tt h shape c segments count carried d (Some began) (Some out)
+-- the first rows of a stripe: decoded from these answers, and handed out
+abbrev pub RowsKnown : OpenStripe → Shape → RowsDone → List ℕ → List ℕ → Type 0
+RowsKnown stripe shape done began out = RowsRead (Leads Anything tt tt) stripe shape done (Some began) (Some out)
 
 -- what was read ahead of a code
 abbrev pub ahead_bytes : Option Code → List ℕ
@@ -71,42 +71,7 @@ pub record CodeBreaks (text piece : List ℕ) (bytes : List ℕ) (fault : Fault)
 
 -- ---- a row
 
--- A row more was decoded, from these bytes of the piece.
-pub record PieceRowTaken (h : Fields) (shape : Shape) (c : StripeStart) (segments : List Segment) (row : ℕ) (first : Option Code) (marker : Option Bool) (carried : Carried) (d : Decoder) (began out text piece piece' : List ℕ) : Type 0 where
-  pub given : List ℕ
-  pub taken : piece ≡ given ++ piece'
-  pub read : RowsKnown h shape c segments (row + 1) carried d began (out ++ carried.held.current)
-  pub code_is : CodeText first marker read.answers [] (text ++ given)
-
--- A row of a stripe that has begun: the rows before it, what was answered since, and how far it has come.
-pub record RowBegun (h : Fields) (shape : Shape) (c : StripeStart) (segments : List Segment) (row : ℕ) (carried : Carried) (d : Decoder) (place : RowPlace) (began out : List ℕ) : Type 0 where
-  pub start : Carried
-  pub decoder : Decoder
-  pub read : RowsKnown h shape c segments row start decoder began out
-  pub since : List Pulled
-  pub unstopped : heard_of (read.answers ++ since) ≡ Stopped → ⊥
-  pub offset_is : carried.kept.offset ≡ offset_at (move_of segments) row start.kept.offset
-  pub previous_is : carried.kept.previous_typical ≡ start.kept.previous_typical
-  pub stands : StandsInRow shape carried.kept place read.last.state (read.answers ++ since) (record { row = read.is_carried.third; above = read.last.above; second = read.last.second })
-      carried.held carried.learned d
-
--- A row breaks, or its piece ends: the rows before it are all that the bytes fix.
-pub record RowBroken (h : Fields) (c : StripeStart) (segments : List Segment) (count : ℕ) (began out text piece : List ℕ) (fault : Fault) : Type 0 where
-  pub bytes : List ℕ
-  pub breaks : CodeBreaks text piece bytes fault
-  pub rows : List (List Bool)
-  pub flags : List Bool
-  pub begun : BegunRun h count c segments bytes rows flags
-  pub out_is : out ≡ began ++ flat_map packed_row rows
-
--- A row waits for what follows the piece, of which these bytes were taken.
-pub record RowWaits (h : Fields) (shape : Shape) (c : StripeStart) (segments : List Segment) (row : ℕ) (first : Option Code) (marker : Option Bool) (carried : Carried) (d : Decoder) (place : RowPlace) (began out text piece piece' : List ℕ) : Type 0 where
-  pub given : List ℕ
-  pub taken : piece ≡ given ++ piece'
-  pub begun : RowBegun h shape c segments row carried d place began out
-  pub code_is : CodeText first marker (begun.read.answers ++ begun.since) [] (text ++ given)
-
--- what of a decoder of rows a piece may change
+-- What of a decoder of rows a piece may change.
 pub record RowState : Type 0 where
   pub carried : Carried
   pub decoder : Decoder
@@ -115,23 +80,81 @@ pub record RowState : Type 0 where
   pub marker : Option Bool
   pub piece : List ℕ
 
+abbrev pub row_state_at : Carried → Decoder → RowPlace → Option Code → Option Bool → List ℕ → RowState
+row_state_at carried decoder place first marker piece = record { carried = carried; decoder = decoder; place = place; first = first; marker = marker; piece = piece }
+
 abbrev pub row_state : Carried → Decoder → RowPlace → Option Code → Option Bool → Piece → RowState
-row_state carried decoder place first marker piece = record { carried = carried; decoder = decoder; place = place; first = first; marker = marker; piece = piece.rest.now }
+row_state carried decoder place first marker piece = row_state_at carried decoder place first marker piece.rest.now
+
+-- The bytes of a stripe: those handed out before it, those handed out up to here, and those that were taken for its code.
+pub record Handed : Type 0 where
+  pub began : List ℕ
+  pub out : List ℕ
+  pub text : List ℕ
+
+abbrev pub handed : List ℕ → List ℕ → List ℕ → Handed
+handed began out text = record { began = began; out = out; text = text }
+
+-- A row that has begun: how many rows come before it, what is carried, the decoder of its pixels, and how far it is.
+pub record OpenRow : Type 0 where
+  pub row : ℕ
+  pub carried : Carried
+  pub decoder : Decoder
+  pub place : RowPlace
+
+abbrev pub open_row : ℕ → Carried → Decoder → RowPlace → OpenRow
+open_row row carried decoder place = record { row = row; carried = carried; decoder = decoder; place = place }
+
+-- Row `row` was decoded, from these bytes of the piece. It leaves this state.
+pub record PieceRowTaken (stripe : OpenStripe) (shape : Shape) (row : ℕ) (left : RowState) (parts : Handed) (piece : List ℕ) : Type 0 where
+  pub given : List ℕ
+  pub taken : piece ≡ given ++ left.piece
+  pub read : RowsKnown stripe shape (rows_done (row + 1) left.carried left.decoder) parts.began (parts.out ++ left.carried.held.current)
+  pub code_is : CodeText left.first left.marker read.answers [] (parts.text ++ given)
+
+-- A row of a stripe that has begun: the rows before it, what was answered since, and how far it has come.
+pub record RowBegun (stripe : OpenStripe) (shape : Shape) (at : OpenRow) (began out : List ℕ) : Type 0 where
+  pub start : Carried
+  pub decoder : Decoder
+  pub read : RowsKnown stripe shape (rows_done at.row start decoder) began out
+  pub since : List Pulled
+  pub unstopped : heard_of (read.answers ++ since) ≡ Stopped → ⊥
+  pub offset_is : at.carried.kept.offset ≡ offset_at (move_of stripe.segments) at.row start.kept.offset
+  pub previous_is : at.carried.kept.previous_typical ≡ start.kept.previous_typical
+  pub stands : StandsInRow (row_task shape at.carried.kept read.last.state (record { row = read.is_carried.third; above = read.last.above; second = read.last.second })) at.place (read.answers ++ since)
+      at.carried.held at.carried.learned at.decoder
+
+-- A row breaks, or its piece ends: the rows before it are all that the bytes fix.
+pub record RowBroken (stripe : OpenStripe) (count : ℕ) (parts : Handed) (piece : List ℕ) (fault : Fault) : Type 0 where
+  pub bytes : List ℕ
+  pub breaks : CodeBreaks parts.text piece bytes fault
+  pub rows : List (List Bool)
+  pub flags : List Bool
+  pub begun : BegunRun stripe count bytes rows flags
+  pub out_is : parts.out ≡ parts.began ++ flat_map packed_row rows
+
+-- A row waits for what follows the piece, of which these bytes were taken. It leaves this state.
+pub record RowWaits (stripe : OpenStripe) (shape : Shape) (row : ℕ) (left : RowState) (parts : Handed) (piece : List ℕ) : Type 0 where
+  pub given : List ℕ
+  pub taken : piece ≡ given ++ left.piece
+  pub begun : RowBegun stripe shape (open_row row left.carried left.decoder left.place) parts.began parts.out
+  pub code_is : CodeText left.first left.marker (begun.read.answers ++ begun.since) [] (parts.text ++ given)
 
 -- what is left of a row that has begun in whatever stripe
-abbrev pub FromRow : Shape → RowState → (Fields → StripeStart → List Segment → ℕ → List ℕ → List ℕ → List ℕ → Type 0) → Type 0
+abbrev pub FromRow : Shape → RowState → (OpenStripe → ℕ → Handed → Type 0) → Type 0
 FromRow shape s Leaves =
     (h : Fields) (c : StripeStart) (segments : List Segment) (row : ℕ) (began out text : List ℕ) →
-    (b : RowBegun h shape c segments row s.carried s.decoder s.place began out) → CodeText s.first s.marker (b.read.answers ++ b.since) [] text → Leaves h c segments row began out text
+    (b : RowBegun (open_stripe h c segments) shape (open_row row s.carried s.decoder s.place) began out) → CodeText s.first s.marker (b.read.answers ++ b.since) [] text →
+    Leaves (open_stripe h c segments) row (handed began out text)
 
 abbrev pub EndsRow : Shape → RowState → RowState → Type 0
-EndsRow shape s t = FromRow shape s (λ h c segments row began out text. PieceRowTaken h shape c segments row t.first t.marker t.carried t.decoder began out text s.piece t.piece)
+EndsRow shape s t = FromRow shape s (λ stripe row parts. PieceRowTaken stripe shape row t parts s.piece)
 
 abbrev pub BreaksRow : Shape → RowState → Fault → Type 0
-BreaksRow shape s fault = FromRow shape s (λ h c segments row began out text. (count : ℕ) → row ≤ count → RowBroken h c segments count began out text s.piece fault)
+BreaksRow shape s fault = FromRow shape s (λ stripe row parts. (count : ℕ) → row ≤ count → RowBroken stripe count parts s.piece fault)
 
 abbrev pub WaitsInRow : Shape → RowState → RowState → Type 0
-WaitsInRow shape s t = FromRow shape s (λ h c segments row began out text. RowWaits h shape c segments row t.first t.marker t.carried t.decoder t.place began out text s.piece t.piece)
+WaitsInRow shape s t = FromRow shape s (λ stripe row parts. RowWaits stripe shape row t parts s.piece)
 
 -- bytes whose last is no FF
 abbrev pub EndsInNoEscape : List ℕ → Type 0

@@ -8,8 +8,9 @@ use Rattle.t85_core.specs.declared.segments.Place.{Place}
 use Rattle.t85_core.specs.Header.{Fields, is_variable}
 use Rattle.t85_core.specs.Options.{fields_of}
 use Rattle.t85_core.specs.Height.{GivesHeight}
-use Rattle.t85_core.specs.Steps.Behind.{BehindStands}
+use Rattle.t85_core.specs.Steps.Behind.{BehindStands, behind_at}
 use Rattle.t85_core.specs.Steps.Pieces.{WalkStands, HasMarker, IsInCode}
+use Rattle.t85_core.specs.Steps.SizedImage.{sized}
 
 -- What is known of the height: it is the header's while another may come. After that it came, or none may come.
 pub record HeightKnown (h : Fields) (height : ℕ) (is_open : Bool) (text : List ℕ) : Type 0 where
@@ -42,7 +43,7 @@ last_behind h s left = is_last s (nat_le left h.l0)
 
 -- A walk is in the code of a stripe, and no height came.
 pub record CodeWalks (h : Fields) (w : WalkView) (text out : List ℕ) : Type 0 where
-  pub walk : WalkStands h h.yd w text out
+  pub walk : WalkStands (sized h h.yd) w text out
   pub in_code : IsInCode w.stage
   pub ungiven : w.given ≡ false
 
@@ -55,13 +56,13 @@ pub record WalkWaits (h : Fields) (w : WalkView) (b : Behind) (text out : List �
   pub done : List ℕ
   pub back : List ℕ
   pub text_is : text ≡ done ++ back
-  pub walk : WalkStands h h.yd w done out
+  pub walk : WalkStands (sized h h.yd) w done out
   pub at : IsAtMarker w
   pub ungiven : w.given ≡ false
-  pub behind : BehindStands h (place_behind h w.stage w.entities) (last_behind h w.stage w.left) b back
+  pub behind : BehindStands h (behind_at (place_behind h w.stage w.entities) (last_behind h w.stage w.left)) b back
 
 abbrev pub StandsAs : Bool → Bool → PieceView → List ℕ → List ℕ → Type 0
-StandsAs false waits d text out = WalkStands (fields_of d.header) d.height d.walk text out
+StandsAs false waits d text out = WalkStands (sized (fields_of d.header) d.height) d.walk text out
 StandsAs true false d text out = CodeWalks (fields_of d.header) d.walk text out
 StandsAs true true d text out = WalkWaits (fields_of d.header) d.walk d.behind text out
 

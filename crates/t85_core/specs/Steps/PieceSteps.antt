@@ -16,9 +16,11 @@ use Rattle.t85_core.specs.Grammar.{NewLength, segment_bytes, is_valid_length, Is
 use Rattle.t85_core.specs.Height.{IsHeight}
 use Rattle.t85_core.specs.Steps.DecodeStripes.{StripesRead}
 use Rattle.t85_core.specs.Steps.HeightWalk.{LookEnds}
-use Rattle.t85_core.specs.Steps.Behind.{BehindStands}
+use Rattle.t85_core.specs.Steps.Behind.{BehindStands, behind_at}
 use Rattle.t85_core.specs.Steps.Pieces.{WalkStands, IsInCode, HasMarker}
+use Rattle.t85_core.specs.Steps.SizedImage.{sized}
 use Rattle.t85_core.specs.Pieces.{HandsOut, HoldsImage, MayFollow, row_held, rows_given, stream_of}
+use Rattle.t85_core.specs.Steps.Passage.{passage}
 
 -- a decoder with late heights that looks for one
 abbrev pub LooksForHeight : PieceDecoder → Type 0
@@ -94,9 +96,9 @@ pub record StripeLeft (d d' : PieceView) : Type 0 where
   pub given : d'.walk.given ≡ d.walk.given
   pub at : d'.walk.at ≡ None
   pub stage : d.header.l0 < d.walk.left → d'.walk.stage ≡ stage.Head
-  pub stands : (text out : List ℕ) → WalkStands (fields_of d.header) d.header.yd d.walk text out → WalkStands (fields_of d.header) d.header.yd d'.walk text out
-  pub read : (text out : List ℕ) → WalkStands (fields_of d.header) d.header.yd d.walk text out →
-      StripesRead (fields_of d.header) d.header.yd (Some text) (Some []) (d.walk.entities + 1) (if d.walk.given then 1 else 0) d'.walk.carried (Some []) (Some out)
+  pub stands : (text out : List ℕ) → WalkStands (sized (fields_of d.header) d.header.yd) d.walk text out → WalkStands (sized (fields_of d.header) d.header.yd) d'.walk text out
+  pub read : (text out : List ℕ) → WalkStands (sized (fields_of d.header) d.header.yd) d.walk text out →
+      StripesRead (fields_of d.header) d.header.yd (passage (Some text) (Some []) (Some []) (Some out)) (d.walk.entities + 1) (if d.walk.given then 1 else 0) d'.walk.carried
 
 -- The stripe before was ended, if there was one.
 pub record StripeClosed (d d' : PieceView) : Type 0 where
@@ -105,7 +107,7 @@ pub record StripeClosed (d d' : PieceView) : Type 0 where
   pub entities : d'.walk.entities ≡ (place_behind (fields_of d.header) d.walk.stage d.walk.entities).entities
   pub given : d'.walk.given ≡ false
   pub at : d'.walk.at ≡ None
-  pub stands : (text out : List ℕ) → (w : WalkWaits (fields_of d.header) d.walk d.behind text out) → WalkStands (fields_of d.header) d.header.yd d'.walk w.done out
+  pub stands : (text out : List ℕ) → (w : WalkWaits (fields_of d.header) d.walk d.behind text out) → WalkStands (sized (fields_of d.header) d.header.yd) d'.walk w.done out
 
 -- where a head is
 abbrev pub head_stage : Option ℕ → Stage
@@ -120,7 +122,7 @@ pub record HeadEntered (d d' : PieceView) : Type 0 where
   pub entities : d'.walk.entities ≡ (place_behind (fields_of d.header) d.walk.stage d.walk.entities).entities
   pub given : d'.walk.given ≡ false
   pub at : d'.walk.at ≡ d.behind.at
-  pub stands : (text out : List ℕ) → WalkWaits (fields_of d.header) d.walk d.behind text out → WalkStands (fields_of d.header) d.header.yd d'.walk text out
+  pub stands : (text out : List ℕ) → WalkWaits (fields_of d.header) d.walk d.behind text out → WalkStands (sized (fields_of d.header) d.header.yd) d'.walk text out
 
 -- a valid height comes next
 pub record HeightComes (h : Fields) (w : WalkView) (n : ℕ) (piece rest : List ℕ) : Type 0 where
@@ -131,7 +133,7 @@ pub record HeightComes (h : Fields) (w : WalkView) (n : ℕ) (piece rest : List 
 -- no height comes behind the last stripe, whatever follows the piece
 abbrev pub LookIsOver : Bool → PieceView → List ℕ → Type 0
 LookIsOver is_all d piece =
-    (back rest : List ℕ) → BehindStands (fields_of d.header) (place_behind (fields_of d.header) d.walk.stage d.walk.entities) true d.behind back → MayFollow is_all rest →
+    (back rest : List ℕ) → BehindStands (fields_of d.header) (behind_at (place_behind (fields_of d.header) d.walk.stage d.walk.entities) true) d.behind back → MayFollow is_all rest →
     LookEnds (fields_of d.header) (place_behind (fields_of d.header) d.walk.stage d.walk.entities).entities ((back ++ piece) ++ rest)
 
 -- whether the last stripe is over there that the header's height makes

@@ -15,34 +15,67 @@ use Rattle.t85_core.specs.declared.pieces.walk.Walk.{Walk}
 use Rattle.t85_core.specs.Lent.{Carried, WalkView, walk_view}
 use Rattle.t85_core.specs.declared.pieces.walk.Stage.{Stage}
 use Rattle.t85_core.specs.declared.pieces.walk.Stage.TheVariants as stage
+use Rattle.t85_core.specs.Steps.SizedImage.{SizedImage}
 use Rattle.t85_core.specs.Header.{Fields}
 use Rattle.t85_core.specs.Grammar.{stripe_count, ESC, COMMENT}
 use Rattle.t85_core.specs.Failures.{counted_as}
-use Rattle.t85_core.specs.Steps.Segments.{HasPassed, IsByteOrMarker}
+use Rattle.t85_core.specs.Steps.Segments.{HasPassed, IsByteOrMarker, segments_so_far}
 use Rattle.t85_core.specs.Steps.DecodeStripes.{StripesRead, ImageRead, ImageCut}
-use Rattle.t85_core.specs.Steps.PieceCode.{RowsKnown, RowBegun, CodeText, EndsInNoEscape}
+use Rattle.t85_core.specs.Steps.PieceCode.{RowsKnown, RowBegun, CodeText, EndsInNoEscape, open_row}
+use Rattle.t85_core.specs.Steps.Cut.{open_stripe}
+use Rattle.t85_core.specs.Steps.DecodeRows.{rows_done}
+use Rattle.t85_core.specs.Steps.Passage.{passage}
 
 -- These bytes are broken, or end too early, and fix the rows that were handed out.
-pub record CutOff (h : Fields) (height : ℕ) (text out : List ℕ) (fault : Fault) : Type 0 where
+pub record CutOff (image : SizedImage) (text out : List ℕ) (fault : Fault) : Type 0 where
   pub counted : counted_as Truncated fault ≡ fault
   pub unread : List ℕ
-  pub cut : ImageCut h height (Some text) (Some unread) (Some []) (Some out) fault
+  pub cut : ImageCut image.fields image.height (passage (Some text) (Some unread) (Some []) (Some out)) fault
+
+-- Where in the head of a stripe one is: after how many data entities, whether a height was given, which move came, and
+-- what is carried from the rows before it.
+pub record HeadPlace : Type 0 where
+  pub entities : ℕ
+  pub given : Bool
+  pub at : Option move.Move
+  pub carried : Carried
+
+abbrev pub head_place : ℕ → Bool → Option move.Move → Carried → HeadPlace
+head_place entities given at carried = record { entities = entities; given = given; at = at; carried = carried }
+
+-- there a walk is
+abbrev pub head_place_of : WalkView → HeadPlace
+head_place_of w = head_place w.entities w.given w.at w.carried
+
+-- Where in the code of a stripe one is: before which row, which of its bytes or markers was read ahead, and the decoder.
+pub record CodePlace : Type 0 where
+  pub row : ℕ
+  pub first : Option Code
+  pub marker : Option Bool
+  pub decoder : Decoder
+
+abbrev pub code_place : ℕ → Option Code → Option Bool → Decoder → CodePlace
+code_place row first marker d = record { row = row; first = first; marker = marker; decoder = d }
+
+-- there a walk is
+abbrev pub code_place_of : WalkView → CodePlace
+code_place_of w = code_place w.row w.first w.marker w.decoder
 
 -- A place in the head of a stripe: the stripes before it are decoded, and these segments of it were read.
-pub record HeadStands (h : Fields) (height entities : ℕ) (given : Bool) (at : Option move.Move) (carried : Carried) (text out : List ℕ) : Type 0 where
+pub record HeadStands (image : SizedImage) (here : HeadPlace) (text out : List ℕ) : Type 0 where
   pub before : Bool
   pub front : List ℕ
   pub back : List ℕ
   pub text_is : text ≡ front ++ back
-  pub stripes : StripesRead h height (Some front) (Some []) entities (if before then 1 else 0) carried (Some []) (Some out)
+  pub stripes : StripesRead image.fields image.height (passage (Some front) (Some []) (Some []) (Some out)) here.entities (if before then 1 else 0) here.carried
   pub comments : ℕ
-  pub passed : HasPassed h (record { height = height; entities = entities; given = before }) false (Some back) (Some []) at (is_some at) given comments
-  pub fewer : entities < stripe_count height h.l0
+  pub passed : HasPassed image.fields (record { height = image.height; entities = here.entities; given = before }) false (Some back) (Some []) (segments_so_far here.at (is_some here.at) here.given comments)
+  pub fewer : here.entities < stripe_count image.height image.fields.l0
 
 -- A place in a comment there, of which this many bytes are to come.
-pub record CommentStands (h : Fields) (height entities : ℕ) (given : Bool) (at : Option move.Move) (carried : Carried) (left : ℕ) (text out : List ℕ) : Type 0 where
+pub record CommentStands (image : SizedImage) (here : HeadPlace) (left : ℕ) (text out : List ℕ) : Type 0 where
   pub before : List ℕ
-  pub head : HeadStands h height entities given at carried before out
+  pub head : HeadStands image here before out
   pub part : List ℕ
   pub small : length part + left < 2 ^ 32
   pub text_is : text ≡ before ++ (ESC ∷ COMMENT ∷ (big_bytes 4 (length part + left) ++ part))
@@ -52,31 +85,31 @@ abbrev pub rows_in : Fields → ℕ → ℕ → ℕ
 rows_in h height entities = min (height - entities * h.l0) h.l0
 
 -- A place in the code of a stripe, of which this many rows are decoded.
-pub record CodeStands (h : Fields) (height entities : ℕ) (given : Bool) (at : Option move.Move) (row : ℕ) (first : Option Code) (marker : Option Bool) (carried : Carried) (d : Decoder) (text out : List ℕ) : Type 0 where
+pub record CodeStands (image : SizedImage) (here : HeadPlace) (in_code : CodePlace) (text out : List ℕ) : Type 0 where
   pub before : List ℕ
   pub began : List ℕ
   pub start : Carried
-  pub head : HeadStands h height entities given at start before began
+  pub head : HeadStands image (head_place here.entities here.given here.at start) before began
   pub shape : Shape
-  pub read : RowsKnown h shape head.stripes.next head.passed.segments row carried d began out
-  pub few : row ≤ rows_in h height entities
+  pub read : RowsKnown (open_stripe image.fields head.stripes.next head.passed.segments) shape (rows_done in_code.row here.carried in_code.decoder) began out
+  pub few : in_code.row ≤ rows_in image.fields image.height here.entities
   pub extra : List ℕ
-  pub rows_first : row < rows_in h height entities → extra ≡ []
+  pub rows_first : in_code.row < rows_in image.fields image.height here.entities → extra ≡ []
   pub code : List ℕ
-  pub code_is : CodeText first marker read.answers extra code
+  pub code_is : CodeText in_code.first in_code.marker read.answers extra code
   pub text_is : text ≡ before ++ code
 
 -- A place in a row of a stripe, of which not all code came yet.
-pub record InRowStands (h : Fields) (height entities : ℕ) (given : Bool) (at : Option move.Move) (row : ℕ) (first : Option Code) (marker : Option Bool) (carried : Carried) (d : Decoder) (place : RowPlace) (text out : List ℕ) : Type 0 where
+pub record InRowStands (image : SizedImage) (here : HeadPlace) (in_code : CodePlace) (place : RowPlace) (text out : List ℕ) : Type 0 where
   pub before : List ℕ
   pub began : List ℕ
   pub start : Carried
-  pub head : HeadStands h height entities given at start before began
+  pub head : HeadStands image (head_place here.entities here.given here.at start) before began
   pub shape : Shape
-  pub begun : RowBegun h shape head.stripes.next head.passed.segments row carried d place began out
-  pub few : row < rows_in h height entities
+  pub begun : RowBegun (open_stripe image.fields head.stripes.next head.passed.segments) shape (open_row in_code.row here.carried in_code.decoder place) began out
+  pub few : in_code.row < rows_in image.fields image.height here.entities
   pub code : List ℕ
-  pub code_is : CodeText first marker (begun.read.answers ++ begun.since) [] code
+  pub code_is : CodeText in_code.first in_code.marker (begun.read.answers ++ begun.since) [] code
   pub text_is : text ≡ before ++ code
 
 -- whether the image is whole
@@ -87,56 +120,56 @@ IsOver stage.Code = ⊥
 IsOver stage.Row = ⊥
 IsOver stage.Done = ⊤
 
-abbrev pub StageStands : Stage → Fields → ℕ → WalkView → List ℕ → List ℕ → Type 0
-StageStands stage.Head h height w text out = HeadStands h height w.entities w.given w.at w.carried text out
-StageStands stage.Comment h height w text out = CommentStands h height w.entities w.given w.at w.carried w.comment text out
-StageStands stage.Code h height w text out = CodeStands h height w.entities w.given w.at w.row w.first w.marker w.carried w.decoder text out
-StageStands stage.Row h height w text out = InRowStands h height w.entities w.given w.at w.row w.first w.marker w.carried w.decoder w.place text out
+abbrev pub StageStands : Stage → SizedImage → WalkView → List ℕ → List ℕ → Type 0
+StageStands stage.Head image w text out = HeadStands image (head_place_of w) text out
+StageStands stage.Comment image w text out = CommentStands image (head_place_of w) w.comment text out
+StageStands stage.Code image w text out = CodeStands image (head_place_of w) (code_place_of w) text out
+StageStands stage.Row image w text out = InRowStands image (head_place_of w) (code_place_of w) w.place text out
 -- whatever comes after it
-StageStands stage.Done h height w text out = ImageRead h height (Some text) (Some []) (Some []) (Some out)
+StageStands stage.Done image w text out = ImageRead image.fields image.height (passage (Some text) (Some []) (Some []) (Some out))
 
 -- A walk has taken these bytes, and has handed out these.
-pub record WalkStands (h : Fields) (height : ℕ) (w : WalkView) (text out : List ℕ) : Type 0 where
-  pub left_is : w.left ≡ height - w.entities * h.l0
-  pub width_is : w.carried.held.width ≡ h.xd
+pub record WalkStands (image : SizedImage) (w : WalkView) (text out : List ℕ) : Type 0 where
+  pub left_is : w.left ≡ image.height - w.entities * image.fields.l0
+  pub width_is : w.carried.held.width ≡ image.fields.xd
   pub offset_is : w.carried.kept.offset ≤ 127
   pub at_is : IfSome w.at (λ to. to.offset ≤ 127)
   pub code_is : IfSome w.first IsByteOrMarker
   pub behind : IfSome w.marker (λ _. w.first ≡ None)
-  pub within : w.place.done < h.xd
-  pub stands : StageStands w.stage h height w text out
+  pub within : w.place.done < image.fields.xd
+  pub stands : StageStands w.stage image w text out
 
 -- it has, of some
-abbrev pub SomeStands : Fields → ℕ → WalkView → Type 0
-SomeStands h height w = (text : List ℕ) × (out : List ℕ) × WalkStands h height w text out
+abbrev pub SomeStands : SizedImage → WalkView → Type 0
+SomeStands image w = (text : List ℕ) × (out : List ℕ) × WalkStands image w text out
 
 -- A step takes bytes of the piece, and hands these out.
-abbrev pub StepsOn : Fields → ℕ → WalkView → WalkView → List ℕ → List ℕ → List ℕ → Type 0
-StepsOn h height w w' piece piece' row = (text out : List ℕ) → WalkStands h height w text out → (given : List ℕ) × (piece ≡ given ++ piece') × WalkStands h height w' (text ++ given) (out ++ row)
+abbrev pub StepsOn : SizedImage → WalkView → WalkView → List ℕ → List ℕ → List ℕ → Type 0
+StepsOn image w w' piece piece' row = (text out : List ℕ) → WalkStands image w text out → (given : List ℕ) × (piece ≡ given ++ piece') × WalkStands image w' (text ++ given) (out ++ row)
 
 -- A step comes to the end of the piece: what it leaves begins an escape or a segment.
-abbrev pub StepsToEnd : Fields → ℕ → WalkView → WalkView → List ℕ → List ℕ → Type 0
-StepsToEnd h height w w' piece piece' = StepsOn h height w w' piece piece' [] × (length piece' ≤ 7)
+abbrev pub StepsToEnd : SizedImage → WalkView → WalkView → List ℕ → List ℕ → Type 0
+StepsToEnd image w w' piece piece' = StepsOn image w w' piece piece' [] × (length piece' ≤ 7)
 
 -- What came is broken, or ends too early, and fixes what was handed out.
-abbrev pub StepsOff : Fields → ℕ → WalkView → List ℕ → Fault → Type 0
-StepsOff h height w piece fault = (text out : List ℕ) → WalkStands h height w text out → CutOff h height (text ++ piece) out fault
+abbrev pub StepsOff : SizedImage → WalkView → List ℕ → Fault → Type 0
+StepsOff image w piece fault = (text out : List ℕ) → WalkStands image w text out → CutOff image (text ++ piece) out fault
 
 -- What a step leaves that hands out no row.
-pub record Step (h : Fields) (height : ℕ) (w w' : WalkView) (piece piece' : List ℕ) (answer : Result (Unit {0}) Fault) : Type 0 where
-  pub ok : OnOk answer (StepsOn h height w w' piece piece' [])
-  pub err : IfErr answer (λ f. StepsOff h height w piece f)
-  pub more : IsErrOf answer Truncated → StepsToEnd h height w w' piece piece'
+pub record Step (image : SizedImage) (w w' : WalkView) (piece piece' : List ℕ) (answer : Result (Unit {0}) Fault) : Type 0 where
+  pub ok : OnOk answer (StepsOn image w w' piece piece' [])
+  pub err : IfErr answer (λ f. StepsOff image w piece f)
+  pub more : IsErrOf answer Truncated → StepsToEnd image w w' piece piece'
 
 -- what a step leaves that looks neither at the rows nor at the contexts, whatever they are
 abbrev pub Alone : (WalkView → WalkView → Type 0) → Walk → Walk → Type 0
 Alone Leaves w w' = (rows : Held) (learned : List Estimate) → Leaves (walk_view w rows learned) (walk_view w' rows learned)
 
 -- What a step leaves that hands out a row.
-pub record RowStep (h : Fields) (height : ℕ) (w w' : WalkView) (piece piece' : List ℕ) (answer : Result (Unit {0}) Fault) : Type 0 where
-  pub ok : OnOk answer (StepsOn h height w w' piece piece' w'.carried.held.current)
-  pub err : IfErr answer (λ f. StepsOff h height w piece f)
-  pub more : IsErrOf answer Truncated → StepsToEnd h height w w' piece piece'
+pub record RowStep (image : SizedImage) (w w' : WalkView) (piece piece' : List ℕ) (answer : Result (Unit {0}) Fault) : Type 0 where
+  pub ok : OnOk answer (StepsOn image w w' piece piece' w'.carried.held.current)
+  pub err : IfErr answer (λ f. StepsOff image w piece f)
+  pub more : IsErrOf answer Truncated → StepsToEnd image w w' piece piece'
 
 -- a walk before the first byte
 pub record IsFirstWalk (w : WalkView) : Type 0 where
@@ -184,10 +217,10 @@ abbrev pub RowIsLeft : ℕ → Walk → Type 0
 RowIsLeft l0 w = (w.stage ≡ stage.Row) ⊎ WantsRow l0 w
 
 -- A stripe ended: so many were decoded, and handed out.
-abbrev pub StripesOn : Fields → ℕ → WalkView → WalkView → List ℕ → List ℕ → Type 0
-StripesOn h height w w' piece piece' =
-    (text out : List ℕ) → WalkStands h height w text out →
-    (given : List ℕ) × (piece ≡ given ++ piece') × StripesRead h height (Some (text ++ given)) (Some []) (w.entities + 1) (if w.given then 1 else 0) w'.carried (Some []) (Some out)
+abbrev pub StripesOn : SizedImage → WalkView → WalkView → List ℕ → List ℕ → Type 0
+StripesOn image w w' piece piece' =
+    (text out : List ℕ) → WalkStands image w text out →
+    (given : List ℕ) × (piece ≡ given ++ piece') × StripesRead image.fields image.height (passage (Some (text ++ given)) (Some []) (Some []) (Some out)) (w.entities + 1) (if w.given then 1 else 0) w'.carried
 
 -- What a step to a row leaves beside the row.
 pub record RowLeaves (w w' : WalkView) (piece piece' : List ℕ) (answer : Result (Unit {0}) Fault) : Type 0 where
@@ -199,9 +232,13 @@ pub record RowLeaves (w w' : WalkView) (piece piece' : List ℕ) (answer : Resul
   pub drained : IfErr answer (λ _. EndsInNoEscape piece → piece' ≡ [])
   pub other : IfErr answer (λ f. f ≢ Changed)
 
+-- It leaves that of a walk that stands somewhere.
+abbrev pub LeavesRow : SizedImage → WalkView → WalkView → List ℕ → List ℕ → Result (Unit {0}) Fault → Type 0
+LeavesRow image w w' piece piece' answer = SomeStands image w → RowLeaves w w' piece piece' answer
+
 -- What a step leaves that may hand out a row, or find that the image is whole.
-pub record Turn (h : Fields) (height : ℕ) (w w' : WalkView) (piece piece' : List ℕ) (answer : Result Bool Fault) : Type 0 where
-  pub row : answer ≡ Ok true → StepsOn h height w w' piece piece' w'.carried.held.current
-  pub done : answer ≡ Ok false → StepsOn h height w w' piece piece' [] × IsOver w'.stage
-  pub err : IfErr answer (λ f. StepsOff h height w piece f)
-  pub more : IsErrOf answer Truncated → StepsToEnd h height w w' piece piece'
+pub record Turn (image : SizedImage) (w w' : WalkView) (piece piece' : List ℕ) (answer : Result Bool Fault) : Type 0 where
+  pub row : answer ≡ Ok true → StepsOn image w w' piece piece' w'.carried.held.current
+  pub done : answer ≡ Ok false → StepsOn image w w' piece piece' [] × IsOver w'.stage
+  pub err : IfErr answer (λ f. StepsOff image w piece f)
+  pub more : IsErrOf answer Truncated → StepsToEnd image w w' piece piece'

@@ -6,12 +6,14 @@ use Rattle.t85_core.specs.declared.fault.Fault.{Fault}
 use Rattle.t85_core.specs.declared.fault.Fault.TheVariants.{Truncated}
 use Rattle.t85_core.specs.declared.pieces.walk.Stage.TheVariants as stage
 use Rattle.t85_core.specs.Lent.{WalkView}
-use Rattle.t85_core.specs.Header.{Fields}
 use Rattle.t85_core.specs.Fixed.{Fixes}
 use Rattle.t85_core.specs.Failures.{Ends, counted_as, reads_after}
-use Rattle.t85_core.specs.Steps.Buffers.{SourceView, ReadsOn, copies}
+use Rattle.t85_core.specs.Steps.Buffers.{SourceView, Reading, ReadsOn, copies}
+use Rattle.t85_core.specs.Steps.Passage.{Passage}
 use Rattle.t85_core.specs.Steps.DecodeStripes.{ImageUnwritten}
 use Rattle.t85_core.specs.Steps.Pieces.{CutOff, WalkStands, SomeStands, IsOver}
+use Rattle.t85_core.specs.Steps.SizedImage.{SizedImage}
+use Rattle.t85_core.specs.Steps.Passage.{passage}
 
 -- ---- bytes that are held
 
@@ -37,35 +39,35 @@ pub record Refills (old : SourceView) (held : List ℕ) (new : SourceView) (held
 -- ---- a walk over them
 
 -- A walk takes bytes, and hands these out.
-abbrev pub ReadsWalk : Fields → ℕ → WalkView → WalkView → Option (List ℕ) → Option (List ℕ) → List ℕ → Type 0
-ReadsWalk h height w w' known known' row = (text out : List ℕ) → WalkStands h height w text out → (given : List ℕ) × Consumes known known' given × WalkStands h height w' (text ++ given) (out ++ row)
+abbrev pub ReadsWalk : SizedImage → WalkView → WalkView → Option (List ℕ) → Option (List ℕ) → List ℕ → Type 0
+ReadsWalk image w w' known known' row = (text out : List ℕ) → WalkStands image w text out → (given : List ℕ) × Consumes known known' given × WalkStands image w' (text ++ given) (out ++ row)
 
 -- What came is broken, or ends too early, and fixes what was handed out.
-pub record WalkBreaks (h : Fields) (height : ℕ) (text out : List ℕ) (known known' : Option (List ℕ)) (fault : Fault) : Type 0 where
+pub record WalkBreaks (image : SizedImage) (text out : List ℕ) (known known' : Option (List ℕ)) (fault : Fault) : Type 0 where
   pub given : List ℕ
   pub taken : Consumes known known' given
   pub rows : List (List Bool)
-  pub fixes : Fixes h height (text ++ given) (counted_as Truncated fault) rows
+  pub fixes : Fixes image.fields image.height (text ++ given) (counted_as Truncated fault) rows
   pub out_is : out ≡ flat_map packed_row rows
   pub at_end : fault ≡ Truncated → IsAtEnd known'
 
-abbrev pub BreaksWalk : Fields → ℕ → WalkView → Option (List ℕ) → Option (List ℕ) → Fault → Type 0
-BreaksWalk h height w known known' fault = (text out : List ℕ) → WalkStands h height w text out → WalkBreaks h height text out known known' fault
+abbrev pub BreaksWalk : SizedImage → WalkView → Option (List ℕ) → Option (List ℕ) → Fault → Type 0
+BreaksWalk image w known known' fault = (text out : List ℕ) → WalkStands image w text out → WalkBreaks image text out known known' fault
 
 -- A walk took what it could of what is held, and waits for more.
-abbrev pub WaitsWalk : Fields → ℕ → WalkView → WalkView → Option (List ℕ) → Option (List ℕ) → List ℕ → Type 0
-WaitsWalk h height w w' known known' held' =
-    (text out : List ℕ) → WalkStands h height w text out →
-    (given : List ℕ) × Consumes known known' given × WalkStands h height w' (text ++ given) out × CutOff h height ((text ++ given) ++ held') out Truncated
+abbrev pub WaitsWalk : SizedImage → WalkView → WalkView → Option (List ℕ) → Option (List ℕ) → List ℕ → Type 0
+WaitsWalk image w w' known known' held' =
+    (text out : List ℕ) → WalkStands image w text out →
+    (given : List ℕ) × Consumes known known' given × WalkStands image w' (text ++ given) out × CutOff image ((text ++ given) ++ held') out Truncated
 
 -- What a turn leaves that goes over what is held. Few bytes stay where it waits.
-pub record HeldTurn (h : Fields) (height : ℕ) (w w' : WalkView) (known known' : Option (List ℕ)) (held' : List ℕ) (answer : Result Bool Fault) : Type 0 where
-  pub row : answer ≡ Ok true → ReadsWalk h height w w' known known' w'.carried.held.current
-  pub done : answer ≡ Ok false → ReadsWalk h height w w' known known' [] × IsOver w'.stage
-  pub waits : IsErrOf answer Truncated → WaitsWalk h height w w' known known' held'
+pub record HeldTurn (image : SizedImage) (w w' : WalkView) (known : Reading) (held' : List ℕ) (answer : Result Bool Fault) : Type 0 where
+  pub row : answer ≡ Ok true → ReadsWalk image w w' known.old known.new w'.carried.held.current
+  pub done : answer ≡ Ok false → ReadsWalk image w w' known.old known.new [] × IsOver w'.stage
+  pub waits : IsErrOf answer Truncated → WaitsWalk image w w' known.old known.new held'
   pub few : IsErrOf answer Truncated → length held' ≤ 7
-  pub err : IfErr answer (λ f. f ≢ Truncated → BreaksWalk h height w known known' f)
-  pub unread : IfErr answer (λ f. SomeStands h height w → ((n : ℕ) → reads_after f n ≡ n))
+  pub err : IfErr answer (λ f. f ≢ Truncated → BreaksWalk image w known.old known.new f)
+  pub unread : IfErr answer (λ f. SomeStands image w → ((n : ℕ) → reads_after f n ≡ n))
 
 -- the source is the same, and no read has failed
 pub record SameSource (old new : SourceView) : Type 0 where
@@ -73,26 +75,26 @@ pub record SameSource (old new : SourceView) : Type 0 where
   pub same_source : new.source ≡ old.source
 
 -- What a turn leaves that reads on where what is held ends.
-pub record ReadTurn (h : Fields) (height : ℕ) (w w' : WalkView) (old new : SourceView) (answer : Result Bool Fault) : Type 0 where
-  pub row : answer ≡ Ok true → ReadsWalk h height w w' old.known new.known w'.carried.held.current
-  pub done : answer ≡ Ok false → ReadsWalk h height w w' old.known new.known [] × IsOver w'.stage
-  pub err : IfErr answer (λ f. BreaksWalk h height w old.known new.known f)
-  pub reads : SomeStands h height w → ReadsOn old new answer
+pub record ReadTurn (image : SizedImage) (w w' : WalkView) (old new : SourceView) (answer : Result Bool Fault) : Type 0 where
+  pub row : answer ≡ Ok true → ReadsWalk image w w' old.known new.known w'.carried.held.current
+  pub done : answer ≡ Ok false → ReadsWalk image w w' old.known new.known [] × IsOver w'.stage
+  pub err : IfErr answer (λ f. BreaksWalk image w old.known new.known f)
+  pub reads : SomeStands image w → ReadsOn old new answer
 
 -- The same, of several rows that are equal: so many were handed out, or the image is whole.
-pub record RowsTurn (h : Fields) (height : ℕ) (w w' : WalkView) (old new : SourceView) (answer : Result ℕ Fault) : Type 0 where
-  pub some : IfOk answer (λ n. 0 < n → ReadsWalk h height w w' old.known new.known (copies n w'.carried.held.current) × (w'.stage ≡ stage.Code))
-  pub none : IfOk answer (λ n. n ≡ 0 → ReadsWalk h height w w' old.known new.known [] × IsOver w'.stage)
-  pub err : IfErr answer (λ f. BreaksWalk h height w old.known new.known f)
-  pub reads : SomeStands h height w → ReadsOn old new answer
+pub record RowsTurn (image : SizedImage) (w w' : WalkView) (old new : SourceView) (answer : Result ℕ Fault) : Type 0 where
+  pub some : IfOk answer (λ n. 0 < n → ReadsWalk image w w' old.known new.known (copies n w'.carried.held.current) × (w'.stage ≡ stage.Code))
+  pub none : IfOk answer (λ n. n ≡ 0 → ReadsWalk image w w' old.known new.known [] × IsOver w'.stage)
+  pub err : IfErr answer (λ f. BreaksWalk image w old.known new.known f)
+  pub reads : SomeStands image w → ReadsOn old new answer
 
 -- So many rows were decoded and written, and a walk stands behind them.
-pub record ImageSoFar (h : Fields) (height : ℕ) (w : WalkView) (known known' text text' : Option (List ℕ)) (row : ℕ) : Type 0 where
+pub record ImageSoFar (image : SizedImage) (w : WalkView) (p : Passage) (row : ℕ) : Type 0 where
   pub bytes : List ℕ
   pub out : List ℕ
-  pub stands : WalkStands h height w bytes out
-  pub taken : Consumes known known' bytes
-  pub put : Appends text text' out
-  pub many : length out ≡ row * row_bytes h.xd
-  pub few : row ≤ height
-  pub begun : ImageUnwritten h height (Some bytes) (Some []) (Some []) (Some out)
+  pub stands : WalkStands image w bytes out
+  pub taken : Consumes p.input p.input_after bytes
+  pub put : Appends p.output p.output_after out
+  pub many : length out ≡ row * row_bytes image.fields.xd
+  pub few : row ≤ image.height
+  pub begun : ImageUnwritten image.fields image.height (passage (Some bytes) (Some []) (Some []) (Some out))

@@ -1,53 +1,51 @@
 -- What the steps of a row encoder leave.
-use Rattle.std.specs.Prelude.{ℕ, ◌+◌, ◌*◌, ◌≡◌, ◌≤◌, ◌<◌, Bool, false, List, [], ◌∷◌, ◌++◌, length, Option, IfSome, unwrap_or, Result, OnOk, OnErr}
+use Rattle.std.specs.Prelude.{ℕ, ◌+◌, ◌*◌, ◌≡◌, ◌≤◌, ◌<◌, Bool, false, List, [], ◌∷◌, ◌++◌, length, Option, IfSome, flat_map, unwrap_or, Result, OnOk, OnErr}
 use Rattle.std.specs.Io.KnownBytes.{Appends}
 use Rattle.pbm_core.specs.Device.{AppendsBeginning}
 use Rattle.pbm_core.specs.Image.{pixels_of}
 use Rattle.qm_core.specs.Place.{Estimate, Place, State, start, fresh}
-use Rattle.qm_core.specs.Encoder.{EncoderIsAt, IsStuffedFront}
+use Rattle.qm_core.specs.Encoder.{EncoderIsAt, EncoderState, IsStuffedFront}
 use Rattle.qm_core.specs.Code.{stuffed, IsCode}
 use Rattle.qm_core.specs.Place as place
-use Rattle.qm_core.specs.Sink.{Took, Refused}
-use Rattle.qm_core.specs.declared.encoder.Encoder.{Encoder}
-use Rattle.raster_core.specs.Lines.{Lines}
+use Rattle.qm_core.specs.Sink.{Took, Refused, SinkAt}
 use Rattle.raster_core.specs.Packed.{Held, HasLines, white_lines}
-use Rattle.raster_core.specs.Row.{RowCoded, canonical_events}
+use Rattle.raster_core.specs.Row.{RowCoded, RowTask, canonical_events}
 use Rattle.qm_core.specs.Puts.{FailsIn}
 use Rattle.raster_core.specs.Window.{shape_mode}
 use Rattle.raster_core.specs.Lines.{may_be_typical}
 use Rattle.raster_core.specs.Tally.{CountsLines, is_two_line, most_of}
-use Rattle.raster_core.specs.declared.shape.Shape.{Shape}
 use Rattle.raster_core.specs.declared.shape.Kept.{Kept}
-use Rattle.t85_core.specs.Grammar.{marker_bytes, stripe_bytes, stripe_count}
+use Rattle.t85_core.specs.Grammar.{marker_bytes, segment_bytes, stripe_bytes, stripe_count}
 use Rattle.t85_core.specs.declared.encoding.by_row.RowEncoder.{RowEncoder}
 use Rattle.t85_core.specs.declared.encoding.learning.Learning.{Learning}
 use Rattle.t85_core.specs.Coding.{mode_of}
 use Rattle.t85_core.specs.Encode.{raster_of}
-use Rattle.t85_core.specs.Jbg.{Settings, head_of, jbg_up_to}
+use Rattle.t85_core.specs.Jbg.{Settings, head_of, jbg_up_to, move_segments}
 use Rattle.t85_core.specs.Steps.State.{offset_at}
-use Rattle.t85_core.specs.Steps.Written.{EncoderStart, next_move, next_stripe, next_encoder_start}
+use Rattle.t85_core.specs.Steps.Written.{EncoderStart, next_stripe, next_encoder_start}
 use Rattle.t85_core.specs.Steps.Sent.{Origin, Sends, SendsBeginning, here}
-use Rattle.t85_core.specs.Steps.ByRow.{IsPlan, HaveCome, StripesWhole, IsStart, RowView, Stands, Waits, Runs, StreamCut, IsBelow, TakesNextRow, CutsRow, move_bytes}
+use Rattle.t85_core.specs.Steps.ByRow.{EncoderAt, IsPlan, encoder_at, HaveCome, StripesWhole, IsStart, RowView, Stands, Waits, Runs, StreamCut, IsBelow, TakesNextRow, CutsRow, move_bytes}
+use Rattle.t85_core.specs.RowImage.{Image}
 
--- The move of a stripe was written and made.
-pub record MoveMade (s : Settings) (width : ℕ) (at : EncoderStart) (text text' : Option (List ℕ)) (kept kept' : Kept) : Type 0 where
-  pub at_top : IfSome (next_move s width at) (λ m. m.0 ≡ 0)
-  pub offset_is : kept'.offset ≡ offset_at (next_move s width at) 0 at.carry.offset
+-- The move of a stripe was written and made, where the offset was this one.
+pub record MoveMade (move : Option (ℕ × ℕ)) (offset : ℕ) (text text' : Option (List ℕ)) (kept kept' : Kept) : Type 0 where
+  pub at_top : IfSome move (λ m. m.0 ≡ 0)
+  pub offset_is : kept'.offset ≡ offset_at move 0 offset
   pub previous_is : kept'.previous_typical ≡ kept.previous_typical
-  pub appended : Appends text text' (move_bytes s width at)
+  pub appended : Appends text text' (flat_map segment_bytes (move_segments move))
 
 -- a beginning of it was written
 abbrev pub MoveCut : Settings → ℕ → EncoderStart → Option (List ℕ) → Option (List ℕ) → Type 0
 MoveCut s width at text text' = AppendsBeginning text text' (move_bytes s width at)
 
--- What coding a row leaves, for an encoder at a place with these bytes pushed, and a window with these lines.
-pub record RowPut (shape : Shape) (kept kept' : Kept) (s : State) (pushed : List ℕ) (lines : Lines) (e : Encoder) (learned : List Estimate) (text text' : Option (List ℕ)) : Type 0 where
+-- What coding a row leaves, for an encoder with these bytes pushed: what was written, in place of a sink.
+pub record RowPut (task : RowTask) (pushed : List ℕ) (kept' : Kept) (text : Option (List ℕ)) (new : EncoderState (Option (List ℕ))) : Type 0 where
   pub more : List ℕ
-  pub appended : Appends text text' more
-  pub codes : EncoderIsAt e (place.after s (canonical_events shape kept lines)).place (pushed ++ more)
-  pub taught : learned ≡ (place.after s (canonical_events shape kept lines)).learned
-  pub offset_is : kept'.offset ≡ kept.offset
-  pub flag_is : kept'.previous_typical ≡ may_be_typical (shape_mode shape) lines
+  pub appended : Appends text new.out more
+  pub codes : EncoderIsAt new.encoder (place.after task.state (canonical_events task.shape task.kept task.lines)).place (pushed ++ more)
+  pub taught : new.learned ≡ (place.after task.state (canonical_events task.shape task.kept task.lines)).learned
+  pub offset_is : kept'.offset ≡ task.kept.offset
+  pub flag_is : kept'.previous_typical ≡ may_be_typical (shape_mode task.shape) task.lines
 
 -- the target refused a byte of it
 pub record RowCut (s : State) (pushed : List ℕ) (all : List place.Event) (text text' : Option (List ℕ)) : Type 0 where
@@ -60,24 +58,23 @@ pub record RowCut (s : State) (pushed : List ℕ) (all : List place.Event) (text
   pub begins : IsStuffedFront ((pushed ++ done) ++ left) (place.after s events).place
 
 -- what a sink has of a row that was coded
-pub record RowSent {S : Type 0} {E : Type 0} (took : S → ℕ → S → Type 0) (refused : S → S → Type 0) (from to : S) (shape : Shape) (kept kept' : Kept) (s : State) (pushed : List ℕ) (lines : Lines)
-    (e : Encoder) (learned : List Estimate) (answer : Result (Unit {0}) E) : Type 0 where
-  pub ok : OnOk answer (RowCoded took from to shape kept kept' s pushed lines e learned)
-  pub err : OnErr answer (FailsIn took refused from to s pushed (canonical_events shape kept lines))
+pub record RowSent {S : Type 0} {E : Type 0} (old : SinkAt S) (task : RowTask) (kept' : Kept) (new : EncoderState S) (answer : Result (Unit {0}) E) : Type 0 where
+  pub ok : OnOk answer (RowCoded old task kept' new)
+  pub err : OnErr answer (FailsIn old task.state (canonical_events task.shape task.kept task.lines) new.out)
 
 -- and of the end of a code
-pub record EndSent {S : Type 0} {E : Type 0} (took : S → ℕ → S → Type 0) (refused : S → S → Type 0) (from to : S) (p : Place) (pushed : List ℕ) (answer : Result (Unit {0}) E) : Type 0 where
+pub record EndSent {S : Type 0} {E : Type 0} (old : SinkAt S) (p : Place) (to : S) (answer : Result (Unit {0}) E) : Type 0 where
   pub code : List ℕ
   pub is : IsCode p code
   pub more : List ℕ
-  pub all : pushed ++ more ≡ stuffed code
-  pub ok : OnOk answer (Took took from more to)
-  pub err : OnErr answer (Refused took refused from more to)
+  pub all : old.pushed ++ more ≡ stuffed code
+  pub ok : OnOk answer (Took old.sink.took old.from more to)
+  pub err : OnErr answer (Refused old.sink.took old.sink.refused old.from more to)
 
 -- what a call that codes a row leaves
-pub record RowOutcome {E : Type 0} (shape : Shape) (kept kept' : Kept) (s : State) (pushed : List ℕ) (lines : Lines) (e : Encoder) (learned : List Estimate) (text text' : Option (List ℕ)) (answer : Result (Unit {0}) E) : Type 0 where
-  pub ok : OnOk answer (RowPut shape kept kept' s pushed lines e learned text text')
-  pub cut : OnErr answer (RowCut s pushed (canonical_events shape kept lines) text text')
+pub record RowOutcome {E : Type 0} (task : RowTask) (pushed : List ℕ) (kept' : Kept) (text : Option (List ℕ)) (new : EncoderState (Option (List ℕ))) (answer : Result (Unit {0}) E) : Type 0 where
+  pub ok : OnOk answer (RowPut task pushed kept' text new)
+  pub cut : OnErr answer (RowCut task.state pushed (canonical_events task.shape task.kept task.lines) text new.out)
 
 -- The code of a place was ended, behind the bytes that were pushed, or a beginning of that was written.
 pub record CodeFinished {E : Type 0} (p : Place) (pushed : List ℕ) (text text' : Option (List ℕ)) (answer : Result (Unit {0}) E) : Type 0 where
@@ -98,110 +95,110 @@ pub record CodeEnded {E : Type 0} (p : Place) (reset : Bool) (pushed : List ℕ)
   pub cut : OnErr answer (AppendsBeginning text text' more)
 
 -- A stripe was ended that had so many rows.
-pub record StripeEnded (s : Settings) (width limit count : ℕ) (rows : List (List Bool)) (v : RowView) (window : Held) (origin : Origin) (text : Option (List ℕ)) : Type 0 where
-  pub plan_is : IsPlan s width limit v.plan
-  pub come : HaveCome width limit rows v.rows
+pub record StripeEnded (image : Image) (count : ℕ) (rows : List (List Bool)) (e : EncoderAt) (origin : Origin) : Type 0 where
+  pub plan_is : IsPlan image e.view.plan
+  pub come : HaveCome image.width image.limit rows e.view.rows
   pub i : ℕ
   pub whole : List (List Bool)
   pub part : List (List Bool)
   pub all : rows ≡ whole ++ part
   pub at : EncoderStart
   pub front : List ℕ
-  pub stripes : StripesWhole s width limit i whole at front
+  pub stripes : StripesWhole image i whole at front
   pub many : length part ≡ count
   pub some : 0 < length part
-  pub few : length part ≤ s.stripe_rows
-  pub in_stripe : v.in_stripe ≡ 0
-  pub codes : EncoderIsAt v.encoder start []
-  pub on_course : (i + 1) * s.stripe_rows < limit → IsStart s width (next_encoder_start s width at part) v window
-  pub sent : Sends origin text (front ++ stripe_bytes (next_stripe s width at part))
+  pub few : length part ≤ image.settings.stripe_rows
+  pub in_stripe : e.view.in_stripe ≡ 0
+  pub codes : EncoderIsAt e.view.encoder start []
+  pub on_course : (i + 1) * image.settings.stripe_rows < image.limit → IsStart image.settings image.width (next_encoder_start image.settings image.width at part) e.view e.window
+  pub sent : Sends origin e.text (front ++ stripe_bytes (next_stripe image.settings image.width at part))
 
 -- no more than a beginning of it was written
-pub record StripeBegun (s : Settings) (width limit count : ℕ) (rows : List (List Bool)) (origin : Origin) (text : Option (List ℕ)) : Type 0 where
+pub record StripeBegun (image : Image) (count : ℕ) (rows : List (List Bool)) (origin : Origin) (text : Option (List ℕ)) : Type 0 where
   pub i : ℕ
   pub whole : List (List Bool)
   pub part : List (List Bool)
   pub all : rows ≡ whole ++ part
   pub at : EncoderStart
   pub front : List ℕ
-  pub stripes : StripesWhole s width limit i whole at front
+  pub stripes : StripesWhole image i whole at front
   pub many : length part ≡ count
   pub some : 0 < length part
-  pub few : length part ≤ s.stripe_rows
-  pub sent : SendsBeginning origin text (front ++ stripe_bytes (next_stripe s width at part))
+  pub few : length part ≤ image.settings.stripe_rows
+  pub sent : SendsBeginning origin text (front ++ stripe_bytes (next_stripe image.settings image.width at part))
 
 -- All stripes were written, of an image that may end here.
-pub record StripesEnded (s : Settings) (width limit : ℕ) (rows : List (List Bool)) (v : RowView) (origin : Origin) (text : Option (List ℕ)) : Type 0 where
+pub record StripesEnded (image : Image) (rows : List (List Bool)) (v : RowView) (origin : Origin) (text : Option (List ℕ)) : Type 0 where
   pub rows_are : v.rows ≡ length rows
-  pub reset_is : v.plan.reset ≡ s.reset
-  pub announced_is : v.plan.announced ≡ unwrap_or s.announced (length rows)
-  pub sent : Sends origin text (jbg_up_to s (raster_of width rows) (stripe_count (length rows) s.stripe_rows))
+  pub reset_is : v.plan.reset ≡ image.settings.reset
+  pub announced_is : v.plan.announced ≡ unwrap_or image.settings.announced (length rows)
+  pub sent : Sends origin text (jbg_up_to image.settings (raster_of image.width rows) (stripe_count (length rows) image.settings.stripe_rows))
 
 -- ---- what the steps of a call do, in whatever stream
 
 -- A stripe runs now, where one waited or ran.
 abbrev pub StandsToRun : RowView → RowView → Option (List ℕ) → Option (List ℕ) → Type 0
 StandsToRun v v' old new =
-    (s : Settings) (width limit : ℕ) (rows : List (List Bool)) (before : Held) (origin : Origin) → Stands s width limit rows v before origin old →
-    Runs s width limit rows v' before origin new
+    (image : Image) (rows : List (List Bool)) (before : Held) (origin : Origin) → Stands image rows v before origin old →
+    Runs image rows v' before origin new
 
 -- A stripe that waited runs now.
 abbrev pub WaitsToRun : RowView → RowView → Option (List ℕ) → Option (List ℕ) → Type 0
 WaitsToRun v v' old new =
-    (s : Settings) (width limit : ℕ) (rows : List (List Bool)) (before : Held) (origin : Origin) → Waits s width limit rows v before origin old →
-    Runs s width limit rows v' before origin new
+    (image : Image) (rows : List (List Bool)) (before : Held) (origin : Origin) → Waits image rows v before origin old →
+    Runs image rows v' before origin new
 
 -- no more than a beginning of its move was written
 abbrev pub CutsMove : RowView → Option (List ℕ) → Option (List ℕ) → Type 0
 CutsMove v old new =
-    (s : Settings) (width limit : ℕ) (rows : List (List Bool)) (row : List Bool) (before : Held) (origin : Origin) → Waits s width limit rows v before origin old →
-    StreamCut s width limit (rows ++ row ∷ []) origin new
+    (image : Image) (rows : List (List Bool)) (row : List Bool) (before : Held) (origin : Origin) → Waits image rows v before origin old →
+    StreamCut image (rows ++ row ∷ []) origin new
 
 -- The row that a window has was coded, in a stripe that runs.
 abbrev pub CodesRow : RowView → RowView → Held → Option (List ℕ) → Option (List ℕ) → Type 0
 CodesRow v v' window old new =
-    (s : Settings) (width limit : ℕ) (rows : List (List Bool)) (row : List Bool) (before : Held) (origin : Origin) → IsBelow row before window →
-    Runs s width limit rows v before origin old →
-    Runs s width limit (rows ++ row ∷ []) v' window origin new
+    (image : Image) (rows : List (List Bool)) (row : List Bool) (before : Held) (origin : Origin) → IsBelow row before window →
+    Runs image rows v before origin old →
+    Runs image (rows ++ row ∷ []) v' window origin new
 
 -- no more than a beginning was written
 abbrev pub CutsCode : RowView → Held → Option (List ℕ) → Option (List ℕ) → Type 0
 CutsCode v window old new =
-    (s : Settings) (width limit : ℕ) (rows : List (List Bool)) (row : List Bool) (before : Held) (origin : Origin) → IsBelow row before window →
-    Runs s width limit rows v before origin old →
-    StreamCut s width limit (rows ++ row ∷ []) origin new
+    (image : Image) (rows : List (List Bool)) (row : List Bool) (before : Held) (origin : Origin) → IsBelow row before window →
+    Runs image rows v before origin old →
+    StreamCut image (rows ++ row ∷ []) origin new
 
 -- The stripe that ran was ended, if it has all its rows.
 abbrev pub RunsToStand : RowView → RowView → Held → Held → Option (List ℕ) → Option (List ℕ) → Type 0
 RunsToStand v v' window window' old new =
-    (s : Settings) (width limit : ℕ) (rows : List (List Bool)) (origin : Origin) → Runs s width limit rows v window origin old →
-    Stands s width limit rows v' window' origin new
+    (image : Image) (rows : List (List Bool)) (origin : Origin) → Runs image rows v window origin old →
+    Stands image rows v' window' origin new
 
 abbrev pub CutsRunning : RowView → Held → Option (List ℕ) → Option (List ℕ) → Type 0
 CutsRunning v window old new =
-    (s : Settings) (width limit : ℕ) (rows : List (List Bool)) (origin : Origin) → Runs s width limit rows v window origin old →
-    StreamCut s width limit rows origin new
+    (image : Image) (rows : List (List Bool)) (origin : Origin) → Runs image rows v window origin old →
+    StreamCut image rows origin new
 
 -- The stripe that ran was ended.
 abbrev pub EndsStripe : RowView → RowView → Held → Held → Option (List ℕ) → Option (List ℕ) → Type 0
 EndsStripe v v' window window' old new =
-    (s : Settings) (width limit : ℕ) (rows : List (List Bool)) (origin : Origin) → Runs s width limit rows v window origin old →
-    StripeEnded s width limit v.in_stripe rows v' window' origin new
+    (image : Image) (rows : List (List Bool)) (origin : Origin) → Runs image rows v window origin old →
+    StripeEnded image v.in_stripe rows (encoder_at v' window' new) origin
 
 abbrev pub CutsStripe : RowView → Held → Option (List ℕ) → Option (List ℕ) → Type 0
 CutsStripe v window old new =
-    (s : Settings) (width limit : ℕ) (rows : List (List Bool)) (origin : Origin) → Runs s width limit rows v window origin old →
-    StripeBegun s width limit v.in_stripe rows origin new
+    (image : Image) (rows : List (List Bool)) (origin : Origin) → Runs image rows v window origin old →
+    StripeBegun image v.in_stripe rows origin new
 
 -- All stripes of an image that may end here were written.
 abbrev pub EndsStripes : RowView → RowView → Held → Option (List ℕ) → Option (List ℕ) → Type 0
 EndsStripes v v' window old new =
-    (s : Settings) (width limit : ℕ) (rows : List (List Bool)) (origin : Origin) → Stands s width limit rows v window origin old →
-    StripesEnded s width limit rows v' origin new
+    (image : Image) (rows : List (List Bool)) (origin : Origin) → Stands image rows v window origin old →
+    StripesEnded image rows v' origin new
 
 -- A row is taken that is below the lines that a window had.
 abbrev pub TakesBelow : RowView → RowView → Held → Held → Option (List ℕ) → Option (List ℕ) → Type 0
-TakesBelow v v' window window' old new = (row : List Bool) (before : Held) → IsBelow row before window → TakesNextRow row v v' before window' old new
+TakesBelow v v' window window' old new = (row : List Bool) (before : Held) → IsBelow row before window → TakesNextRow row (encoder_at v before old) (encoder_at v' window' new)
 
 abbrev pub CutsBelow : RowView → Held → Option (List ℕ) → Option (List ℕ) → Type 0
 CutsBelow v window old new = (row : List Bool) (before : Held) → IsBelow row before window → CutsRow row v before old new
@@ -222,7 +219,7 @@ abbrev pub given_row : RowEncoder → List ℕ → List Bool
 given_row e bytes = pixels_of e.size.width bytes
 
 -- Once the head of a stream is written, and a window is white, no row has come.
-abbrev pub StandsFirst : Settings → ℕ → ℕ → RowView → Type 0
-StandsFirst s width limit v =
-    (window : Held) (text text' : Option (List ℕ)) → HasLines window (white_lines width) → Appends text text' (head_of s width limit) →
-    Stands s width limit [] v window (here text) text'
+abbrev pub StandsFirst : Image → RowView → Type 0
+StandsFirst image v =
+    (window : Held) (text text' : Option (List ℕ)) → HasLines window (white_lines image.width) → Appends text text' (head_of image.settings image.width image.limit) →
+    Stands image [] v window (here text) text'

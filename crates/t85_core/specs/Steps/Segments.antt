@@ -74,16 +74,27 @@ Passes h place moved old new (piece.Move to) = (moved ≡ false) × PassesSegmen
 Passes h place moved old new piece.Comment = (text : List ℕ) × PassesSegment h old new (Comment text)
 Passes h place moved old new (piece.Code c) = IsByteOrMarker c × Consumes old new (code_bytes c)
 
+-- What the segments of a stripe that were read so far came to: the move among them, whether one came in them or before,
+-- whether the height was given in them or before, and how many comments they have.
+pub record SegmentsSoFar : Type 0 where
+  pub at : Option move.Move
+  pub moved : Bool
+  pub given : Bool
+  pub comments : ℕ
+
+abbrev pub segments_so_far : Option move.Move → (moved given : Bool) → ℕ → SegmentsSoFar
+segments_so_far at moved given comments = record { at = at; moved = moved; given = given; comments = comments }
+
 -- segments of a stripe, and the move among them, where one stood before them or none
-pub record HasPassed (h : Fields) (place : Place) (before : Bool) (old new : Option (List ℕ)) (at : Option move.Move) (moved given : Bool) (comments : ℕ) : Type 0 where
+pub record HasPassed (h : Fields) (place : Place) (before : Bool) (old new : Option (List ℕ)) (passed : SegmentsSoFar) : Type 0 where
   pub segments : List Segment
   pub begun : IsBegun h segments []
   pub gives : GiveOnly place.height (if place.given then 1 else 0) segments
-  pub given_is : (if given then 1 else 0) ≡ (if place.given then 1 else 0) + length (lengths segments)
-  pub move_is : option_map (λ to. (to.row, to.offset)) at ≡ move_of segments
-  pub counted : (if moved then 1 else 0) ≡ (if before then 1 else 0) + count_by is_move segments
-  pub found : (if is_some at then 1 else 0) ≡ count_by is_move segments
-  pub told : comments ≡ min (count_by is_comment segments) (2 ^ 64 - 1)
+  pub given_is : (if passed.given then 1 else 0) ≡ (if place.given then 1 else 0) + length (lengths segments)
+  pub move_is : option_map (λ to. (to.row, to.offset)) passed.at ≡ move_of segments
+  pub counted : (if passed.moved then 1 else 0) ≡ (if before then 1 else 0) + count_by is_move segments
+  pub found : (if is_some passed.at then 1 else 0) ≡ count_by is_move segments
+  pub told : passed.comments ≡ min (count_by is_comment segments) (2 ^ 64 - 1)
   pub taken : Consumes old new (flat_map segment_bytes segments)
 
 -- a valid height, or what a code begins with

@@ -5,8 +5,8 @@ use Rattle.qm_core.specs.Code.{Lies}
 use Rattle.raster_core.specs.Raster.{white_row}
 use Rattle.raster_core.specs.Lines.{Lines, Mode, row_events, IsLegalFlag}
 use Rattle.t85_core.specs.Header.{Fields}
-use Rattle.t85_core.specs.Grammar.{Stripe, IsBegun}
-use Rattle.t85_core.specs.Coding.{mode_of, move_of}
+use Rattle.t85_core.specs.Grammar.{Segment, Stripe, IsBegun}
+use Rattle.t85_core.specs.Coding.{FlaggedRows, flagged, mode_of, move_of}
 
 -- Between two rows: the coder's state, the adaptive pixel's offset, whether the row before was typical, and the two
 -- rows above the next one.
@@ -41,13 +41,26 @@ pub record IsNextRow (width : ℕ) (mode : Mode) (b : RowStart) (row : List Bool
   pub wide : length row ≡ width
   pub legal : IsLegalFlag mode (lines_with b row) flag
 
+-- How the rows of a stripe are coded: how wide they are, in which mode, and the move of the adaptive pixel.
+pub record RowCoding : Type 0 where
+  pub width : ℕ
+  pub mode : Mode
+  pub move : Option (ℕ × ℕ)
+
+abbrev pub row_coding : ℕ → Mode → Option (ℕ × ℕ) → RowCoding
+row_coding width mode move = record { width = width; mode = mode; move = move }
+
+-- in a stripe with these segments
+abbrev pub stripe_coding : Fields → List Segment → RowCoding
+stripe_coding h segments = row_coding h.xd (mode_of h.options) (move_of segments)
+
 -- rows of a stripe, from row r on
-abbrev pub Run : ℕ → Mode → Option (ℕ × ℕ) → ℕ → RowStart → List (List Bool) → List Bool → RowStart → Type 0
-Run width mode move r b [] [] last = b ≡ last
-Run width mode move r b [] (flag ∷ flags) last = ⊥
-Run width mode move r b (row ∷ rows) [] last = ⊥
-Run width mode move r b (row ∷ rows) (flag ∷ flags) last =
-    IsNextRow width mode b row flag × Run width mode move (r + 1) (after_row mode move r b row flag) rows flags last
+abbrev pub Run : RowCoding → ℕ → RowStart → List (List Bool) → List Bool → RowStart → Type 0
+Run coding r b [] [] last = b ≡ last
+Run coding r b [] (flag ∷ flags) last = ⊥
+Run coding r b (row ∷ rows) [] last = ⊥
+Run coding r b (row ∷ rows) (flag ∷ flags) last =
+    IsNextRow coding.width coding.mode b row flag × Run coding (r + 1) (after_row coding.mode coding.move r b row flag) rows flags last
 
 -- between two stripes: what the contexts have learned, and the rest of what is carried
 pub record StripeStart : Type 0 where
@@ -71,19 +84,19 @@ next_stripe_start width true b = image_start width
 next_stripe_start width false b = record { learned = b.state.learned; offset = b.offset; previous = b.previous; above = b.above; second = b.second }
 
 -- A whole stripe of this many rows: its code lies where its rows lead.
-pub record StripeRun (h : Fields) (count : ℕ) (c : StripeStart) (s : Stripe) (rows : List (List Bool)) (flags : List Bool) (next : StripeStart) : Type 0 where
+pub record StripeRun (h : Fields) (count : ℕ) (c : StripeStart) (s : Stripe) (coded : FlaggedRows) (next : StripeStart) : Type 0 where
   pub whole : IsBegun h s.segments s.code
   pub last : RowStart
-  pub run : Run h.xd (mode_of h.options) (move_of s.segments) 0 (first_row_start c) rows flags last
-  pub many : length rows ≡ count
+  pub run : Run (stripe_coding h s.segments) 0 (first_row_start c) coded.rows coded.flags last
+  pub many : length coded.rows ≡ count
   pub lies : Lies s.code last.state.place
   pub next_is : next ≡ next_stripe_start h.xd s.reset last
 
 -- Stripes one after another, where this many rows are still to come.
-abbrev pub StripesRun : Fields → ℕ → StripeStart → List Stripe → List (List Bool) → List Bool → StripeStart → Type 0
-StripesRun h left c [] rows flags next = (rows ≡ []) × (flags ≡ []) × (c ≡ next)
-StripesRun h left c (s ∷ stripes) rows flags next =
+abbrev pub StripesRun : Fields → ℕ → StripeStart → List Stripe → FlaggedRows → StripeStart → Type 0
+StripesRun h left c [] coded next = (coded.rows ≡ []) × (coded.flags ≡ []) × (c ≡ next)
+StripesRun h left c (s ∷ stripes) coded next =
     (first : List (List Bool)) × (rest : List (List Bool)) × (first_flags : List Bool) × (rest_flags : List Bool) × (mid : StripeStart)
-    × (rows ≡ first ++ rest) × (flags ≡ first_flags ++ rest_flags)
-    × StripeRun h (min left h.l0) c s first first_flags mid
-    × StripesRun h (left - h.l0) mid stripes rest rest_flags next
+    × (coded.rows ≡ first ++ rest) × (coded.flags ≡ first_flags ++ rest_flags)
+    × StripeRun h (min left h.l0) c s (flagged first first_flags) mid
+    × StripesRun h (left - h.l0) mid stripes (flagged rest rest_flags) next

@@ -7,7 +7,8 @@ use Rattle.t85_core.specs.declared.encoding.sink.EntitySink.{EntitySink}
 use Rattle.t85_core.specs.declared.output_buffer.OutputBuffer.{OutputBuffer}
 use Rattle.t85_core.specs.declared.fault.Fault.{Fault}
 use Rattle.t85_core.specs.Failures.{CountsWrite}
-use Rattle.t85_core.specs.Steps.Buffers.{Writer, SinkView, TargetView, held_of, known_length}
+use Rattle.t85_core.specs.Steps.Buffers.{Writer, SourceView, SinkView, TargetView, held_of, known_length}
+use Rattle.t85_core.specs.Steps.Passage.{Passage, passage}
 use Rattle.t85_core.specs.Steps.Entity.{EntityView, entity_known}
 
 -- a code of which a piece came
@@ -54,3 +55,7 @@ target_view {W} {N} {G} b = record {
   failures = (G.view b.output.now).failures;
   writer = writer_of b;
 }
+
+-- what is known of a source and of a target, before a call and after it
+abbrev pub passage_of : SourceView → SourceView → TargetView → TargetView → Passage
+passage_of source source' target target' = passage source.known source'.known target.text target'.text

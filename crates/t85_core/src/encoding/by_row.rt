@@ -47,7 +47,8 @@ impl RowEncoder {
     ghost use Rattle.t85_core.specs.Options.{settings_of};
     ghost use Rattle.t85_core.specs.Steps.MostBytes.{most_end_bytes, most_row_bytes};
     ghost use Rattle.t85_core.specs.declared.encoding.learning.Learning.{Learning};
-    ghost use Rattle.t85_core.specs.Steps.ByRow.{plan_of, view_of, IsPlan};
+    ghost use Rattle.t85_core.specs.Steps.ByRow.{plan_of, view_of, IsPlan, lent_to};
+    ghost use Rattle.t85_core.specs.RowImage.{image_for};
     ghost use Rattle.t85_core.specs.Steps.RowCalls.{HasNoRows, MayEnd};
     ghost use Rattle.t85_core.specs.Steps.RowSteps.{IsUntaught, StandsFirst};
 
@@ -55,9 +56,9 @@ impl RowEncoder {
     #[inline(always)]
     pub(crate) fn new(size: Size, options: &Options<'_>) -> RowEncoder
         requires { is_low (settings_of options.now) size.height ≡ false }
-        ensures plan { IsPlan (settings_of options.now) size.width size.height (plan_of result) }
+        ensures plan { IsPlan (image_for options.now size) (plan_of result) }
         ensures first { (learning : Learning) → IsUntaught (settings_of options.now) learning →
-            StandsFirst (settings_of options.now) size.width size.height (view_of result learning) }
+            StandsFirst (image_for options.now size) (view_of result learning) }
         ensures begins { HasNoRows size result }
     {
         let shape = options.header(size).shape();
@@ -137,7 +138,8 @@ impl RowEncoder {
     ghost use Rattle.t85_core.specs.Steps.Views.{text_taken, WritesBehind};
     ghost use Rattle.t85_core.specs.Steps.RowCalls.{HasNoRows, LeavesClosed, HasRows, LeavesOpen, MayEnd, MayTakeRow};
     ghost use Rattle.t85_core.specs.declared.fault.Fault.TheVariants.{Write, AnnouncedLow};
-    ghost use Rattle.t85_core.specs.Steps.ByRow.{view_of, MayGoOn, Stands, TakesNextRow, CutsRow, EndsImage, CutsImage};
+    ghost use Rattle.t85_core.specs.Steps.ByRow.{view_of, MayGoOn, Stands, TakesNextRow, CutsRow, EndsImage, CutsImage, lent_to};
+    ghost use Rattle.t85_core.specs.RowImage.{image_for};
 
     /// Begins a stream: writes its head, and makes the window white. What was learned of another image is forgotten.
     pub fn start<W: Output>(
@@ -148,7 +150,7 @@ impl RowEncoder {
         output: &mut W,
     ) -> Result<RowEncoder, Fault>
         requires width { width_of window.old ≡ size.width }
-        ensures begun { IfOk result (λ e. Stands (settings_of options.now) size.width size.height []
+        ensures begun { IfOk result (λ e. Stands (image_for options.now size) []
             (view_of e learning.new) (held window.new) (here (W.view output.old).contents)
             (W.view output.new).contents) }
         ensures begins { IfOk result (HasNoRows size) }
@@ -183,8 +185,8 @@ impl RowEncoder {
         requires whole { length row.now ≡ bytes_of_row self.old.size.width }
         requires ready { IsGoing self.old → MayTakeRow self.old }
         ensures ok { OnOk result (TakesNextRow (given_row self.old row.now)
-            (view_of self.old learning.old) (view_of self.new learning.new) (held window.old)
-            (held window.new) (W.view output.old).contents (W.view output.new).contents) }
+            (lent_to self.old learning.old (held window.old) (W.view output.old).contents)
+            (lent_to self.new learning.new (held window.new) (W.view output.new).contents)) }
         ensures cut { IsGoing self.old → OnErr result (CutsRow (given_row self.old row.now)
             (view_of self.old learning.old) (held window.old) (W.view output.old).contents
             (W.view output.new).contents) }

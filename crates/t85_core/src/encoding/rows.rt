@@ -12,6 +12,7 @@ ghost use Rattle.t85_core.specs.Options.{settings_of};
 ghost use Rattle.t85_core.specs.Steps.Views.{text_taken, WritesBehind};
 ghost use Rattle.t85_core.specs.Steps.Sent.{here};
 ghost use Rattle.t85_core.specs.Steps.ByRow.{view_of, IsLined, IsBelow, Stands};
+ghost use Rattle.t85_core.specs.RowImage.{image_for};
 ghost use Rattle.t85_core.specs.Steps.RowCalls.{HasNoRows};
 ghost use Rattle.t85_core.specs.declared.fault.Fault.TheVariants.{Write};
 
@@ -99,7 +100,7 @@ pub fn start_held<W: Output>(
 ) -> Result<RowEncoder, Fault>
     requires width { width_of window.old ≡ size.width }
     requires low { is_low (settings_of options.now) size.height ≡ false }
-    ensures begun { IfOk result (λ e. Stands (settings_of options.now) size.width size.height []
+    ensures begun { IfOk result (λ e. Stands (image_for options.now size) []
         (view_of e learning.new) (held window.new) (here (text_taken buffer.old))
         (W.view buffer.new.output.now).contents) }
     ensures begins { IfOk result (HasNoRows size) }

@@ -4,7 +4,7 @@ ghost use Rattle.std.specs.Prelude.{[], ◌∷◌, ◌++◌, nat_lt, length, Non
 ghost use Rattle.qm_core.specs.Place.{Place, state_of};
 ghost use Rattle.raster_core.specs.Tally.{is_two_line, most_of};
 ghost use Rattle.raster_core.specs.Offset.{candidates};
-ghost use Rattle.qm_core.specs.Encoder.{EncoderIsAt, has_failed};
+ghost use Rattle.qm_core.specs.Encoder.{EncoderIsAt, has_failed, encoder_state};
 ghost use Rattle.raster_core.specs.Lines.{Lines};
 ghost use Rattle.raster_core.specs.Packed.{HasLines};
 ghost use Rattle.raster_core.specs.Window.{held, width_of};
@@ -12,7 +12,7 @@ ghost use Rattle.t85_core.specs.Lent.{StaysWindow};
 ghost use Rattle.t85_core.specs.Jbg.{Settings, head_of, is_low};
 ghost use Rattle.t85_core.specs.Options.{settings_of};
 ghost use Rattle.t85_core.specs.Steps.State.{RowStart, first_row_start, next_stripe_start};
-ghost use Rattle.t85_core.specs.Steps.Written.{EncoderStart};
+ghost use Rattle.t85_core.specs.Steps.Written.{EncoderStart, next_move};
 ghost use Rattle.t85_core.specs.Steps.EncodeRows.{IsCountedTo};
 ghost use Rattle.t85_core.specs.Steps.EncodeStripes.{IsTallied};
 ghost use Rattle.t85_core.specs.Steps.ByRow.{IsSomewhere, IsLined, IsHeldBy};
@@ -22,6 +22,8 @@ ghost use Rattle.t85_core.specs.Steps.RowCalls.{HasCoded, MayCode};
 ghost use Rattle.t85_core.specs.Steps.RowSteps.{MoveMade, MoveCut, RowOutcome, RowSent, EndSent, CodeFinished, CodeEnded};
 ghost use Rattle.t85_core.specs.Failures.{CountsWrite};
 ghost use Rattle.t85_core.specs.declared.fault.Fault.TheVariants.{Write};
+ghost use Rattle.qm_core.specs.Sink.{sink_at};
+ghost use Rattle.raster_core.specs.Row.{row_task};
 
 use crate::encoding::segments::{write_comment, write_marker, write_move};
 use crate::encoding::sink::EntitySink;
@@ -60,7 +62,8 @@ pub fn move_pixel<P: ByteTarget>(
     ensures offset { kept.new.offset ≤ 127 }
     ensures ok { OnOk result ((s : Settings) (width : ℕ) (at : EncoderStart) →
         kept.old.offset ≡ at.carry.offset → IsTallied s width at tally.now →
-        MoveMade s width at (P.view target.old).text (P.view target.new).text kept.old kept.new) }
+        MoveMade (next_move s width at) at.carry.offset (P.view target.old).text
+        (P.view target.new).text kept.old kept.new) }
     ensures cut { OnErr result ((s : Settings) (width : ℕ) (at : EncoderStart) →
         kept.old.offset ≡ at.carry.offset → IsTallied s width at tally.now →
         MoveCut s width at (P.view target.old).text (P.view target.new).text) }
@@ -91,8 +94,9 @@ pub fn code_row<P: ByteTarget>(
     requires lined { IsLined (held window.now) }
     ensures row { (p : Place) (pushed : List ℕ) (lines : Lines) → EncoderIsAt encoder.old p pushed →
         HasLines (held window.now) lines →
-        RowOutcome shape kept.old kept.new (state_of p learned.old) pushed
-        lines encoder.new learned.new (P.view target.old).text (P.view target.new).text result }
+        RowOutcome (row_task shape kept.old (state_of p learned.old) lines) pushed kept.new
+        (P.view target.old).text
+        (encoder_state (P.view target.new).text encoder.new learned.new) result }
     ensures able { OnOk result (HasCoded shape kept.old kept.new encoder.old encoder.new) }
     ensures fails { WritesOrFails (P.view target.old) (P.view target.new) result }
 {
@@ -112,8 +116,9 @@ fn send_row<C: CodeSink>(
     requires able { MayCode shape kept.old window.now encoder.old }
     ensures row { (p : Place) (pushed : List ℕ) (lines : Lines) → EncoderIsAt encoder.old p pushed →
         HasLines (held window.now) lines →
-        RowSent C.took C.refused sink.old sink.new shape kept.old kept.new
-        (state_of p learned.old) pushed lines encoder.new learned.new result }
+        RowSent (sink_at C.CodeSink sink.old pushed)
+        (row_task shape kept.old (state_of p learned.old) lines) kept.new
+        (encoder_state sink.new encoder.new learned.new) result }
     ensures able { OnOk result (HasCoded shape kept.old kept.new encoder.old encoder.new) }
     ensures err { IfErr result (λ f. f ≡ Write) }
     ensures writes { CountsWrite (C.failed sink.old) (C.failed sink.new) result }
@@ -140,7 +145,7 @@ fn end_code<P: ByteTarget>(encoder: Encoder, target: &mut P) -> Result<(), Fault
 fn send_end<C: CodeSink>(encoder: Encoder, sink: &mut C) -> Result<(), Fault>
     requires going { has_failed encoder ≡ false }
     ensures ended { (p : Place) (pushed : List ℕ) → EncoderIsAt encoder p pushed →
-        EndSent C.took C.refused sink.old sink.new p pushed result }
+        EndSent (sink_at C.CodeSink sink.old pushed) p sink.new result }
     ensures err { IfErr result (λ f. f ≡ Write) }
     ensures writes { CountsWrite (C.failed sink.old) (C.failed sink.new) result }
 {

@@ -2,7 +2,7 @@
 
 ghost use Rattle.std.specs.Prelude.{◌≡◌, ◌≤◌, ◌<◌, ◌∷◌, ℕ, List, None, false, length, IfErr, IfOk, OnOk};
 ghost use Rattle.t85_core.specs.Options.{fields_of};
-ghost use Rattle.t85_core.specs.Steps.Behind.{BehindOn, ComesBehind, StopsBehind, move_came};
+ghost use Rattle.t85_core.specs.Steps.Behind.{BehindOn, ComesBehind, StopsBehind, move_came, behind_at};
 
 use crate::fault::Fault;
 use crate::header::Header;
@@ -54,12 +54,12 @@ impl Behind {
         piece: &mut Piece<'a>,
     ) -> Result<Coming<'a>, Fault>
         requires none { place.given ≡ false }
-        ensures on { BehindOn (fields_of header.now) place is_last self.old self.new
+        ensures on { BehindOn (fields_of header.now) (behind_at place is_last) self.old self.new
             piece.old.rest.now piece.new.rest.now }
         ensures ok { IfOk result (λ coming. (self.new.comment ≡ None) × ComesBehind (fields_of
             header.now) place coming.next piece.new.rest.now coming.rest.now) }
-        ensures err { IfErr result (StopsBehind (fields_of header.now) place is_last self.new
-            piece.new.rest.now) }
+        ensures err { IfErr result (StopsBehind (fields_of header.now) (behind_at place is_last)
+            self.new piece.new.rest.now) }
         ensures no_more { length piece.new.rest.now ≤ length piece.old.rest.now }
     {
         'segments: loop {
@@ -100,11 +100,11 @@ impl Behind {
         piece: &mut Piece<'_>,
     ) -> Result<(), Fault>
         requires none { place.given ≡ false }
-        ensures on { BehindOn (fields_of header.now) place is_last self.old self.new
+        ensures on { BehindOn (fields_of header.now) (behind_at place is_last) self.old self.new
             piece.old.rest.now piece.new.rest.now }
         ensures ok { OnOk result (self.new.comment ≡ None) }
-        ensures err { IfErr result (StopsBehind (fields_of header.now) place is_last self.new
-            piece.new.rest.now) }
+        ensures err { IfErr result (StopsBehind (fields_of header.now) (behind_at place is_last)
+            self.new piece.new.rest.now) }
         ensures no_more { length piece.new.rest.now ≤ length piece.old.rest.now }
     {
         let Some(left) = self.comment else {
@@ -132,10 +132,10 @@ impl Behind {
         requires none { place.given ≡ false }
         requires between { self.old.comment ≡ None }
         requires comment { (rest : List ℕ) × (piece.old.rest.now ≡ 255 ∷ 7 ∷ rest) }
-        ensures on { BehindOn (fields_of header.now) place is_last self.old self.new
+        ensures on { BehindOn (fields_of header.now) (behind_at place is_last) self.old self.new
             piece.old.rest.now piece.new.rest.now }
-        ensures err { IfErr result (StopsBehind (fields_of header.now) place is_last self.new
-            piece.new.rest.now) }
+        ensures err { IfErr result (StopsBehind (fields_of header.now) (behind_at place is_last)
+            self.new piece.new.rest.now) }
         ensures lowers { OnOk result (length piece.new.rest.now < length piece.old.rest.now) }
         ensures no_more { length piece.new.rest.now ≤ length piece.old.rest.now }
     {

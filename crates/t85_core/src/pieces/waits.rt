@@ -20,7 +20,7 @@ use raster_core::Window;
 impl PieceDecoder {
     ghost use Rattle.t85_core.specs.declared.pieces.walk.Stage.TheVariants as stage;
     ghost use Rattle.t85_core.specs.Options.{fields_of};
-    ghost use Rattle.t85_core.specs.Steps.Behind.{ComesBehind, StopsBehind};
+    ghost use Rattle.t85_core.specs.Steps.Behind.{ComesBehind, StopsBehind, behind_at};
     ghost use Rattle.t85_core.specs.Steps.Segments.{IsByteOrMarker, code_bytes};
     ghost use Rattle.t85_core.specs.Steps.PieceSteps.{is_last_of, place_after, HeightComes, LookIsOver, Lowers, SomeStand, StepLeaves};
 
@@ -98,8 +98,8 @@ impl PieceDecoder {
         requires looks { LooksForHeight self.old }
         requires last { is_last ≡ is_last_of self.old }
         requires end { fault ≡ Truncated → is_all ≡ true }
-        requires stops { StopsBehind (fields_of self.old.header) (place_after self.old) is_last
-            self.old.behind piece.now.rest.now fault }
+        requires stops { StopsBehind (fields_of self.old.header)
+            (behind_at (place_after self.old) is_last) self.old.behind piece.now.rest.now fault }
         ensures leaves { StepLeaves is_all (over self.old window.old learned.old) (over self.new
             window.new learned.new) piece.now.rest.now piece.now.rest.now (Some result) }
         ensures window { KeepsWindow window.old window.new }
@@ -194,8 +194,8 @@ impl PieceDecoder {
         requires looks { LooksForHeight self.old }
         requires more { is_last_of self.old ≡ false }
         requires end { fault ≡ Truncated → is_all ≡ true }
-        requires stops { StopsBehind (fields_of self.old.header) (place_after self.old) false
-            self.old.behind piece.now.rest.now fault }
+        requires stops { StopsBehind (fields_of self.old.header)
+            (behind_at (place_after self.old) false) self.old.behind piece.now.rest.now fault }
         ensures leaves { StepLeaves is_all (over self.old window.old learned.old) (over self.new
             window.new learned.new) piece.now.rest.now piece.now.rest.now (Some result) }
         ensures window { KeepsWindow window.old window.new }

@@ -5,9 +5,9 @@ ghost use Rattle.raster_core.specs.Window.{width_of};
 ghost use Rattle.t85_core.specs.Steps.HeightWalk.{MayBeHeight};
 ghost use Rattle.t85_core.specs.declared.fault.Fault.TheVariants.{Truncated};
 ghost use Rattle.t85_core.specs.declared.pieces.walk.Stage.TheVariants as stage;
-ghost use Rattle.t85_core.specs.Options.{fields_of};
 ghost use Rattle.t85_core.specs.Lent.{KeepsWindow, walk_over as over};
 ghost use Rattle.t85_core.specs.Steps.Pieces.{WalkStands, HasAllRows, IsFirstWalk, Turn};
+ghost use Rattle.t85_core.specs.Steps.SizedImage.{sized_by};
 
 mod head;
 mod row;
@@ -73,7 +73,7 @@ impl Walk {
     ) -> Walk
         requires width { width_of window.old ≡ header.now.xd }
         requires from { 1 ≤ height }
-        ensures stands { WalkStands (fields_of header.now) height
+        ensures stands { WalkStands (sized_by header.now height)
             (over result window.new learned.new) [] [] }
         ensures first { IsFirstWalk (over result window.new learned.new) }
         ensures window { KeepsWindow window.old window.new }
@@ -109,7 +109,7 @@ impl Walk {
     ) -> Result<bool, Fault>
         requires height { MayBeHeight header.now.yd height }
         requires stage { (self.old.stage ≡ stage.Head) ⊎ (self.old.stage ≡ stage.Comment) }
-        ensures step { Turn (fields_of header.now) height (over self.old window.old learned.old)
+        ensures step { Turn (sized_by header.now height) (over self.old window.old learned.old)
             (over self.new window.new learned.new) piece.old.rest.now piece.new.rest.now result }
         ensures code { result ≡ Ok true → self.new.stage ≡ stage.Code }
         ensures window { KeepsWindow window.old window.new }
@@ -139,7 +139,7 @@ impl Walk {
     ) -> Result<bool, Fault>
         requires height { MayBeHeight header.now.yd height }
         requires rows { HasAllRows header.now.l0 self.old }
-        ensures step { Turn (fields_of header.now) height (over self.old window.old learned.old)
+        ensures step { Turn (sized_by header.now height) (over self.old window.old learned.old)
             (over self.new window.new learned.new) piece.old.rest.now piece.new.rest.now result }
         ensures code { result ≡ Ok true → self.new.stage ≡ stage.Code }
         ensures window { KeepsWindow window.old window.new }
@@ -161,7 +161,7 @@ impl Walk {
         piece: &mut Piece<'_>,
     ) -> Result<bool, Fault>
         requires height { MayBeHeight header.now.yd height }
-        ensures step { Turn (fields_of header.now) height (over self.old window.old learned.old)
+        ensures step { Turn (sized_by header.now height) (over self.old window.old learned.old)
             (over self.new window.new learned.new) piece.old.rest.now piece.new.rest.now result }
         ensures code { result ≡ Ok true → self.new.stage ≡ stage.Code }
         ensures window { KeepsWindow window.old window.new }

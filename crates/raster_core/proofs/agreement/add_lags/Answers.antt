@@ -1,6 +1,6 @@
 use Rattle.std.proofs.Common.{◌≡◌, ℕ, ◌+◌, ◌-◌, ◌*◌, ◌/◌, ◌%◌, ◌^◌, ◌<◌, ◌≤◌, ◌≢◌, ◌∙◌, sym, ap, arith, get_or, set, List, length, ◌⊎◌, inl, inr, get_or-set_other, get_or-set_same, length-set, refl}
 use Rattle.std.specs.Prelude.{bit_or}
-use Rattle.raster_core.specs.Machine.Words.{word, agreed_from}
+use Rattle.raster_core.specs.Machine.Words.{word, agreed_from, pixels_from}
 use Rattle.raster_core.proofs.Choosing.{le_cases}
 use Rattle.raster_core.proofs.Parts.{order}
 use Rattle.raster_core.proofs.Shifts.{begun, far_next, near_next}
@@ -58,8 +58,8 @@ loop-lag-preserved c =
                 ap (λ i. get_or (set xs k v) i 0) eq ∙ same_here xs k v there
                 ∙ ap (λ x. x + c.agreed_word.result) (c.loop-lag.invariant.above k (omega arith))
                 ∙ ap (λ x. get_or c.args.counts.now k 0 + x) (c.agreed_word.ensures.agreed p p m a (place + 64 - d) q g (c.loop-lag.invariant.near p place e f) h)
-                ∙ ap (λ x. get_or c.args.counts.now k 0 + agreed_from p p m a x q 64) (at_place place c.args.shift c.args.from k begin)
-                ∙ ap (λ i. get_or c.args.counts.now i 0 + agreed_from p p m a (place + 64 + c.args.from - (c.args.shift + i)) q 64) (sym eq)
+                ∙ ap (λ x. get_or c.args.counts.now k 0 + agreed_from (pixels_from p a) (pixels_from p x) (pixels_from m q) 64) (at_place place c.args.shift c.args.from k begin)
+                ∙ ap (λ i. get_or c.args.counts.now i 0 + agreed_from (pixels_from p a) (pixels_from p (place + 64 + c.args.from - (c.args.shift + i))) (pixels_from m q) 64) (sym eq)
           ];
       below = λ j lt. same_else xs k v j (λ eq. omega (arith, eq, lt, begin)) ∙ c.loop-lag.invariant.below j lt;
       above = λ j le. same_else xs k v j (λ eq. omega (arith, eq, le)) ∙ c.loop-lag.invariant.above j (omega (arith, le));

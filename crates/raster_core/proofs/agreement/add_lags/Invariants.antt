@@ -1,5 +1,5 @@
 use Rattle.std.proofs.Common.{◌≡◌, ℕ, ◌+◌, ◌-◌, ◌<◌, ◌≤◌, get_or, length, Bool}
-use Rattle.raster_core.specs.Machine.Words.{word, agreed_from}
+use Rattle.raster_core.specs.Machine.Words.{word, agreed_from, pixels_from}
 use Rattle.raster_core.proofs.agreement.add_lags.Given as goal
 
 abbrev pub invariant-loop-lag : goal.invariant-loop-lag
@@ -9,7 +9,7 @@ invariant-loop-lag l = record {
   near : (p : ℕ → Bool) (place : ℕ) → l.first ≡ word p place 64 → l.next ≡ word p (place + 64) 64 → l.near ≡ word p (place + 64 - (l.shift + (l.lag - l.from))) 64;
   far : (p : ℕ → Bool) (place : ℕ) → l.first ≡ word p place 64 → l.far ≡ word p place (64 - (l.shift + (l.lag - l.from)));
   done : (p m : ℕ → Bool) (place a c : ℕ) → l.first ≡ word p place 64 → l.next ≡ word p (place + 64) 64 → l.word ≡ word p a 64 → l.mask ≡ word m c 64 →
-      (j : ℕ) → l.from ≤ j → j < l.lag → get_or l.counts j 0 ≡ get_or l.initial.counts j 0 + agreed_from p p m a (place + 64 + l.from - (l.shift + j)) c 64;
+      (j : ℕ) → l.from ≤ j → j < l.lag → get_or l.counts j 0 ≡ get_or l.initial.counts j 0 + agreed_from (pixels_from p a) (pixels_from p (place + 64 + l.from - (l.shift + j))) (pixels_from m c) 64;
   below : (j : ℕ) → j < l.from → get_or l.counts j 0 ≡ get_or l.initial.counts j 0;
   above : (j : ℕ) → l.lag ≤ j → get_or l.counts j 0 ≡ get_or l.initial.counts j 0;
   room : (j : ℕ) → get_or l.counts j 0 ≤ get_or l.initial.counts j 0 + 64;

@@ -1,5 +1,5 @@
 use Rattle.std.proofs.Common.{◌≡◌, ℕ, ◌+◌, ◌-◌, ◌∙◌, ap, arith, get_or, inl, inr}
-use Rattle.raster_core.specs.Machine.Words.{word, agreed_from}
+use Rattle.raster_core.specs.Machine.Words.{word, agreed_from, pixels_from}
 use Rattle.std.specs.Prelude.{count_ones}
 use Rattle.raster_core.proofs.Shifts.{even_agreed}
 use Rattle.raster_core.proofs.Parts.{order}
@@ -21,7 +21,7 @@ pub returns-then-end-le64-clause-counts : goal.returns-then-end-le64-clause-coun
 returns-then-end-le64-clause-counts d p m place c second before one mask lag from to =
     none_more _ _ (
     d.add_lags.ensures.counts p m (place + 64) (place + 128) c before (one ∙ ap (λ x. word p x 64) (beside place)) one mask lag from (omega (arith, to))
-    ∙ ap (λ x. get_or d.args.counts.now lag 0 + agreed_from p p m (place + 128) x c 64) (near place d.args.least lag))
+    ∙ ap (λ x. get_or d.args.counts.now lag 0 + agreed_from (pixels_from p (place + 128)) (pixels_from p x) (pixels_from m c) 64) (near place d.args.least lag))
 
 pub returns-else-end-le64-clause-counts : goal.returns-else-end-le64-clause-counts
 returns-else-end-le64-clause-counts d p m place c second before one mask lag from to =
@@ -29,11 +29,11 @@ returns-else-end-le64-clause-counts d p m place c second before one mask lag fro
       | inl lt ↦
           d.add_lags-else-end-le64-2.ensures.below lag lt
           ∙ d.add_lags-else-end-le64.ensures.counts p m (place + 64) (place + 128) c before (one ∙ ap (λ x. word p x 64) (beside place)) one mask lag from lt
-          ∙ ap (λ x. get_or d.args.counts.now lag 0 + agreed_from p p m (place + 128) x c 64) (near place d.args.least lag)
+          ∙ ap (λ x. get_or d.args.counts.now lag 0 + agreed_from (pixels_from p (place + 128)) (pixels_from p x) (pixels_from m c) 64) (near place d.args.least lag)
       | inr le ↦
           d.add_lags-else-end-le64-2.ensures.counts p m place (place + 128) c second before one mask lag le (omega (arith, to))
-          ∙ ap (λ x. x + agreed_from p p m (place + 128) (place + 64 + 64 - (0 + lag)) c 64) (d.add_lags-else-end-le64.ensures.above lag le)
-          ∙ ap (λ x. get_or d.args.counts.now lag 0 + agreed_from p p m (place + 128) x c 64) (far place lag)
+          ∙ ap (λ x. x + agreed_from (pixels_from p (place + 128)) (pixels_from p (place + 64 + 64 - (0 + lag))) (pixels_from m c) 64) (d.add_lags-else-end-le64.ensures.above lag le)
+          ∙ ap (λ x. get_or d.args.counts.now lag 0 + agreed_from (pixels_from p (place + 128)) (pixels_from p x) (pixels_from m c) 64) (far place lag)
     ])
 
 pub returns-then-is_even-clause-counts : goal.returns-then-is_even-clause-counts

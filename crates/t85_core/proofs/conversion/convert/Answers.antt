@@ -6,7 +6,7 @@ use Rattle.t85_core.proofs.conversion.convert.Goals as goal
 
 pub returns-in_err-decode-clause-outcome : goal.returns-in_err-decode-clause-outcome
 returns-in_err-decode-clause-outcome g c =
-    exit_all (ToPbmAt _ _ _ _ _ _) c.from_residual.result c.from_residual.ensures.1
+    exit_all (ToPbmAt _ _ _ _ _) c.from_residual.result c.from_residual.ensures.1
     (at_broken (fields_of c.args.header.now) c.args.height c.args.max_rows _ _ _ _ _ _ _ _ _ c.if-height-max_rows.false _ c.in_err-decode.ensures.outcome)
 
 pub returns-in-Ok-flush-clause-outcome : goal.returns-in-Ok-flush-clause-outcome

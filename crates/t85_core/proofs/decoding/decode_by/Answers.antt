@@ -8,6 +8,7 @@ use Rattle.t85_core.specs.Steps.DecodeStripes.{ImageRead, ImageCut, ImageUnwritt
 use Rattle.t85_core.specs.Steps.Buffers.{held_of, known_length}
 use Rattle.t85_core.specs.Failures.{CountsBoth, CountsWrite}
 use Rattle.t85_core.specs.declared.fault.Fault.TheVariants.{Write}
+use Rattle.t85_core.specs.Steps.Passage.{passage}
 use Rattle.t85_core.proofs.Bytes.Held.{known_unheld}
 use Rattle.t85_core.proofs.Decodings.BufferDecoded.{text_unheld}
 use Rattle.t85_core.proofs.Decodings.ImagePut.{in_use}
@@ -32,19 +33,19 @@ returns-clause-outcome g c =
     let text = text_unheld buffer.bytes buffer.at buffer.end (g.W.Output.view buffer.output.now).contents c.new-buffer.ensures.empty ∙ ap (λ m. (g.W.Output.view m.now).contents) c.new-buffer.ensures.lent in
     let known_before = prepend_known (held_of stream.bytes stream.at stream.end) (g.R.Input.view stream.input.now).remaining in
     let text_before = (g.W.Output.view c.write_header.new.output).contents in
-    let ok : OnOk r (ImageRead h height (g.R.Input.view c.args.input.now).remaining after text_before text_after) =
-    subst (λ z. OnOk r (ImageRead h height z after text_before text_after)) known
-    (subst (λ z. OnOk r (ImageRead h height known_before after z text_after)) text c.decode_buffered.ensures.ok) in
-    let err : IfErr r (λ f. f ≢ Write → ImageCut h height (g.R.Input.view c.args.input.now).remaining after text_before text_after f) =
-    subst (λ z. IfErr r (λ f. f ≢ Write → ImageCut h height z after text_before text_after f)) known
-    (subst (λ z. IfErr r (λ f. f ≢ Write → ImageCut h height known_before after z text_after f)) text c.decode_buffered.ensures.err) in
+    let ok : OnOk r (ImageRead h height (passage (g.R.Input.view c.args.input.now).remaining after text_before text_after)) =
+    subst (λ z. OnOk r (ImageRead h height (passage z after text_before text_after))) known
+    (subst (λ z. OnOk r (ImageRead h height (passage known_before after z text_after))) text c.decode_buffered.ensures.ok) in
+    let err : IfErr r (λ f. f ≢ Write → ImageCut h height (passage (g.R.Input.view c.args.input.now).remaining after text_before text_after) f) =
+    subst (λ z. IfErr r (λ f. f ≢ Write → ImageCut h height (passage z after text_before text_after) f)) known
+    (subst (λ z. IfErr r (λ f. f ≢ Write → ImageCut h height (passage known_before after z text_after) f)) text c.decode_buffered.ensures.err) in
     let reads : CountsBoth (g.R.Input.view c.args.input.now).failures (g.R.Input.view input).failures r = subst (λ z. CountsBoth z (g.R.Input.view input).failures r) (ap (λ m. (g.R.Input.view m.now).failures) c.new-stream.ensures.lent) c.decode_buffered.ensures.reads in
     let writes : CountsWrite (g.W.Output.view c.args.output.now).failures (g.W.Output.view output).failures r = subst (λ z. CountsWrite z (g.W.Output.view output).failures r) (ap (λ m. (g.W.Output.view m.now).failures) c.new-buffer.ensures.lent ∙ c.in-Ok.ensures.failures) c.decode_buffered.ensures.writes.0 in
     let out_held = held_of c.decode_buffered.new.buffer.bytes c.decode_buffered.new.buffer.at c.decode_buffered.new.buffer.end in
     let in_held = held_of c.decode_buffered.new.stream.bytes c.decode_buffered.new.stream.at c.decode_buffered.new.stream.end in
-    let begun : ImageUnwritten h height (g.R.Input.view c.args.input.now).remaining after text_before (append_known text_after out_held) =
-    subst (λ z. ImageUnwritten h height z after text_before (append_known text_after out_held)) known
-    (subst (λ z. ImageUnwritten h height known_before after z (append_known text_after out_held)) text c.decode_buffered.ensures.begun) in
+    let begun : ImageUnwritten h height (passage (g.R.Input.view c.args.input.now).remaining after text_before (append_known text_after out_held)) =
+    subst (λ z. ImageUnwritten h height (passage z after text_before (append_known text_after out_held))) known
+    (subst (λ z. ImageUnwritten h height (passage known_before after z (append_known text_after out_held))) text c.decode_buffered.ensures.begun) in
     let grows : known_length text_before ≤ known_length text_after = subst (λ z. known_length z ≤ known_length text_after) (ap (λ m. (g.W.Output.view m.now).contents) c.new-buffer.ensures.lent) c.decode_buffered.ensures.writes.1 in
     let done : Decode h height (between (g.R.Input.view c.args.input.now).remaining (g.R.Input.view input).remaining (g.R.Input.view c.args.input.now).failures (g.R.Input.view input).failures)
     (between (g.W.Output.view c.args.output.now).contents text_after (g.W.Output.view c.args.output.now).failures (g.W.Output.view output).failures) r =

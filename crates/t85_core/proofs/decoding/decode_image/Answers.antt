@@ -5,6 +5,7 @@ use Rattle.t85_core.specs.Options.{fields_of}
 use Rattle.t85_core.specs.Lent.{walk_over}
 use Rattle.t85_core.specs.Steps.Buffers.{WritesOn, copies}
 use Rattle.t85_core.specs.Steps.DecodeStripes.{ImageUnwritten}
+use Rattle.t85_core.specs.Steps.Passage.{passage}
 use Rattle.t85_core.proofs.Bytes.Ends.{exit}
 use Rattle.t85_core.proofs.Walks.InfoEnds.{exit_all}
 use Rattle.t85_core.proofs.Decodings.ImagePut.{in_use}
@@ -27,7 +28,7 @@ returns-in_err-count-clause-err g c = exit _ _ c.from_residual.ensures.1 (λ _. 
 
 pub returns-in_err-count-clause-unwritten : goal.returns-in_err-count-clause-unwritten
 returns-in_err-count-clause-unwritten g c =
-    exit (λ _. ImageUnwritten _ _ _ _ _ _) _ c.from_residual.ensures.1
+    exit (λ _. ImageUnwritten _ _ (passage _ _ _ _)) _ c.from_residual.ensures.1
     (image_off_begun (fields_of c.args.header.now) c.args.height (walk_over c.rows.walk c.rows.window c.rows.learned) (walk_over c.next_rows.new.walk c.next_rows.new.window c.next_rows.new.learned) _ _ _ _ _ _ c.rows.invariant.so_far _ c.in_err-count.ensures.turn.err)
 
 pub returns-in_err-count-clause-writes : goal.returns-in_err-count-clause-writes
@@ -43,7 +44,7 @@ returns-then-count-eq0-clause-ok g c =
 pub returns-in_err-put_copies-clause-unwritten : goal.returns-in_err-put_copies-clause-unwritten
 returns-in_err-put_copies-clause-unwritten g c =
     let some : 0 < c.in_ok-count.count = omega (arith, c.if-count-eq0.false) in
-    exit (λ _. ImageUnwritten _ _ _ _ _ _) _ c.from_residual-in_err-put_copies.ensures.1
+    exit (λ _. ImageUnwritten _ _ (passage _ _ _ _)) _ c.from_residual-in_err-put_copies.ensures.1
     (image_rows_unset (fields_of c.args.header.now) c.args.height (walk_over c.rows.walk c.rows.window c.rows.learned) (walk_over c.next_rows.new.walk c.next_rows.new.window c.next_rows.new.learned) _ _ _ _ _ _ c.rows.invariant.so_far c.in_ok-count.count some
     (in_use c.args.header.now c.args.height c.requires.height.0 c.requires.height.1) c.coder_laws.ensures (c.in_ok-count.ensures.turn.some some) _
     (subst (λ z. AppendsBeginning (g.P.ByteTarget.view c.rows.target).text (g.P.ByteTarget.view c.put_copies.new.target).text (copies c.in_ok-count.count z)) c.row.ensures c.in_err-put_copies.ensures.cut))

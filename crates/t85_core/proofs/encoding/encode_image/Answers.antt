@@ -7,6 +7,7 @@ use Rattle.t85_core.specs.declared.fault.Fault.TheVariants.{Pbm}
 use Rattle.t85_core.specs.Options.{settings_of}
 use Rattle.t85_core.specs.Steps.EncodeRows.{EndsInRow}
 use Rattle.t85_core.specs.Steps.ByRow.{view_of}
+use Rattle.t85_core.specs.RowImage.{image_of}
 use Rattle.t85_core.proofs.Bytes.Ends.{map_ok, exit_of, err_of}
 use Rattle.t85_core.proofs.Bytes.Sendings.{here_sent}
 use Rattle.t85_core.proofs.Encodings.HeadPut.{head_refused}
@@ -47,7 +48,7 @@ returns-in_err-read_next_row-clause-short g c fault is =
     exit_of c.from_residual-in_err-read_next_row.result c.from_residual-in_err-read_next_row.ensures.1 (λ told.
     front_short s c.args.size.width c.args.size.height so.0 _ _ _ _ _ so.2 fault (omega (arith, so.1, c.rows-test.true))
     (subst (λ f. EndsInRow c.args.form c.args.size.width (g.R.Input.view c.rows.source).remaining (g.R.Input.view c.read_next_row.new.source).remaining f) (same_fault short.0 fault _ short.1 told) short.2)
-    (c.fronts.ensures s c.args.size.width c.args.size.height so.0 (view_of c.rows.encoder c.rows.learning) (held c.rows.window) _ _ so.3)) is
+    (c.fronts.ensures (image_of s c.args.size.width c.args.size.height) so.0 (view_of c.rows.encoder c.rows.learning) (held c.rows.window) _ _ so.3)) is
 
 pub put_taken-requires-clause-lined : goal.put_taken-requires-clause-lined
 put_taken-requires-clause-lined g c _ = taken_lined c.args.size.width _ _ (held c.rows.window) (held c.read_next_row.new.window) c.in_ok-read_next_row.ensures.ok c.rows.invariant.lined
@@ -59,7 +60,7 @@ returns-in_err-put_taken-clause-unwritten g c is =
     let taken = c.in_ok-read_next_row.ensures.ok in
     cut_refused s c.args.size.width c.args.size.height (so.0 ++ taken.row ∷ []) _ _ (g.R.Input.view c.args.source.now).remaining _ _ (reads_join c.args.form c.args.size.width _ _ _ so.0 (taken.row ∷ []) so.2 taken.read)
     (let sum = length-append so.0 (taken.row ∷ []) in omega (arith, sum, so.1, c.rows-test.true))
-    (c.in_err-put_taken.ensures.cut c.rows.invariant.going taken.row (held c.rows.window) taken.below s c.args.size.width c.args.size.height so.0 _ so.3)
+    (c.in_err-put_taken.ensures.cut c.rows.invariant.going taken.row (held c.rows.window) taken.below (image_of s c.args.size.width c.args.size.height) so.0 _ so.3)
 
 pub rows-preserved : goal.rows-preserved
 rows-preserved g c =
@@ -71,7 +72,7 @@ rows-preserved g c =
         so.0 ++ taken.row ∷ [],
         (let sum = length-append so.0 (taken.row ∷ []) in omega (arith, sum, so.1)),
         reads_join c.args.form c.args.size.width _ _ _ so.0 (taken.row ∷ []) so.2 taken.read,
-        c.in_ok-put_taken.ensures.ok taken.row (held c.rows.window) taken.below s c.args.size.width c.args.size.height so.0 _ so.3,
+        c.in_ok-put_taken.ensures.ok taken.row (held c.rows.window) taken.below (image_of s c.args.size.width c.args.size.height) so.0 _ so.3,
       );
       going = c.in_ok-put_taken.ensures.goes_on.0;
       ready = c.in_ok-put_taken.ensures.goes_on.1;
@@ -91,11 +92,11 @@ returns-clause-ok g c =
     let s = settings_of c.args.options.now in
     let so = c.rows.invariant.come in
     let ended : c.rows.counter ≡ c.args.size.height = omega (arith, c.rows.auto.counter-end, c.rows-test.false) in
-    map_ok c.end.result (λ all. record { rows = so.0; many = so.1 ∙ ended; read = so.2; appended = here_sent _ _ _ (all s c.args.size.width c.args.size.height so.0 _ so.3) }) c.end.ensures.ok
+    map_ok c.end.result (λ all. record { rows = so.0; many = so.1 ∙ ended; read = so.2; appended = here_sent _ _ _ (all (image_of s c.args.size.width c.args.size.height) so.0 _ so.3) }) c.end.ensures.ok
 
 pub returns-clause-unwritten : goal.returns-clause-unwritten
 returns-clause-unwritten g c is =
     let s = settings_of c.args.options.now in
     let so = c.rows.invariant.come in
     let ended : c.rows.counter ≡ c.args.size.height = omega (arith, c.rows.auto.counter-end, c.rows-test.false) in
-    end_refused s c.args.size.width c.args.size.height so.0 _ _ (g.R.Input.view c.args.source.now).remaining _ _ so.2 (so.1 ∙ ended) (err_of c.end.result is (c.end.ensures.cut c.rows.invariant.going) s c.args.size.width c.args.size.height so.0 _ so.3)
+    end_refused s c.args.size.width c.args.size.height so.0 _ _ (g.R.Input.view c.args.source.now).remaining _ _ so.2 (so.1 ∙ ended) (err_of c.end.result is (c.end.ensures.cut c.rows.invariant.going) (image_of s c.args.size.width c.args.size.height) so.0 _ so.3)

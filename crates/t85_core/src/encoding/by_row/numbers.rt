@@ -47,6 +47,7 @@ impl RowNumbers {
 impl RowEncoder {
     ghost use Rattle.std.specs.Prelude.{◌<◌};
     ghost use Rattle.t85_core.specs.Steps.ByRow.{plan_of, view_of, IsPlan, MayGoOn};
+    ghost use Rattle.t85_core.specs.RowImage.{image_for};
     ghost use Rattle.t85_core.specs.Steps.RowSteps.{IsGoing};
     ghost use Rattle.t85_core.specs.declared.encoding.by_row.RowEncoder.{RowEncoder};
     ghost use Rattle.t85_core.specs.declared.encoding.learning.Learning.{Learning};
@@ -69,12 +70,11 @@ impl RowEncoder {
     /// call is to be lent the window and what was learned as the last one left them: lent others it is safe, and no more.
     pub fn resume(size: Size, options: &Options<'_>, numbers: &RowNumbers) -> Option<RowEncoder>
         ensures resumes { (e : RowEncoder) → is_low (settings_of options.now) size.height ≡ false →
-            IsPlan (settings_of options.now) size.width size.height (plan_of e) → MayGoOn e →
+            IsPlan (image_for options.now size) (plan_of e) → MayGoOn e →
             numbers.now ≡ row_numbers e → IsSomeAnd result (λ r. (l : Learning) →
             view_of r l ≡ view_of e l) }
         ensures ready { IfSome result MayGoOn }
-        ensures plan { IfSome result (λ r. IsPlan (settings_of options.now) size.width size.height
-            (plan_of r)) }
+        ensures plan { IfSome result (λ r. IsPlan (image_for options.now size) (plan_of r)) }
         ensures numbers { IfSome result (λ r. row_numbers r ≡ numbers.now) }
         ensures size { IfSome result (λ r. r.size ≡ size) }
         ensures going { IfSome result IsGoing }

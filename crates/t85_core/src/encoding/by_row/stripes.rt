@@ -122,9 +122,7 @@ impl RowEncoder {
         target: &mut P,
     ) -> Result<(), Fault>
         requires lined { HasRows self.old.size.width window.now }
-        requires left { self.old.rows < self.old.size.height }
-        requires able { IsAble self.old }
-        requires fewer { self.old.in_stripe < self.old.stripe_rows }
+        requires ready { MayTakeRow self.old }
         ensures ok { OnOk result (CodesRow (view_of self.old learning.old) (view_of self.new
             learning.new) (held window.now) (P.view target.old).text (P.view target.new).text) }
         ensures cut { OnErr result (CutsCode (view_of self.old learning.old) (held window.now)

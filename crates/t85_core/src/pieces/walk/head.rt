@@ -4,8 +4,8 @@ ghost use Rattle.std.specs.Prelude.{◌≡◌, ◌≢◌, false, ◌≤◌, ◌<
 ghost use Rattle.t85_core.specs.Steps.HeightWalk.{MayBeHeight};
 ghost use Rattle.t85_core.specs.declared.fault.Fault.TheVariants.{Truncated, Changed};
 ghost use Rattle.t85_core.specs.declared.pieces.walk.Stage.TheVariants as stage;
-ghost use Rattle.t85_core.specs.Options.{fields_of};
 ghost use Rattle.t85_core.specs.Steps.Pieces.{IsOver, Alone, Step};
+ghost use Rattle.t85_core.specs.Steps.SizedImage.{sized_by};
 
 use crate::fault::Fault;
 use crate::header::Header;
@@ -25,8 +25,8 @@ impl Walk {
     ) -> Result<(), Fault>
         requires height { MayBeHeight header.now.yd height }
         requires stage { (self.old.stage ≡ stage.Head) ⊎ (self.old.stage ≡ stage.Comment) }
-        ensures step { Alone (λ w w'. Step (fields_of header.now) height w w'
-            piece.old.rest.now piece.new.rest.now result) self.old self.new }
+        ensures step { Alone (λ w w'. Step (sized_by header.now height) w w' piece.old.rest.now
+            piece.new.rest.now result) self.old self.new }
         ensures stage { OnOk result (IsOver self.new.stage ⊎ (self.new.stage ≡ stage.Code)) }
         ensures row { OnOk result (self.new.stage ≡ stage.Code → self.new.row ≡ 0) }
     {
@@ -62,8 +62,8 @@ impl Walk {
     ) -> Result<(), Fault>
         requires height { MayBeHeight header.now.yd height }
         requires stage { (self.old.stage ≡ stage.Head) ⊎ (self.old.stage ≡ stage.Comment) }
-        ensures step { Alone (λ w w'. Step (fields_of header.now) height w w'
-            piece.old.rest.now piece.new.rest.now result) self.old self.new }
+        ensures step { Alone (λ w w'. Step (sized_by header.now height) w w' piece.old.rest.now
+            piece.new.rest.now result) self.old self.new }
         ensures stage { OnOk result (self.new.stage ≡ stage.Head) }
         ensures no_more { length piece.new.rest.now ≤ length piece.old.rest.now }
     {
@@ -83,8 +83,8 @@ impl Walk {
     ) -> Result<(), Fault>
         requires height { MayBeHeight header.now.yd height }
         requires stage { self.old.stage ≡ stage.Comment }
-        ensures step { Alone (λ w w'. Step (fields_of header.now) height w w'
-            piece.old.rest.now piece.new.rest.now result) self.old self.new }
+        ensures step { Alone (λ w w'. Step (sized_by header.now height) w w' piece.old.rest.now
+            piece.new.rest.now result) self.old self.new }
         ensures stage { OnOk result (self.new.stage ≡ stage.Head) }
         ensures no_more { length piece.new.rest.now ≤ length piece.old.rest.now }
     {
@@ -110,8 +110,8 @@ impl Walk {
     ) -> Result<(), Fault>
         requires height { MayBeHeight header.now.yd height }
         requires stage { self.old.stage ≡ stage.Head }
-        ensures step { Alone (λ w w'. Step (fields_of header.now) height w w'
-            piece.old.rest.now piece.new.rest.now result) self.old self.new }
+        ensures step { Alone (λ w w'. Step (sized_by header.now height) w w' piece.old.rest.now
+            piece.new.rest.now result) self.old self.new }
         ensures row { OnOk result (self.new.stage ≡ stage.Code → self.new.row ≡ 0) }
         ensures stage { OnOk result (IsOver self.new.stage ⊎ (self.new.stage ≡ stage.Code)
             ⊎ (self.new.stage ≡ stage.Head) ⊎ (self.new.stage ≡ stage.Comment)) }
@@ -134,8 +134,8 @@ impl Walk {
         requires height { MayBeHeight header.now.yd height }
         requires stage { self.old.stage ≡ stage.Head }
         requires comment { (rest : List ℕ) × (piece.old.rest.now ≡ 255 ∷ 7 ∷ rest) }
-        ensures step { Alone (λ w w'. Step (fields_of header.now) height w w'
-            piece.old.rest.now piece.new.rest.now result) self.old self.new }
+        ensures step { Alone (λ w w'. Step (sized_by header.now height) w w' piece.old.rest.now
+            piece.new.rest.now result) self.old self.new }
         ensures stage { OnOk result (self.new.stage ≡ stage.Comment) }
         ensures lowers { OnOk result (length piece.new.rest.now < length piece.old.rest.now) }
     {
@@ -167,8 +167,8 @@ impl Walk {
         requires height { MayBeHeight header.now.yd height }
         requires stage { self.old.stage ≡ stage.Head }
         requires other { (rest : List ℕ) → piece.old.rest.now ≡ 255 ∷ 7 ∷ rest → ⊥ }
-        ensures step { Alone (λ w w'. Step (fields_of header.now) height w w'
-            piece.old.rest.now piece.new.rest.now result) self.old self.new }
+        ensures step { Alone (λ w w'. Step (sized_by header.now height) w w' piece.old.rest.now
+            piece.new.rest.now result) self.old self.new }
         ensures row { OnOk result (self.new.stage ≡ stage.Code → self.new.row ≡ 0) }
         ensures stage { OnOk result (IsOver self.new.stage ⊎ (self.new.stage ≡ stage.Code)
             ⊎ (self.new.stage ≡ stage.Head)) }

@@ -7,10 +7,10 @@ ghost use Rattle.raster_core.specs.Window.{held};
 ghost use Rattle.t85_core.specs.Steps.HeightWalk.{MayBeHeight};
 ghost use Rattle.t85_core.specs.declared.fault.Fault.TheVariants.{Truncated};
 ghost use Rattle.t85_core.specs.declared.pieces.walk.Stage.TheVariants as stage;
-ghost use Rattle.t85_core.specs.Options.{fields_of};
 ghost use Rattle.t85_core.specs.Steps.Segments.{IsByteOrMarker};
 ghost use Rattle.t85_core.specs.Lent.{KeepsWindow, walk_view, walk_over as over};
-ghost use Rattle.t85_core.specs.Steps.Pieces.{WalkStands, SomeStands, RowFits, RowStep, RowLeaves, KeepsPlace, RowIsLeft, WantsRow};
+ghost use Rattle.t85_core.specs.Steps.Pieces.{WalkStands, RowFits, RowStep, LeavesRow, KeepsPlace, RowIsLeft, WantsRow};
+ghost use Rattle.t85_core.specs.Steps.SizedImage.{sized_by};
 
 use crate::decoding::rows::offset_in;
 use crate::fault::Fault;
@@ -45,11 +45,11 @@ impl Walk {
     ) -> Result<(), Fault>
         requires height { MayBeHeight header.now.yd height }
         requires wants { RowIsLeft header.now.l0 self.old }
-        ensures step { RowStep (fields_of header.now) height (over self.old window.old learned.old)
+        ensures step { RowStep (sized_by header.now height) (over self.old window.old learned.old)
             (over self.new window.new learned.new) piece.old.rest.now piece.new.rest.now result }
-        ensures leaves { SomeStands (fields_of header.now) height (over self.old window.old
-            learned.old) → RowLeaves (over self.old window.old learned.old) (over self.new
-            window.new learned.new) piece.old.rest.now piece.new.rest.now result }
+        ensures leaves { LeavesRow (sized_by header.now height)
+            (over self.old window.old learned.old) (over self.new window.new learned.new)
+            piece.old.rest.now piece.new.rest.now result }
         ensures code { OnOk result (self.new.stage ≡ stage.Code) }
         ensures window { KeepsWindow window.old window.new }
     {
@@ -75,11 +75,11 @@ impl Walk {
         requires height { MayBeHeight header.now.yd height }
         requires rows { WantsRow header.now.l0 self.old }
         requires fits { RowFits header.now.xd self.old (held window.old) }
-        ensures step { RowStep (fields_of header.now) height (over self.old window.old learned.old)
+        ensures step { RowStep (sized_by header.now height) (over self.old window.old learned.old)
             (over self.new window.new learned.new) piece.old.rest.now piece.new.rest.now result }
-        ensures leaves { SomeStands (fields_of header.now) height (over self.old window.old
-            learned.old) → RowLeaves (over self.old window.old learned.old) (over self.new
-            window.new learned.new) piece.old.rest.now piece.new.rest.now result }
+        ensures leaves { LeavesRow (sized_by header.now height)
+            (over self.old window.old learned.old) (over self.new window.new learned.new)
+            piece.old.rest.now piece.new.rest.now result }
         ensures code { OnOk result (self.new.stage ≡ stage.Code) }
         ensures window { KeepsWindow window.old window.new }
     {
@@ -91,9 +91,9 @@ impl Walk {
     fn enter_row(&mut self, header: &Header, height: u32, window: &mut Window<'_>)
         requires rows { WantsRow header.now.l0 self.old }
         requires fits { RowFits header.now.xd self.old (held window.old) }
-        ensures enters { (learned : List Estimate) (text out : List ℕ) → WalkStands (fields_of
-            header.now) height (over self.old window.old learned) text out → WalkStands
-            (fields_of header.now) height (over self.new window.new learned) text out }
+        ensures enters { (learned : List Estimate) (text out : List ℕ) →
+            WalkStands (sized_by header.now height) (over self.old window.old learned) text out →
+            WalkStands (sized_by header.now height) (over self.new window.new learned) text out }
         ensures fits { RowFits header.now.xd self.new (held window.new) }
         ensures stage { self.new.stage ≡ stage.Row }
         ensures place { (rows rows' : Held) (learned learned' : List Estimate) →
@@ -123,11 +123,11 @@ impl Walk {
         requires height { MayBeHeight header.now.yd height }
         requires stage { self.old.stage ≡ stage.Row }
         requires fits { RowFits header.now.xd self.old (held window.old) }
-        ensures step { RowStep (fields_of header.now) height (over self.old window.old learned.old)
+        ensures step { RowStep (sized_by header.now height) (over self.old window.old learned.old)
             (over self.new window.new learned.new) piece.old.rest.now piece.new.rest.now result }
-        ensures leaves { SomeStands (fields_of header.now) height (over self.old window.old
-            learned.old) → RowLeaves (over self.old window.old learned.old) (over self.new
-            window.new learned.new) piece.old.rest.now piece.new.rest.now result }
+        ensures leaves { LeavesRow (sized_by header.now height)
+            (over self.old window.old learned.old) (over self.new window.new learned.new)
+            piece.old.rest.now piece.new.rest.now result }
         ensures code { OnOk result (self.new.stage ≡ stage.Code) }
         ensures window { KeepsWindow window.old window.new }
     {

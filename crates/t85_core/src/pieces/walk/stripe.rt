@@ -7,10 +7,10 @@ ghost use Rattle.raster_core.specs.Window.{held};
 ghost use Rattle.t85_core.specs.Steps.HeightWalk.{MayBeHeight};
 ghost use Rattle.t85_core.specs.declared.fault.Fault.TheVariants.{Changed};
 ghost use Rattle.t85_core.specs.declared.pieces.walk.Stage.TheVariants as stage;
-ghost use Rattle.t85_core.specs.Options.{fields_of};
 ghost use Rattle.t85_core.specs.Steps.Buffers.{copies};
 ghost use Rattle.t85_core.specs.Lent.{KeepsWindow, walk_view, walk_over as over};
 ghost use Rattle.t85_core.specs.Steps.Pieces.{WalkStands, SomeStands, Alone, Step, HasAllRows, KeepsPlace, MarkerRead, RowIsLeft, StripesOn};
+ghost use Rattle.t85_core.specs.Steps.SizedImage.{sized_by};
 
 use crate::decoding::rows::{is_settled, skip_many};
 use crate::fault::Fault;
@@ -59,9 +59,10 @@ impl Walk {
         window: &mut Window<'_>,
         learned: &Learned,
     ) -> u32
-        ensures on { (text out : List ℕ) → WalkStands (fields_of header.now) height (over self.old
-            window.old learned.now) text out → WalkStands (fields_of header.now) height (over
-            self.new window.new learned.now) text (out ++ copies result (held window.new).current) }
+        ensures on { (text out : List ℕ) → WalkStands (sized_by header.now height)
+            (over self.old window.old learned.now) text out →
+            WalkStands (sized_by header.now height) (over self.new window.new learned.now) text
+            (out ++ copies result (held window.new).current) }
         ensures code { 0 < result → self.new.stage ≡ stage.Code }
     {
         let left = self.rows_left(header);
@@ -96,15 +97,15 @@ impl Walk {
         requires height { MayBeHeight header.now.yd height }
         requires rows { HasAllRows header.now.l0 self.old }
         requires unmarked { self.old.marker ≡ None }
-        ensures step { Alone (λ w w'. Step (fields_of header.now) height w w'
-            piece.old.rest.now piece.new.rest.now result) self.old self.new }
+        ensures step { Alone (λ w w'. Step (sized_by header.now height) w w' piece.old.rest.now
+            piece.new.rest.now result) self.old self.new }
         ensures place { (rows rows' : Held) (learned learned' : List Estimate) →
             KeepsPlace (walk_view self.old rows learned) (walk_view self.new rows' learned') }
         ensures stage { self.new.stage ≡ stage.Code }
         ensures marked { OnOk result (MarkerRead self.new.marker self.new.first) }
         ensures no_more { length piece.new.rest.now ≤ length piece.old.rest.now }
-        ensures other { (rows : Held) (learned : List Estimate) → SomeStands (fields_of header.now)
-            height (walk_view self.old rows learned) → IfErr result (λ f. f ≢ Changed) }
+        ensures other { (rows : Held) (learned : List Estimate) → SomeStands (sized_by header.now
+            height) (walk_view self.old rows learned) → IfErr result (λ f. f ≢ Changed) }
     {
         // What the proof cites of the coder.
         coder_laws();
@@ -124,18 +125,18 @@ impl Walk {
     ) -> Result<(), Fault>
         requires height { MayBeHeight header.now.yd height }
         requires rows { HasAllRows header.now.l0 self.old }
-        ensures step { Step (fields_of header.now) height (over self.old window.old learned.old)
+        ensures step { Step (sized_by header.now height) (over self.old window.old learned.old)
             (over self.new window.new learned.new) piece.old.rest.now piece.new.rest.now result }
         ensures stage { OnOk result ((self.new.stage ≡ stage.Done)
             ⊎ (self.new.stage ≡ stage.Head)) }
         ensures marked { MarkerRead self.old.marker self.old.first → IsOk result }
-        ensures read { OnOk result (StripesOn (fields_of header.now) height
+        ensures read { OnOk result (StripesOn (sized_by header.now height)
             (over self.old window.old learned.old) (over self.new window.new learned.new)
             piece.old.rest.now piece.new.rest.now) }
         ensures left { OnOk result (header.now.l0 < self.old.left → self.new.stage ≡ stage.Head) }
         ensures next { OnOk result ((self.new.left ≡ self.old.left - header.now.l0)
             × (self.new.given ≡ self.old.given) × (self.new.at ≡ None)) }
-        ensures entities { SomeStands (fields_of header.now) height (over self.old window.old
+        ensures entities { SomeStands (sized_by header.now height) (over self.old window.old
             learned.old) → OnOk result (self.new.entities ≡ self.old.entities + 1) }
         ensures window { KeepsWindow window.old window.new }
     {

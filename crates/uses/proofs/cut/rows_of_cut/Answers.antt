@@ -3,7 +3,7 @@ use Rattle.std.specs.Prelude.{IfSome}
 use Rattle.t85_core.specs.Change.{between}
 use Rattle.raster_core.specs.Raster.{Raster}
 use Rattle.t85_core.specs.declared.fault.Fault.{Fault}
-use Rattle.t85_core.specs.ToPbm.{ToPbm}
+use Rattle.t85_core.specs.ToPbm.{ToPbm, delivery, second_reading}
 use Rattle.t85_core.specs.Laws.{CodeDenotes, HeaderLaws}
 use Rattle.uses.specs.Cut.{Begins, WritesFirst}
 use Rattle.uses.proofs.FirstRows.{written}
@@ -13,7 +13,7 @@ use Rattle.uses.proofs.cut.rows_of_cut.Goals as goal
 -- where the bytes are known
 known : CodeDenotes → LineOrFault → HeaderLaws → (bytes : Option (List ℕ)) (limit : ℕ) (in_new again_old again_new out_old out_new : Option (List ℕ)) (untouched : Type 0) (reads_old reads_new again_reads_old again_reads_new writes_old writes_new : ℕ) (flushed : Bool)
     (answer : Result (Unit {0}) Fault) → 2 ^ 32 ≤ limit + 1
-    → ToPbm limit (between bytes in_new reads_old reads_new) false untouched (between again_old again_new again_reads_old again_reads_new) (between out_old out_new writes_old writes_new) flushed answer
+    → ToPbm limit (between bytes in_new reads_old reads_new) (second_reading false untouched (between again_old again_new again_reads_old again_reads_new)) (delivery (between out_old out_new writes_old writes_new) flushed) answer
     → IfSome bytes (λ bytes. (raster : Raster) → Begins raster bytes → WritesFirst raster bytes out_old out_new answer)
 known law line_law headers None limit in_new again_old again_new out_old out_new untouched reads_old reads_new again_reads_old again_reads_new writes_old writes_new flushed answer large c = tt
 known law line_law headers (Some bytes) limit in_new again_old again_new out_old out_new untouched reads_old reads_new again_reads_old again_reads_new writes_old writes_new flushed answer large c =

@@ -10,7 +10,7 @@ use Rattle.t85_core.specs.ToJbg.{WritesStream}
 use Rattle.t85_core.specs.Outcome.{pbm_text}
 use Rattle.t85_core.specs.Jbg.{Settings}
 use Rattle.t85_core.specs.Options.{settings_of}
-use Rattle.t85_core.specs.ToPbm.{IsFixed, WritesDenoted, ToPbm, again_failures}
+use Rattle.t85_core.specs.ToPbm.{IsFixed, WritesDenoted, ToPbm, again_failures, delivery, second_reading}
 use Rattle.uses.specs.Image.{IsRawForm, WritesRawForm, IsOfImage}
 use Rattle.uses.specs.declared.held.Held.{Held}
 use Rattle.uses.proofs.Whole.{LineOrFault, from_empty, told}
@@ -49,14 +49,14 @@ module _ (s : Settings) (first : List ℕ) (old new : Option (List ℕ)) where
 
   known_told : LineOrFault → HeaderLaws → (known : Option (List ℕ)) (room stream second : List ℕ) (len limit : ℕ) (in_new again_new : Option (List ℕ)) (untouched : Type 0) (again_reads writes_old writes_new : ℕ) (flushed : Bool) (answer : Result (Unit {0}) Fault)
       → len ≡ 0 → first ≡ stream → second ≡ stream → 2 ^ 32 ≤ limit + 1 → again_reads ≡ 0 → IfSome known (λ bytes. WritesStream s bytes (Some (take len room)) (Some stream))
-      → ToPbm limit (between (Some first) in_new 0 0) true untouched (between (Some second) again_new 0 again_reads) (between old new writes_old writes_new) flushed answer → IfErr answer (λ fault. IfSome known (λ bytes. IsOfImage fault))
+      → ToPbm limit (between (Some first) in_new 0 0) (second_reading true untouched (between (Some second) again_new 0 again_reads)) (delivery (between old new writes_old writes_new) flushed) answer → IfErr answer (λ fault. IfSome known (λ bytes. IsOfImage fault))
   known_told law headers None room stream second len limit in_new again_new untouched again_reads writes_old writes_new flushed (Ok u) empty once twice large none read converts = tt
   known_told law headers None room stream second len limit in_new again_new untouched again_reads writes_old writes_new flushed (Err f) empty once twice large none read converts = tt
   known_told law headers (Some bytes) room stream second len limit in_new again_new untouched again_reads writes_old writes_new flushed answer empty once twice large none read converts =
       let written : WritesStream s bytes (Some []) (Some first) = from_empty s bytes room stream first len empty once read in
       told law headers first written.raster (subst (λ text. Denotes text written.raster) (sym written.appends) written.denotes) limit large in_new again_new old new untouched writes_old writes_new flushed answer
-      (subst (λ reads. ToPbm limit (between (Some first) in_new 0 0) true untouched (between (Some first) again_new 0 reads) (between old new writes_old writes_new) flushed answer) none
-      (subst (λ text. ToPbm limit (between (Some first) in_new 0 0) true untouched (between (Some text) again_new 0 again_reads) (between old new writes_old writes_new) flushed answer) (twice ∙ sym once) converts))
+      (subst (λ reads. ToPbm limit (between (Some first) in_new 0 0) (second_reading true untouched (between (Some first) again_new 0 reads)) (delivery (between old new writes_old writes_new) flushed) answer) none
+      (subst (λ text. ToPbm limit (between (Some first) in_new 0 0) (second_reading true untouched (between (Some text) again_new 0 again_reads)) (delivery (between old new writes_old writes_new) flushed) answer) (twice ∙ sym once) converts))
 
 never_failed : (again : Option Held) → again_failures (λ (held : Held). 0) again ≡ 0
 never_failed None = refl

@@ -2,8 +2,8 @@ use Rattle.std.proofs.Common.{◌≡◌, ◌∙◌, ◌+◌, ◌-◌, ◌++◌, 
 use Rattle.std.proofs.lemmas.List.{take_rest}
 use Rattle.t85_core.specs.declared.pieces.Outcome.TheVariants as outcome
 use Rattle.t85_core.specs.Lent.{decoder_over}
-use Rattle.uses.specs.Pieces.{PieceRead, SomeRead}
-use Rattle.uses.proofs.PieceRows.{RowsSoFar, none_so_far, all_came, some_came, row_more, last_came, on_err}
+use Rattle.uses.specs.Pieces.{PieceRead, SomeRead, gathered}
+use Rattle.uses.proofs.PieceRows.{call_told, RowsSoFar, none_so_far, all_came, some_came, row_more, last_came, on_err}
 use Rattle.uses.proofs.pieces.rows_of_piece.Goals as goal
 
 pub calls-init : goal.calls-init
@@ -21,7 +21,7 @@ calls-preserved c =
 pub returns-in_err-extend_from_slice-in-Row-clause-short : goal.returns-in_err-extend_from_slice-in-Row-clause-short
 returns-in_err-extend_from_slice-in-Row-clause-short c =
     on_err c.from_residual.result
-    (subst (SomeRead (decoder_over c.args.decoder.now c.args.window.now c.args.learned.now) c.args.rows.now.items) (sym c.in_err-extend_from_slice-in-Row.ensures.items)
+    (subst (λ z. SomeRead (decoder_over c.args.decoder.now c.args.window.now c.args.learned.now) (gathered c.args.rows.now.items z)) (sym c.in_err-extend_from_slice-in-Row.ensures.items)
     (some_came (decoder_over c.args.decoder.now c.args.window.now c.args.learned.now) (decoder_over c.calls.decoder c.calls.window c.calls.learned) c.args.piece.now c.calls.taken c.args.rows.now.items c.calls.rows.items c.calls.counter c.calls.invariant))
 
 pub returns-in_default-clause-read : goal.returns-in_default-clause-read
@@ -34,5 +34,5 @@ returns-in_default-clause-read c =
 pub returns-clause-read : goal.returns-clause-read
 returns-clause-read c =
     let full : c.calls.counter ≡ c.args.limit = omega arith in
-    subst (λ n. PieceRead c.args.is_all (decoder_over c.args.decoder.now c.args.window.now c.args.learned.now) (decoder_over c.calls.decoder c.calls.window c.calls.learned) c.args.piece.now n outcome.Row c.calls.taken c.args.rows.now.items c.calls.rows.items) full
+    subst (λ n. PieceRead (decoder_over c.args.decoder.now c.args.window.now c.args.learned.now) (call_told c.args.piece.now c.args.is_all c.calls.taken outcome.Row (decoder_over c.calls.decoder c.calls.window c.calls.learned)) n (gathered c.args.rows.now.items c.calls.rows.items)) full
     (all_came (decoder_over c.args.decoder.now c.args.window.now c.args.learned.now) (decoder_over c.calls.decoder c.calls.window c.calls.learned) c.args.piece.now c.calls.taken c.args.rows.now.items c.calls.rows.items c.calls.counter c.calls.invariant c.args.is_all)

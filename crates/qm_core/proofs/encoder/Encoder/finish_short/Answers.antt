@@ -38,7 +38,7 @@ returns-in_err-write_both-clause-code g c = λ p pushed s.
       is = code_is p _ (24 - c.args.self.bits) c.settle-rest.new.self.zeros ((((s.front ++ run_bytes b1.zeros b1.byte b1.ones) ++ run_bytes b2.zeros b2.byte b2.ones) ++ run_bytes b3.zeros b3.byte b3.ones) ++ run_bytes b4.zeros b4.byte b4.ones) _ bytes trimmed chosen (rest_zeros (((s.front ++ run_bytes b1.zeros b1.byte b1.ones) ++ run_bytes b2.zeros b2.byte b2.ones) ++ run_bytes b3.zeros b3.byte b3.ones) (run_bytes b4.zeros b4.byte b4.ones) _ c.settle-rest.new.self.zeros c.settle-rest.ensures.bytes) l.0 l.1;
       more = stuffed (run_bytes b1.zeros b1.byte b1.ones ++ run_bytes b2.zeros b2.byte b2.ones) ++ stuffed (run_bytes b3.zeros b3.byte b3.ones ++ run_bytes b4.zeros b4.byte b4.ones);
       all = stuffed_all pushed s.front _ _ _ _ s.is;
-      writes = writes_err g.W.CodeSink.took g.W.CodeSink.refused g.W.CodeSink.failed c.args.out.now c.write_both.new.out _ _ _ c.from_residual.result c.in_err-write_both.ensures.writes c.from_residual.ensures.0;
+      writes = writes_err g.W.CodeSink c.args.out.now c.write_both.new.out _ _ _ c.from_residual.result c.in_err-write_both.ensures.writes c.from_residual.ensures.0;
     }
 
 pub returns-clause-code : goal.returns-clause-code
@@ -63,5 +63,5 @@ returns-clause-code g c = λ p pushed s.
       is = code_is p _ (24 - c.args.self.bits) c.settle-rest.new.self.zeros ((((s.front ++ run_bytes b1.zeros b1.byte b1.ones) ++ run_bytes b2.zeros b2.byte b2.ones) ++ run_bytes b3.zeros b3.byte b3.ones) ++ run_bytes b4.zeros b4.byte b4.ones) _ bytes trimmed chosen (rest_zeros (((s.front ++ run_bytes b1.zeros b1.byte b1.ones) ++ run_bytes b2.zeros b2.byte b2.ones) ++ run_bytes b3.zeros b3.byte b3.ones) (run_bytes b4.zeros b4.byte b4.ones) _ c.settle-rest.new.self.zeros c.settle-rest.ensures.bytes) l.0 l.1;
       more = stuffed (run_bytes b1.zeros b1.byte b1.ones ++ run_bytes b2.zeros b2.byte b2.ones) ++ stuffed (run_bytes b3.zeros b3.byte b3.ones ++ run_bytes b4.zeros b4.byte b4.ones);
       all = stuffed_all pushed s.front _ _ _ _ s.is;
-      writes = writes_more g.W.CodeSink.took g.W.CodeSink.refused g.W.CodeSink.failed c.args.out.now c.write_both.new.out c.write_both-2.new.out _ _ c.write_both-2.result c.in_ok-write_both.ensures.writes.ok c.in_ok-write_both.ensures.writes.same c.write_both-2.ensures.writes;
+      writes = writes_more g.W.CodeSink c.args.out.now c.write_both.new.out c.write_both-2.new.out _ _ c.write_both-2.result c.in_ok-write_both.ensures.writes.ok c.in_ok-write_both.ensures.writes.same c.write_both-2.ensures.writes;
     }

@@ -1,5 +1,7 @@
 use Rattle.std.proofs.Common.{◌≡◌, true, false, subst}
-use Rattle.qm_core.specs.Source.{Pulls}
+use Rattle.qm_core.specs.Source.{Pulls, source_at}
+use Rattle.qm_core.specs.Decoder.{decoder_state}
+use Rattle.qm_core.specs.Place.{state_of}
 use Rattle.raster_core.specs.Window.{shape_mode}
 use Rattle.raster_core.specs.Row.{FirstDecoded, FirstStopped}
 use Rattle.raster_core.proofs.Firsts.{first_none}
@@ -13,14 +15,14 @@ returns-then-not-place-clause-ok g c =
     if_ok c.decode_flag.result _ _ (λ flag decoded s answers lines window h.
     let b = h.before_it (not_true c.args.place.is_begun c.if-not-place.true) in
     begin_pixels (Pulls g.S.CodeBytes.gives g.S.CodeBytes.failed) c.args.source.now c.decode_flag.new.source c.args.shape c.args.kept c.args.place s c.decode_flag.new.learned answers lines window c.decode_flag.new.decoder flag b.start (λ _. c.if-shape.true)
-    (subst (λ l. FirstDecoded (Pulls g.S.CodeBytes.gives g.S.CodeBytes.failed) c.args.source.now c.decode_flag.new.source (shape_mode c.args.shape) c.args.kept.previous_typical flag s.place l answers c.decode_flag.new.decoder c.decode_flag.new.learned) b.taught (decoded s.place answers b.stands)))
+    (subst (λ l. FirstDecoded (source_at (Pulls g.S.CodeBytes.gives g.S.CodeBytes.failed) c.args.source.now answers) (shape_mode c.args.shape) c.args.kept.previous_typical flag (state_of s.place l) (decoder_state c.decode_flag.new.source c.decode_flag.new.decoder c.decode_flag.new.learned)) b.taught (decoded s.place answers b.stands)))
     c.decode_flag.ensures.ok
 
 pub returns-then-not-place-clause-err : goal.returns-then-not-place-clause-err
 returns-then-not-place-clause-err g c =
     on_err c.decode_flag.result (λ stopped s answers lines window h.
     let b = h.before_it (not_true c.args.place.is_begun c.if-not-place.true) in
-    (b.start, subst (λ l. FirstStopped (Pulls g.S.CodeBytes.gives g.S.CodeBytes.failed) c.args.source.now c.decode_flag.new.source (shape_mode c.args.shape) s.place l answers c.decode_flag.new.decoder c.decode_flag.new.learned) b.taught (stopped s.place answers b.stands)))
+    (b.start, subst (λ l. FirstStopped (source_at (Pulls g.S.CodeBytes.gives g.S.CodeBytes.failed) c.args.source.now answers) (shape_mode c.args.shape) (state_of s.place l) (decoder_state c.decode_flag.new.source c.decode_flag.new.decoder c.decode_flag.new.learned)) b.taught (stopped s.place answers b.stands)))
     c.decode_flag.ensures.err
 
 pub returns-else-shape-clause-ok : goal.returns-else-shape-clause-ok
@@ -32,6 +34,6 @@ returns-else-shape-clause-ok g c = λ s answers lines window h.
           by_begun c.args.place.is_begun _ begun (λ none.
           let b = h.before_it none in
           begin_pixels (Pulls g.S.CodeBytes.gives g.S.CodeBytes.failed) c.args.source.now c.args.source.now c.args.shape c.args.kept c.args.place s c.args.learned.now answers lines window c.args.decoder.now false b.start (λ e. cc)
-          (subst (λ l. FirstDecoded (Pulls g.S.CodeBytes.gives g.S.CodeBytes.failed) c.args.source.now c.args.source.now (shape_mode c.args.shape) c.args.kept.previous_typical false s.place l answers c.args.decoder.now c.args.learned.now) b.taught
+          (subst (λ l. FirstDecoded (source_at (Pulls g.S.CodeBytes.gives g.S.CodeBytes.failed) c.args.source.now answers) (shape_mode c.args.shape) c.args.kept.previous_typical false (state_of s.place l) (decoder_state c.args.source.now c.args.decoder.now c.args.learned.now)) b.taught
           (first_none (Pulls g.S.CodeBytes.gives g.S.CodeBytes.failed) c.args.source.now (shape_mode c.args.shape) c.args.kept.previous_typical false s.place c.args.learned.now answers c.args.decoder.now w.if-shape.false b.stands)))
     ]

@@ -22,11 +22,13 @@ loop-j-init g c = record {
   along = along_none (Pulls g.S.CodeBytes.gives g.S.CodeBytes.failed) c.args.source.now (shape_mode c.args.shape) c.args.offset c.args.second_bytes c.args.above_bytes c.args.before c.args.decoder.now c.args.learned.now;
 }
 
-pub returns-in-Err-clause-err : goal.returns-in-Err-clause-err
-returns-in-Err-clause-err g c =
-    along_stop (Pulls g.S.CodeBytes.gives g.S.CodeBytes.failed) c.args.source.now c.loop-j.source c.next.new.source (shape_mode c.args.shape) c.args.offset c.args.second_bytes c.args.above_bytes c.args.before c.args.decoder.now c.args.learned.now
-    c.loop-j.j c.args.n c.loop-j.past c.loop-j.decoder c.next.new.self c.loop-j.learned c.next.new.learned c.context_of-cx.result.number (Err _) _ _ c.loop-j-test.true refl refl refl
-    c.in-Err.ensures.next c.loop-j.invariant.along
+pub returns-in-Err-clause-pixels : goal.returns-in-Err-clause-pixels
+returns-in-Err-clause-pixels g c = (
+  tt,
+  along_stop (Pulls g.S.CodeBytes.gives g.S.CodeBytes.failed) c.args.source.now c.loop-j.source c.next.new.source (shape_mode c.args.shape) c.args.offset c.args.second_bytes c.args.above_bytes c.args.before c.args.decoder.now c.args.learned.now
+      c.loop-j.j c.args.n c.loop-j.past c.loop-j.decoder c.next.new.self c.loop-j.learned c.next.new.learned c.context_of-cx.result.number (Err _) _ _ c.loop-j-test.true refl refl refl
+      c.in-Err.ensures.next c.loop-j.invariant.along,
+)
 
 pub loop-j-preserved : goal.loop-j-preserved
 loop-j-preserved g c =
@@ -46,10 +48,10 @@ loop-j-preserved g c =
           (λ lines x r. subst (λ t. c.context_of-cx.result.number ≡ context_at (record { two_line = t; typical = c.args.shape.typical }) lines c.args.offset x) c.requires.template.1 (c.context_of-cx.ensures c.args.shape.typical lines x (subst (λ z. AreAt lines c.args.offset c.loop-j.second z c.loop-j.past x) (sym c.loop-j.invariant.above) (subst (λ z. AreAt lines c.args.offset z (c.args.above_bytes / 2 ^ 6 * 2 ^ c.loop-j.j) c.loop-j.past x) (sym c.loop-j.invariant.second) r)))) c.in-Ok.ensures.next c.loop-j.invariant.along;
     }
 
-pub returns-clause-ok : goal.returns-clause-ok
-returns-clause-ok g c =
+pub returns-clause-pixels : goal.returns-clause-pixels
+returns-clause-pixels g c =
     let e : c.loop-j.j ≡ c.args.n = omega arith in
-    rw (← e) c.loop-j.invariant.along
+    (rw (← e) c.loop-j.invariant.along, tt)
 
 pub overflow_mul-second : goal.overflow_mul-second
 overflow_mul-second g c = let h : c.loop-j.second * 2 < 2 ^ 32 = shift_fits _ _ _ c.loop-j.invariant.second_small (omega arith) in omega arith

@@ -2,9 +2,9 @@ use Rattle.std.proofs.Common.{◌≡◌, ◌+◌, ◌-◌, ◌*◌, ◌%◌, ◌
 use Rattle.std.specs.Prelude.{slice_set}
 use Rattle.std.specs.Int.{div_ceil}
 use Rattle.qm_core.specs.Source.{Pulls}
-use Rattle.qm_core.specs.Decoder.{has_stopped}
+use Rattle.qm_core.specs.Decoder.{has_stopped, decoder_state}
 use Rattle.raster_core.specs.Window.{shape_mode}
-use Rattle.raster_core.specs.Machine.Decoded.{Along, StopsAlong}
+use Rattle.raster_core.specs.Machine.Decoded.{Along, StopsAlong, byte_around}
 use Rattle.raster_core.specs.Machine.Uniform.{colour_of}
 use Rattle.raster_core.specs.declared.place.Pause.{Pause}
 use Rattle.raster_core.proofs.Joins.{had_not_stopped, has_not_failed, not_both}
@@ -32,9 +32,9 @@ returns-in-Err-clause-err g c =
     bytes_stop (Pulls g.S.CodeBytes.gives g.S.CodeBytes.failed) c.args.source.now c.bytes.source c.decode_step.new.source (shape_mode c.args.shape) c.args.offset c.args.above.now c.args.second.now c.args.place c.args.current.now c.args.decoder.now c.args.learned.now
     c.args.shape.width c.bytes.left c.bytes.i c.bytes.second_bytes c.bytes.above_bytes c.bytes.past 8 c.skip_filled-words.new.current c.skip_filled-words.new.decoder c.decode_step.new.decoder c.bytes.learned c.decode_step.new.learned c.in-Err.pause c.within.result
     c.bytes.invariant.left inside (omega arith) c.within.ensures.begun c.within.ensures.done c.within.ensures.past along
-    (subst (λ z. StopsAlong (Pulls g.S.CodeBytes.gives g.S.CodeBytes.failed) c.bytes.source c.decode_step.new.source (shape_mode c.args.shape) c.args.offset (c.bytes.second_bytes % 65536 * 256 + z) (c.bytes.above_bytes % 65536 * 256 + slice_index c.args.above.now (c.bytes.i + 1)) c.bytes.past c.skip_filled-words.new.decoder c.bytes.learned 8 c.in-Err.pause c.decode_step.new.decoder c.decode_step.new.learned) c.byte_at-in-bytes.ensures.byte
-    (subst (λ z. StopsAlong (Pulls g.S.CodeBytes.gives g.S.CodeBytes.failed) c.bytes.source c.decode_step.new.source (shape_mode c.args.shape) c.args.offset (c.bytes.second_bytes % 65536 * 256 + c.byte_at-in-bytes.result) (c.bytes.above_bytes % 65536 * 256 + z) c.bytes.past c.skip_filled-words.new.decoder c.bytes.learned 8 c.in-Err.pause c.decode_step.new.decoder c.decode_step.new.learned) c.byte_at.ensures.byte
-    c.in-Err.ensures.err))
+    (subst (λ z. StopsAlong (Pulls g.S.CodeBytes.gives g.S.CodeBytes.failed) (byte_around (shape_mode c.args.shape) c.args.offset (c.bytes.second_bytes % 65536 * 256 + z) (c.bytes.above_bytes % 65536 * 256 + slice_index c.args.above.now (c.bytes.i + 1)) c.bytes.past) (decoder_state c.bytes.source c.skip_filled-words.new.decoder c.bytes.learned) 8 c.in-Err.pause (decoder_state c.decode_step.new.source c.decode_step.new.decoder c.decode_step.new.learned)) c.byte_at-in-bytes.ensures.byte
+    (subst (λ z. StopsAlong (Pulls g.S.CodeBytes.gives g.S.CodeBytes.failed) (byte_around (shape_mode c.args.shape) c.args.offset (c.bytes.second_bytes % 65536 * 256 + c.byte_at-in-bytes.result) (c.bytes.above_bytes % 65536 * 256 + z) c.bytes.past) (decoder_state c.bytes.source c.skip_filled-words.new.decoder c.bytes.learned) 8 c.in-Err.pause (decoder_state c.decode_step.new.source c.decode_step.new.decoder c.decode_step.new.learned)) c.byte_at.ensures.byte
+    c.in-Err.ensures.pixels.1))
 
 pub bytes-preserved-then-words-gt0 : goal.bytes-preserved-then-words-gt0
 bytes-preserved-then-words-gt0 g c =
@@ -71,9 +71,9 @@ bytes-preserved g c =
           (bytes_next (Pulls g.S.CodeBytes.gives g.S.CodeBytes.failed) c.args.source.now c.bytes.source c.decode_step.new.source (shape_mode c.args.shape) c.args.offset c.args.above.now c.args.second.now c.args.place c.args.current.now c.args.decoder.now c.args.learned.now
           c.args.shape.width c.bytes.left c.bytes.i c.bytes.second_bytes c.bytes.above_bytes c.bytes.past c.in-Ok.past 8 (c.in-Ok.past % 256) c.skip_filled-words.new.current c.skip_filled-words.new.decoder c.decode_step.new.decoder c.bytes.learned c.decode_step.new.learned
           c.bytes.invariant.left inside (omega arith) (omega arith) (whole c.in-Ok.past) along
-          (subst (λ z. Along (Pulls g.S.CodeBytes.gives g.S.CodeBytes.failed) c.bytes.source c.decode_step.new.source (shape_mode c.args.shape) c.args.offset (c.bytes.second_bytes % 65536 * 256 + z) (c.bytes.above_bytes % 65536 * 256 + slice_index c.args.above.now (c.bytes.i + 1)) c.bytes.past c.skip_filled-words.new.decoder c.bytes.learned 8 c.in-Ok.past c.decode_step.new.decoder c.decode_step.new.learned) c.byte_at-in-bytes.ensures.byte
-          (subst (λ z. Along (Pulls g.S.CodeBytes.gives g.S.CodeBytes.failed) c.bytes.source c.decode_step.new.source (shape_mode c.args.shape) c.args.offset (c.bytes.second_bytes % 65536 * 256 + c.byte_at-in-bytes.result) (c.bytes.above_bytes % 65536 * 256 + z) c.bytes.past c.skip_filled-words.new.decoder c.bytes.learned 8 c.in-Ok.past c.decode_step.new.decoder c.decode_step.new.learned) c.byte_at.ensures.byte
-          c.in-Ok.ensures.ok)));
+          (subst (λ z. Along (Pulls g.S.CodeBytes.gives g.S.CodeBytes.failed) (byte_around (shape_mode c.args.shape) c.args.offset (c.bytes.second_bytes % 65536 * 256 + z) (c.bytes.above_bytes % 65536 * 256 + slice_index c.args.above.now (c.bytes.i + 1)) c.bytes.past) (decoder_state c.bytes.source c.skip_filled-words.new.decoder c.bytes.learned) 8 c.in-Ok.past (decoder_state c.decode_step.new.source c.decode_step.new.decoder c.decode_step.new.learned)) c.byte_at-in-bytes.ensures.byte
+          (subst (λ z. Along (Pulls g.S.CodeBytes.gives g.S.CodeBytes.failed) (byte_around (shape_mode c.args.shape) c.args.offset (c.bytes.second_bytes % 65536 * 256 + c.byte_at-in-bytes.result) (c.bytes.above_bytes % 65536 * 256 + z) c.bytes.past) (decoder_state c.bytes.source c.skip_filled-words.new.decoder c.bytes.learned) 8 c.in-Ok.past (decoder_state c.decode_step.new.source c.decode_step.new.decoder c.decode_step.new.learned)) c.byte_at.ensures.byte
+          c.in-Ok.ensures.pixels.0)));
     }
 
 pub returns-then-left-eq0-clause-ok : goal.returns-then-left-eq0-clause-ok
@@ -89,9 +89,9 @@ returns-in-Err-decode_byte-clause-err g c =
     bytes_stop (Pulls g.S.CodeBytes.gives g.S.CodeBytes.failed) c.args.source.now c.bytes.source c.decode_byte.new.source (shape_mode c.args.shape) c.args.offset c.args.above.now c.args.second.now c.args.place c.args.current.now c.args.decoder.now c.args.learned.now
     c.args.shape.width c.bytes.left c.bytes.i c.bytes.second_bytes c.bytes.above_bytes c.bytes.past c.bytes.left c.bytes.current c.bytes.decoder c.decode_byte.new.decoder c.bytes.learned c.decode_byte.new.learned c.in-Err-decode_byte.pause c.within-in-Err-decode_byte.result
     c.bytes.invariant.left inside (omega arith) c.within-in-Err-decode_byte.ensures.begun c.within-in-Err-decode_byte.ensures.done c.within-in-Err-decode_byte.ensures.past c.bytes.invariant.along
-    (subst (λ z. StopsAlong (Pulls g.S.CodeBytes.gives g.S.CodeBytes.failed) c.bytes.source c.decode_byte.new.source (shape_mode c.args.shape) c.args.offset (c.bytes.second_bytes % 65536 * 256 + z) (c.bytes.above_bytes % 65536 * 256 + slice_index c.args.above.now (c.bytes.i + 1)) c.bytes.past c.bytes.decoder c.bytes.learned c.bytes.left c.in-Err-decode_byte.pause c.decode_byte.new.decoder c.decode_byte.new.learned) c.byte_at-3.ensures.byte
-    (subst (λ z. StopsAlong (Pulls g.S.CodeBytes.gives g.S.CodeBytes.failed) c.bytes.source c.decode_byte.new.source (shape_mode c.args.shape) c.args.offset (c.bytes.second_bytes % 65536 * 256 + c.byte_at-3.result) (c.bytes.above_bytes % 65536 * 256 + z) c.bytes.past c.bytes.decoder c.bytes.learned c.bytes.left c.in-Err-decode_byte.pause c.decode_byte.new.decoder c.decode_byte.new.learned) c.byte_at-2.ensures.byte
-    c.in-Err-decode_byte.ensures.err))
+    (subst (λ z. StopsAlong (Pulls g.S.CodeBytes.gives g.S.CodeBytes.failed) (byte_around (shape_mode c.args.shape) c.args.offset (c.bytes.second_bytes % 65536 * 256 + z) (c.bytes.above_bytes % 65536 * 256 + slice_index c.args.above.now (c.bytes.i + 1)) c.bytes.past) (decoder_state c.bytes.source c.bytes.decoder c.bytes.learned) c.bytes.left c.in-Err-decode_byte.pause (decoder_state c.decode_byte.new.source c.decode_byte.new.decoder c.decode_byte.new.learned)) c.byte_at-3.ensures.byte
+    (subst (λ z. StopsAlong (Pulls g.S.CodeBytes.gives g.S.CodeBytes.failed) (byte_around (shape_mode c.args.shape) c.args.offset (c.bytes.second_bytes % 65536 * 256 + c.byte_at-3.result) (c.bytes.above_bytes % 65536 * 256 + z) c.bytes.past) (decoder_state c.bytes.source c.bytes.decoder c.bytes.learned) c.bytes.left c.in-Err-decode_byte.pause (decoder_state c.decode_byte.new.source c.decode_byte.new.decoder c.decode_byte.new.learned)) c.byte_at-2.ensures.byte
+    c.in-Err-decode_byte.ensures.pixels.1))
 
 pub returns-clause-ok : goal.returns-clause-ok
 returns-clause-ok g c =
@@ -105,6 +105,6 @@ returns-clause-ok g c =
     (bytes_next (Pulls g.S.CodeBytes.gives g.S.CodeBytes.failed) c.args.source.now c.bytes.source c.decode_byte.new.source (shape_mode c.args.shape) c.args.offset c.args.above.now c.args.second.now c.args.place c.args.current.now c.args.decoder.now c.args.learned.now
     c.args.shape.width c.bytes.left c.bytes.i c.bytes.second_bytes c.bytes.above_bytes c.bytes.past c.in-Ok-decode_byte.last c.bytes.left byte c.bytes.current c.bytes.decoder c.decode_byte.new.decoder c.bytes.learned c.decode_byte.new.learned
     c.bytes.invariant.left inside (omega (arith, wide, inside)) (omega arith) (wrap (c.in-Ok-decode_byte.last % 256 * 2 ^ (8 - c.bytes.left))) c.bytes.invariant.along
-    (subst (λ z. Along (Pulls g.S.CodeBytes.gives g.S.CodeBytes.failed) c.bytes.source c.decode_byte.new.source (shape_mode c.args.shape) c.args.offset (c.bytes.second_bytes % 65536 * 256 + z) (c.bytes.above_bytes % 65536 * 256 + slice_index c.args.above.now (c.bytes.i + 1)) c.bytes.past c.bytes.decoder c.bytes.learned c.bytes.left c.in-Ok-decode_byte.last c.decode_byte.new.decoder c.decode_byte.new.learned) c.byte_at-3.ensures.byte
-    (subst (λ z. Along (Pulls g.S.CodeBytes.gives g.S.CodeBytes.failed) c.bytes.source c.decode_byte.new.source (shape_mode c.args.shape) c.args.offset (c.bytes.second_bytes % 65536 * 256 + c.byte_at-3.result) (c.bytes.above_bytes % 65536 * 256 + z) c.bytes.past c.bytes.decoder c.bytes.learned c.bytes.left c.in-Ok-decode_byte.last c.decode_byte.new.decoder c.decode_byte.new.learned) c.byte_at-2.ensures.byte
-    c.in-Ok-decode_byte.ensures.ok)))
+    (subst (λ z. Along (Pulls g.S.CodeBytes.gives g.S.CodeBytes.failed) (byte_around (shape_mode c.args.shape) c.args.offset (c.bytes.second_bytes % 65536 * 256 + z) (c.bytes.above_bytes % 65536 * 256 + slice_index c.args.above.now (c.bytes.i + 1)) c.bytes.past) (decoder_state c.bytes.source c.bytes.decoder c.bytes.learned) c.bytes.left c.in-Ok-decode_byte.last (decoder_state c.decode_byte.new.source c.decode_byte.new.decoder c.decode_byte.new.learned)) c.byte_at-3.ensures.byte
+    (subst (λ z. Along (Pulls g.S.CodeBytes.gives g.S.CodeBytes.failed) (byte_around (shape_mode c.args.shape) c.args.offset (c.bytes.second_bytes % 65536 * 256 + c.byte_at-3.result) (c.bytes.above_bytes % 65536 * 256 + z) c.bytes.past) (decoder_state c.bytes.source c.bytes.decoder c.bytes.learned) c.bytes.left c.in-Ok-decode_byte.last (decoder_state c.decode_byte.new.source c.decode_byte.new.decoder c.decode_byte.new.learned)) c.byte_at-2.ensures.byte
+    c.in-Ok-decode_byte.ensures.pixels.0)))

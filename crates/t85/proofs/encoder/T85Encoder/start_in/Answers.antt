@@ -3,6 +3,7 @@ use Rattle.std.specs.Prelude.{option_to_list}
 use Rattle.raster_core.specs.Window.{held as rows_of}
 use Rattle.t85_core.specs.Options.{settings_of}
 use Rattle.t85_core.specs.Steps.ByRow.{Stands, view_of}
+use Rattle.t85_core.specs.RowImage.{image_of}
 use Rattle.t85_core.specs.Steps.Sent.{here}
 use Rattle.t85.proofs.Delivery.{emptied}
 use Rattle.t85.proofs.EncoderCalls.{head_fails_not, head_written}
@@ -26,7 +27,7 @@ returns-in-Ok-clause-begun c = λ enough.
       ready = c.in-Ok.ensures.begins.0;
       numbers_are = c.keep.ensures.numbers ∙ c.numbers.ensures;
       place_is = c.keep.ensures.place ∙ c.place.ensures.place;
-      stands = subst (λ l. Stands s size.width size.height [] (view_of c.in-Ok.engine l) (rows_of c.start-started.new.window) (here (Some [])) (Some (take out.len out.bytes.now))) (sym (c.keep.ensures.same.learning ∙ c.choose.ensures.learning)) written.0;
+      stands = subst (λ l. Stands (image_of s size.width size.height) [] (view_of c.in-Ok.engine l) (rows_of c.start-started.new.window) (here (Some [])) (Some (take out.len out.bytes.now))) (sym (c.keep.ensures.same.learning ∙ c.choose.ensures.learning)) written.0;
       head_is = written.1;
     }
 

@@ -16,7 +16,7 @@ pub returns-clause-begun : goal.returns-clause-begun
 returns-clause-begun g c =
     let empty = c.in_ok-write_held.ensures.empty in
     let white = subst (λ w. HasLines (held c.clear.new.self) (white_lines w)) c.requires.width c.clear.ensures.white in
-    stands_kept _ _ _ _ _ _ _ _ _ (all_handed _ _ _ _ _ empty.0 empty.1 c.write_held.ensures.text) (c.new.ensures.first _ c.first.ensures _ _ _ white c.in_ok-write_head.ensures.ok)
+    stands_kept _ _ _ _ _ _ _ (all_handed _ _ _ _ _ empty.0 empty.1 c.write_held.ensures.text) (c.new.ensures.first _ c.first.ensures _ _ _ white c.in_ok-write_head.ensures.ok)
 
 pub returns-in_err-write_held-clause-cut : goal.returns-in_err-write_held-clause-cut
 returns-in_err-write_held-clause-cut g c =

@@ -9,13 +9,13 @@ use Rattle.t85_core.proofs.encoding.steps.code_row.Goals as goal
 -- it is the same target
 stays : (g : given.Over) (c : goal.After-target-1 g) → SameSink (sink_view g.P.ByteTarget.view c.new-ink.result) (sink_view g.P.ByteTarget.view c.send_row.new.sink)
 stays g c =
-    row_stays (sink_view g.P.ByteTarget.view) c.new-ink.result c.send_row.new.sink _ _ _ _ _ _ _ _ c.send_row.result
+    row_stays (sink_view g.P.ByteTarget.view) (λ s. (g.P.ByteTarget.view s.target.now).failures) c.new-ink.result c.send_row.new.sink _ _ _ _ _ _ _ _ c.send_row.result
     (c.send_row.ensures.row c.requires.somewhere.0 c.requires.somewhere.1 c.requires.lined.0 c.requires.somewhere.2 c.requires.lined.1)
 
 pub returns-clause-row : goal.returns-clause-row
 returns-clause-row g c p pushed lines codes has =
     let same = (stays g c).same_buffer in
-    row_inked (sink_view g.P.ByteTarget.view) c.new-ink.result c.send_row.new.sink _ _ (ap (λ m. (g.P.ByteTarget.view m.now).text) c.new-ink.ensures.lent) (ap (λ t. (g.P.ByteTarget.view t).text) (search (rules, same))) _ _ _ _ _ _ _ _ c.send_row.result
+    row_inked (sink_view g.P.ByteTarget.view) (λ s. (g.P.ByteTarget.view s.target.now).failures) c.new-ink.result c.send_row.new.sink _ _ (ap (λ m. (g.P.ByteTarget.view m.now).text) c.new-ink.ensures.lent) (ap (λ t. (g.P.ByteTarget.view t).text) (search (rules, same))) _ _ _ _ _ _ _ _ c.send_row.result
     (c.send_row.ensures.row p pushed lines codes has)
 
 pub returns-clause-fails : goal.returns-clause-fails

@@ -9,13 +9,13 @@ use Rattle.t85_core.proofs.encoding.steps.end_code.Goals as goal
 -- it is the same target
 stays : (g : given.Over) (c : goal.After-target-1 g) → SameSink (sink_view g.P.ByteTarget.view c.new-ink.result) (sink_view g.P.ByteTarget.view c.send_end.new.sink)
 stays g c =
-    end_stays (sink_view g.P.ByteTarget.view) c.new-ink.result c.send_end.new.sink _ _ c.send_end.result
+    end_stays (sink_view g.P.ByteTarget.view) (λ s. (g.P.ByteTarget.view s.target.now).failures) c.new-ink.result c.send_end.new.sink _ _ c.send_end.result
     (c.send_end.ensures.ended c.requires.somewhere.0 c.requires.somewhere.1 c.requires.somewhere.2)
 
 pub returns-clause-ended : goal.returns-clause-ended
 returns-clause-ended g c p pushed codes =
     let same = (stays g c).same_buffer in
-    end_inked (sink_view g.P.ByteTarget.view) c.new-ink.result c.send_end.new.sink _ _ (ap (λ m. (g.P.ByteTarget.view m.now).text) c.new-ink.ensures.lent) (ap (λ t. (g.P.ByteTarget.view t).text) (search (rules, same))) _ _ c.send_end.result
+    end_inked (sink_view g.P.ByteTarget.view) (λ s. (g.P.ByteTarget.view s.target.now).failures) c.new-ink.result c.send_end.new.sink _ _ (ap (λ m. (g.P.ByteTarget.view m.now).text) c.new-ink.ensures.lent) (ap (λ t. (g.P.ByteTarget.view t).text) (search (rules, same))) _ _ c.send_end.result
     (c.send_end.ensures.ended p pushed codes)
 
 pub returns-clause-fails : goal.returns-clause-fails

@@ -2,6 +2,7 @@ use Rattle.std.proofs.Common.{◌≡◌, ◌++◌, ◌∙◌, [], drop, Err, inl
 use Rattle.t85_core.specs.Options.{fields_of}
 use Rattle.t85_core.specs.Steps.PieceCode.{EndsInNoEscape, HasNoMarker}
 use Rattle.t85_core.specs.Steps.Pieces.{StepsOff}
+use Rattle.t85_core.specs.Steps.SizedImage.{sized}
 use Rattle.raster_core.specs.Window.{held}
 use Rattle.t85_core.specs.Lent.{decoder_over, walk_over}
 use Rattle.t85_core.proofs.Decodings.PieceSteps.{nil_of}
@@ -28,7 +29,7 @@ returns-then-front-bytes-clause-leaves c =
           m.0 (λ some. (inr (c.in-Err.ensures.leaves (some_code (decoder_over c.args.self.now c.args.window.now c.args.learned.now) c.requires.in_code.0 c.requires.in_code.1 some)).same_row.1, (c.in-Err.ensures.leaves (some_code (decoder_over c.args.self.now c.args.window.now c.args.learned.now) c.requires.in_code.0 c.requires.in_code.1 some)).place.given)),
       m.1,
     ))
-    (code_broken (decoder_over c.args.self.now c.args.window.now c.args.learned.now) c.args.piece.now.rest.now c.in-Err.fault c.requires.in_code.0 c.requires.in_code.1 (subst (λ z. StepsOff (fields_of c.args.self.now.header) c.args.self.now.header.yd (walk_over c.args.self.now.walk c.args.window.now c.args.learned.now) z c.in-Err.fault) all c.in-Err.ensures.step.err) (λ some. (c.in-Err.ensures.leaves (some_code (decoder_over c.args.self.now c.args.window.now c.args.learned.now) c.requires.in_code.0 c.requires.in_code.1 some)).other))
+    (code_broken (decoder_over c.args.self.now c.args.window.now c.args.learned.now) c.args.piece.now.rest.now c.in-Err.fault c.requires.in_code.0 c.requires.in_code.1 (subst (λ z. StepsOff (sized (fields_of c.args.self.now.header) c.args.self.now.header.yd) (walk_over c.args.self.now.walk c.args.window.now c.args.learned.now) z c.in-Err.fault) all c.in-Err.ensures.step.err) (λ some. (c.in-Err.ensures.leaves (some_code (decoder_over c.args.self.now c.args.window.now c.args.learned.now) c.requires.in_code.0 c.requires.in_code.1 some)).other))
 
 pub returns-in-Truncated-clause-leaves : goal.returns-in-Truncated-clause-leaves
 returns-in-Truncated-clause-leaves c = on_where c.args.is_all (decoder_over c.args.self.now c.args.window.now c.args.learned.now) (decoder_over c.wait_at_marker.new.self c.give_row.new.window c.give_row.new.learned) c.args.piece.now.rest.now c.wait_at_marker.new.piece.rest.now c.wait_at_marker.ensures.header c.wait_at_marker.ensures.end (λ some. leaves_on c.args.is_all (decoder_over c.args.self.now c.args.window.now c.args.learned.now) (decoder_over c.wait_at_marker.new.self c.give_row.new.window c.give_row.new.learned) c.args.piece.now.rest.now c.wait_at_marker.new.piece.rest.now c.wait_at_marker.ensures.header c.wait_at_marker.ensures.end

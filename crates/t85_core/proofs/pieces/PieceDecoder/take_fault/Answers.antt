@@ -1,6 +1,6 @@
 use Rattle.std.proofs.Common.{◌≡◌, ◌∙◌, false, sym, ap, subst, rules, arith}
 use Rattle.t85_core.specs.Options.{fields_of}
-use Rattle.t85_core.specs.Steps.Behind.{StopsBehind}
+use Rattle.t85_core.specs.Steps.Behind.{StopsBehind, behind_at}
 use Rattle.t85_core.specs.Steps.PieceStands.{place_behind, last_behind}
 use Rattle.t85_core.specs.Lent.{decoder_over}
 use Rattle.t85_core.proofs.Decodings.PieceStood.{leaves_of, leaves_broken, behind_broken, row_where, broken_where}
@@ -22,4 +22,4 @@ returns-clause-leaves c =
     leaves_of above.same
     (leaves_broken c.args.is_all (decoder_over c.gives_below.new.self c.gives_below.new.window c.gives_below.new.learned) (decoder_over c.enter_head.new.self c.enter_head.new.window c.enter_head.new.learned) c.args.piece.now.rest.now c.args.piece.now.rest.now c.args.fault h.keeps.header h.keeps.going
     (behind_broken (decoder_over c.gives_below.new.self c.gives_below.new.window c.gives_below.new.learned) (decoder_over c.enter_head.new.self c.enter_head.new.window c.enter_head.new.learned) c.coder_laws.ensures (ap (λ z. z.is_open) above.same ∙ c.requires.looks.0) (ap (λ z. z.waits) above.same ∙ c.requires.looks.1) h c.args.piece.now.rest.now c.args.fault
-    (subst (λ z. StopsBehind (fields_of z.header) (place_behind (fields_of z.header) z.walk.stage z.walk.entities) false z.behind c.args.piece.now.rest.now c.args.fault) (sym above.same) c.requires.stops) c.args.is_all c.requires.end)))
+    (subst (λ z. StopsBehind (fields_of z.header) (behind_at (place_behind (fields_of z.header) z.walk.stage z.walk.entities) false) z.behind c.args.piece.now.rest.now c.args.fault) (sym above.same) c.requires.stops) c.args.is_all c.requires.end)))

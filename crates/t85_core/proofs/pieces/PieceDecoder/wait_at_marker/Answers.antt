@@ -2,6 +2,7 @@ use Rattle.std.proofs.Common.{◌++◌, refl, sym, subst, append-nil, inr}
 use Rattle.t85_core.specs.Options.{fields_of}
 use Rattle.t85_core.specs.Grammar.{marker_bytes}
 use Rattle.t85_core.specs.Steps.Pieces.{WalkStands}
+use Rattle.t85_core.specs.Steps.SizedImage.{sized}
 use Rattle.t85_core.specs.Lent.{decoder_view, walk_view}
 use Rattle.t85_core.proofs.Decodings.Entities.{none_of}
 use Rattle.t85_core.proofs.Decodings.PieceStood.{code_of, put_waits, waits_first, walk_ahead, known_more, marker_split}
@@ -14,7 +15,7 @@ returns-in-Some-clause-on c = λ ahead unmarked stage rows learned text out s.
       marker_split c.in-Some.reset c.args.piece.now.rest.now c.in-Some.ensures.some.0 c.split_at.result.1.now c.in-Some.ensures.some.1 c.split_at.ensures.back,
       put_waits _ _ _ c.requires.in_code.0 refl (known_more (fields_of c.args.self.now.header) c.args.self.now.height c.args.self.now.is_open text (marker_bytes c.in-Some.reset) s.height)
           (waits_first (fields_of c.args.self.now.header) _ c.start-self.result _ _
-          (subst (WalkStands (fields_of c.args.self.now.header) c.args.self.now.header.yd _ (text ++ marker_bytes c.in-Some.reset)) (sym (append-nil out)) (walk_ahead (fields_of c.args.self.now.header) c.args.self.now.header.yd (walk_view c.args.self.now.walk rows learned) text out c.in-Some.reset stage ahead unmarked w.walk))
+          (subst (WalkStands (sized (fields_of c.args.self.now.header) c.args.self.now.header.yd) _ (text ++ marker_bytes c.in-Some.reset)) (sym (append-nil out)) (walk_ahead (fields_of c.args.self.now.header) c.args.self.now.header.yd (walk_view c.args.self.now.walk rows learned) text out c.in-Some.reset stage ahead unmarked w.walk))
           (inr (stage, (c.in-Some.reset, inr refl))) w.ungiven c.start-self.ensures.at c.start-self.ensures.comment),
     )
 

@@ -1,18 +1,18 @@
-use Rattle.std.specs.Prelude.{OnErr, List, Bool, ℕ, ◌++◌, ◌∷◌, []}
+use Rattle.std.specs.Prelude.{OnErr, List, Bool, ◌++◌, ◌∷◌, []}
 use Rattle.raster_core.specs.Packed.{Held}
-use Rattle.t85_core.specs.Jbg.{Settings}
 use Rattle.t85_core.specs.Steps.Sent.{Origin}
 use Rattle.t85_core.specs.Steps.ByRow.{Waits, StreamCut, view_of}
+use Rattle.t85_core.specs.RowImage.{Image}
 use Rattle.t85_core.proofs.Walks.InfoEnds.{exit_all}
 use Rattle.t85_core.proofs.Encodings.RowSteps.{stripe_begun, move_cut}
 use Rattle.t85_core.proofs.encoding.by_row.RowEncoder.begin_stripe.Goals as goal
 
 pub returns-in_err-move_pixel-clause-cut : goal.returns-in_err-move_pixel-clause-cut
 returns-in_err-move_pixel-clause-cut g c =
-    exit_all (λ r. OnErr r ((s : Settings) (width limit : ℕ) (rows : List (List Bool)) (row : List Bool) (before : Held) (origin : Origin) →
-    Waits s width limit rows (view_of c.args.self.now c.args.learning.now) before origin (g.P.ByteTarget.view c.args.target.now).text → StreamCut s width limit (rows ++ row ∷ []) origin (g.P.ByteTarget.view c.move_pixel.new.target).text)) c.from_residual.result c.from_residual.ensures.1
-    (λ s width limit rows row before origin w. move_cut s width limit rows (view_of c.args.self.now c.args.learning.now) before origin _ _ w c.requires.left row c.in_err-move_pixel.ensures.cut)
+    exit_all (λ r. OnErr r ((image : Image) (rows : List (List Bool)) (row : List Bool) (before : Held) (origin : Origin) →
+    Waits image rows (view_of c.args.self.now c.args.learning.now) before origin (g.P.ByteTarget.view c.args.target.now).text → StreamCut image (rows ++ row ∷ []) origin (g.P.ByteTarget.view c.move_pixel.new.target).text)) c.from_residual.result c.from_residual.ensures.1
+    (λ image rows row before origin w. move_cut image rows (view_of c.args.self.now c.args.learning.now) before origin _ _ w c.requires.left row c.in_err-move_pixel.ensures.cut)
 
 pub returns-clause-ok : goal.returns-clause-ok
-returns-clause-ok g c s width limit rows before origin w =
-    stripe_begun s width limit rows (view_of c.args.self.now c.args.learning.now) before origin _ _ w c.requires.left c.move_pixel.new.kept c.restart.new.self c.is_followed-self.result c.in_ok-move_pixel.ensures.ok c.restart.ensures.counts c.restart.ensures.two_line c.restart.ensures.most c.is_followed-self.ensures
+returns-clause-ok g c image rows before origin w =
+    stripe_begun image rows (view_of c.args.self.now c.args.learning.now) before origin _ _ w c.requires.left c.move_pixel.new.kept c.restart.new.self c.is_followed-self.result c.in_ok-move_pixel.ensures.ok c.restart.ensures.counts c.restart.ensures.two_line c.restart.ensures.most c.is_followed-self.ensures

@@ -4,8 +4,8 @@ use Rattle.t85_core.proofs.encoding.by_row.RowEncoder.begin_where_due.Goals as g
 
 pub returns-then-self-eq0-clause-ok : goal.returns-then-self-eq0-clause-ok
 returns-then-self-eq0-clause-ok g c =
-    map_ok c.begin_stripe.result (λ more s width limit rows before origin so. more s width limit rows before origin (stands_waiting s width limit rows _ before origin _ c.if-self-eq0.true so)) c.begin_stripe.ensures.ok
+    map_ok c.begin_stripe.result (λ more image rows before origin so. more image rows before origin (stands_waiting image rows _ before origin _ c.if-self-eq0.true so)) c.begin_stripe.ensures.ok
 
 pub returns-then-self-eq0-clause-cut : goal.returns-then-self-eq0-clause-cut
 returns-then-self-eq0-clause-cut g c =
-    on_err c.begin_stripe.result (λ cut row before s width limit rows origin so. cut s width limit rows row before origin (stands_waiting s width limit rows _ before origin _ c.if-self-eq0.true so)) c.begin_stripe.ensures.cut
+    on_err c.begin_stripe.result (λ cut row before image rows origin so. cut image rows row before origin (stands_waiting image rows _ before origin _ c.if-self-eq0.true so)) c.begin_stripe.ensures.cut

@@ -1,13 +1,13 @@
-use Rattle.std.specs.Prelude.{OnErr, List, Bool, None, ℕ, []}
+use Rattle.std.specs.Prelude.{OnErr, List, Bool, None, []}
 use Rattle.std.proofs.Common.{refl, sym, subst}
 use Rattle.qm_core.specs.Place.{start}
 use Rattle.qm_core.specs.Encoder.{EncoderIsAt}
 use Rattle.raster_core.specs.Window.{held}
-use Rattle.t85_core.specs.Jbg.{Settings}
 use Rattle.t85_core.specs.Steps.State.{first_row_start, next_stripe_start}
 use Rattle.t85_core.specs.Steps.Written.{row_start_in}
 use Rattle.t85_core.specs.Steps.Sent.{Origin}
 use Rattle.t85_core.specs.Steps.ByRow.{Runs, IsHeldBy, view_of}
+use Rattle.t85_core.specs.RowImage.{Image}
 use Rattle.t85_core.specs.Steps.RowSteps.{StripeBegun}
 use Rattle.t85_core.proofs.Walks.InfoEnds.{exit_all}
 use Rattle.t85_core.proofs.Bytes.Ends.{always, always_err}
@@ -20,24 +20,24 @@ use Rattle.t85_core.proofs.encoding.by_row.RowEncoder.end_stripe.Goals as goal
 
 pub returns-in_err-end_entity-clause-cut : goal.returns-in_err-end_entity-clause-cut
 returns-in_err-end_entity-clause-cut g c =
-    exit_all (λ r. OnErr r ((s : Settings) (width limit : ℕ) (rows : List (List Bool)) (origin : Origin) →
-    Runs s width limit rows (view_of c.args.self.now c.args.learning.now) (held c.args.window.now) origin (g.P.ByteTarget.view c.args.target.now).text → StripeBegun s width limit c.args.self.now.in_stripe rows origin (g.P.ByteTarget.view c.end_entity.new.target).text)) c.from_residual.result c.from_residual.ensures.1
-    (λ s width limit rows origin r.
-    let e = c.in_err-end_entity.ensures.ended (row_start_in s width r.at r.part).state.place r.pushed (subst (λ e. EncoderIsAt e (row_start_in s width r.at r.part).state.place r.pushed) (sym c.replace-encoder.ensures.value) r.running.codes) in
-    stripe_cut s width limit rows (view_of c.args.self.now c.args.learning.now) (held c.args.window.now) origin _ _ c.requires.some r c.writing_laws.ensures e.code e.more e.is e.all e.cut)
+    exit_all (λ r. OnErr r ((image : Image) (rows : List (List Bool)) (origin : Origin) →
+    Runs image rows (view_of c.args.self.now c.args.learning.now) (held c.args.window.now) origin (g.P.ByteTarget.view c.args.target.now).text → StripeBegun image c.args.self.now.in_stripe rows origin (g.P.ByteTarget.view c.end_entity.new.target).text)) c.from_residual.result c.from_residual.ensures.1
+    (λ image rows origin r.
+    let e = c.in_err-end_entity.ensures.ended (row_start_in image.settings image.width r.at r.part).state.place r.pushed (subst (λ e. EncoderIsAt e (row_start_in image.settings image.width r.at r.part).state.place r.pushed) (sym c.replace-encoder.ensures.value) r.running.codes) in
+    stripe_cut image rows (view_of c.args.self.now c.args.learning.now) (held c.args.window.now) origin _ _ c.requires.some r c.writing_laws.ensures e.code e.more e.is e.all e.cut)
 
 pub returns-clause-ok : goal.returns-clause-ok
-returns-clause-ok g c = always c.write_held.result (λ s width limit rows origin r.
-    let e = c.in_ok-end_entity.ensures.ended (row_start_in s width r.at r.part).state.place r.pushed (subst (λ e. EncoderIsAt e (row_start_in s width r.at r.part).state.place r.pushed) (sym c.replace-encoder.ensures.value) r.running.codes) in
-    stripe_ended s width limit rows (view_of c.args.self.now c.args.learning.now) (held c.args.window.now) origin _ _ c.requires.some r c.writing_laws.ensures c.replace-encoder.new.dest c.go_on.new.kept c.go_on.new.learned _ _ _ refl
+returns-clause-ok g c = always c.write_held.result (λ image rows origin r.
+    let e = c.in_ok-end_entity.ensures.ended (row_start_in image.settings image.width r.at r.part).state.place r.pushed (subst (λ e. EncoderIsAt e (row_start_in image.settings image.width r.at r.part).state.place r.pushed) (sym c.replace-encoder.ensures.value) r.running.codes) in
+    stripe_ended image rows (view_of c.args.self.now c.args.learning.now) (held c.args.window.now) origin _ _ c.requires.some r c.writing_laws.ensures c.replace-encoder.new.dest c.go_on.new.kept c.go_on.new.learned _ _ _ refl
     (subst (λ e. EncoderIsAt e start []) (sym c.replace-encoder.ensures.after) c.start.ensures.codes)
     (λ last is. subst (λ w. IsHeldBy None 0 (first_row_start (next_stripe_start w c.args.self.now.reset last)) c.go_on.new.kept c.go_on.new.learned (held c.go_on.new.window)) c.requires.lined.1 (c.go_on.ensures.next last is))
     e.code e.more e.is e.all e.ok c.write_held.ensures.text)
 
 pub returns-clause-cut : goal.returns-clause-cut
-returns-clause-cut g c = always_err c.write_held.result (λ s width limit rows origin r.
-    let e = c.in_ok-end_entity.ensures.ended (row_start_in s width r.at r.part).state.place r.pushed (subst (λ e. EncoderIsAt e (row_start_in s width r.at r.part).state.place r.pushed) (sym c.replace-encoder.ensures.value) r.running.codes) in
-    stripe_cut s width limit rows (view_of c.args.self.now c.args.learning.now) (held c.args.window.now) origin _ _ c.requires.some r c.writing_laws.ensures e.code e.more e.is e.all
+returns-clause-cut g c = always_err c.write_held.result (λ image rows origin r.
+    let e = c.in_ok-end_entity.ensures.ended (row_start_in image.settings image.width r.at r.part).state.place r.pushed (subst (λ e. EncoderIsAt e (row_start_in image.settings image.width r.at r.part).state.place r.pushed) (sym c.replace-encoder.ensures.value) r.running.codes) in
+    stripe_cut image rows (view_of c.args.self.now c.args.learning.now) (held c.args.window.now) origin _ _ c.requires.some r c.writing_laws.ensures e.code e.more e.is e.all
     (beginning_all _ _ e.more (Appends-keeps _ _ _ e.more e.ok c.write_held.ensures.text)))
 
 pub returns-in_err-end_entity-clause-few : goal.returns-in_err-end_entity-clause-few

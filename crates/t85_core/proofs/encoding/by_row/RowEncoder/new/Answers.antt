@@ -7,6 +7,7 @@ use Rattle.t85_core.proofs.Encodings.Encoded.{are_settings}
 use Rattle.t85_core.proofs.Theorems.CodeDenotes.{written_bits}
 use Rattle.t85_core.proofs.Encodings.RowSteps.{none_stand}
 use Rattle.t85_core.proofs.encoding.by_row.RowEncoder.new.Goals as goal
+use Rattle.t85_core.specs.RowImage.{image_of}
 
 pub returns-clause-plan : goal.returns-clause-plan
 returns-clause-plan c =
@@ -29,5 +30,5 @@ returns-clause-plan c =
 
 pub returns-clause-first : goal.returns-clause-first
 returns-clause-first c learning untaught window text text' white put =
-    none_stand (settings_of c.args.options.now) c.args.size.width c.args.size.height _ window text text' (returns-clause-plan c)
+    none_stand (image_of (settings_of c.args.options.now) c.args.size.width c.args.size.height) _ window text text' (returns-clause-plan c)
     refl refl c.start.ensures.codes refl refl untaught.learned_is white untaught.two_line untaught.most untaught.counts put

@@ -17,10 +17,10 @@ returns-in_err-put_taken-clause-cut g c =
     exit_all (Cut (view_of c.args.self.now c.args.learning.now) (held c.args.window.now) (text_taken c.args.buffer.now) (text_taken c.put_taken.new.target)) c.from_residual.result c.from_residual.ensures.1 (c.in_err-put_taken.ensures.cut c.requires.open_)
 
 pub returns-in-Ok-clause-ok : goal.returns-in-Ok-clause-ok
-returns-in-Ok-clause-ok g c row before below s width limit rows origin so =
+returns-in-Ok-clause-ok g c row before below image rows origin so =
     let empty = c.in-Ok.ensures.empty in
-    stands_kept s width limit (rows ++ row ∷ []) _ _ origin _ _ (all_handed _ _ _ _ _ empty.0 empty.1 c.write_held.ensures.text) (c.in_ok-put_taken.ensures.ok row before below s width limit rows origin so)
+    stands_kept image (rows ++ row ∷ []) _ _ origin _ _ (all_handed _ _ _ _ _ empty.0 empty.1 c.write_held.ensures.text) (c.in_ok-put_taken.ensures.ok row before below image rows origin so)
 
 pub returns-in-Err-clause-cut : goal.returns-in-Err-clause-cut
-returns-in-Err-clause-cut g c row before below s width limit rows origin so =
-    front_cut s width limit (rows ++ row ∷ []) origin _ _ c.write_held.ensures.text (c.fronts.ensures s width limit (rows ++ row ∷ []) _ _ origin _ (c.in_ok-put_taken.ensures.ok row before below s width limit rows origin so))
+returns-in-Err-clause-cut g c row before below image rows origin so =
+    front_cut image (rows ++ row ∷ []) origin _ _ c.write_held.ensures.text (c.fronts.ensures image (rows ++ row ∷ []) _ _ origin _ (c.in_ok-put_taken.ensures.ok row before below image rows origin so))

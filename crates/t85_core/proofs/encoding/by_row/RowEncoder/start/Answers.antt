@@ -7,6 +7,7 @@ use Rattle.t85_core.specs.Steps.Buffers.{held_of, known_length}
 use Rattle.t85_core.specs.Steps.Views.{text_taken}
 use Rattle.t85_core.specs.Steps.Sent.{here}
 use Rattle.t85_core.specs.Steps.ByRow.{Stands, view_of}
+use Rattle.t85_core.specs.RowImage.{image_of}
 use Rattle.t85_core.proofs.Bytes.Ends.{map_if_ok, err_of}
 use Rattle.t85_core.proofs.Bytes.HeldBack.{beginning_handed}
 use Rattle.t85_core.proofs.Decodings.BufferDecoded.{text_unheld}
@@ -18,8 +19,8 @@ returns-clause-begun g c =
     let buffer = c.new-buffer.result in
     let text_is : text_taken buffer ≡ (g.W.Output.view c.args.output.now).contents = text_unheld buffer.bytes buffer.at buffer.end (g.W.Output.view buffer.output.now).contents c.new-buffer.ensures.empty ∙ ap (λ m. (g.W.Output.view m.now).contents) c.new-buffer.ensures.lent in
     map_if_ok c.start_held.result (λ e so.
-    moved (λ w. (g.W.Output.view w).contents) (Stands (settings_of c.args.options.now) c.args.size.width c.args.size.height [] (view_of e c.start_held.new.learning) (held c.start_held.new.window) (here (g.W.Output.view c.args.output.now).contents)) c.start_held.new.buffer.output.now _ (search rules)
-    (subst (λ z. Stands (settings_of c.args.options.now) c.args.size.width c.args.size.height [] (view_of e c.start_held.new.learning) (held c.start_held.new.window) (here z) (g.W.Output.view c.start_held.new.buffer.output.now).contents) text_is so)) c.start_held.ensures.begun
+    moved (λ w. (g.W.Output.view w).contents) (Stands (image_of (settings_of c.args.options.now) c.args.size.width c.args.size.height) [] (view_of e c.start_held.new.learning) (held c.start_held.new.window) (here (g.W.Output.view c.args.output.now).contents)) c.start_held.new.buffer.output.now _ (search rules)
+    (subst (λ z. Stands (image_of (settings_of c.args.options.now) c.args.size.width c.args.size.height) [] (view_of e c.start_held.new.learning) (held c.start_held.new.window) (here z) (g.W.Output.view c.start_held.new.buffer.output.now).contents) text_is so)) c.start_held.ensures.begun
 
 pub returns-clause-cut : goal.returns-clause-cut
 returns-clause-cut g c is =

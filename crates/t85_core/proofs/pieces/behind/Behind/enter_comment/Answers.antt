@@ -1,7 +1,7 @@
 use Rattle.std.proofs.Common.{◌≡◌, ◌∷◌, ◌++◌, List, ℕ, drop, sym, ap, ◌∙◌, subst, arith}
 use Rattle.byteorder.specs.Endian.{big_bytes}
 use Rattle.t85_core.specs.Options.{fields_of}
-use Rattle.t85_core.specs.Steps.Behind.{BreaksBehind, move_came}
+use Rattle.t85_core.specs.Steps.Behind.{BreaksBehind, move_came, behind_at}
 use Rattle.t85_core.proofs.Decodings.PieceBehind.{behind_stays, behind_enters}
 use Rattle.t85_core.proofs.Decodings.PieceHead.{length_breaks, counted_of}
 use Rattle.t85_core.proofs.Decodings.PieceFew.{comment_few}
@@ -23,6 +23,6 @@ returns-in-Err-clause-err c =
     record {
       counted = counted_of c.in-Err.fault c.in-Err.ensures.reads.counts;
       few = comment_few c.args.piece.now.rest.now c.split_at.result.1.now c.number.new.stream.rest.now c.in-Err.fault is c.in-Err.ensures.err;
-      breaks = subst (λ o. BreaksBehind (fields_of c.args.header.now) c.args.place c.args.is_last c.args.self.now o c.args.piece.now.rest.now c.in-Err.fault) (sym c.requires.between)
+      breaks = subst (λ o. BreaksBehind (fields_of c.args.header.now) (behind_at c.args.place c.args.is_last) c.args.self.now o c.args.piece.now.rest.now c.in-Err.fault) (sym c.requires.between)
           (c.number.new.stream.rest.now, length_breaks (fields_of c.args.header.now) c.args.place (move_came c.args.is_last c.args.self.now.at) c.args.piece.now.rest.now c.split_at.result.1.now c.number.new.stream.rest.now c.in-Err.fault is c.in-Err.ensures.err);
     }

@@ -5,7 +5,7 @@ use Rattle.t85_core.specs.Grammar.{Move, Comment, segment_bytes}
 use Rattle.t85_core.proofs.Decodings.PieceBehind.{behind_then, behind_move, behind_comment}
 use Rattle.t85_core.specs.Failures.{Ends}
 use Rattle.t85_core.specs.Steps.Segments.{PieceFault}
-use Rattle.t85_core.specs.Steps.Behind.{StopsBehind, BreaksBehind}
+use Rattle.t85_core.specs.Steps.Behind.{StopsBehind, BreaksBehind, behind_at}
 use Rattle.t85_core.proofs.Bytes.Ends.{exit}
 use Rattle.t85_core.proofs.Decodings.PieceFew.{piece_few}
 use Rattle.t85_core.proofs.Decodings.PieceHead.{counted_of}
@@ -37,10 +37,10 @@ returns-in_err-to-clause-on c =
 pub returns-in_err-to-clause-err : goal.returns-in_err-to-clause-err
 returns-in_err-to-clause-err c =
     let ends = subst (λ m. Ends Truncated (Some c.leave_comment.new.piece.rest.now) (Some c.next_piece.new.stream.rest.now) (PieceFault (fields_of c.args.header.now) c.args.place m) c.in_err-to.field-0.0) c.is_moved.ensures c.in_err-to.ensures.err in
-    exit (StopsBehind (fields_of c.args.header.now) c.args.place c.args.is_last c.leave_comment.new.self c.leave_comment.new.piece.rest.now) c.from_residual-in_err-to.result c.from_residual-in_err-to.ensures.1 (record {
+    exit (StopsBehind (fields_of c.args.header.now) (behind_at c.args.place c.args.is_last) c.leave_comment.new.self c.leave_comment.new.piece.rest.now) c.from_residual-in_err-to.result c.from_residual-in_err-to.ensures.1 (record {
       counted = counted_of c.in_err-to.field-0.0 c.in_err-to.ensures.reads.counts;
       few = piece_few (fields_of c.args.header.now) c.args.place _ c.leave_comment.new.piece.rest.now c.next_piece.new.stream.rest.now c.in_err-to.field-0.0 ends (c.is_comment.ensures.no (search rules));
-      breaks = subst (λ o. BreaksBehind (fields_of c.args.header.now) c.args.place c.args.is_last c.leave_comment.new.self o c.leave_comment.new.piece.rest.now c.in_err-to.field-0.0) (sym c.in_ok-leave_comment.ensures.ok) (c.next_piece.new.stream.rest.now, ends);
+      breaks = subst (λ o. BreaksBehind (fields_of c.args.header.now) (behind_at c.args.place c.args.is_last) c.leave_comment.new.self o c.leave_comment.new.piece.rest.now c.in_err-to.field-0.0) (sym c.in_ok-leave_comment.ensures.ok) (c.next_piece.new.stream.rest.now, ends);
     })
 
 pub segments-preserved-in-Move : goal.segments-preserved-in-Move

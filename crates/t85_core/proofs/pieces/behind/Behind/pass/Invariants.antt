@@ -1,11 +1,11 @@
 use Rattle.std.proofs.Common.{length, ◌≤◌}
 use Rattle.t85_core.specs.Options.{fields_of}
-use Rattle.t85_core.specs.Steps.Behind.{BehindOn}
+use Rattle.t85_core.specs.Steps.Behind.{BehindOn, behind_at}
 use Rattle.t85_core.proofs.pieces.behind.Behind.pass.Given as goal
 
 abbrev pub invariant-segments : goal.invariant-segments
 invariant-segments l = record {
-  so_far : BehindOn (fields_of l.header) l.place l.is_last l.fn.self l.self l.fn.piece.rest.now l.piece.rest.now;
+  so_far : BehindOn (fields_of l.header) (behind_at l.place l.is_last) l.fn.self l.self l.fn.piece.rest.now l.piece.rest.now;
   no_more : length l.piece.rest.now ≤ length l.fn.piece.rest.now;
 }
 

@@ -1,5 +1,6 @@
 use Rattle.std.proofs.Common.{◌≡◌, [], List, ℕ, length, Err, ap, inl, inr, refl, rules, arith}
 use Rattle.t85_core.specs.Steps.Pieces.{WalkStands}
+use Rattle.t85_core.specs.Steps.SizedImage.{sized}
 use Rattle.raster_core.specs.Window.{held}
 use Rattle.t85_core.specs.Options.{fields_of}
 use Rattle.t85_core.specs.Lent.{walk_over}
@@ -9,7 +10,7 @@ use Rattle.t85_core.proofs.pieces.walk.Walk.begin_stripe.Goals as goal
 
 pub returns-then-not-wants_row-clause-step : goal.returns-then-not-wants_row-clause-step
 returns-then-not-wants_row-clause-step c =
-    let none : (text out : List ℕ) → WalkStands (fields_of c.args.header.now) c.args.height (walk_over c.args.self.now c.args.window.now c.args.learned.now) text out → ⊥ =
+    let none : (text out : List ℕ) → WalkStands (sized (fields_of c.args.header.now) c.args.height) (walk_over c.args.self.now c.args.window.now c.args.learned.now) text out → ⊥ =
     λ text out s.
     let on = (c.in_ok-read_head.ensures.step (held c.args.window.now) c.args.learned.now).ok text out s in
     let first = first_row c.args.header.now.some_rows c.in-Code.is (c.in_ok-read_head.ensures.row c.in-Code.is) on.2 in

@@ -4,7 +4,8 @@ use Rattle.t85_core.specs.declared.pieces.walk.Stage.TheVariants as stage
 use Rattle.t85_core.specs.Options.{fields_of}
 use Rattle.t85_core.specs.Steps.DecodeRows.{IsShapeOf}
 use Rattle.raster_core.specs.Window.{held}
-use Rattle.t85_core.specs.Steps.Pieces.{CodeStands, rows_in}
+use Rattle.t85_core.specs.Steps.Pieces.{CodeStands, rows_in, head_place, code_place}
+use Rattle.t85_core.specs.Steps.SizedImage.{sized}
 use Rattle.t85_core.specs.Steps.PieceCode.{row_state, EndsRow, BreaksRow, WaitsInRow}
 use Rattle.t85_core.specs.Lent.{walk_over, carried_by}
 use Rattle.t85_core.proofs.Decodings.ImagePut.{in_use}
@@ -70,7 +71,7 @@ returns-clause-step g c = record {
           code_is = ahead_is c.go_on_in_row-went.new.first c.go_on_in_row-went.new.marker m.read.answers [] _ m.code_is;
           behind = behind_is c.go_on_in_row-went.new.first c.go_on_in_row-went.new.marker m.read.answers [] _ m.code_is;
           within = (let within = c.go_on_in_row-went.ensures.within in let width = c.shape.ensures.width in omega arith);
-          stands = put_stage (fields_of c.args.header.now) c.args.height (walk_over (record c.args.self.now { kept = c.go_on_in_row-went.new.kept; decoder = c.go_on_in_row-went.new.decoder; stage = stage.Code; row = c.saturating_add-self.result; place = c.go_on_in_row-went.new.place; first = c.go_on_in_row-went.new.first; marker = c.go_on_in_row-went.new.marker }) c.go_on_in_row-went.new.window c.go_on_in_row-went.new.learned) (text ++ m.given) _ _ refl (subst (λ z. CodeStands (fields_of c.args.header.now) c.args.height c.args.self.now.entities c.args.self.now.given c.args.self.now.at z c.go_on_in_row-went.new.first c.go_on_in_row-went.new.marker (carried_by c.go_on_in_row-went.new.window c.go_on_in_row-went.new.kept c.go_on_in_row-went.new.learned) c.go_on_in_row-went.new.decoder (text ++ m.given) (out ++ (held c.go_on_in_row-went.new.window).current)) (let few = k.few in let most = c.ranges.height.fits in let sum = c.saturating_add-self.ensures in omega (arith, few, most, sum)) (row_on k m));
+          stands = put_stage (fields_of c.args.header.now) c.args.height (walk_over (record c.args.self.now { kept = c.go_on_in_row-went.new.kept; decoder = c.go_on_in_row-went.new.decoder; stage = stage.Code; row = c.saturating_add-self.result; place = c.go_on_in_row-went.new.place; first = c.go_on_in_row-went.new.first; marker = c.go_on_in_row-went.new.marker }) c.go_on_in_row-went.new.window c.go_on_in_row-went.new.learned) (text ++ m.given) _ _ refl (subst (λ z. CodeStands (sized (fields_of c.args.header.now) c.args.height) (head_place c.args.self.now.entities c.args.self.now.given c.args.self.now.at (carried_by c.go_on_in_row-went.new.window c.go_on_in_row-went.new.kept c.go_on_in_row-went.new.learned)) (code_place z c.go_on_in_row-went.new.first c.go_on_in_row-went.new.marker c.go_on_in_row-went.new.decoder) (text ++ m.given) (out ++ (held c.go_on_in_row-went.new.window).current)) (let few = k.few in let most = c.ranges.height.fits in let sum = c.saturating_add-self.ensures in omega (arith, few, most, sum)) (row_on k m));
         },
       );
   err = tt;

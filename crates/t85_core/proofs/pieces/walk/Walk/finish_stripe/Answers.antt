@@ -1,6 +1,7 @@
 use Rattle.std.proofs.Common.{◌≡◌, ◌+◌, ◌-◌, ◌*◌, ◌++◌, Err, None, inl, ap, sym, subst, ◌∙◌, arith}
 use Rattle.t85_core.specs.declared.pieces.walk.Stage.TheVariants as stage
 use Rattle.t85_core.specs.Steps.Pieces.{WalkStands}
+use Rattle.t85_core.specs.Steps.SizedImage.{sized}
 use Rattle.t85_core.specs.Lent.{walk_over, carried_by}
 use Rattle.t85_core.proofs.Decodings.PieceFits.{rows_all}
 use Rattle.raster_core.specs.Window.{held}
@@ -47,7 +48,7 @@ returns-then-self-eq0-clause-step c = record {
       let last = last_stripe c.args.height c.args.header.now.l0 c.args.self.now.entities c.args.header.now.some_rows k.head.fewer (omega (arith, left, times, none, min_is)) in
       let few = walk_few (fields_of c.args.header.now) c.args.height (walk_over c.args.self.now c.args.window.now c.args.learned.now) text out c.args.header.now.some_rows (inl c.requires.rows.0) s in
       let one : c.saturating_add-self.result ≡ c.args.self.now.entities + 1 = (let most = c.ranges.height.fits in let sum = c.saturating_add-self.ensures in omega (arith, few, most, sum)) in
-      on_same (fields_of c.args.header.now) c.args.height _ text out c.args.piece.now.rest.now c.find_marker.new.piece.rest.now m.given m.taken (subst (λ z. WalkStands (fields_of c.args.header.now) c.args.height (walk_over (record c.args.self.now { kept = c.next_stripe.new.kept; entities = z; left = c.args.self.now.left - c.min.result; at = None; first = None; marker = None; stage = stage.Done }) c.next_stripe.new.window c.next_stripe.new.learned) (text ++ m.given) out) (sym one) (record {
+      on_same (fields_of c.args.header.now) c.args.height _ text out c.args.piece.now.rest.now c.find_marker.new.piece.rest.now m.given m.taken (subst (λ z. WalkStands (sized (fields_of c.args.header.now) c.args.height) (walk_over (record c.args.self.now { kept = c.next_stripe.new.kept; entities = z; left = c.args.self.now.left - c.min.result; at = None; first = None; marker = None; stage = stage.Done }) c.next_stripe.new.window c.next_stripe.new.learned) (text ++ m.given) out) (sym one) (record {
         left_is = omega (arith, left, times, min_is);
         width_is = c.next_stripe.ensures.window.0 ∙ s.width_is;
         offset_is = offset_low c.in_ok-reset.reset _ _ s.offset_is c.next_stripe.ensures.offset;
@@ -74,7 +75,7 @@ returns-clause-step c = record {
       let on = next_stripe c.args.height c.args.header.now.l0 c.args.self.now.entities c.args.header.now.some_rows (omega (arith, left, times, some, min_is)) in
       let few = walk_few (fields_of c.args.header.now) c.args.height (walk_over c.args.self.now c.args.window.now c.args.learned.now) text out c.args.header.now.some_rows (inl c.requires.rows.0) s in
       let one : c.saturating_add-self.result ≡ c.args.self.now.entities + 1 = (let most = c.ranges.height.fits in let sum = c.saturating_add-self.ensures in omega (arith, few, most, sum)) in
-      on_same (fields_of c.args.header.now) c.args.height _ text out c.args.piece.now.rest.now c.find_marker.new.piece.rest.now m.given m.taken (subst (λ z. WalkStands (fields_of c.args.header.now) c.args.height (walk_over (record c.args.self.now { kept = c.next_stripe.new.kept; entities = z; left = c.args.self.now.left - c.min.result; at = None; first = None; marker = None; stage = stage.Head }) c.next_stripe.new.window c.next_stripe.new.learned) (text ++ m.given) out) (sym one) (record {
+      on_same (fields_of c.args.header.now) c.args.height _ text out c.args.piece.now.rest.now c.find_marker.new.piece.rest.now m.given m.taken (subst (λ z. WalkStands (sized (fields_of c.args.header.now) c.args.height) (walk_over (record c.args.self.now { kept = c.next_stripe.new.kept; entities = z; left = c.args.self.now.left - c.min.result; at = None; first = None; marker = None; stage = stage.Head }) c.next_stripe.new.window c.next_stripe.new.learned) (text ++ m.given) out) (sym one) (record {
         left_is = omega (arith, left, times, min_is);
         width_is = c.next_stripe.ensures.window.0 ∙ s.width_is;
         offset_is = offset_low c.in_ok-reset.reset _ _ s.offset_is c.next_stripe.ensures.offset;

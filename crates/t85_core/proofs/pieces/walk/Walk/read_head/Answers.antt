@@ -3,6 +3,7 @@ use Rattle.qm_core.specs.Place.{Estimate}
 use Rattle.raster_core.specs.Packed.{Held}
 use Rattle.t85_core.specs.Lent.{walk_view}
 use Rattle.t85_core.specs.Steps.Pieces.{StepsOn}
+use Rattle.t85_core.specs.Steps.SizedImage.{sized}
 use Rattle.t85_core.specs.Options.{fields_of}
 use Rattle.t85_core.proofs.Decodings.PieceSteps.{on_then, off_then, step_exit}
 use Rattle.t85_core.proofs.pieces.walk.Walk.read_head.Goals as goal
@@ -31,7 +32,7 @@ returns-then-not-is_in_head-clause-step c =
 
 pub segments-preserved : goal.segments-preserved
 segments-preserved c =
-    let on : (rows : Held) (learned : List Estimate) → StepsOn (fields_of c.args.header.now) c.args.height (walk_view c.args.self.now rows learned) (walk_view c.leave_comment.new.self rows learned) c.args.piece.now.rest.now c.leave_comment.new.piece.rest.now [] = λ rows learned. on_then (fields_of c.args.header.now) c.args.height (walk_view c.args.self.now rows learned) (walk_view c.segments.self rows learned) c.args.piece.now.rest.now c.segments.piece.rest.now (c.segments.invariant.so_far rows learned) (walk_view c.leave_comment.new.self rows learned) c.leave_comment.new.piece.rest.now [] (c.in_ok-leave_comment.ensures.step rows learned).ok in
+    let on : (rows : Held) (learned : List Estimate) → StepsOn (sized (fields_of c.args.header.now) c.args.height) (walk_view c.args.self.now rows learned) (walk_view c.leave_comment.new.self rows learned) c.args.piece.now.rest.now c.leave_comment.new.piece.rest.now [] = λ rows learned. on_then (fields_of c.args.header.now) c.args.height (walk_view c.args.self.now rows learned) (walk_view c.segments.self rows learned) c.args.piece.now.rest.now c.segments.piece.rest.now (c.segments.invariant.so_far rows learned) (walk_view c.leave_comment.new.self rows learned) c.leave_comment.new.piece.rest.now [] (c.in_ok-leave_comment.ensures.step rows learned).ok in
     record {
       so_far = λ rows learned. on_then (fields_of c.args.header.now) c.args.height (walk_view c.args.self.now rows learned) (walk_view c.leave_comment.new.self rows learned) c.args.piece.now.rest.now c.leave_comment.new.piece.rest.now (on rows learned) (walk_view c.read_segment.new.self rows learned) c.read_segment.new.piece.rest.now [] (c.in_ok-read_segment.ensures.step rows learned).ok;
       stage = c.is_in_head.ensures.head (search rules);

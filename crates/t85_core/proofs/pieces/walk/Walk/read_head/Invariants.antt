@@ -5,11 +5,12 @@ use Rattle.t85_core.specs.Lent.{walk_view}
 use Rattle.t85_core.specs.declared.pieces.walk.Stage.TheVariants as stage
 use Rattle.t85_core.specs.Options.{fields_of}
 use Rattle.t85_core.specs.Steps.Pieces.{StepsOn}
+use Rattle.t85_core.specs.Steps.SizedImage.{sized}
 use Rattle.t85_core.proofs.pieces.walk.Walk.read_head.Given as goal
 
 abbrev pub invariant-segments : goal.invariant-segments
 invariant-segments l = record {
-  so_far : (rows : Held) (learned : List Estimate) → StepsOn (fields_of l.header) l.height (walk_view l.fn.self rows learned) (walk_view l.self rows learned) l.fn.piece.rest.now l.piece.rest.now [];
+  so_far : (rows : Held) (learned : List Estimate) → StepsOn (sized (fields_of l.header) l.height) (walk_view l.fn.self rows learned) (walk_view l.self rows learned) l.fn.piece.rest.now l.piece.rest.now [];
   stage : (l.self.stage ≡ stage.Head) ⊎ (l.self.stage ≡ stage.Comment);
 }
 

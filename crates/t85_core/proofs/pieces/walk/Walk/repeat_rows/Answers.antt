@@ -5,7 +5,8 @@ use Rattle.t85_core.specs.Options.{fields_of}
 use Rattle.t85_core.specs.Lent.{carried_by, walk_over}
 use Rattle.t85_core.specs.Steps.Buffers.{copies}
 use Rattle.t85_core.specs.Steps.DecodeRows.{pair_of}
-use Rattle.t85_core.specs.Steps.Pieces.{CodeStands, rows_in}
+use Rattle.t85_core.specs.Steps.Pieces.{CodeStands, rows_in, head_place, code_place}
+use Rattle.t85_core.specs.Steps.SizedImage.{sized}
 use Rattle.t85_core.proofs.Decodings.PieceSteps.{at_stage, put_stage}
 use Rattle.t85_core.proofs.Decodings.RowsRepeated.{repeats_rows}
 use Rattle.t85_core.proofs.Decodings.WalkDecoded.{code_repeated}
@@ -35,7 +36,7 @@ returns-clause-on c = λ text out s.
       behind = s.behind;
       within = s.within;
       stands = put_stage h c.args.height (walk_over (record c.args.self.now { decoder = c.skip_many-count.new.decoder; row = c.saturating_add-self.result }) c.repeat.new.self c.args.learned.now) text _ _ left.0
-          (subst (λ n. CodeStands (fields_of c.args.header.now) c.args.height c.args.self.now.entities c.args.self.now.given c.args.self.now.at n c.args.self.now.first c.args.self.now.marker (carried_by c.repeat.new.self c.args.self.now.kept c.args.learned.now) c.skip_many-count.new.decoder text (out ++ copies c.skip_many-count.result (held c.repeat.new.self).current)) (sym sum)
-          (subst (λ z. CodeStands (fields_of c.args.header.now) c.args.height c.args.self.now.entities c.args.self.now.given c.args.self.now.at (c.args.self.now.row + c.skip_many-count.result) c.args.self.now.first c.args.self.now.marker (carried_by c.repeat.new.self c.args.self.now.kept c.args.learned.now) c.skip_many-count.new.decoder text (out ++ copies c.skip_many-count.result z)) (sym row_is)
+          (subst (λ n. CodeStands (sized (fields_of c.args.header.now) c.args.height) (head_place c.args.self.now.entities c.args.self.now.given c.args.self.now.at (carried_by c.repeat.new.self c.args.self.now.kept c.args.learned.now)) (code_place n c.args.self.now.first c.args.self.now.marker c.skip_many-count.new.decoder) text (out ++ copies c.skip_many-count.result (held c.repeat.new.self).current)) (sym sum)
+          (subst (λ z. CodeStands (sized (fields_of c.args.header.now) c.args.height) (head_place c.args.self.now.entities c.args.self.now.given c.args.self.now.at (carried_by c.repeat.new.self c.args.self.now.kept c.args.learned.now)) (code_place (c.args.self.now.row + c.skip_many-count.result) c.args.self.now.first c.args.self.now.marker c.skip_many-count.new.decoder) text (out ++ copies c.skip_many-count.result z)) (sym row_is)
           (code_repeated k c.shape.result (record { width_is = c.shape.ensures.width; mode_is = c.shape.ensures.mode }) count after c.skip_many-count.new.decoder repeats few)));
     }

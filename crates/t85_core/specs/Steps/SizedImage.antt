@@ -1,0 +1,17 @@
+-- An image of which the height in use is known.
+use Rattle.std.specs.Prelude.{ℕ}
+use Rattle.t85_core.specs.declared.header.Header.{Header}
+use Rattle.t85_core.specs.Header.{Fields}
+use Rattle.t85_core.specs.Options.{fields_of}
+
+-- An image: its header, and the height in use.
+pub record SizedImage : Type 0 where
+  pub fields : Fields
+  pub height : ℕ
+
+abbrev pub sized : Fields → ℕ → SizedImage
+sized h height = record { fields = h; height = height }
+
+-- by a header
+abbrev pub sized_by : Header → ℕ → SizedImage
+sized_by header height = sized (fields_of header) height
