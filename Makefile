@@ -1,8 +1,9 @@
 # make               builds both programs into bin/, and shows them on a real page
 # make static        both programs again in bin/static/, linked with the C library, and their stored runs
 # make library       builds bin/libt85.a and bin/libt85.so.1.0.0
-# make test          the gate: the documents, this file, every proof, every edit that must fail, every test, runs of the
-#                    built programs; ends in `rt ci`
+# make test          the gate: the documents, then `rt ci`, which has every proof, every edit that must fail and every test
+#                    of the crates, then this file and runs of the built programs and of the library
+# make proofs        `rt ci` alone
 # make turns         makes each allocation of the programs fail in turn
 # make library-test  the library beside the programs, as C and Python call it, and installed; the wheel
 # make wheel         the Python module with the library inside, for `pip install`, into dist/
@@ -54,8 +55,8 @@ MODULE = $(patsubst bindings/python/%,%,$(wildcard bindings/python/t85/*.py bind
 BUILT = $(PROGRAMS:%=bin/%)
 LIBRARY = bin/libt85.a bin/$(SHARED) bin/$(SONAME) bin/libt85.so
 # The targets that build the programs first, and those that build the library first.
-OF_PROGRAMS = show static test turns library-test interop charts libtiff against bench pictures
-OF_LIBRARY = test library-test interop charts libtiff fuzz bench wheel pictures jbig85
+OF_PROGRAMS = show static turns library-test interop charts libtiff against bench pictures
+OF_LIBRARY = library-test interop charts libtiff fuzz bench wheel pictures jbig85
 
 # quoted TEXT: one word of a shell, with its blanks
 quoted = '$(subst ','\'',$(1))'
@@ -76,16 +77,16 @@ $(OF_PROGRAMS): build
 $(OF_LIBRARY): library
 
 # An installation alone takes what is in bin/ as it is. The other targets ask `rt`, which knows what has changed.
-ifneq ($(filter build $(OF_PROGRAMS),$(or $(MAKECMDGOALS),show)),)
+ifneq ($(filter build test $(OF_PROGRAMS),$(or $(MAKECMDGOALS),show)),)
 .PHONY: $(BUILT)
 endif
-ifneq ($(filter library $(OF_LIBRARY),$(MAKECMDGOALS)),)
+ifneq ($(filter library test $(OF_LIBRARY),$(MAKECMDGOALS)),)
 .PHONY: bin/libt85.a
 endif
 
 # The order of the command line is kept where files are removed, where `rt ci` sets aside what was built, and where the
 # machine is measured. A dependency can't say that: these targets need nothing of those that are named beside them.
-ifneq ($(filter clean uninstall test bench,$(MAKECMDGOALS)),)
+ifneq ($(filter clean uninstall test proofs bench,$(MAKECMDGOALS)),)
 .NOTPARALLEL:
 endif
 
@@ -147,7 +148,17 @@ documents:
 	tools/recipes
 	tools/links
 
-test: documents
+# `rt ci` proves from nothing, and leaves the libraries that it proved. What is built after it stands on them, so that no
+# crate is proved twice but `t85`, which `rt ci` proves and does not make an archive of.
+#
+# One job a processor: left to itself `rt ci` reckons with far more memory than `t85_core` takes, and lets all other
+# processors wait for its proof. A job takes less than 3 GB.
+proofs:
+	@$(locked) && echo "rt ci" && { RT_JOBS=$${RT_JOBS:-$$(nproc)} rt ci 9>&-; echo $$? > bin/ci.status; } | tee bin/ci.log && \
+		exit "$$(cat bin/ci.status)"
+
+# (in this order)
+test: documents proofs build library
 	tests/makefile
 	tests/interface
 	tests/abi
@@ -163,7 +174,7 @@ test: documents
 	tests/readme bin
 	tests/library bin
 	tests/python bin
-	@$(locked) && echo "rt ci" && rt ci 9>&-
+	@tail -n 1 bin/ci.log
 
 turns:
 	tests/turns bin
@@ -290,5 +301,5 @@ endif
 clean:
 	rm -rf bin dist crates/*/out
 
-.PHONY: show build library static processor documents test turns library-test wheel pictures manuals debian jbig85 \
+.PHONY: show build library static processor documents proofs test turns library-test wheel pictures manuals debian jbig85 \
 	interop charts libtiff fuzz against bench install install-programs install-library uninstall clean

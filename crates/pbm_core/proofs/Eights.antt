@@ -12,8 +12,8 @@ use Rattle.pbm_core.specs.Steps.{byte_at}
 use Rattle.pbm_core.specs.declared.form.Form.TheVariants.{Plain}
 use Rattle.pbm_core.proofs.Images.{map_same}
 use Rattle.pbm_core.proofs.Masks.{masked_is}
-use Rattle.pbm_core.proofs.Packing.{length_map, map_list, packed_row_of}
-use Rattle.pbm_core.proofs.Unpacking.{binary_small, get_numbers, length-packed_row, pixels_of-packed}
+use Rattle.pbm_core.proofs.Packing.{packed_row_of}
+use Rattle.pbm_core.proofs.Unpacking.{binary_small, get_numbers, length-packed_row, length_numbers, map_numbers, pixels_of-packed}
 
 -- ---- a byte that grows at its end
 
@@ -67,7 +67,7 @@ padded (b ∷ bits) (suc n) h =
     let less : length bits ≤ n = omega (arith, h) in
     let sum : n ≡ length bits + (n - length bits) = omega arith in
     let same : n - length bits ≡ suc n - suc (length bits) = omega arith in
-    ap (λ t. binary (b ∷ t)) tail ∙ weighed b bits z n (n - length bits) (length_map (λ x. get_or bits x false) 0 n) sum (padded bits n less) ∙ ap (λ d. binary (b ∷ bits) * 2 ^ d) same
+    ap (λ t. binary (b ∷ t)) tail ∙ weighed b bits z n (n - length bits) (length_numbers (λ x. get_or bits x false) 0 n) sum (padded bits n less) ∙ ap (λ d. binary (b ∷ bits) * 2 ^ d) same
 
 -- eight pixels, or the last ones of a row
 pub byte_shifted : (bits : List Bool) (byte count : ℕ) → byte ≡ binary bits → length bits ≡ count → count ≤ 8 → (byte * 2 ^ (8 - count)) % 256 ≡ byte_at bits 0
@@ -91,7 +91,7 @@ byte_behind pixels more k long =
 -- a row whose bytes are those of these pixels
 pub row_packed : (width : ℕ) (row : List ℕ) (pixels : List Bool) → length pixels ≡ width → length row ≡ bytes_of_row width → ((k : ℕ) → k < length row → get_or row k 0 ≡ byte_at pixels k) → row ≡ packed_row pixels
 row_packed width row pixels wide whole each =
-    sym (map_list (λ k. byte_at pixels k) row 0 (λ i less. let e : 0 + i ≡ i = omega arith in ap (byte_at pixels) e ∙ sym (each i less)))
+    sym (map_numbers (λ k. byte_at pixels k) 0 row 0 (λ i less. let e : 0 + i ≡ i = omega arith in ap (byte_at pixels) e ∙ sym (each i less)))
     ∙ ap (λ n. map (λ k. byte_at pixels k) (numbers_from 0 n)) (whole ∙ ap bytes_of_row (sym wide))
 
 -- ---- where the bytes of a row begin
@@ -107,7 +107,7 @@ enough width = grind arith
 byte_small : (row : List Bool) (k : ℕ) → byte_at row k < 256
 byte_small row k =
     let bits : List Bool = map (λ x. slice_index_or row x false) (numbers_from (8 * k) 8) in
-    let long : length bits ≡ 8 = length_map (λ x. slice_index_or row x false) (8 * k) 8 in
+    let long : length bits ≡ 8 = length_numbers (λ x. slice_index_or row x false) (8 * k) 8 in
     subst (λ n. binary bits < 2 ^ n) long (binary_small bits)
 
 packed_small : (row : List Bool) (k : ℕ) → slice_index (packed_row row) k < 256

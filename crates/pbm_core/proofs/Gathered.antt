@@ -56,10 +56,7 @@ as_pixel b digit = went (cases_lt b 49) where
   went (inr above) = let same : b ≡ 49 = omega (arith, digit.1, above) in inr (same, ap (λ n. n == 49) same)
 
 is_digit : (b : ℕ) → (48 ≤ b) × (b ≤ 49) → b ≡ digit_of (b == 49)
-is_digit b digit = went (as_pixel b digit) where
-  went : ((b ≡ 48) × ((b == 49) ≡ false)) ⊎ ((b ≡ 49) × ((b == 49) ≡ true)) → b ≡ digit_of (b == 49)
-  went (inl p) = p.0 ∙ sym (ap digit_of p.1)
-  went (inr p) = p.0 ∙ sym (ap digit_of p.1)
+is_digit b digit = elim (as_pixel b digit) [ inl p ↦ p.0 ∙ sym (ap digit_of p.1) | inr p ↦ p.0 ∙ sym (ap digit_of p.1) ]
 
 -- its worth before other pixels
 binary_digit : (b : ℕ) (bits : List Bool) → (48 ≤ b) × (b ≤ 49) → binary ((b == 49) ∷ bits) ≡ (b - 48) * 2 ^ length bits + binary bits
@@ -76,16 +73,8 @@ are_pixels [] all = refl
 are_pixels (b ∷ bytes) all = ([], bytes, ap (λ n. n ∷ bytes) (is_digit b all.0), tt, are_pixels bytes all.1)
 
 pub as_eight : (xs : List ℕ) → length xs ≡ 8 → xs ≡ get_or xs 0 0 ∷ get_or xs 1 0 ∷ get_or xs 2 0 ∷ get_or xs 3 0 ∷ get_or xs 4 0 ∷ get_or xs 5 0 ∷ get_or xs 6 0 ∷ get_or xs 7 0 ∷ []
-as_eight [] long = absurd (omega arith)
-as_eight (a ∷ []) long = absurd (omega arith)
-as_eight (a ∷ b ∷ []) long = absurd (omega arith)
-as_eight (a ∷ b ∷ c ∷ []) long = absurd (omega arith)
-as_eight (a ∷ b ∷ c ∷ d ∷ []) long = absurd (omega arith)
-as_eight (a ∷ b ∷ c ∷ d ∷ e ∷ []) long = absurd (omega arith)
-as_eight (a ∷ b ∷ c ∷ d ∷ e ∷ f ∷ []) long = absurd (omega arith)
-as_eight (a ∷ b ∷ c ∷ d ∷ e ∷ f ∷ g ∷ []) long = absurd (omega arith)
 as_eight (a ∷ b ∷ c ∷ d ∷ e ∷ f ∷ g ∷ h ∷ []) long = refl
-as_eight (a ∷ b ∷ c ∷ d ∷ e ∷ f ∷ g ∷ h ∷ i ∷ xs) long = absurd (omega arith)
+as_eight xs long = absurd (omega arith)
 
 -- eight pixels fill a byte
 byte_alone : (bits : List Bool) → length bits ≡ 8 → binary bits ≡ byte_at bits 0
@@ -94,9 +83,6 @@ byte_alone bits long =
     let small : binary bits < 256 = omega (arith, binary_small bits, power) in
     let alone : binary bits ≡ binary bits * 1 % 256 = omega (arith, small) in
     alone ∙ byte_shifted bits (binary bits) 8 refl long (omega arith)
-
-gathered_is : (da db dc dd de df dg dh : ℕ) → da * 128 + db * 64 + dc * 32 + dd * 16 + de * 8 + df * 4 + dg * 2 + dh ≡ da * 128 + db * 64 + dc * 32 + dd * 16 + de * 8 + df * 4 + dg * 2 + dh
-gathered_is da db dc dd de df dg dh = omega arith
 
 -- the number of eight pixels
 binary_eight : (a b c d e f g h da db dc dd de df dg dh : ℕ) → (48 ≤ a) × (a ≤ 49) → (48 ≤ b) × (b ≤ 49) → (48 ≤ c) × (c ≤ 49) → (48 ≤ d) × (d ≤ 49) → (48 ≤ e) × (e ≤ 49) → (48 ≤ f) × (f ≤ 49) → (48 ≤ g) × (g ≤ 49) → (48 ≤ h) × (h ≤ 49) → a - 48 ≡ da → b - 48 ≡ db → c - 48 ≡ dc → d - 48 ≡ dd → e - 48 ≡ de → f - 48 ≡ df → g - 48 ≡ dg → h - 48 ≡ dh
@@ -127,7 +113,7 @@ eight_made w a b c d e f g h sa sb sc sd se sf sg sh is same =
     let number = binary_eight a b c d e f g h (a - 48) (b - 48) (c - 48) (d - 48) (e - 48) (f - 48) (g - 48) (h - 48) p.a p.b p.c p.d p.e p.f p.g p.h refl refl refl refl refl refl refl refl in
     let rest = rest_is w a b c d e f g h (a - 48) (b - 48) (c - 48) (d - 48) (e - 48) (f - 48) (g - 48) (h - 48) (over a p.a).is (over b p.b).is (over c p.c).is (over d p.d).is (over e p.e).is (over f p.f).is (over g p.g).is (over h p.h).is is in
     let made = gather (w - 3472328296227680304) (a - 48) (b - 48) (c - 48) (d - 48) (e - 48) (f - 48) (g - 48) (h - 48) (over a p.a).most (over b p.b).most (over c p.c).most (over d p.d).most (over e p.e).most (over f p.f).most (over g p.g).most (over h p.h).most rest in
-    let whole = made ∙ sym (gathered_is (a - 48) (b - 48) (c - 48) (d - 48) (e - 48) (f - 48) (g - 48) (h - 48)) ∙ sym number in
+    let whole = made ∙ sym number in
     record {
       pixels = (a == 49) ∷ (b == 49) ∷ (c == 49) ∷ (d == 49) ∷ (e == 49) ∷ (f == 49) ∷ (g == 49) ∷ (h == 49) ∷ [];
       many = refl;

@@ -1,5 +1,5 @@
 -- Bytes that are held before those that a device has still to give.
-use Rattle.std.proofs.Common.{◌≡◌, ◌≤◌, ◌+◌, ◌-◌, ℕ, List, [], ◌++◌, Option, None, Some, length, take, drop, refl, sym, ap, ◌∙◌, append_assoc, take-append-drop, length-take, length-drop, subst, arith}
+use Rattle.std.proofs.Common.{◌≡◌, ◌≤◌, ◌+◌, ◌-◌, ℕ, List, [], ◌++◌, Option, None, Some, length, take, drop, refl, sym, ap, ◌∙◌, append_assoc, take-append-drop, length-take, length-drop, subst, arith, rules}
 use Rattle.std.specs.Io.KnownBytes.{Consumes, Keeps, IsAtEnd, prepend_known}
 use Rattle.std.proofs.lemmas.List.{drop-take, drop-drop, take-take, take-append-le, take_all}
 use Rattle.pbm_core.specs.Buffered.{bytes_between}
@@ -9,10 +9,8 @@ Keeps-same None = tt
 Keeps-same (Some a) = refl
 
 pub Keeps-consumes : (a b c : Option (List ℕ)) (xs : List ℕ) → Keeps a b → Consumes b c xs → Consumes a c xs
-Keeps-consumes None b c xs k p = tt
-Keeps-consumes (Some a) None c xs k p = absurd k
-Keeps-consumes (Some a) (Some b) None xs k p = p
 Keeps-consumes (Some a) (Some b) (Some c) xs k p = sym k ∙ p
+Keeps-consumes a b c xs k p = search rules
 
 keeps_refill : (a b : Option (List ℕ)) (held more : List ℕ) → held ≡ [] → Consumes a b more → Keeps (prepend_known held a) (prepend_known more b)
 keeps_refill None b held more e k = tt
@@ -27,12 +25,6 @@ pub keeps_refilled : (a b : Option (List ℕ)) (held buf : List ℕ) (n : ℕ) �
 keeps_refilled a b held buf n e p =
     let same : n ≡ n - 0 = omega arith in
     subst (λ k. Keeps (prepend_known held a) (prepend_known (take k buf) b)) same (keeps_refill a b held (take n buf) e p)
-
--- after a read that failed
-pub keeps_unread : (a b : Option (List ℕ)) (held held' : List ℕ) → held ≡ [] → held' ≡ [] → Keeps a b → Keeps (prepend_known held a) (prepend_known held' b)
-keeps_unread None b held held' e e' k = tt
-keeps_unread (Some a) None held held' e e' k = k
-keeps_unread (Some a) (Some b) held held' e e' k = ap (λ z. z ++ b) (e' ∙ sym e) ∙ ap (λ z. held ++ z) k
 
 consumes_held : (k : ℕ) (held : List ℕ) (a : Option (List ℕ)) → Consumes (prepend_known held a) (prepend_known (drop k held) a) (take k held)
 consumes_held k held None = tt

@@ -55,16 +55,16 @@ get_numbers f d k (suc n) (suc x) h =
     let e : k + 1 + x ≡ k + suc x = omega arith in
     get_numbers f d (k + 1) n x (omega arith) ∙ ap f e
 
-length_numbers : {X : Type 0} (f : ℕ → X) (k n : ℕ) → length (map f (numbers_from k n)) ≡ n
+pub length_numbers : {X : Type 0} (f : ℕ → X) (k n : ℕ) → length (map f (numbers_from k n)) ≡ n
 length_numbers f k zero = refl
 length_numbers f k (suc n) = let e = length_numbers f (k + 1) n in omega (arith, e)
 
-map_numbers : (f : ℕ → Bool) (row : List Bool) (k : ℕ) → ((i : ℕ) → i < length row → f (k + i) ≡ get_or row i false) → map f (numbers_from k (length row)) ≡ row
-map_numbers f [] k same = refl
-map_numbers f (b ∷ row) k same =
+pub map_numbers : {X : Type 0} (f : ℕ → X) (d : X) (row : List X) (k : ℕ) → ((i : ℕ) → i < length row → f (k + i) ≡ get_or row i d) → map f (numbers_from k (length row)) ≡ row
+map_numbers f d [] k same = refl
+map_numbers f d (b ∷ row) k same =
     let e : k ≡ k + 0 = omega arith in
     ap (λ c. c ∷ map f (numbers_from (k + 1) (length row))) (ap f e ∙ same 0 (omega arith))
-    ∙ ap (λ z. b ∷ z) (map_numbers f row (k + 1) (λ i less. let d : k + 1 + i ≡ k + suc i = omega arith in ap f d ∙ same (suc i) (omega arith)))
+    ∙ ap (λ z. b ∷ z) (map_numbers f d row (k + 1) (λ i less. let next : k + 1 + i ≡ k + suc i = omega arith in ap f next ∙ same (suc i) (omega arith)))
 
 -- a pixel of a packed row, whatever is after the row
 packed_pixel : (row : List Bool) (rest : List ℕ) (x : ℕ) → x < length row → (pixel (packed_row row ++ rest) x == 1) ≡ get_or row x false
@@ -82,7 +82,7 @@ packed_pixel row rest x less =
 
 pixels_of-packed_row : (row : List Bool) (rest : List ℕ) → pixels_of (length row) (packed_row row ++ rest) ≡ row
 pixels_of-packed_row row rest =
-    map_numbers (λ x. pixel (packed_row row ++ rest) x == 1) row 0
+    map_numbers (λ x. pixel (packed_row row ++ rest) x == 1) false row 0
     (λ i less. let e : 0 + i ≡ i = omega arith in ap (λ x. pixel (packed_row row ++ rest) x == 1) e ∙ packed_pixel row rest i less)
 
 pub length-packed_row : (row : List Bool) → length (packed_row row) ≡ bytes_of_row (length row)

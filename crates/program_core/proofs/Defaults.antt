@@ -1,5 +1,5 @@
 -- A parse gives each option with a default a number.
-use Rattle.std.proofs.Common.{◌≡◌, ◌⊎◌, ◌∙◌, ◌<◌, ◌≤◌, ◌&&◌, ap, arith, ℕ, zero, suc, Bool, true, false, not, List, [], ◌∷◌, length, Option, Some, None, is_some, refl, sym, subst, inl, inr, true≢false, codes, option_and_then}
+use Rattle.std.proofs.Common.{◌≡◌, ◌∙◌, ◌<◌, ◌≤◌, ◌&&◌, ap, arith, ℕ, zero, suc, Bool, true, false, not, List, [], ◌∷◌, length, Option, Some, None, is_some, refl, sym, subst, inl, inr, true≢false, codes, option_and_then}
 use Rattle.std.specs.Prelude.{option_map, slice_get, find, pos}
 use Rattle.std.specs.Borrow.{Bor}
 use Rattle.std.specs.List.{All, list_all, slice_index_or}
@@ -74,7 +74,7 @@ passes_at p xs i d lt all = go (p (slice_index_or xs i d)) refl
     go false e = absurd (true≢false (sym all ∙ list_all_at p xs i d lt e))
 
 -- only the element at k passes
-pub lone_at : {X : Type 0} → (X → Bool) → List X → ℕ → Bool
+unfoldable pub lone_at : {X : Type 0} → (X → Bool) → List X → ℕ → Bool
 lone_at p [] k = true
 lone_at p (x ∷ xs) zero = list_all (λ y. not (p y)) xs
 lone_at p (x ∷ xs) (suc k) = not (p x) && lone_at p xs k
@@ -197,6 +197,9 @@ some_arg (x ∷ xs) h = x
 abbrev pub rules : List Rule
 rules = encode_command.top.rules
 
+differ : (a b : Text) → bytes_eq a b ≡ false → a ≡ b → ⊥
+differ a b off e = true≢false (sym ((bytes_eq-Decides a b).1 e) ∙ off)
+
 module _ (c : Command) (m : ArgMatches) (p : IsParsedFrom c m) (is : app_of c ≡ encode_command) (k : ℕ) (id : Text) (letter : ℕ) (t : Text) where
   here : (d : Arg) (j : ℕ) → j < length (args_of c) → rule_of (slice_index_or (args_of c) j d) ≡ slice_index_or rules j (rule_of d)
   here d j lt = sym (get_or-map rule_of (args_of c) j d (rule_of d) lt) ∙ ap (λ (a : App). slice_index_or a.top.rules j (rule_of d)) is
@@ -222,9 +225,9 @@ module _ (c : Command) (m : ArgMatches) (p : IsParsedFrom c m) (is : app_of c �
 
   -- an option of the command with a default has a number
   pub default_given : k < length rules → ((d : Rule) → slice_index_or rules k d ≡ number_rule id letter (t ∷ []))
-      → lone_at (λ (r : Rule). bytes_eq r.id id) rules k ≡ true → (id ≡ [] → ⊥) → ((id ≡ codes "help") ⊎ (id ≡ codes "version") → ⊥)
+      → lone_at (λ (r : Rule). bytes_eq r.id id) rules k ≡ true → bytes_eq id [] ≡ false → bytes_eq id (codes "help") ≡ false → bytes_eq id (codes "version") ≡ false
       → is_some (option_and_then decimal (one_text (found_of m) id)) ≡ true
-  default_given lt one lone named own =
+  default_given lt one lone some no_help no_version =
       let low : k < length (args_of c) = subst (λ n. k < n) (sym count) lt in
       let d = some_arg (args_of c) (omega arith) in
       let a = slice_index_or (args_of c) k d in
@@ -240,51 +243,15 @@ module _ (c : Command) (m : ArgMatches) (p : IsParsedFrom c m) (is : app_of c �
       let unique : (j : ℕ) (e : Arg) → j < length (args_of c) → bytes_eq (slice_index_or (args_of c) j e).id.now a.id.now ≡ true → j ≡ k =
       λ j e below same. lone_is (λ (x : Rule). bytes_eq x.id id) rules k lone j (rule_of e) (subst (λ n. j < n) count below)
       (subst (λ (w : Text). bytes_eq w id ≡ true) (ap (λ (x : Rule). x.id) (here e j below)) (subst (λ (w : Text). bytes_eq (slice_index_or (args_of c) j e).id.now w ≡ true) id_is same)) in
-      let not_auto : IsAuto a → ⊥ = λ auto. own (elim auto [ inl h ↦ inl (sym id_is ∙ h) | inr h ↦ inr (sym id_is ∙ h) ]) in
+      let not_auto : IsAuto a → ⊥ = λ auto. elim auto [ inl h ↦ differ id (codes "help") no_help (sym id_is ∙ h) | inr h ↦ differ id (codes "version") no_version (sym id_is ∙ h) ] in
       let same = same_rules_by_id c m p k d low unique not_auto in
       let present = default_present c m p plain k d low (ifs, has_defaults) in
       let parsed = p.parsed (p.from.globals ∙ plain) in
       subst (λ (w : Text). is_some (option_and_then decimal (one_text (found_of m) w)) ≡ true) id_is
-      (found_given p.built a no_groups (λ empty. named (sym id_is ∙ empty)) by same set delim least (found_of m) parsed.values
+      (found_given p.built a no_groups (λ empty. differ id [] some (sym id_is ∙ empty)) by same set delim least (found_of m) parsed.values
       (matched_of (found_of m) a.id.now) refl
       (found_some (found_of m).entries.items a.id.now present.0 present.1 present.2))
     where
       one_long : (xs : List (Bor Text)) → length (texts xs) ≡ 1 → 0 < length xs
       one_long [] e = absurd (omega arith)
       one_long (x ∷ xs) e = omega arith
-
-differ : (a b : Text) → bytes_eq a b ≡ false → a ≡ b → ⊥
-differ a b off e = true≢false (sym ((bytes_eq-Decides a b).1 e) ∙ off)
-
-pub named_options : codes "options" ≡ [] → ⊥
-named_options e = differ (codes "options") [] refl e
-
-pub own_options : (codes "options" ≡ codes "help") ⊎ (codes "options" ≡ codes "version") → ⊥
-own_options (inl e) = differ (codes "options") (codes "help") refl e
-own_options (inr e) = differ (codes "options") (codes "version") refl e
-
-pub named_stripe : codes "stripe" ≡ [] → ⊥
-named_stripe e = differ (codes "stripe") [] refl e
-
-pub own_stripe : (codes "stripe" ≡ codes "help") ⊎ (codes "stripe" ≡ codes "version") → ⊥
-own_stripe (inl e) = differ (codes "stripe") (codes "help") refl e
-own_stripe (inr e) = differ (codes "stripe") (codes "version") refl e
-
-pub named_move : codes "move" ≡ [] → ⊥
-named_move e = differ (codes "move") [] refl e
-
-pub own_move : (codes "move" ≡ codes "help") ⊎ (codes "move" ≡ codes "version") → ⊥
-own_move (inl e) = differ (codes "move") (codes "help") refl e
-own_move (inr e) = differ (codes "move") (codes "version") refl e
-
-pub lone_options : lone_at (λ (r : Rule). bytes_eq r.id (codes "options")) rules 0 ≡ true
-unfolding lone_at
-lone_options = refl
-
-pub lone_stripe : lone_at (λ (r : Rule). bytes_eq r.id (codes "stripe")) rules 1 ≡ true
-unfolding lone_at
-lone_stripe = refl
-
-pub lone_move : lone_at (λ (r : Rule). bytes_eq r.id (codes "move")) rules 2 ≡ true
-unfolding lone_at
-lone_move = refl

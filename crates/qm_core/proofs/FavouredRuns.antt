@@ -1,7 +1,7 @@
 -- What a run of favoured pixels of one context leaves.
 use Rattle.std.specs.Bool.{beq}
-use Rattle.std.proofs.Common.{◌≡◌, ℕ, zero, suc, ◌+◌, ◌-◌, ◌*◌, ◌<◌, ◌≤◌, Bool, true, false, not, nat_lt, ◌&&◌, replicate, arith, refl, ap, ◌∙◌, sym, inl, inr}
-use Rattle.std.proofs.lemmas.Bool.{lt-ltb, le-ltb, cases_lt}
+use Rattle.std.proofs.Common.{◌≡◌, ℕ, zero, suc, ◌+◌, ◌-◌, ◌*◌, ◌<◌, ◌≤◌, Bool, true, false, not, nat_lt, replicate, arith, refl, ap, ◌∙◌}
+use Rattle.std.proofs.lemmas.Bool.{lt-ltb, le-ltb, and_parts}
 use Rattle.std.proofs.lemmas.List.{set-get_or}
 use Rattle.std.proofs.Math.Nat.{mul-le-mul_right}
 use Rattle.qm_core.specs.Table.{row_at}
@@ -9,6 +9,8 @@ use Rattle.qm_core.specs.Place.{Estimate, State, Event, estimate_of, same, lower
 use Rattle.qm_core.specs.Skipping.{IsRun, upper_size, has_room}
 use Rattle.qm_core.proofs.Places.{row-size}
 use Rattle.qm_core.proofs.Steps.{renormalised-large, favoured_large}
+use Rattle.std.proofs.Math.Bool.{and-false}
+use Rattle.std.proofs.lemmas.Bool.Decides.{nat_tests}
 
 same_pixel : (a b : Bool) → same a b ≡ true → a ≡ b
 same_pixel true true h = refl
@@ -27,10 +29,6 @@ agree true true h = refl
 agree true false h = cc
 agree false true h = cc
 agree false false h = refl
-
-and_false : (a : Bool) → (a && false) ≡ false
-and_false true = refl
-and_false false = refl
 
 state_is : (s t : State) → s.place ≡ t.place → s.learned ≡ t.learned → s ≡ t
 state_is s t p l = let e : record { place = s.place; learned = s.learned } ≡ record { place = t.place; learned = t.learned } = rw (p, l) refl in e
@@ -60,20 +58,12 @@ run_is (suc k) s event q f e l =
     ap (λ t. after t (replicate k event)) one ∙ (rest ∙ ap (λ size. record { place = record { low = s.place.low; size = size; doublings = s.place.doublings }; learned = s.learned }) d)
 
 -- what room for a run says
-both_true : (a b : Bool) → (a && b) ≡ true → (a ≡ true) × (b ≡ true)
-both_true true true h = (refl, refl)
-both_true true false h = cc
-both_true false b h = cc
-
 not_less : (a b : ℕ) → not (nat_lt a b) ≡ true → b ≤ a
-not_less a b h = elim (cases_lt a b) [
-  | inl less ↦ absurd (let e = lt-ltb a b less in let bot : true ≡ false = cc in let f : ⊥ = cc in f)
-  | inr more ↦ more
-]
+not_less a b h = grind (arith, nat_tests)
 
 pub room_says : (s : State) (event : Event) (count : ℕ) → has_room s event count ≡ true →
     (same event.pixel (estimate_of s.learned event.context).pixel ≡ true) × (0x8000 + count * upper_size s.learned event.context ≤ s.place.size)
-room_says s event count h = let b = both_true _ _ h in (b.0, not_less _ _ b.1)
+room_says s event count h = let b = and_parts _ _ h in (b.0, not_less _ _ b.1)
 
 -- the state after a run
 pub after_run : (s : State) (event : Event) (count : ℕ) → has_room s event count ≡ true →
@@ -92,13 +82,10 @@ is_run s event count h =
 
 -- the tests of the code are those of the model, of a context with the estimate e
 module _ (s : State) (cx count : ℕ) (pixel : Bool) (e : Estimate) (is : e ≡ estimate_of s.learned cx) where
-  pub other_pixel : not (beq pixel e.pixel) ≡ true → has_room s (record { context = cx; pixel = pixel }) count ≡ false
-  other_pixel h = rw (sym is, differ pixel e.pixel h) refl
-
   pub no_room : s.place.size < 0x8000 + count * (row_at e.row).size → has_room s (record { context = cx; pixel = pixel }) count ≡ false
   no_room l =
       let q : (row_at e.row).size ≡ upper_size s.learned cx = ap (λ x. (row_at x.row).size) is in
-      rw (lt-ltb s.place.size (0x8000 + count * upper_size s.learned cx) (rw q at l)) (and_false _)
+      rw (lt-ltb s.place.size (0x8000 + count * upper_size s.learned cx) (rw q at l)) (and-false _)
 
   pub room : not (beq pixel e.pixel) ≡ false → 0x8000 + count * (row_at e.row).size ≤ s.place.size → has_room s (record { context = cx; pixel = pixel }) count ≡ true
   room h l =

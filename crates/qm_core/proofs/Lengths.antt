@@ -1,8 +1,8 @@
 -- How far events double a place, and how long a code then is.
 use Rattle.std.proofs.Common.{ℕ, zero, suc, ◌≡◌, ◌≤◌, ◌+◌, ◌*◌, ◌%◌, Bool, true, false, nat_lt, nat_eq, List, [], ◌∷◌, length, refl, arith}
-use Rattle.qm_core.specs.Table.{row_at}
-use Rattle.qm_core.specs.Place.{Place, State, Event, Estimate, step, after, part, doubled, doubled_within, renormalised, estimate_of, takes_lower, same}
+use Rattle.qm_core.specs.Place.{Place, State, Event, step, after, part, doubled, doubled_within, renormalised, estimate_of}
 use Rattle.qm_core.specs.Code.{stuffed, fraction_bytes, code_of, wanted_bytes}
+use Rattle.qm_core.proofs.Pixels.{part-doublings}
 
 within : (k : ℕ) (p : Place) → (doubled_within k p).doublings ≤ p.doublings + k
 unfolding doubled_within
@@ -12,19 +12,11 @@ within (suc k) p = went (nat_lt p.size 0x8000) refl (within k (doubled p)) where
   went true is more = rw is (omega (arith, more))
   went false is more = rw is (omega arith)
 
--- a part has been doubled as often as its place
-as_often : (p : Place) (e : Estimate) (pixel : Bool) → (part p e pixel).doublings ≡ p.doublings
-unfolding part
-as_often p e pixel = went (takes_lower p.size (row_at e.row).size (same pixel e.pixel)) refl where
-  went : (test : Bool) → takes_lower p.size (row_at e.row).size (same pixel e.pixel) ≡ test → (part p e pixel).doublings ≡ p.doublings
-  went true is = rw is refl
-  went false is = rw is refl
-
 one : (s : State) (cx : ℕ) (pixel : Bool) → (step s cx pixel).place.doublings ≤ s.place.doublings + 16
 unfolding step renormalised
 one s cx pixel =
     let most = within 16 (part s.place (estimate_of s.learned cx) pixel) in
-    let same = as_often s.place (estimate_of s.learned cx) pixel in
+    let same = part-doublings s.place (estimate_of s.learned cx) pixel in
     omega (arith, most, same)
 
 pub events_double : (events : List Event) (s : State) → (after s events).place.doublings ≤ s.place.doublings + 16 * length events

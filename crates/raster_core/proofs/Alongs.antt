@@ -2,7 +2,7 @@
 use Rattle.std.proofs.Common.{◌≡◌, ℕ, ◌+◌, ◌-◌, ◌*◌, ◌/◌, ◌%◌, ◌^◌, ◌<◌, Bool, List, [], ◌∷◌, ◌++◌, length, refl, sym, ◌∙◌, ap, arith, subst, append_assoc, Ok, Err}
 use Rattle.std.specs.Prelude.{Result, OnErr, IfErr, IfOk, IsErr, IsErrAnd}
 use Rattle.std.proofs.lemmas.List.{length-append, append-nil}
-use Rattle.qm_core.specs.Place.{Place, Event, Estimate, after}
+use Rattle.qm_core.specs.Place.{Place, Estimate, after}
 use Rattle.qm_core.specs.Decoder.{DecoderIsAt, Next, decoder_state}
 use Rattle.qm_core.specs.declared.source.Pulled.{Pulled}
 use Rattle.qm_core.specs.declared.decoder.Decoder.{Decoder}
@@ -13,9 +13,11 @@ use Rattle.raster_core.specs.Machine.Registers.{bit, before, past_bits, AreAt}
 use Rattle.raster_core.specs.Events.{Decodes}
 use Rattle.raster_core.specs.declared.place.Pause.{Pause}
 use Rattle.raster_core.specs.Machine.Decoded.{with_row, PixelsSoFar, Along, StopsAlong, byte_around, plain_row}
-use Rattle.raster_core.proofs.Before.{some_past, second_in, above_in}
+use Rattle.raster_core.proofs.Before.{some_past}
 use Rattle.raster_core.proofs.Runs.{decodes_next, decodes_stop}
 use Rattle.raster_core.proofs.Causal.{pixel_events_more, past_next}
+use Rattle.raster_core.proofs.BytePixels.{at_registers}
+use Rattle.raster_core.proofs.EventLists.{event_is}
 
 pub along_none : {S : Type 0} (pull : S → Pulled → S → Type 0) (old : S) (mode : Mode) (offset second above past : ℕ) (d : Decoder) (learned : List Estimate) →
     Along pull (byte_around mode offset second above past) (decoder_state old d learned) 0 past (decoder_state old d learned)
@@ -31,17 +33,9 @@ registers_at : (lines : Lines) (second above past offset n : ℕ) (done pixels :
     second ≡ before lines.second (length done + 16) 24 → above ≡ before lines.above (length done + 16) 24 → past ≡ before (done ++ pixels) (length (done ++ pixels)) (past_bits offset) →
     AreAt (with_row lines (done ++ pixels)) offset (second / 2 ^ 7 * 2 ^ n) (above / 2 ^ 6 * 2 ^ n) past (length (done ++ pixels))
 registers_at lines second above past offset n done pixels h count s a p =
-    let long : length (done ++ pixels) ≡ length done + length pixels = length-append done pixels in
-    let e : length (done ++ pixels) + ((7 - n) + 2) ≡ length done + 9 = omega arith in
-    let f : length (done ++ pixels) + ((7 - n) + 3) ≡ length done + 10 = omega arith in
-    let back : 7 - (7 - n) ≡ n = omega arith in
-    record {
-      left = 7 - n;
-      few = omega arith;
-      second_is = rw (e, back, second_in lines.second second (length done) s) refl;
-      above_is = rw (f, back, above_in lines.above above (length done) a) refl;
-      past_is = p;
-    }
+    let long : length done + n ≡ length (done ++ pixels) = sym (length-append done pixels ∙ ap (λ k. length done + k) count) in
+    subst (λ x. AreAt (with_row lines (done ++ pixels)) offset (second / 2 ^ 7 * 2 ^ n) (above / 2 ^ 6 * 2 ^ n) past x) long
+    (at_registers (with_row lines (done ++ pixels)) offset second above (before (done ++ pixels) (length done + 8) 8) past (length done) n h (record { second_is = s; above_is = a; byte_is = refl }) (rw long p))
 
 pub along_next : {S : Type 0} (pull : S → Pulled → S → Type 0) (old mid to : S) (mode : Mode) (offset second above past₀ : ℕ) (d₀ : Decoder) (learned₀ : List Estimate)
     (n past past' : ℕ) (d d' : Decoder) (learned learned' : List Estimate) (cx : ℕ) (result : Result Bool Stop) (pixel : Bool) →
@@ -58,7 +52,7 @@ along_next {S} pull old mid to mode offset second above past₀ d₀ learned₀ 
     (next (after s (first ++ pixel_events mode (with_row lines (done ++ m.pixels)) offset)).place (answers ++ m.so_far.more) m.so_far.decodes.stands) in
     let assoc : (done ++ m.pixels) ++ pixel ∷ [] ≡ done ++ (m.pixels ++ pixel ∷ []) = append_assoc done m.pixels (pixel ∷ []) in
     let e₁ : record { context = cx; pixel = pixel } ∷ [] ≡ record { context = context_at mode (with_row lines (done ++ m.pixels)) offset (length (done ++ m.pixels)); pixel = pixel } ∷ [] =
-    one_event cx _ pixel here in
+    ap (λ event. event ∷ []) (event_is cx _ pixel _ here refl) in
     let e : (first ++ pixel_events mode (with_row lines (done ++ m.pixels)) offset) ++ record { context = cx; pixel = pixel } ∷ [] ≡ first ++ pixel_events mode (with_row lines ((done ++ m.pixels) ++ pixel ∷ [])) offset =
     append_assoc first (pixel_events mode (with_row lines (done ++ m.pixels)) offset) (record { context = cx; pixel = pixel } ∷ [])
     ∙ (ap (λ es. first ++ (pixel_events mode (with_row lines (done ++ m.pixels)) offset ++ es)) e₁
@@ -71,9 +65,6 @@ along_next {S} pull old mid to mode offset second above past₀ d₀ learned₀ 
       count = length-append m.pixels (pixel ∷ []) ∙ ap (λ k. k + 1) m.count;
       so_far = subst (λ row. PixelsSoFar (source_at pull from answers) (plain_row mode offset first s lines) row past' (decoder_state to d' learned')) assoc whole;
     }
-  where
-    one_event : (c k : ℕ) (b : Bool) → c ≡ k → (let e : List Event = record { context = c; pixel = b } ∷ [] in e) ≡ record { context = k; pixel = b } ∷ []
-    one_event c k b h = cc
 
 pub along_stop : {S : Type 0} (pull : S → Pulled → S → Type 0) (old mid to : S) (mode : Mode) (offset second above past₀ : ℕ) (d₀ : Decoder) (learned₀ : List Estimate)
     (n all past : ℕ) (d d' : Decoder) (learned learned' : List Estimate) (cx : ℕ) (result : Result Bool Stop) (fault : Stop) (pause : Pause) →

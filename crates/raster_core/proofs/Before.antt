@@ -2,7 +2,7 @@
 use Rattle.std.proofs.Common.{◌≡◌, ℕ, zero, suc, ◌+◌, ◌-◌, ◌*◌, ◌/◌, ◌%◌, ◌^◌, ◌<◌, ◌≤◌, Bool, true, false, List, refl, sym, ◌∙◌, ap, arith}
 use Rattle.std.specs.Prelude.{if◌then◌else◌, nat_lt}
 use Rattle.std.proofs.lemmas.Bool.Decides.{nat_tests}
-use Rattle.std.proofs.Math.Nat.{pow-suc, pow-le-pow_right, mul-div_cancel, div-div-eq-div-mul}
+use Rattle.std.proofs.Math.Nat.{pow-suc, mul-div_cancel, div-div-eq-div-mul}
 use Rattle.std.proofs.lemmas.Nat.{pow_pos, pow-add, div-mul-add, mod-mul-add}
 use Rattle.raster_core.specs.Raster.{pixel_at, pixel_left}
 use Rattle.raster_core.specs.Machine.Registers.{bit, before, past_bits}
@@ -11,6 +11,12 @@ use Rattle.raster_core.specs.Machine.Registers.{bit, before, past_bits}
 pub some_past : (offset : ℕ) → suc (past_bits offset - 1) ≡ past_bits offset
 some_past zero = refl
 some_past (suc t) = refl
+
+pub bit_same : (a b : Bool) → bit a ≡ bit b → a ≡ b
+bit_same true true h = refl
+bit_same true false h = cc
+bit_same false true h = cc
+bit_same false false h = refl
 
 pub bit_lt : (b : Bool) → bit b < 2
 bit_lt true = omega arith
@@ -65,16 +71,16 @@ before_mod row x d l =
     let r = above_low row x d l in
     rw (r.1) (mod-mul-add r.0 (2 ^ l) (before row x l) (before_lt row x l))
 
+pub least : (t : ℕ) → 64 ≤ past_bits t
+least zero = omega arith
+least (suc t) = omega arith
+
 -- the nearest l pixels of a register
 pub low_part : (row : List Bool) (past x offset l : ℕ) → past ≡ before row x (past_bits offset) → l ≤ 64 → past % 2 ^ l ≡ before row x l
 low_part row past x offset l h few =
     let large : 64 ≤ past_bits offset = least offset in
     let size : (past_bits offset - l) + l ≡ past_bits offset = omega arith in
     ap (λ p. p % 2 ^ l) (h ∙ ap (λ w. before row x w) (sym size)) ∙ before_mod row x (past_bits offset - l) l
-  where
-    least : (t : ℕ) → 64 ≤ past_bits t
-    least zero = omega arith
-    least (suc t) = omega arith
 
 -- a part of a register
 pub before_part : (row : List Bool) (x d l m : ℕ) → before row (x + m) ((d + l) + m) / 2 ^ m % 2 ^ l ≡ before row x l
@@ -113,13 +119,6 @@ grows a k j h =
     let e : k + (j + 1) ≡ suc (k + j) = omega arith in
     rw (e, pow-suc 2 (k + j)) (omega (arith, h))
 
--- one more shift fits
-pub shift_fits : (a k j : ℕ) → a < 2 ^ (k + j) → k + j < 31 → a * 2 < 2 ^ 32
-shift_fits a k j h few =
-    let p : 2 ^ suc (k + j) ≤ 2 ^ 31 = pow-le-pow_right (omega arith) few in
-    let q = pow-suc 2 (k + j) in
-    omega arith
-
 -- ---- pixels to the left
 
 pub left_up : (row : List Bool) (x k : ℕ) → pixel_left row (suc x) (suc k) ≡ pixel_left row x k
@@ -153,14 +152,9 @@ left_none row k =
 pub before_far : (row : List Bool) (x k : ℕ) → before row x (suc k) ≡ bit (pixel_left row x (suc k)) * 2 ^ k + before row x k
 before_far row zero k = rw (before_none row (suc k), before_none row k, left_none row k) (omega arith)
 before_far row (suc x) zero =
-    let e : pixel_left row (suc x) 1 ≡ pixel_at row x = left_up row x 0 ∙ left_here in
+    let up : suc x ≡ x + 1 = omega arith in
+    let e : pixel_left row (suc x) 1 ≡ pixel_at row x = ap (λ z. pixel_left row z 1) up ∙ left_at row x 1 in
     rw (before_suc row x 0, before_zero row x, before_zero row (suc x), e) (omega arith)
-  where
-    left_here : pixel_left row x 0 ≡ pixel_at row x
-    left_here =
-        let test : nat_lt x 0 ≡ false = grind (arith, nat_tests) in
-        let at : x - 0 ≡ x = omega arith in
-        ap (λ b. if b then false else pixel_at row (x - 0)) test ∙ ap (λ z. pixel_at row z) at
 before_far row (suc x) (suc k) =
     let e : pixel_left row (suc x) (suc (suc k)) ≡ pixel_left row x (suc k) = left_up row x (suc k) in
     rw (before_suc row x (suc k), before_suc row x k, e, pow-suc 2 k) (omega (arith, before_far row x k))

@@ -11,6 +11,7 @@ use Rattle.raster_core.specs.Lines.{Lines, Mode, numbers_from, binary, context_a
 use Rattle.raster_core.specs.Machine.Decoded.{with_row}
 use Rattle.raster_core.specs.Machine.Registers.{bit, before}
 use Rattle.raster_core.proofs.Before.{before_suc, before_none, before_zero, before_mod}
+use Rattle.raster_core.proofs.EventLists.{event_is}
 
 pub numbers_from_last : (k n : ℕ) → numbers_from k (suc n) ≡ numbers_from k n ++ (k + n) ∷ []
 numbers_from_last k zero = ap (λ m. m ∷ []) (let e : k ≡ k + 0 = omega arith in e)
@@ -69,20 +70,11 @@ pixel_events_more mode lines offset xs b =
     let split : map f (numbers_from 0 (suc (length xs))) ≡ map f (numbers_from 0 (length xs)) ++ f (0 + length xs) ∷ [] =
     ap (map f) (numbers_from_last 0 (length xs)) ∙ map-append f (numbers_from 0 (length xs)) ((0 + length xs) ∷ []) in
     let same : map f (numbers_from 0 (length xs)) ≡ map g (numbers_from 0 (length xs)) =
-    map_same f g 0 (length xs) (λ x l. event_same x (omega arith)) in
+    map_same f g 0 (length xs) (λ x l. event_is _ _ _ _ (context_front mode lines xs (b ∷ []) offset x (omega arith)) (at_front xs (b ∷ []) x (omega arith))) in
     let zero' : 0 + length xs ≡ length xs = omega arith in
     let last : f (0 + length xs) ≡ record { context = context_at mode (with_row lines xs) offset (length xs); pixel = b } =
-    ap f zero' ∙ last_event in
+    ap f zero' ∙ event_is _ _ _ _ (context_front mode lines xs (b ∷ []) offset (length xs) (omega arith)) (get_or-append_seam xs b [] false) in
     ap (λ n. map f (numbers_from 0 n)) long ∙ (split ∙ (ap (λ es. es ++ f (0 + length xs) ∷ []) same ∙ ap (λ e. map g (numbers_from 0 (length xs)) ++ e ∷ []) last))
-  where
-    pair : (c d : ℕ) (p q : Bool) → c ≡ d → p ≡ q → (let e : Event = record { context = c; pixel = p } in e) ≡ record { context = d; pixel = q }
-    pair c d p q h k = cc
-
-    event_same : (x : ℕ) → x < length xs → (let e : Event = record { context = context_at mode (with_row lines (xs ++ b ∷ [])) offset x; pixel = pixel_at (xs ++ b ∷ []) x } in e) ≡ record { context = context_at mode (with_row lines xs) offset x; pixel = pixel_at xs x }
-    event_same x h = pair _ _ _ _ (context_front mode lines xs (b ∷ []) offset x (omega arith)) (at_front xs (b ∷ []) x h)
-
-    last_event : (let e : Event = record { context = context_at mode (with_row lines (xs ++ b ∷ [])) offset (length xs); pixel = pixel_at (xs ++ b ∷ []) (length xs) } in e) ≡ record { context = context_at mode (with_row lines xs) offset (length xs); pixel = b }
-    last_event = pair _ _ _ _ (context_front mode lines xs (b ∷ []) offset (length xs) (omega arith)) (get_or-append_seam xs b [] false)
 
 -- the events of a longer row begin with those of its front
 pub pixel_events_front : (mode : Mode) (lines : Lines) (offset : ℕ) (xs ys : List Bool) → (rest : List Event) ×

@@ -7,6 +7,7 @@ use Rattle.std.proofs.lemmas.Bool.Decides.{nat_tests}
 use Rattle.raster_core.specs.Lines.{Lines, numbers_from}
 use Rattle.raster_core.specs.Offset.{agreement, chosen_offset}
 use Rattle.raster_core.specs.Tally.{least_lag}
+use Rattle.std.proofs.Math.Bool.{and-false}
 
 pub zeros : (n k : ℕ) → ◌≡◌ {A = ℕ} (get_or (replicate n 0) k 0) 0
 zeros zero k = refl
@@ -43,12 +44,8 @@ one_false q k (suc n) u low high miss =
     elim (le_cases k u low) [
       | inl e ↦ ap (λ t. t && list_all q (numbers_from (k + 1) n)) (ap q e ∙ miss)
       | inr lt ↦
-          ap (λ t. q k && t) (one_false q (k + 1) n u (omega arith) (omega arith) miss) ∙ and_false (q k)
+          ap (λ t. q k && t) (one_false q (k + 1) n u (omega arith) (omega arith) miss) ∙ and-false (q k)
     ]
-  where
-    and_false : (b : Bool) → b && false ≡ false
-    and_false true = refl
-    and_false false = refl
 
 -- the first that none beats
 pub best_found : (f : ℕ → ℕ) (k n b : ℕ) → k ≤ b → b < k + n →
@@ -56,16 +53,10 @@ pub best_found : (f : ℕ → ℕ) (k n b : ℕ) → k ≤ b → b < k + n →
     find (λ t. list_all (λ u. nat_le (f u) (f t)) (numbers_from k n)) (numbers_from k n) ≡ Some b
 best_found f k n b low high most first =
     find_first (λ t. list_all (λ u. nat_le (f u) (f t)) (numbers_from k n)) k n b low high
-    (all_true (λ u. nat_le (f u) (f b)) k n (λ u from below. let h : f u ≤ f b = most u from below in is_le (f u) (f b) h))
+    (all_true (λ u. nat_le (f u) (f b)) k n (λ u from below. let h : f u ≤ f b = most u from below in grind (arith, nat_tests)))
     (λ t from below.
     one_false (λ u. nat_le (f u) (f t)) k n b low high
-    (let h : f t < f b = first t from below in is_not_le (f b) (f t) h))
-  where
-    is_le : (x y : ℕ) → x ≤ y → nat_le x y ≡ true
-    is_le x y h = grind (arith, nat_tests)
-
-    is_not_le : (x y : ℕ) → y < x → nat_le x y ≡ false
-    is_not_le x y h = grind (arith, nat_tests)
+    (let h : f t < f b = first t from below in grind (arith, nat_tests)))
 
 -- the offset that is chosen, where the best lag is known
 pub chosen_is : (two_line : Bool) (most width current : ℕ) (stripe : List Lines) (b : ℕ) →

@@ -9,16 +9,10 @@ use Rattle.raster_core.specs.Raster.{pixel_at, pixel_left}
 use Rattle.raster_core.specs.Machine.Registers.{bit, before, past_bits}
 use Rattle.raster_core.specs.Lines.{Lines, Mode, binary, three_line, two_line, adaptive}
 use Rattle.raster_core.specs.Machine.Uniform.{uniform_context, StaysUniform}
-use Rattle.raster_core.proofs.Before.{left_at, left_along}
+use Rattle.raster_core.proofs.Before.{left_at, left_along, bit_same, least}
 use Rattle.raster_core.proofs.Contexts.{past_bit}
 
 -- ---- bits of one colour
-
-bit_is : (b c : Bool) → bit b ≡ bit c → b ≡ c
-bit_is true true h = refl
-bit_is true false h = absurd (omega (arith, h))
-bit_is false true h = absurd (omega (arith, h))
-bit_is false false h = refl
 
 top_bit : (c : Bool) (b p low : ℕ) → b < 2 → low < p → b * p + low ≡ bit c * (p * 2 - 1) → (b ≡ bit c) × (low ≡ bit c * (p - 1))
 top_bit true zero p low few small h = absurd (omega (arith, h, small))
@@ -34,14 +28,11 @@ bit_of c r (suc l) k h few =
     let one : suc l ≡ 1 + l = omega arith in
     let parts : r % 2 ^ suc l ≡ (r / 2 ^ l % 2) * 2 ^ l + r % 2 ^ l = ap (λ n. r % 2 ^ n) one ∙ mod-pow-add r 1 l in
     let twice : 2 ^ suc l ≡ 2 ^ l * 2 = pow-suc 2 l in
-    let t = top_bit c (r / 2 ^ l % 2) (2 ^ l) (r % 2 ^ l) (omega arith) (low_lt r l) (sym parts ∙ (h ∙ ap (λ p. bit c * (p - 1)) twice)) in
+    let t = top_bit c (r / 2 ^ l % 2) (2 ^ l) (r % 2 ^ l) (omega arith) (mod-lt r (pow_pos l)) (sym parts ∙ (h ∙ ap (λ p. bit c * (p - 1)) twice)) in
     elim (cases_lt k l) [
       | inl below ↦ bit_of c r l k t.1 below
       | inr at ↦ let e : l ≡ k = omega (arith, at, few) in subst (λ n. r / 2 ^ n % 2 ≡ bit c) e t.0
     ]
-  where
-    low_lt : (r l : ℕ) → r % 2 ^ l < 2 ^ l
-    low_lt r l = mod-lt r (pow_pos l)
 
 -- ---- the pixels of a part of a register
 
@@ -57,7 +48,7 @@ part_left row r x w m l c is within h k few =
     subst (λ z. z / 2 ^ (m + k) % 2 ≡ bit (pixel_left row x (suc (m + k)))) (sym is)
     (subst (λ z. before row x z / 2 ^ (m + k) % 2 ≡ bit (pixel_left row x (suc (m + k)))) (sym size) (past_bit row x (w - suc (m + k)) (m + k))) in
     let two : r / 2 ^ m / 2 ^ k ≡ r / 2 ^ (m + k) = div-div-eq-div-mul r (2 ^ m) (2 ^ k) ∙ ap (λ z. r / z) (sym (pow-add 2 m k)) in
-    bit_is (pixel_left row x (suc (m + k))) c (sym one ∙ (ap (λ z. z % 2) (sym two) ∙ b))
+    bit_same (pixel_left row x (suc (m + k))) c (sym one ∙ (ap (λ z. z % 2) (sym two) ∙ b))
 
 -- a pixel among those before `top`
 pub seen_left : (row : List Bool) (top m l : ℕ) (c : Bool) → AreLeft row top m l c → (y k d : ℕ) → y + d ≡ top → m ≤ k + d → k + d < m + l → pixel_left row y (suc k) ≡ c
@@ -142,19 +133,12 @@ pub reads_eight : (lines : Lines) (offset second above past x : ℕ) (c : Bool) 
     second / 2 ^ 7 % 1024 ≡ bit c * 1023 → above / 2 ^ 6 % 8192 ≡ bit c * 8191 → past % 16 ≡ bit c * 15 → Reads lines x 8 c
 reads_eight lines offset second above past x c s a p hs ha hp =
     let top : x + 16 ≡ x + 8 + 8 = omega arith in
-    let whole : past / 2 ^ 0 % 2 ^ 4 ≡ bit c * (2 ^ 4 - 1) = ap (λ z. z % 16) (div_one past) ∙ hp in
+    let whole : past / 2 ^ 0 % 2 ^ 4 ≡ bit c * (2 ^ 4 - 1) = omega (arith, hp) in
     record {
       second = part_left lines.second second (x + 8 + 8) 24 7 10 c (s ∙ ap (λ z. before lines.second z 24) top) (omega arith) hs;
       above = part_left lines.above above (x + 8 + 8) 24 6 13 c (a ∙ ap (λ z. before lines.above z 24) top) (omega arith) ha;
-      row = part_left lines.row past x (past_bits offset) 0 4 c p (least offset) whole;
+      row = part_left lines.row past x (past_bits offset) 0 4 c p (omega (arith, least offset)) whole;
     }
-  where
-    div_one : (z : ℕ) → z / 2 ^ 0 ≡ z
-    div_one z = omega arith
-
-    least : (t : ℕ) → 0 + 4 ≤ past_bits t
-    least zero = omega arith
-    least (suc t) = omega arith
 
 pub nominal_eight : (mode : Mode) (lines : Lines) (second above past x : ℕ) (c : Bool) →
     second ≡ before lines.second (x + 16) 24 → above ≡ before lines.above (x + 16) 24 → past ≡ before lines.row x (past_bits 0) →

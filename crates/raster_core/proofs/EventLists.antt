@@ -1,5 +1,5 @@
 -- Lists of a row's events.
-use Rattle.std.proofs.Common.{◌≡◌, ℕ, zero, suc, ◌+◌, ◌-◌, ◌/◌, ◌^◌, ◌≤◌, Bool, false, [], ◌∷◌, ◌++◌, length, refl, sym, ◌∙◌, ap, arith}
+use Rattle.std.proofs.Common.{◌≡◌, ℕ, suc, ◌+◌, ◌-◌, ◌/◌, ◌^◌, ◌≤◌, Bool, false, [], ◌∷◌, ◌++◌, length, refl, sym, ◌∙◌, ap, arith}
 use Rattle.std.specs.Prelude.{map}
 use Rattle.std.proofs.Math.Nat.{div-div-eq-div-mul}
 use Rattle.std.proofs.lemmas.List.{length-map, map-append}
@@ -9,6 +9,7 @@ use Rattle.raster_core.specs.Lines.{Lines, numbers_from, context_at}
 use Rattle.raster_core.specs.Machine.Bytes.{events_from, lane_events}
 use Rattle.raster_core.specs.declared.row_byte.Template.{Template}
 use Rattle.raster_core.proofs.Packed.{length-numbers}
+use Rattle.raster_core.proofs.Shifts.{numbers_cat}
 
 -- the context of a pixel by a template
 abbrev pub context_by : Template → Lines → ℕ → ℕ
@@ -21,16 +22,6 @@ event_by template lines x = record { context = context_by template lines x; pixe
 pub event_is : (a k : ℕ) (q b : Bool) → a ≡ k → q ≡ b → (let e : Event = record { context = a; pixel = q } in e) ≡ record { context = k; pixel = b }
 event_is a k q b h i = cc
 
-numbers_split : (k m d : ℕ) → numbers_from k (m + d) ≡ numbers_from k m ++ numbers_from (k + m) d
-numbers_split k zero d =
-    let a : 0 + d ≡ d = omega arith in
-    let b : k ≡ k + 0 = omega arith in
-    rw a (ap (λ z. numbers_from z d) b)
-numbers_split k (suc m) d =
-    let a : suc m + d ≡ suc (m + d) = omega arith in
-    let b : (k + 1) + m ≡ k + suc m = omega arith in
-    rw a (ap (λ zs. k ∷ zs) (numbers_split (k + 1) m d ∙ ap (λ z. numbers_from (k + 1) m ++ numbers_from z d) b))
-
 pub events_none : (template : Template) (lines : Lines) (x : ℕ) → events_from template lines x 0 ≡ []
 unfolding events_from
 events_none template lines x = refl
@@ -41,7 +32,7 @@ events_first template lines x n = refl
 
 pub events_append : (template : Template) (lines : Lines) (x m n : ℕ) → events_from template lines x (m + n) ≡ events_from template lines x m ++ events_from template lines (x + m) n
 unfolding events_from
-events_append template lines x m n = ap (map _) (numbers_split x m n) ∙ map-append _ (numbers_from x m) (numbers_from (x + m) n)
+events_append template lines x m n = ap (map _) (numbers_cat x m n) ∙ map-append _ (numbers_from x m) (numbers_from (x + m) n)
 
 pub length-events : (template : Template) (lines : Lines) (x n : ℕ) → length (events_from template lines x n) ≡ n
 unfolding events_from

@@ -1,7 +1,7 @@
 -- Bytes of one colour, many in one step.
 use Rattle.std.proofs.Common.{◌≡◌, ℕ, zero, suc, ◌+◌, ◌-◌, ◌*◌, ◌/◌, ◌%◌, ◌^◌, ◌<◌, ◌≤◌, Bool, true, false, inl, inr, List, refl, sym, ◌∙◌, ap, arith, subst, replicate}
 use Rattle.std.specs.Prelude.{slice_index}
-use Rattle.std.proofs.Math.Nat.{mod-eq_of_lt}
+use Rattle.std.proofs.Math.Nat.{mod-eq_of_lt, div-one}
 use Rattle.std.proofs.lemmas.Nat.{pow_pos, pow-add, mod-mul-add}
 use Rattle.std.proofs.lemmas.Bool.{cases_lt}
 use Rattle.std.proofs.lemmas.List.{replicate-append-replicate}
@@ -11,7 +11,7 @@ use Rattle.raster_core.specs.Raster.{pixel_at, pixel_left}
 use Rattle.raster_core.specs.Lines.{Lines, Mode}
 use Rattle.raster_core.specs.Machine.Registers.{bit, before, past_bits}
 use Rattle.raster_core.specs.Machine.Uniform.{filled, AreFilled, StaysUniform}
-use Rattle.raster_core.proofs.Before.{before_lt, before_split, before_mod, before_zero}
+use Rattle.raster_core.proofs.Before.{before_lt, before_split, before_mod, before_zero, least}
 use Rattle.raster_core.proofs.Packed.{IsIn}
 use Rattle.raster_core.proofs.Colours.{AreLeft, Adapts, part_left, seen_at, stays_uniform, nominal_adapts, moved_adapts}
 use Rattle.raster_core.proofs.Runs.{after_append}
@@ -95,15 +95,8 @@ filled_on colour row bytes b k (suc n) is h fill =
 pub left_filled : (colour : Bool) (row : List Bool) (y k m l : ℕ) → before row y k ≡ filled colour k → m + l ≤ k → AreLeft row y m l colour
 left_filled colour row y k m l h within j few =
     let e : 0 + (m + j) ≡ m + j = omega arith in
-    let low : before row y k / 2 ^ 0 % 2 ^ k ≡ filled colour k = ap (λ z. z % 2 ^ k) (div_one (before row y k)) ∙ (mod-eq_of_lt (before_lt row y k) ∙ h) in
+    let low : before row y k / 2 ^ 0 % 2 ^ k ≡ filled colour k = ap (λ z. z % 2 ^ k) (div-one (before row y k)) ∙ (mod-eq_of_lt (before_lt row y k) ∙ h) in
     ap (λ z. pixel_left row y (suc z)) (sym e) ∙ part_left row (before row y k) y k 0 k colour refl (omega arith) low (m + j) (omega (arith, within, few))
-  where
-    div_one : (z : ℕ) → z / 2 ^ 0 ≡ z
-    div_one z = omega arith
-
-least : (t : ℕ) → 0 + 4 ≤ past_bits t
-least zero = omega arith
-least (suc t) = omega arith
 
 adapts_filled : (colour : Bool) (lines : Lines) (offset i n : ℕ) → offset ≤ 127 → before lines.row (8 * i) (past_bits offset) ≡ filled colour (past_bits offset) → AreLeft lines.above (8 * i + 8 * n + 8) 6 (8 * n + 5) colour →
     Adapts lines offset (8 * i) (8 * n) colour
@@ -125,7 +118,7 @@ filled_uniform mode lines offset colour above second i n high a s p pa ps fa fs 
     left_filled colour lines.second (8 * i + 8 * n + 8) (24 + 8 * n) 7 (8 * n + 2)
     (ap (λ y. before lines.second y (24 + 8 * n)) (sym top) ∙ filled_on colour lines.second second (i + 1) 24 n s (ap (λ y. before lines.second y 24) (sym from) ∙ ps) fs) (omega arith) in
     stays_uniform mode lines offset (8 * i) (8 * n) colour
-    (record { second = second_filled; above = above_filled; row = left_filled colour lines.row (8 * i) (past_bits offset) 0 4 p (least offset) })
+    (record { second = second_filled; above = above_filled; row = left_filled colour lines.row (8 * i) (past_bits offset) 0 4 p (omega (arith, least offset)) })
     (adapts_filled colour lines offset i n high p above_filled)
 
 pub own_filled : (colour : Bool) (row : List Bool) (bytes : List ℕ) (i n : ℕ) → IsIn row bytes → AreFilled colour bytes i n → (k : ℕ) → k < 8 * n → pixel_at row (8 * i + k) ≡ colour

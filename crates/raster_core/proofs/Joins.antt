@@ -1,6 +1,6 @@
 -- What a source answered and a sink took, one after another.
 use Rattle.std.proofs.Common.{◌≡◌, ℕ, suc, Bool, true, false, List, [], ◌∷◌, ◌++◌, length, refl, sym, ap, subst, Ok, Err}
-use Rattle.std.specs.Prelude.{◌↔◌, Result, IsTrue, IsErr}
+use Rattle.std.specs.Prelude.{Result, IsTrue, IsErr}
 use Rattle.qm_core.specs.Source.{bytes_of, heard_of, IsClosed, Gives, before_fault}
 use Rattle.qm_core.specs.Sink.{Took}
 use Rattle.qm_core.specs.declared.source.Pulled.{Pulled}
@@ -40,10 +40,6 @@ Took-append took a b c (x ∷ xs) ys h k = (h.0, h.1, Took-append took h.0 b c x
 pub had_not_failed : {T : Type 0} (b : Bool) (result : Result T CoderFault) (x : T) → (IsTrue b → result ≡ Err Failed) → result ≡ Ok x → b ≡ false
 had_not_failed false result x h is = refl
 had_not_failed true result x h is = let e = h refl in cc
-
-pub has_not_failed : {T E : Type 0} (b : Bool) (result : Result T E) (x : T) → (IsTrue b ↔ IsErr result) → result ≡ Ok x → b ≡ false
-has_not_failed false result x h is = refl
-has_not_failed true result x h is = let e = subst (λ r. IsErr r) is (h.0 refl) in cc
 
 pub not_both : (b : Bool) → IsTrue b → b ≡ false → ⊥
 not_both true h e = cc

@@ -1,7 +1,7 @@
 -- Lanes of 16 bits, and the tables that fill them.
-use Rattle.std.proofs.Common.{◌≡◌, ℕ, zero, suc, ◌+◌, ◌*◌, ◌/◌, ◌%◌, ◌^◌, ◌<◌, ◌≤◌, Bool, true, false, ◌&&◌, List, [], ◌∷◌, length, get_or, eqb, leb, arith, refl, sym, ◌∙◌, ap, add-zero, zero-add, Ok, Err}
+use Rattle.std.proofs.Common.{◌≡◌, ℕ, zero, suc, ◌+◌, ◌*◌, ◌/◌, ◌%◌, ◌^◌, ◌<◌, ◌≤◌, Bool, true, ◌&&◌, List, [], ◌∷◌, length, get_or, eqb, leb, arith, refl, sym, ◌∙◌, ap, add-zero, zero-add, Ok, Err}
 use Rattle.std.specs.Prelude.{Result, IfOk, OnOk, OnErr, IfErr}
-use Rattle.std.proofs.lemmas.Bool.{eqb-true, leb-true}
+use Rattle.std.proofs.lemmas.Bool.{eqb-true, leb-true, and_parts}
 use Rattle.std.proofs.Math.Nat.{div-div-eq-div-mul}
 use Rattle.std.proofs.lemmas.Nat.{pow-add}
 use Rattle.raster_core.specs.declared.lanes.TheConstants.{SECOND_LANES, ABOVE_LANES, MOVED_ABOVE_LANES, FAR_LANES, ROW_LANES}
@@ -55,6 +55,13 @@ sum_is a b f g j few fa gb small =
 
 -- ---- the tables
 
+at_each : (P : ℕ → Type 0) → P 0 → P 1 → P 2 → P 3 → (j : ℕ) → j < 4 → P j
+at_each P p₀ p₁ p₂ p₃ zero h = p₀
+at_each P p₀ p₁ p₂ p₃ (suc zero) h = p₁
+at_each P p₀ p₁ p₂ p₃ (suc (suc zero)) h = p₂
+at_each P p₀ p₁ p₂ p₃ (suc (suc (suc zero))) h = p₃
+at_each P p₀ p₁ p₂ p₃ (suc (suc (suc (suc j)))) h = absurd (omega arith)
+
 -- an entry has these four lanes, and is small
 pub fits : (ℕ → ℕ → ℕ) → ℕ → ℕ → Bool
 fits f w e =
@@ -66,41 +73,13 @@ unfolding fits
 all_from f k [] = true
 all_from f k (e ∷ es) = fits f k e && all_from f (k + 1) es
 
-second_fits : all_from second_lane 0 SECOND_LANES ≡ true
-unfolding all_from fits
-second_fits = refl
-
-above_fits : all_from above_lane 0 ABOVE_LANES ≡ true
-unfolding all_from fits
-above_fits = refl
-
-moved_above_fits : all_from moved_above_lane 0 MOVED_ABOVE_LANES ≡ true
-unfolding all_from fits
-moved_above_fits = refl
-
-far_fits : all_from far_lane 0 FAR_LANES ≡ true
-unfolding all_from fits
-far_fits = refl
-
-row_fits : all_from row_lane 0 ROW_LANES ≡ true
-unfolding all_from fits
-row_fits = refl
-
-and_left : (a b : Bool) → (a && b) ≡ true → a ≡ true
-and_left true b h = refl
-and_left false b h = h
-
-and_right : (a b : Bool) → (a && b) ≡ true → b ≡ true
-and_right true b h = h
-and_right false b h = cc
-
 fits_at : (f : ℕ → ℕ → ℕ) (k : ℕ) (es : List ℕ) → all_from f k es ≡ true → (i : ℕ) → i < length es → fits f (k + i) (get_or es i 0) ≡ true
 unfolding all_from
 fits_at f k [] h i l = absurd (omega arith)
-fits_at f k (e ∷ es) h zero l = rw add-zero (and_left _ _ h)
+fits_at f k (e ∷ es) h zero l = rw add-zero (and_parts _ _ h).0
 fits_at f k (e ∷ es) h (suc i) l =
     let e1 : k + suc i ≡ (k + 1) + i = omega arith in
-    rw e1 (fits_at f (k + 1) es (and_right _ _ h) i (omega arith))
+    rw e1 (fits_at f (k + 1) es (and_parts _ _ h).1 i (omega arith))
 
 -- what an entry says
 pub record Says (f : ℕ → ℕ → ℕ) (w e : ℕ) : Type 0 where
@@ -110,107 +89,66 @@ pub record Says (f : ℕ → ℕ → ℕ) (w e : ℕ) : Type 0 where
 says : (f : ℕ → ℕ → ℕ) (w e : ℕ) → fits f w e ≡ true → Says f w e
 unfolding fits
 says f w e h =
-    let a = and_left _ _ h in
-    let b = and_left _ _ a in
-    let c = and_left _ _ b in
-    record {
-      lanes = four (eqb-true _ _ (and_left _ _ c)) (eqb-true _ _ (and_right _ _ c)) (eqb-true _ _ (and_right _ _ b)) (eqb-true _ _ (and_right _ _ a));
-      small = leb-true _ _ (and_right _ _ h);
-    }
-  where
-    four : lane e 0 ≡ f w 0 → lane e 1 ≡ f w 1 → lane e 2 ≡ f w 2 → lane e 3 ≡ f w 3 → (j : ℕ) → j < 4 → lane e j ≡ f w j
-    four h0 h1 h2 h3 zero l = h0
-    four h0 h1 h2 h3 (suc zero) l = h1
-    four h0 h1 h2 h3 (suc (suc zero)) l = h2
-    four h0 h1 h2 h3 (suc (suc (suc zero))) l = h3
-    four h0 h1 h2 h3 (suc (suc (suc (suc j)))) l = absurd (omega arith)
+    let a = and_parts _ _ h in
+    let b = and_parts _ _ a.0 in
+    let c = and_parts _ _ b.0 in
+    let d = and_parts _ _ c.0 in
+    record { lanes = at_each (λ j. lane e j ≡ f w j) (eqb-true _ _ d.0) (eqb-true _ _ d.1) (eqb-true _ _ c.1) (eqb-true _ _ b.1); small = leb-true _ _ a.1 }
+
+table_says : (f : ℕ → ℕ → ℕ) (table : List ℕ) → all_from f 0 table ≡ true → (w : ℕ) → w < length table → Says f w (get_or table w 0)
+table_says f table fit w h = says f w _ (rw zero-add at (fits_at f 0 table fit w h))
 
 pub second_says : (w : ℕ) → w < 64 → Says second_lane w (get_or SECOND_LANES w 0)
-second_says w h = says second_lane w _ (rw zero-add at (fits_at second_lane 0 SECOND_LANES second_fits w h))
+unfolding all_from fits
+second_says = table_says second_lane SECOND_LANES refl
 
 pub above_says : (w : ℕ) → w < 256 → Says above_lane w (get_or ABOVE_LANES w 0)
-above_says w h = says above_lane w _ (rw zero-add at (fits_at above_lane 0 ABOVE_LANES above_fits w h))
+unfolding all_from fits
+above_says = table_says above_lane ABOVE_LANES refl
 
 pub moved_above_says : (w : ℕ) → w < 128 → Says moved_above_lane w (get_or MOVED_ABOVE_LANES w 0)
-moved_above_says w h = says moved_above_lane w _ (rw zero-add at (fits_at moved_above_lane 0 MOVED_ABOVE_LANES moved_above_fits w h))
+unfolding all_from fits
+moved_above_says = table_says moved_above_lane MOVED_ABOVE_LANES refl
 
 pub far_says : (w : ℕ) → w < 16 → Says far_lane w (get_or FAR_LANES w 0)
-far_says w h = says far_lane w _ (rw zero-add at (fits_at far_lane 0 FAR_LANES far_fits w h))
+unfolding all_from fits
+far_says = table_says far_lane FAR_LANES refl
 
 pub row_says : (w : ℕ) → w < 64 → Says row_lane w (get_or ROW_LANES w 0)
-row_says w h = says row_lane w _ (rw zero-add at (fits_at row_lane 0 ROW_LANES row_fits w h))
+unfolding all_from fits
+row_says = table_says row_lane ROW_LANES refl
 
 -- ---- the windows of a byte's first four pixels and of its last
 
 pub first_second : (s j : ℕ) → j < 4 → s / 2 ^ 11 % 64 * 2 ^ j / 8 % 8 ≡ s / 2 ^ 7 * 2 ^ j / 2 ^ 7 % 8
-first_second s zero h = omega arith
-first_second s (suc zero) h = omega arith
-first_second s (suc (suc zero)) h = omega arith
-first_second s (suc (suc (suc zero))) h = omega arith
-first_second s (suc (suc (suc (suc j)))) h = absurd (omega arith)
+first_second s = at_each _ (omega arith) (omega arith) (omega arith) (omega arith)
 
 pub first_above : (a j : ℕ) → j < 4 → a / 2 ^ 10 % 256 * 2 ^ j / 8 % 32 ≡ a / 2 ^ 6 * 2 ^ j / 2 ^ 7 % 32
-first_above a zero h = omega arith
-first_above a (suc zero) h = omega arith
-first_above a (suc (suc zero)) h = omega arith
-first_above a (suc (suc (suc zero))) h = omega arith
-first_above a (suc (suc (suc (suc j)))) h = absurd (omega arith)
+first_above a = at_each _ (omega arith) (omega arith) (omega arith) (omega arith)
 
 pub first_row : (r j : ℕ) → j < 4 → r / 2 ^ 4 % 64 * 2 ^ j / 8 % 8 ≡ own r j
-first_row r zero h = omega arith
-first_row r (suc zero) h = omega arith
-first_row r (suc (suc zero)) h = omega arith
-first_row r (suc (suc (suc zero))) h = omega arith
-first_row r (suc (suc (suc (suc j)))) h = absurd (omega arith)
+first_row r = at_each _ (omega arith) (omega arith) (omega arith) (omega arith)
 
 pub last_second : (s j : ℕ) → j < 4 → s / 2 ^ 7 % 64 * 2 ^ j / 8 % 8 ≡ s / 2 ^ 7 * 2 ^ (4 + j) / 2 ^ 7 % 8
-last_second s zero h = omega arith
-last_second s (suc zero) h = omega arith
-last_second s (suc (suc zero)) h = omega arith
-last_second s (suc (suc (suc zero))) h = omega arith
-last_second s (suc (suc (suc (suc j)))) h = absurd (omega arith)
+last_second s = at_each _ (omega arith) (omega arith) (omega arith) (omega arith)
 
 pub last_above : (a j : ℕ) → j < 4 → a / 2 ^ 6 % 256 * 2 ^ j / 8 % 32 ≡ a / 2 ^ 6 * 2 ^ (4 + j) / 2 ^ 7 % 32
-last_above a zero h = omega arith
-last_above a (suc zero) h = omega arith
-last_above a (suc (suc zero)) h = omega arith
-last_above a (suc (suc (suc zero))) h = omega arith
-last_above a (suc (suc (suc (suc j)))) h = absurd (omega arith)
+last_above a = at_each _ (omega arith) (omega arith) (omega arith) (omega arith)
 
 pub last_row : (r j : ℕ) → j < 4 → r % 64 * 2 ^ j / 8 % 8 ≡ own r (4 + j)
-last_row r zero h = omega arith
-last_row r (suc zero) h = omega arith
-last_row r (suc (suc zero)) h = omega arith
-last_row r (suc (suc (suc zero))) h = omega arith
-last_row r (suc (suc (suc (suc j)))) h = absurd (omega arith)
+last_row r = at_each _ (omega arith) (omega arith) (omega arith) (omega arith)
 
 pub first_moved : (a j : ℕ) → j < 4 → a / 2 ^ 11 % 128 * 2 ^ j / 8 % 16 ≡ a / 2 ^ 6 * 2 ^ j / 2 ^ 8 % 16
-first_moved a zero h = omega arith
-first_moved a (suc zero) h = omega arith
-first_moved a (suc (suc zero)) h = omega arith
-first_moved a (suc (suc (suc zero))) h = omega arith
-first_moved a (suc (suc (suc (suc j)))) h = absurd (omega arith)
+first_moved a = at_each _ (omega arith) (omega arith) (omega arith) (omega arith)
 
 pub last_moved : (a j : ℕ) → j < 4 → a / 2 ^ 7 % 128 * 2 ^ j / 8 % 16 ≡ a / 2 ^ 6 * 2 ^ (4 + j) / 2 ^ 8 % 16
-last_moved a zero h = omega arith
-last_moved a (suc zero) h = omega arith
-last_moved a (suc (suc zero)) h = omega arith
-last_moved a (suc (suc (suc zero))) h = omega arith
-last_moved a (suc (suc (suc (suc j)))) h = absurd (omega arith)
+last_moved a = at_each _ (omega arith) (omega arith) (omega arith) (omega arith)
 
 pub first_far : (a j : ℕ) → j < 4 → a / 2 ^ 4 % 16 * 2 ^ j / 8 % 2 ≡ a * 2 ^ j / 2 ^ 7 % 2
-first_far a zero h = omega arith
-first_far a (suc zero) h = omega arith
-first_far a (suc (suc zero)) h = omega arith
-first_far a (suc (suc (suc zero))) h = omega arith
-first_far a (suc (suc (suc (suc j)))) h = absurd (omega arith)
+first_far a = at_each _ (omega arith) (omega arith) (omega arith) (omega arith)
 
 pub last_far : (a j : ℕ) → j < 4 → a % 16 * 2 ^ j / 8 % 2 ≡ a * 2 ^ (4 + j) / 2 ^ 7 % 2
-last_far a zero h = omega arith
-last_far a (suc zero) h = omega arith
-last_far a (suc (suc zero)) h = omega arith
-last_far a (suc (suc (suc zero))) h = omega arith
-last_far a (suc (suc (suc (suc j)))) h = absurd (omega arith)
+last_far a = at_each _ (omega arith) (omega arith) (omega arith) (omega arith)
 
 pub first_moved_are : (s a f r j : ℕ) → j < 4 → 2 * (second_lane (s / 2 ^ 11 % 64) j + moved_above_lane (a / 2 ^ 11 % 128) j + far_lane (f / 2 ^ 4 % 16) j) + row_lane (r / 2 ^ 4 % 64) j ≡ 2 * moved_around s a f (0 + j) + own r (0 + j)
 first_moved_are s a f r j h =
@@ -224,16 +162,11 @@ last_moved_are s a f r j h =
 pub first_around_is : (s a j : ℕ) → j < 4 → second_lane (s / 2 ^ 11 % 64) j + above_lane (a / 2 ^ 10 % 256) j ≡ around s a (0 + j)
 first_around_is s a j h = let z : 0 + j ≡ j = omega arith in rw z (ap (λ z. z * 128 + above_lane (a / 2 ^ 10 % 256) j) (first_second s j h) ∙ ap (λ z. s / 2 ^ 7 * 2 ^ j / 2 ^ 7 % 8 * 128 + z * 4) (first_above a j h))
 
-first_row_at : (r j : ℕ) → j < 4 → row_lane (r / 2 ^ 4 % 64) j ≡ own r (0 + j)
-first_row_at r j h = let z : 0 + j ≡ j = omega arith in rw z (first_row r j h)
-
 pub first_pixels_are : (s a r j : ℕ) → j < 4 → 2 * (second_lane (s / 2 ^ 11 % 64) j + above_lane (a / 2 ^ 10 % 256) j) + row_lane (r / 2 ^ 4 % 64) j ≡ 2 * around s a (0 + j) + own r (0 + j)
-first_pixels_are s a r j h =
-    ap (λ z. 2 * z + row_lane (r / 2 ^ 4 % 64) j) (first_around_is s a j h) ∙ ap (λ z. 2 * around s a (0 + j) + z) (first_row_at r j h)
+first_pixels_are s a r j h = let z : 0 + j ≡ j = omega arith in rw (z, first_second s j h, first_above a j h, first_row r j h) refl
 
 pub last_around_is : (s a j : ℕ) → j < 4 → second_lane (s / 2 ^ 7 % 64) j + above_lane (a / 2 ^ 6 % 256) j ≡ around s a (4 + j)
 last_around_is s a j h = ap (λ z. z * 128 + above_lane (a / 2 ^ 6 % 256) j) (last_second s j h) ∙ ap (λ z. s / 2 ^ 7 * 2 ^ (4 + j) / 2 ^ 7 % 8 * 128 + z * 4) (last_above a j h)
 
 pub last_pixels_are : (s a r j : ℕ) → j < 4 → 2 * (second_lane (s / 2 ^ 7 % 64) j + above_lane (a / 2 ^ 6 % 256) j) + row_lane (r % 64) j ≡ 2 * around s a (4 + j) + own r (4 + j)
-last_pixels_are s a r j h =
-    ap (λ z. 2 * z + row_lane (r % 64) j) (last_around_is s a j h) ∙ ap (λ z. 2 * around s a (4 + j) + z) (last_row r j h)
+last_pixels_are s a r j h = rw (last_second s j h, last_above a j h, last_row r j h) refl

@@ -42,15 +42,12 @@ before_white row x (suc k) h =
 pub packed-length : (row : List Bool) → length (packed_row row) ≡ row_bytes (length row)
 packed-length row = length-map _ _ ∙ length-numbers 0 (row_bytes (length row))
 
-packed_at : (row : List Bool) (i : ℕ) → binary (map (pixel_at row) (numbers_from (8 * i) 8)) ≡ before row (8 * i + 8) 8
-packed_at row i = binary_before row (8 * i) 8
-
 pub packed_byte : (row : List Bool) (i : ℕ) → slice_index (packed_row row) i ≡ before row (8 * i + 8) 8
 packed_byte row i =
     elim (cases_lt i (row_bytes (length row))) [
       | inl inside ↦
           get_or-numbers (λ k. binary (map (pixel_at row) (numbers_from (8 * k) 8))) 0 (row_bytes (length row)) i 0 inside
-          ∙ (let e : 0 + i ≡ i = omega arith in ap (λ k. binary (map (pixel_at row) (numbers_from (8 * k) 8))) e ∙ packed_at row i)
+          ∙ (let e : 0 + i ≡ i = omega arith in ap (λ k. binary (map (pixel_at row) (numbers_from (8 * k) 8))) e ∙ binary_before row (8 * i) 8)
       | inr outside ↦
           let far : length (packed_row row) ≤ i = omega (arith, packed-length row) in
           let white : length row ≤ 8 * i = omega arith in

@@ -1,9 +1,9 @@
 -- Rows in bytes, rows in words.
-use Rattle.std.proofs.Common.{◌≡◌, ℕ, zero, suc, ◌+◌, ◌-◌, ◌*◌, ◌/◌, ◌%◌, ◌^◌, ◌<◌, ◌≤◌, Bool, true, false, List, [], ◌∷◌, length, refl, sym, ◌∙◌, ap, arith, map, get_or, add-zero, ◌⊎◌, inl, inr, lit<}
+use Rattle.std.proofs.Common.{◌≡◌, ℕ, zero, suc, ◌+◌, ◌-◌, ◌*◌, ◌/◌, ◌%◌, ◌^◌, ◌<◌, ◌≤◌, Bool, true, false, List, length, refl, sym, ◌∙◌, ap, arith, map, get_or, add-zero, inl, inr, lit<, zero-add}
 use Rattle.std.specs.Prelude.{bit_or, ◌==◌, nat_lt, if◌then◌else◌}
 use Rattle.std.proofs.lemmas.Nat.{or_shifted, pow-add, div-mul-add}
 use Rattle.std.proofs.lemmas.Nat.Bits.{ones_shl}
-use Rattle.std.proofs.Math.Nat.{mod-eq_of_lt, mul-add-mod_self_right, pow-le-pow_right, pow-suc}
+use Rattle.std.proofs.Math.Nat.{mod-eq_of_lt, pow-le-pow_right, pow-suc}
 use Rattle.std.proofs.lemmas.Bool.Decides.{nat_tests}
 use Rattle.raster_core.specs.Raster.{pixel_at}
 use Rattle.raster_core.specs.Lines.{numbers_from, binary}
@@ -11,10 +11,12 @@ use Rattle.raster_core.specs.Packed.{packed_row, row_bytes}
 use Rattle.raster_core.specs.Machine.Words.{word, led, is_within}
 use Rattle.raster_core.specs.Machine.Registers.{bit}
 use Rattle.raster_core.proofs.Shifts.{word_cat, word_same, word_lt}
-
-length_map : {A : Type 0} (f : ℕ → A) (a n : ℕ) → length (map f (numbers_from a n)) ≡ n
-length_map f a zero = refl
-length_map f a (suc n) = let e : length (map f (numbers_from (a + 1) n)) ≡ n = length_map f (a + 1) n in ap suc e
+use Rattle.std.proofs.lemmas.Bool.{cases_lt}
+use Rattle.raster_core.proofs.Contexts.{binary_bit}
+use Rattle.raster_core.proofs.Parts.{is_lt, is_not_lt}
+use Rattle.raster_core.proofs.Packed.{length-numbers, get_or-numbers, packed-length}
+use Rattle.std.proofs.Math.ListN.{get_or-eq_default}
+use Rattle.std.proofs.lemmas.List.{length-map}
 
 -- the value of n bits, the highest first, is the word
 pub binary_is : (p : ℕ → Bool) (a n : ℕ) → binary (map p (numbers_from a n)) ≡ word p a n
@@ -24,36 +26,14 @@ binary_is p a (suc n) =
     let both : word p a (1 + n) ≡ word p a 1 * 2 ^ n + word p (a + 1) n = word_cat p a 1 n in
     let s : 1 + n ≡ suc n = omega arith in
     let one : bit (p a) ≡ word p a 1 = sym (ap (λ k. 0 * 2 + bit (p k)) (add-zero a) ∙ start (bit (p a))) in
-    top (p a) (map p (numbers_from (a + 1) n))
-    ∙ ap (λ k. bit (p a) * 2 ^ k + binary (map p (numbers_from (a + 1) n))) (length_map p (a + 1) n)
+    binary_bit (p a) (map p (numbers_from (a + 1) n))
+    ∙ ap (λ k. bit (p a) * 2 ^ k + binary (map p (numbers_from (a + 1) n))) (length-map (numbers_from (a + 1) n) p ∙ length-numbers (a + 1) n)
     ∙ ap (λ x. bit (p a) * 2 ^ n + x) (binary_is p (a + 1) n)
     ∙ ap (λ x. x * 2 ^ n + word p (a + 1) n) one
     ∙ sym both ∙ ap (word p a) s
   where
     start : (k : ℕ) → 0 * 2 + k ≡ k
     start k = omega arith
-
-    top : (b : Bool) (bits : List Bool) → binary (b ∷ bits) ≡ bit b * 2 ^ length bits + binary bits
-    top true bits = omega arith
-    top false bits = omega arith
-
-get_mapped : (f : ℕ → ℕ) (a n i : ℕ) → i < n → get_or (map f (numbers_from a n)) i 0 ≡ f (a + i)
-get_mapped f a zero i h = absurd (omega (arith, h))
-get_mapped f a (suc n) zero h = ap f (sym (add-zero a))
-get_mapped f a (suc n) (suc i) h = get_mapped f (a + 1) n i (omega arith) ∙ ap f (moved a i)
-  where
-    moved : (x y : ℕ) → (x + 1) + y ≡ x + suc y
-    moved x y = omega arith
-
-get_past : (xs : List ℕ) (i : ℕ) → length xs ≤ i → get_or xs i 0 ≡ 0
-get_past [] i h = refl
-get_past (x ∷ xs) zero h = absurd (omega (arith, h))
-get_past (x ∷ xs) (suc i) h = get_past xs i (omega arith)
-
-pixel_past : (xs : List Bool) (i : ℕ) → length xs ≤ i → pixel_at xs i ≡ false
-pixel_past [] i h = refl
-pixel_past (x ∷ xs) zero h = absurd (omega (arith, h))
-pixel_past (x ∷ xs) (suc i) h = pixel_past xs i (omega arith)
 
 white : (p : ℕ → Bool) (a n : ℕ) → ((i : ℕ) → i < n → p (a + i) ≡ false) → word p a n ≡ 0
 unfolding word
@@ -64,24 +44,14 @@ white p a (suc n) h =
 -- a byte of the row is eight of its pixels
 pub byte_is : (line : List Bool) (j : ℕ) → get_or (packed_row line) j 0 ≡ word (pixel_at line) (8 * j) 8
 byte_is line j =
-    elim (cases j (row_bytes (length line))) [
-      | inl lt ↦ get_mapped (λ k. binary (map (pixel_at line) (numbers_from (8 * k) 8))) 0 (row_bytes (length line)) j lt
-          ∙ ap (λ k. binary (map (pixel_at line) (numbers_from (8 * k) 8))) (start j)
+    elim (cases_lt j (row_bytes (length line))) [
+      | inl lt ↦ get_or-numbers (λ k. binary (map (pixel_at line) (numbers_from (8 * k) 8))) 0 (row_bytes (length line)) j 0 lt
+          ∙ ap (λ k. binary (map (pixel_at line) (numbers_from (8 * k) 8))) (zero-add j)
           ∙ binary_is (pixel_at line) (8 * j) 8
       | inr past ↦
-          let n : length (packed_row line) ≡ row_bytes (length line) = length_map (λ k. binary (map (pixel_at line) (numbers_from (8 * k) 8))) 0 (row_bytes (length line)) in
-          get_past (packed_row line) j (omega (arith, n, past))
-          ∙ sym (white (pixel_at line) (8 * j) 8 (λ i lt. pixel_past line (8 * j + i) (beyond i (length line) past)))
+          get_or-eq_default (packed_row line) 0 (omega (arith, packed-length line, past))
+          ∙ sym (white (pixel_at line) (8 * j) 8 (λ i lt. get_or-eq_default line false (omega (arith, past))))
     ]
-  where
-    cases : (a b : ℕ) → (a < b) ⊎ (b ≤ a)
-    cases a b = grind arith
-
-    start : (k : ℕ) → 0 + k ≡ k
-    start k = omega arith
-
-    beyond : (i n : ℕ) → row_bytes n ≤ j → n ≤ 8 * j + i
-    beyond i n h = omega (arith, h)
 
 -- one byte more of a word
 pub one_byte : (p : ℕ → Bool) (a k w b : ℕ) → k + 8 ≤ 64 → w ≡ word p a k → b ≡ word p (a + k) 8 → bit_or (w * 2 ^ 8 % 2 ^ 64) b ≡ word p a (k + 8)
@@ -105,23 +75,17 @@ byte_led line place i b h lt e =
     e ∙ byte_is line (8 * (place - 2) + i)
     ∙ word_same (pixel_at line) (led line) (8 * (8 * (place - 2) + i)) (64 * place + 8 * i) 8 (λ j lt. here j)
   where
-    after : (x : ℕ) → 128 ≤ x → nat_lt x 128 ≡ false
-    after x h = grind (arith, nat_tests)
-
     here : (j : ℕ) → pixel_at line (8 * (8 * (place - 2) + i) + j) ≡ led line (64 * place + 8 * i + j)
     here j =
         let e : 64 * place + 8 * i + j - 128 ≡ 8 * (8 * (place - 2) + i) + j = omega (arith, h) in
-        let t : nat_lt (64 * place + 8 * i + j) 128 ≡ false = after (64 * place + 8 * i + j) (omega (arith, h)) in
+        let t : nat_lt (64 * place + 8 * i + j) 128 ≡ false = is_not_lt (64 * place + 8 * i + j) 128 (omega (arith, h)) in
         ap (pixel_at line) (sym e) ∙ sym (ap (λ b. if b then false else pixel_at line (64 * place + 8 * i + j - 128)) t)
 
 pub led_white : (line : List Bool) (place : ℕ) → place < 2 → 0 ≡ word (led line) (64 * place) 64
 led_white line place h = sym (white (led line) (64 * place) 64 (λ i lt. before (64 * place + i) (omega arith)))
   where
-    early : (x : ℕ) → x < 128 → nat_lt x 128 ≡ true
-    early x h = grind (arith, nat_tests)
-
     before : (x : ℕ) → x < 128 → led line x ≡ false
-    before x lt = ap (λ b. if b then false else pixel_at line (x - 128)) (early x lt)
+    before x lt = ap (λ b. if b then false else pixel_at line (x - 128)) (is_lt x 128 lt)
 
 pub nothing : (p : ℕ → Bool) (a : ℕ) → 0 ≡ word p a 0
 unfolding word
@@ -175,14 +139,6 @@ upper q g n s h =
     let e : word q g ((n - s) + s) ≡ word q g (n - s) * 2 ^ s + word q (g + (n - s)) s = word_cat q g (n - s) s in
     let m : (n - s) + s ≡ n = omega (arith, h) in
     ap (λ k. word q g k / 2 ^ s) (sym m) ∙ ap (λ x. x / 2 ^ s) e ∙ div-mul-add (word q g (n - s)) (2 ^ s) (word q (g + (n - s)) s) (word_lt q (g + (n - s)) s)
-
-last_pixel : (q : ℕ → Bool) (g n : ℕ) → word q g (suc n) % 2 ≡ bit (q (g + n))
-unfolding word
-last_pixel q g n = mul-add-mod_self_right (word q g n) 2 (bit (q (g + n))) ∙ mod-eq_of_lt (small (q (g + n)))
-  where
-    small : (b : Bool) → bit b < 2
-    small true = lit< tt
-    small false = lit< tt
 
 bit_test : (b : Bool) → (bit b == 1) ≡ b
 bit_test true = refl

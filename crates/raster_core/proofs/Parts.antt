@@ -1,5 +1,5 @@
 -- What the words of a row agree in, and what its pixels do.
-use Rattle.std.proofs.Common.{◌≡◌, ℕ, zero, suc, ◌+◌, ◌-◌, ◌*◌, ◌<◌, ◌≤◌, Bool, true, false, ◌&&◌, List, [], ◌∷◌, ◌++◌, length, refl, sym, ◌∙◌, ap, arith, cond, ◌⊎◌, inl, inr, add-zero}
+use Rattle.std.proofs.Common.{◌≡◌, ℕ, zero, suc, ◌+◌, ◌-◌, ◌*◌, ◌<◌, ◌≤◌, Bool, true, false, ◌&&◌, List, [], ◌∷◌, ◌++◌, length, refl, sym, ◌∙◌, ap, arith, cond, inl, inr, add-zero, zero-add}
 use Rattle.std.specs.Prelude.{nat_lt, ◌==◌, if◌then◌else◌, count_by}
 use Rattle.std.specs.List.{AllByRecursion}
 use Rattle.std.proofs.lemmas.Bool.Decides.{nat_tests}
@@ -9,16 +9,14 @@ use Rattle.raster_core.specs.Raster.{pixel_at, pixel_left}
 use Rattle.raster_core.specs.Lines.{Lines, adaptive, numbers_from}
 use Rattle.raster_core.specs.Offset.{agreements, agreement}
 use Rattle.raster_core.specs.Machine.Words.{led, is_within, agreed_from, part_agreement, pixels_from}
-use Rattle.raster_core.proofs.Shifts.{count_same, count_cat}
+use Rattle.raster_core.proofs.Shifts.{count_same, count_cat, shifted}
+use Rattle.std.proofs.lemmas.Bool.{cases_lt}
 
 pub is_lt : (x y : ℕ) → x < y → nat_lt x y ≡ true
 is_lt x y h = grind (arith, nat_tests)
 
-is_not_lt : (x y : ℕ) → y ≤ x → nat_lt x y ≡ false
+pub is_not_lt : (x y : ℕ) → y ≤ x → nat_lt x y ≡ false
 is_not_lt x y h = grind (arith, nat_tests)
-
-pub order : (a b : ℕ) → (a < b) ⊎ (b ≤ a)
-order a b = grind arith
 
 led_at : (row : List Bool) (y x : ℕ) → y ≡ x + 128 → led row y ≡ pixel_at row x
 led_at row y x e =
@@ -27,7 +25,7 @@ led_at row y x e =
 
 led_left : (row : List Bool) (y x lag : ℕ) → y + lag ≡ x + 128 → led row y ≡ pixel_left row x lag
 led_left row y x lag e =
-    elim (order x lag) [
+    elim (cases_lt x lag) [
       | inl lt ↦
           ap (λ b. if b then false else pixel_at row (y - 128)) (is_lt y 128 (omega (arith, e, lt)))
           ∙ sym (ap (λ b. if b then false else pixel_at row (x - lag)) (is_lt x lag lt))
@@ -39,10 +37,9 @@ led_left row y x lag e =
     ]
 
 pub adaptive_left : (lines : Lines) (lag x : ℕ) → 1 ≤ lag → adaptive lines lag x ≡ pixel_left lines.row x lag
-adaptive_left lines lag x h = ap (λ b. if b then pixel_at lines.above (x + 2) else pixel_left lines.row x lag) (moved lag h)
-  where
-    moved : (k : ℕ) → 1 ≤ k → (k == 0) ≡ false
-    moved k h = grind (arith, nat_tests)
+adaptive_left lines lag x h =
+    let test : (lag == 0) ≡ false = grind (arith, nat_tests) in
+    ap (λ b. if b then pixel_at lines.above (x + 2) else pixel_left lines.row x lag) test
 
 three : {a a' b b' c c' : Bool} → a ≡ a' → b ≡ b' → c ≡ c' → a && same b c ≡ (a' && same b' c')
 three {a} {a'} {b} {b'} {c} {c'} e f g = ap (λ x. x && same b c) e ∙ ap (λ x. a' && same x c) f ∙ ap (λ x. a' && same b' x) g
@@ -56,19 +53,10 @@ row_part lines width lag k n low high =
     (λ x. is_within width x && same (pixel_at lines.row x) (adaptive lines lag x))
     0 (64 * k) n
     (λ i lt. three
-    (ap (λ j. is_within width (64 * k + j)) (start i))
-    (led_at lines.row (64 * k + 128 + (0 + i)) (64 * k + i) (at_one (64 * k) i))
-    (led_left lines.row ((64 * k + 128 - lag) + (0 + i)) (64 * k + i) lag (at_other (64 * k) i lag high)
+    (ap (λ j. is_within width (64 * k + j)) (zero-add i))
+    (led_at lines.row (64 * k + 128 + (0 + i)) (64 * k + i) (omega arith))
+    (led_left lines.row ((64 * k + 128 - lag) + (0 + i)) (64 * k + i) lag (omega (arith, high))
     ∙ sym (adaptive_left lines lag (64 * k + i) low)))
-  where
-    start : (x : ℕ) → 0 + x ≡ x
-    start x = omega arith
-
-    at_one : (b i : ℕ) → b + 128 + (0 + i) ≡ (b + i) + 128
-    at_one b i = omega arith
-
-    at_other : (b i t : ℕ) → t ≤ 127 → ((b + 128 - t) + (0 + i)) + t ≡ (b + i) + 128
-    at_other b i t h = omega arith
 
 pub nominal_part : (lines : Lines) (width k n : ℕ) →
     agreed_from (pixels_from (led lines.row) (64 * k + 128)) (pixels_from (led lines.above) (64 * (k + 2) + 64 - 62)) (pixels_from (is_within width) (64 * k)) n ≡ part_agreement lines width 0 (64 * k) n
@@ -79,18 +67,18 @@ nominal_part lines width k n =
     (λ x. is_within width x && same (pixel_at lines.row x) (adaptive lines 0 x))
     0 (64 * k) n
     (λ i lt. three
-    (ap (λ j. is_within width (64 * k + j)) (start i))
-    (led_at lines.row (64 * k + 128 + (0 + i)) (64 * k + i) (at_one k i))
-    (led_at lines.above ((64 * (k + 2) + 64 - 62) + (0 + i)) ((64 * k + i) + 2) (at_other k i)))
-  where
-    start : (x : ℕ) → 0 + x ≡ x
-    start x = omega arith
+    (ap (λ j. is_within width (64 * k + j)) (zero-add i))
+    (led_at lines.row (64 * k + 128 + (0 + i)) (64 * k + i) (omega arith))
+    (led_at lines.above ((64 * (k + 2) + 64 - 62) + (0 + i)) ((64 * k + i) + 2) (omega arith)))
 
-    at_one : (k i : ℕ) → 64 * k + 128 + (0 + i) ≡ (64 * k + i) + 128
-    at_one k i = omega arith
+pub first_place : (k : ℕ) → 64 * (k + 1) ≡ 64 * k + 64
+first_place k = omega arith
 
-    at_other : (k i : ℕ) → (64 * (k + 2) + 64 - 62) + (0 + i) ≡ ((64 * k + i) + 2) + 128
-    at_other k i = omega arith
+pub second_place : (k : ℕ) → 64 * (k + 2) ≡ 64 * k + 128
+second_place k = omega arith
+
+pub third_place : (k : ℕ) → k + 2 ≡ k + 1 + 1
+third_place k = omega arith
 
 pub part_none : (lines : Lines) (width offset first : ℕ) → part_agreement lines width offset first 0 ≡ 0
 unfolding part_agreement
@@ -102,10 +90,7 @@ unfolding part_agreement
 part_more lines width offset n k =
     count_cat (λ x. is_within width x && same (pixel_at lines.row x) (adaptive lines offset x)) 0 n k
     ∙ ap (λ y. count_by (λ x. is_within width x && same (pixel_at lines.row x) (adaptive lines offset x)) (numbers_from 0 n)
-    + count_by (λ x. is_within width x && same (pixel_at lines.row x) (adaptive lines offset x)) (numbers_from y k)) (start n)
-  where
-    start : (x : ℕ) → 0 + x ≡ x
-    start x = omega arith
+    + count_by (λ x. is_within width x && same (pixel_at lines.row x) (adaptive lines offset x)) (numbers_from y k)) (zero-add n)
 
 count_none : (f : ℕ → Bool) (a n : ℕ) → ((i : ℕ) → i < n → f (a + i) ≡ false) → count_by f (numbers_from a n) ≡ 0
 count_none f a zero h = refl
@@ -114,9 +99,6 @@ count_none f a (suc n) h =
     sum_by-cons (λ x. cond (f x) 1 0) a (numbers_from (a + 1) n)
     ∙ ap (λ t. cond t 1 0 + count_by f (numbers_from (a + 1) n)) first
     ∙ ap (λ x. 0 + x) (count_none f (a + 1) n (λ i lt. ap f (shifted a i) ∙ h (i + 1) (omega arith)))
-  where
-    shifted : (x i : ℕ) → (x + 1) + i ≡ x + (i + 1)
-    shifted x i = omega arith
 
 -- a word more of the row
 pub part_next : (lines : Lines) (width offset b y z p : ℕ) → y ≡ part_agreement lines width offset 0 (64 * b) → z ≡ y + p →
@@ -169,7 +151,4 @@ one_pixel : (lines : Lines) (width offset x : ℕ) → x < width →
 unfolding part_agreement
 one_pixel lines width offset x h =
     ap (λ b. 0 + cond (b && same (pixel_at lines.row x) (adaptive lines offset x)) 1 0) (is_lt x width h)
-    ∙ start (cond (same (pixel_at lines.row x) (adaptive lines offset x)) 1 0)
-  where
-    start : (k : ℕ) → 0 + k ≡ k
-    start k = omega arith
+    ∙ zero-add (cond (same (pixel_at lines.row x) (adaptive lines offset x)) 1 0)

@@ -1,11 +1,13 @@
 -- Three rows in bytes, at places in a ring.
 use Rattle.std.proofs.Common.{◌≡◌, ℕ, zero, suc, ◌+◌, ◌*◌, ◌-◌, ◌<◌, ◌≤◌, List, [], ◌∷◌, ◌++◌, length, take, drop, refl, sym, subst, ◌∙◌, ap, arith, replicate}
 use Rattle.std.specs.List.{copy_within}
-use Rattle.std.proofs.lemmas.List.{take_all, take-append-drop, append_assoc, drop-drop, take_at, drop_at, drop-take, drop-replicate, take-replicate, length-take-le, length-drop}
+use Rattle.std.proofs.lemmas.List.{append_assoc, drop-drop, take_at, drop_at, drop-take, drop-replicate, take-replicate, length-take-le, length-drop}
 use Rattle.std.proofs.lemmas.Slice.{take-put_mid_below, drop-put_mid}
 use Rattle.raster_core.specs.Packed.{Held, row_placed, with_part, row_bytes, rows_at, with_current, next_place, HasLines, white_lines}
 use Rattle.raster_core.specs.Window.{turned, repeated}
 use Rattle.raster_core.proofs.White.{white_held}
+use Rattle.std.proofs.Math.Nat.{mul-le-mul_right}
+use Rattle.std.proofs.lemmas.Bool.Decides.{nat_tests}
 
 -- what a window of these rows holds
 abbrev pub three : ℕ → List ℕ → List ℕ → List ℕ → Held
@@ -60,23 +62,14 @@ put_current p width start end bytes row at to small long wide =
     ∙ put_row p width bytes row small long wide
 
 inside : (q n : ℕ) → q < 3 → q * n + n ≤ 3 * n
-inside zero n small = omega arith
-inside (suc zero) n small = omega arith
-inside (suc (suc zero)) n small = omega arith
-inside (suc (suc (suc q))) n small = absurd (omega arith)
+inside q n small = omega (arith, mul-le-mul_right n small)
 
 next_small : (q : ℕ) → q < 3 → next_place q < 3
-next_small zero small = omega arith
-next_small (suc zero) small = omega arith
-next_small (suc (suc zero)) small = omega arith
-next_small (suc (suc (suc q))) small = absurd (omega arith)
+next_small q small = grind (arith, nat_tests)
 
 -- the place before is the second next
 next_last : (q : ℕ) → q < 3 → next_place (next_place (next_place q)) ≡ q
-next_last zero small = refl
-next_last (suc zero) small = refl
-next_last (suc (suc zero)) small = refl
-next_last (suc (suc (suc q))) small = absurd (omega arith)
+next_last q small = grind (arith, nat_tests)
 
 zeros_at : (n q : ℕ) (bytes : List ℕ) → bytes ≡ replicate (3 * n) 0 → q < 3 → row_placed n bytes q ≡ replicate n 0
 zeros_at n q bytes e small =
@@ -125,54 +118,12 @@ rows_cut p n width bytes front row back above second long cut lf lr is_above is_
     ∙ ap (λ m. record { width = width; current = row_placed m (front ++ (row ++ back)) p; above = row_placed m (front ++ (row ++ back)) (next_place p); second = row_placed m (front ++ (row ++ back)) (next_place (next_place p)) }) (sym long)
     ∙ same_rows width (ap (take n) (drop_at front (row ++ back) (p * n) lf) ∙ take_at row back n lr) (is_above row lr) (is_second row lr)
 
--- the first of two rows, and the other one
-pub row_first : (n : ℕ) (a b : List ℕ) → length a ≡ n → row_placed n (a ++ b) 0 ≡ a
-row_first n a b la =
-    let start : 0 * n ≡ 0 = omega arith in
-    ap (λ k. take n (drop k (a ++ b))) start ∙ take_at a b n la
-
 pub row_next : (n q : ℕ) (a b : List ℕ) → length a ≡ n → row_placed n (a ++ b) (q + 1) ≡ row_placed n b q
 row_next n q a b la =
     let more : (q + 1) * n ≡ n + q * n = omega arith in
     ap (λ k. take n (drop k (a ++ b))) more ∙ ap (take n) (sym (drop-drop (q * n) n (a ++ b)) ∙ ap (drop (q * n)) (drop_at a b n la))
 
-pub row_all : (n : ℕ) (a : List ℕ) → length a ≡ n → row_placed n a 0 ≡ a
-row_all n a la =
-    let start : 0 * n ≡ 0 = omega arith in
-    ap (λ k. take n (drop k a)) start ∙ take_all n a (omega (arith, la))
-
 -- a row of nothing in front
 none_of : (l : List ℕ) → length l ≡ 0 → l ≡ []
 none_of [] h = refl
 none_of (x ∷ l) h = absurd (omega (arith, h))
-
-both_of : (n : ℕ) (l : List ℕ) → take n l ++ drop n l ≡ l
-both_of n l = take-append-drop n l
-
--- the two rows above the first of three
-pub above_zeroth : (n : ℕ) (front row back : List ℕ) → length front ≡ 0 → length row ≡ n → row_placed n (front ++ (row ++ back)) 1 ≡ take n back
-above_zeroth n front row back lf lr =
-    let start : 0 * n ≡ 0 = omega arith in
-    ap (λ f. row_placed n (f ++ (row ++ back)) 1) (none_of front lf) ∙ row_next n 0 row back lr ∙ ap (λ k. take n (drop k back)) start
-
-pub second_zeroth : (n : ℕ) (front row back : List ℕ) → length front ≡ 0 → length row ≡ n → length back ≡ 2 * n → row_placed n (front ++ (row ++ back)) 2 ≡ drop n back
-second_zeroth n front row back lf lr lb =
-    let one : 1 * n ≡ n = omega arith in
-    ap (λ f. row_placed n (f ++ (row ++ back)) 2) (none_of front lf) ∙ row_next n 1 row back lr ∙ ap (λ k. take n (drop k back)) one
-    ∙ take_all n (drop n back) (let e = length-drop n back in omega (arith, e, lb))
-
--- above the one between
-pub above_first : (n : ℕ) (front row back : List ℕ) → length front ≡ n → length row ≡ n → length back ≡ n → row_placed n (front ++ (row ++ back)) 2 ≡ back
-above_first n front row back lf lr lb = row_next n 1 front (row ++ back) lf ∙ row_next n 0 row back lr ∙ row_all n back lb
-
--- above the last
-pub above_last : (n : ℕ) (front row back : List ℕ) → length front ≡ 2 * n → row_placed n (front ++ (row ++ back)) 0 ≡ take n front
-above_last n front row back lf =
-    ap (λ f. row_placed n (f ++ (row ++ back)) 0) (sym (both_of n front)) ∙ ap (λ l. row_placed n l 0) (append_assoc (take n front) (drop n front) (row ++ back))
-    ∙ row_first n (take n front) (drop n front ++ (row ++ back)) (length-take-le n front (omega (arith, lf)))
-
-pub second_last : (n : ℕ) (front row back : List ℕ) → length front ≡ 2 * n → row_placed n (front ++ (row ++ back)) 1 ≡ drop n front
-second_last n front row back lf =
-    ap (λ f. row_placed n (f ++ (row ++ back)) 1) (sym (both_of n front)) ∙ ap (λ l. row_placed n l 1) (append_assoc (take n front) (drop n front) (row ++ back))
-    ∙ row_next n 0 (take n front) (drop n front ++ (row ++ back)) (length-take-le n front (omega (arith, lf)))
-    ∙ row_first n (drop n front) (row ++ back) (length-drop n front ∙ omega (arith, lf))

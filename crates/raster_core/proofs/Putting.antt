@@ -10,7 +10,7 @@ use Rattle.qm_core.specs.declared.encoder.Encoder.{Encoder}
 use Rattle.qm_core.specs.declared.encoder.CoderFault.{CoderFault}
 use Rattle.qm_core.specs.declared.sink.CodeSink.{Ghosts}
 use Rattle.qm_core.specs.Puts.{Encodes, FailsIn}
-use Rattle.qm_core.specs.Puts.{IsSameLoan, IsUnchanged, failed_answer, state_at, GoesOn, Puts, Skips}
+use Rattle.qm_core.specs.Puts.{IsSameLoan, IsUnchanged, failed_answer, state_at, GoesOn, Puts}
 use Rattle.qm_core.specs.declared.coder.Coder.{Coder}
 use Rattle.raster_core.proofs.Joins.{Took-append}
 use Rattle.raster_core.proofs.Runs.{after_append}
@@ -190,10 +190,6 @@ pub puts_as : {S : Type 0} (sink : Ghosts S) (a b : Coder S) (xs ys : List Event
 puts_as sink a b xs ys result e h = subst (λ zs. Puts sink zs a b result) e h
 
 -- ---- a run in one step
-
-pub skips_as : {S : Type 0} (sink : Ghosts S) (c c' : Coder S) (cx cx' : ℕ) (pixel : Bool) (count : ℕ) (skipped : Bool) → cx ≡ cx' →
-    Skips sink (record { context = cx; pixel = pixel }) count c c' skipped → Skips sink (record { context = cx'; pixel = pixel }) count c c' skipped
-skips_as sink c c' cx cx' pixel count skipped e h = subst (λ k. Skips sink (record { context = k; pixel = pixel }) count c c' skipped) e h
 
 -- a try that left all as it was
 pub puts_idle : {S : Type 0} (sink : Ghosts S) (a b c : Coder S) (xs : List Event) → IsSameLoan b c → IsUnchanged b c → Puts sink xs a b (Ok tt) → Puts sink xs a c (Ok tt)

@@ -18,21 +18,6 @@ use Rattle.raster_core.specs.Machine.Decoded.{PixelsSoFar, PixelsHeld, Along, St
 use Rattle.raster_core.proofs.Causal.{before_front}
 use Rattle.raster_core.proofs.Packed.{packed_byte, packed_is, byte_in, byte_out}
 
--- from a byte on
-pub bytes_none : {S : Type 0} (pull : S → Pulled → S → Type 0) (old : S) (mode : Mode) (offset : ℕ) (above second : List ℕ) (place : RowPlace) (d : Decoder) (learned : List Estimate)
-    (width left i second' above' : ℕ) (current : List ℕ) → place.done ≡ 8 * i → place.done + left ≡ width →
-    ((row : List Bool) → second ≡ packed_row row → second' ≡ before row (8 * i + 8) 24) → ((row : List Bool) → above ≡ packed_row row → above' ≡ before row (8 * i + 8) 24) →
-    BytesAlong pull (row_around mode offset above second) (row_part place current old d learned) width (bytes_at left i second' above' place.past current) (decoder_state old d learned)
-bytes_none pull old mode offset above second place d learned width left i second' above' current at rest second_is above_is = λ from first s answers lines done had so_far a s2.
-    record {
-      done = done;
-      rest = omega (arith, had.count, rest);
-      so_far = so_far;
-      bytes = λ k h. had.bytes k (omega (arith, had.count, at, h));
-      second_is = second_is lines.second s2;
-      above_is = above_is lines.above a;
-    }
-
 -- a register takes the next byte of its row in
 pub register_in : (row : List Bool) (bytes : List ℕ) (register i : ℕ) → bytes ≡ packed_row row → register ≡ before row (8 * i + 8) 24 →
     register % 65536 * 256 + slice_index bytes (i + 1) ≡ before row (8 * (i + 1) + 8) 24

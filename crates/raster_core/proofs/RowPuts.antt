@@ -15,7 +15,7 @@ use Rattle.raster_core.specs.Packed.{HasLines}
 use Rattle.qm_core.specs.Puts.{failed_answer, Puts}
 use Rattle.raster_core.specs.Row.{first_events, canonical_events, RowEncoded, row_task}
 use Rattle.raster_core.specs.Window.{shape_mode}
-use Rattle.raster_core.specs.Machine.Registers.{bit, before}
+use Rattle.raster_core.specs.Machine.Registers.{before}
 use Rattle.raster_core.specs.Machine.Bytes.{events_from}
 use Rattle.raster_core.specs.Machine.Rows.{lines_in, held_in, plain_events, coded_events}
 use Rattle.qm_core.specs.declared.coder.Coder.{Coder}
@@ -30,14 +30,9 @@ use Rattle.raster_core.proofs.BytePixels.{pixel_in}
 use Rattle.raster_core.proofs.EventLists.{event_is, events_first, length-events}
 use Rattle.raster_core.proofs.Packed.{IsIn, packed_in}
 use Rattle.raster_core.proofs.RowsIn.{current_in, above_in, second_in}
+use Rattle.raster_core.proofs.Before.{bit_same}
 
 -- ---- rows with the same bytes have the same pixels
-
-bit_same : (a b : Bool) → bit a ≡ bit b → a ≡ b
-bit_same true true h = refl
-bit_same true false h = absurd (omega arith)
-bit_same false true h = absurd (omega arith)
-bit_same false false h = refl
 
 abbrev SamePixels : List Bool → List Bool → Type 0
 SamePixels a b = (x : ℕ) → pixel_at a x ≡ pixel_at b x

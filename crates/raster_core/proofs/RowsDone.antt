@@ -1,13 +1,12 @@
 -- A row that was decoded, or at which the source stopped.
 use Rattle.std.proofs.Common.{◌≡◌, ◌≢◌, ℕ, ◌<◌, ◌≤◌, Bool, true, false, ◌⊎◌, inl, inr, List, [], ◌∷◌, ◌++◌, length, refl, sym, ◌∙◌, ap, arith, subst, append_assoc, Ok, Err}
 use Rattle.std.specs.Prelude.{Result, IsErr, IsTrue, ◌↔◌, if◌then◌else◌, ◌&&◌, not}
-use Rattle.qm_core.specs.declared.source.Heard.{Heard}
 use Rattle.qm_core.specs.declared.source.Heard.TheVariants.{Stopped}
 use Rattle.raster_core.proofs.Joins.{bytes_before}
 use Rattle.std.proofs.lemmas.List.{append-nil}
 use Rattle.qm_core.specs.Place.{Place, IsPlace, State, Event, Estimate, step, after, same, state_of}
 use Rattle.qm_core.specs.Code.{Lies, wanted_bytes}
-use Rattle.qm_core.specs.Source.{bytes_of, heard_of, is_stopped, Agrees, before_fault, source_at}
+use Rattle.qm_core.specs.Source.{bytes_of, heard_of, Agrees, before_fault, source_at}
 use Rattle.qm_core.specs.Decoder.{DecoderIsAt, has_stopped, decoder_state}
 use Rattle.qm_core.specs.declared.source.Pulled.{Pulled}
 use Rattle.qm_core.specs.declared.decoder.Decoder.{Decoder}
@@ -25,8 +24,9 @@ use Rattle.raster_core.specs.Machine.Registers.{past_bits}
 use Rattle.raster_core.specs.declared.shape.Shape.{Shape}
 use Rattle.raster_core.specs.declared.shape.Kept.{Kept}
 use Rattle.raster_core.proofs.Causal.{pixel_events_more, pixel_events_front}
-use Rattle.raster_core.proofs.Firsts.{same_self}
+use Rattle.raster_core.proofs.Shifts.{same_self}
 use Rattle.raster_core.proofs.Before.{before_none}
+use Rattle.raster_core.proofs.SkipsAlong.{not_stopped}
 
 -- ---- two rows of which one stops short
 
@@ -185,7 +185,7 @@ is_err e = refl
 not_err : (x : Unit {0}) → IsErr {T = Unit {0}} {E = Stop} (Ok x) → ⊥
 not_err x h = cc
 
-no_false : false ≡ true → ⊥
+pub no_false : false ≡ true → ⊥
 no_false e = cc
 
 not_begun : (b : Bool) → b ≡ false → b ≡ true → ⊥
@@ -287,15 +287,12 @@ begun_pixels pull from shape kept place s learned answers lines window d going h
             stands = subst (DecoderIsAt d (after s (plain_events_of shape kept lines h.done)).place) (sym (append-nil answers)) h.stands;
             taught = h.taught;
             enough = λ _. subst (λ a. AreEnough (length (bytes_of a)) s (plain_events_of shape kept lines h.done)) (sym (append-nil answers)) h.enough;
-            going = λ e. absurd (no_stop (heard_of answers) (ap is_stopped (sym h.stands.heard) ∙ going) (subst (λ a. heard_of a ≡ Stopped) (append-nil answers) e));
+            going = λ e. absurd (not_stopped d _ answers h.stands going (subst (λ a. heard_of a ≡ Stopped) (append-nil answers) e));
           };
         },
       );
       typical = λ e. absurd (no_false e);
     }
-  where
-    no_stop : (t : Heard) → is_stopped t ≡ false → t ≡ Stopped → ⊥
-    no_stop t e f = let z : is_stopped Stopped ≡ false = subst (λ u. is_stopped u ≡ false) f e in cc
 
 pub done_plain : AnswersLie → {S : Type 0} (pull : S → Pulled → S → Type 0) (from to : S) (shape : Shape) (kept kept' : Kept) (s : State) (learned : List Estimate) (answers : List Pulled) (lines : Lines) (current : List ℕ)
     (window : Held) (d : Decoder) → 1 ≤ shape.width → kept'.offset ≡ kept.offset → kept'.previous_typical ≡ false →
@@ -346,20 +343,14 @@ pub carried : {S : Type 0} {pull : S → Pulled → S → Type 0} {from : S} {sh
     to' ≡ to → current' ≡ current → learned' ≡ learned → d' ≡ d →
     RowGoesOn (source_at pull from answers) (row_task shape kept s lines) (row_left kept' (record { width = width; current = current; above = above; second = second })) place (decoder_state to d learned) result →
     RowGoesOn (source_at pull from answers) (row_task shape kept s lines) (row_left kept' (record { width = width; current = current'; above = above; second = second })) place (decoder_state to' d' learned') result
-carried {S} {pull} {from} {shape} {kept} {kept'} {s} {answers} {lines} {result} {place} width above second to to' current current' learned learned' d d' a b e f h =
-    subst (λ x. RowGoesOn (source_at pull from answers) (row_task shape kept s lines) (row_left kept' (record { width = width; current = current'; above = above; second = second })) place (decoder_state x d' learned') result) (sym a)
-    (subst (λ x. RowGoesOn (source_at pull from answers) (row_task shape kept s lines) (row_left kept' (record { width = width; current = x; above = above; second = second })) place (decoder_state to d' learned') result) (sym b)
-    (subst (λ x. RowGoesOn (source_at pull from answers) (row_task shape kept s lines) (row_left kept' (record { width = width; current = current; above = above; second = second })) place (decoder_state to d' x) result) (sym e)
-    (subst (λ x. RowGoesOn (source_at pull from answers) (row_task shape kept s lines) (row_left kept' (record { width = width; current = current; above = above; second = second })) place (decoder_state to x learned) result) (sym f) h)))
+carried width above second to to' current current' learned learned' d d' a b e f h = rw (a, b, e, f) h
 
 -- the same rows before, and the same after
 pub same_goes : {S : Type 0} {pull : S → Pulled → S → Type 0} {from to : S} {shape : Shape} {kept kept' : Kept} {place place' : RowPlace} {s : State} {answers : List Pulled} {lines : Lines}
     {learned learned' : List Estimate} {d d' : Decoder} {result : Result (Unit {0}) Stop} {v v' : Held} (w w' : Held) → v ≡ w → v' ≡ w' →
     (StandsInRow (row_task shape kept s lines) place answers w learned d → RowGoesOn (source_at pull from answers) (row_task shape kept s lines) (row_left kept' w') place' (decoder_state to d' learned') result) →
     StandsInRow (row_task shape kept s lines) place answers v learned d → RowGoesOn (source_at pull from answers) (row_task shape kept s lines) (row_left kept' v') place' (decoder_state to d' learned') result
-same_goes {S} {pull} {from} {to} {shape} {kept} {kept'} {place} {place'} {s} {answers} {lines} {learned} {learned'} {d} {d'} {result} {v} {v'} w w' e f goes h =
-    subst (λ u. RowGoesOn (source_at pull from answers) (row_task shape kept s lines) (row_left kept' u) place' (decoder_state to d' learned') result) (sym f)
-    (goes (subst (λ u. StandsInRow (row_task shape kept s lines) place answers u learned d) e h))
+same_goes w w' e f goes h = rw f (goes (rw e at h))
 
 -- a row before which its source stood so
 pub fresh_row : (shape : Shape) (kept : Kept) (place : RowPlace) (p : Place) (learned : List Estimate) (answers : List Pulled) (lines : Lines) (w : Held) (d : Decoder) → IsRowStart place → DecoderIsAt d p answers → HasAbove w lines →

@@ -37,27 +37,19 @@ before_after xs ys (suc x) (suc n) h =
     let at : pixel_at (xs ++ ys) (length xs + x) ≡ pixel_at ys x = get_or-append-add xs ys x false in
     rw (e, before_suc (xs ++ ys) (length xs + x) n, before_suc ys x n, before_after xs ys x n (omega arith), at) refl
 
-row_in_cons : (b : ℕ) (bytes : List ℕ) → row_in (b ∷ bytes) ≡ bits 8 b ++ row_in bytes
-unfolding row_in
-row_in_cons b bytes = refl
-
-row_in_none : row_in [] ≡ []
-unfolding row_in
-row_in_none = refl
-
 pub row_in_is : (bytes : List ℕ) → IsIn (row_in bytes) bytes
+unfolding row_in
 row_in_is [] k =
     let none : slice_index [] k ≡ 0 = refl in
-    ap (λ row. before row (8 * k + 8) 8) row_in_none ∙ (before_white [] (8 * k) 8 (omega arith) ∙ ap (λ z. z % 256) (sym none))
+    before_white [] (8 * k) 8 (omega arith) ∙ ap (λ z. z % 256) (sym none)
 row_in_is (b ∷ bytes) zero =
     let long = length-bits 8 b in
-    ap (λ row. before row 8 8) (row_in_cons b bytes) ∙ (before_front (bits 8 b) (row_in bytes) 8 8 (omega arith) ∙ bits_before 8 8 b (omega arith))
+    before_front (bits 8 b) (row_in bytes) 8 8 (omega arith) ∙ bits_before 8 8 b (omega arith)
 row_in_is (b ∷ bytes) (suc k) =
     let long = length-bits 8 b in
     let e : 8 * suc k + 8 ≡ length (bits 8 b) + (8 * k + 8) = omega (arith, long) in
-    ap (λ row. before row (8 * suc k + 8) 8) (row_in_cons b bytes)
-    ∙ (ap (λ x. before (bits 8 b ++ row_in bytes) x 8) e
-    ∙ (before_after (bits 8 b) (row_in bytes) (8 * k + 8) 8 (omega arith) ∙ row_in_is bytes k))
+    ap (λ x. before (bits 8 b ++ row_in bytes) x 8) e
+    ∙ (before_after (bits 8 b) (row_in bytes) (8 * k + 8) 8 (omega arith) ∙ row_in_is bytes k)
 
 pub current_in : (rows : Rows) → IsIn (lines_in rows).row rows.current.now
 unfolding lines_in

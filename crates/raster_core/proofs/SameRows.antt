@@ -10,13 +10,8 @@ use Rattle.raster_core.specs.Packed.{packed_row}
 use Rattle.raster_core.specs.Machine.Registers.{bit}
 use Rattle.raster_core.proofs.Packed.{packed_byte}
 use Rattle.raster_core.proofs.BytePixels.{pixel_in}
-use Rattle.raster_core.proofs.RowsDone.{same_row_self}
-
-bit_same : (a b : Bool) → bit a ≡ bit b → a ≡ b
-bit_same true true h = refl
-bit_same true false h = cc
-bit_same false true h = cc
-bit_same false false h = refl
+use Rattle.raster_core.proofs.RowsDone.{same_row_self, no_false}
+use Rattle.raster_core.proofs.Before.{bit_same}
 
 -- the pixel at x, from the bytes
 pixel_of : (row : List Bool) (x : ℕ) → slice_index (packed_row row) (x / 8) / 2 ^ (7 - x % 8) % 2 ≡ bit (pixel_at row x)
@@ -53,9 +48,6 @@ rows_other a b ne = by (same_row a b) refl
     by false e = refl
     by true e = absurd (ne (ap packed_row (same_row_only a b e)))
 
-no_true : false ≡ true → ⊥
-no_true e = cc
-
 pub typical_test : (r : Bool) (xs ys : List ℕ) (a b : List Bool) → Decides r (xs ≡ ys) → xs ≡ packed_row a → ys ≡ packed_row b → length a ≡ length b → r ≡ same_row a b
 typical_test true xs ys a b h p q l = sym (rows_same a b (sym p ∙ (h.0 refl ∙ q)) l)
-typical_test false xs ys a b h p q l = sym (rows_other a b (λ e. no_true (h.1 (p ∙ (e ∙ sym q)))))
+typical_test false xs ys a b h p q l = sym (rows_other a b (λ e. no_false (h.1 (p ∙ (e ∙ sym q)))))

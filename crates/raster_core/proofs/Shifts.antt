@@ -1,5 +1,5 @@
 -- Pixels in words.
-use Rattle.std.proofs.Common.{◌≡◌, ℕ, zero, suc, ◌+◌, ◌-◌, ◌*◌, ◌/◌, ◌%◌, ◌^◌, ◌<◌, ◌≤◌, Bool, true, false, ◌++◌, ◌&&◌, not, ◌∷◌, refl, sym, ◌∙◌, ap, arith, cond, add-zero, lit<, lit≤, ◌⊎◌, inl, inr}
+use Rattle.std.proofs.Common.{◌≡◌, ℕ, zero, suc, ◌+◌, ◌-◌, ◌*◌, ◌/◌, ◌%◌, ◌^◌, ◌<◌, ◌≤◌, Bool, true, false, ◌++◌, ◌&&◌, not, ◌∷◌, refl, sym, ◌∙◌, ap, arith, cond, add-zero, lit<, lit≤, inl, inr, zero-add}
 use Rattle.std.specs.Prelude.{bit_and, bit_or, bit_xor, count_ones, count_by}
 use Rattle.std.proofs.Math.Nat.{pow-suc, mul-add-mod_self_right, mod-eq_of_lt, mul-le-mul_right}
 use lib.Count.{ones, ones_in}
@@ -10,9 +10,8 @@ use Rattle.qm_core.specs.Place.{same}
 use Rattle.raster_core.specs.Lines.{numbers_from}
 use Rattle.raster_core.specs.Machine.Words.{word, agreed_from, pixels_from}
 use Rattle.raster_core.specs.Machine.Registers.{bit}
-
-pub order : (a b : ℕ) → (a < b) ⊎ (b ≤ a)
-order a b = grind arith
+use Rattle.std.proofs.lemmas.Bool.{cases_lt}
+use Rattle.std.proofs.Math.Bool.{and-true}
 
 pow_two : (n : ℕ) → 2 ^ suc n ≡ 2 ^ n * 2
 pow_two n = pow-suc 2 n
@@ -80,10 +79,7 @@ word_and p q f g (suc n) =
     and_block 1 (word p f n) (word q g n) (bit (p (f + n))) (bit (q (g + n))) (bit_lt (p (f + n))) (bit_lt (q (g + n)))
     ∙ ap (λ x. x * 2 + bit_and (bit (p (f + n))) (bit (q (g + n)))) (word_and p q f g n)
     ∙ ap (λ x. word (λ i. p (f + i) && q (g + i)) 0 n * 2 + x) (and_bit (p (f + n)) (q (g + n)))
-    ∙ ap (λ k. word (λ i. p (f + i) && q (g + i)) 0 n * 2 + bit (p (f + k) && q (g + k))) (sym (zero_add n))
-  where
-    zero_add : (k : ℕ) → 0 + k ≡ k
-    zero_add k = omega arith
+    ∙ ap (λ k. word (λ i. p (f + i) && q (g + i)) 0 n * 2 + bit (p (f + k) && q (g + k))) (sym (zero-add n))
 
 pub word_xor : (p q : ℕ → Bool) (f g n : ℕ) → bit_xor (word p f n) (word q g n) ≡ word (λ i. not (same (p (f + i)) (q (g + i)))) 0 n
 unfolding word
@@ -92,10 +88,7 @@ word_xor p q f g (suc n) =
     xor_block 1 (word p f n) (word q g n) (bit (p (f + n))) (bit (q (g + n))) (bit_lt (p (f + n))) (bit_lt (q (g + n)))
     ∙ ap (λ x. x * 2 + bit_xor (bit (p (f + n))) (bit (q (g + n)))) (word_xor p q f g n)
     ∙ ap (λ x. word (λ i. not (same (p (f + i)) (q (g + i)))) 0 n * 2 + x) (xor_bit (p (f + n)) (q (g + n)))
-    ∙ ap (λ k. word (λ i. not (same (p (f + i)) (q (g + i)))) 0 n * 2 + bit (not (same (p (f + k)) (q (g + k))))) (sym (zero_add n))
-  where
-    zero_add : (k : ℕ) → 0 + k ≡ k
-    zero_add k = omega arith
+    ∙ ap (λ k. word (λ i. not (same (p (f + i)) (q (g + i)))) 0 n * 2 + bit (not (same (p (f + k)) (q (g + k))))) (sym (zero-add n))
 
 pub word_not : (p : ℕ → Bool) (f n : ℕ) → 2 ^ n - 1 - word p f n ≡ word (λ i. not (p i)) f n
 unfolding word
@@ -126,7 +119,7 @@ word_ones p f (suc n) =
 
 -- ---- two words, joined
 
-second_part : (q : ℕ → Bool) (g s : ℕ) → s ≤ 64 → word q g 64 / 2 ^ s ≡ word q g (64 - s)
+pub second_part : (q : ℕ → Bool) (g s : ℕ) → s ≤ 64 → word q g 64 / 2 ^ s ≡ word q g (64 - s)
 second_part q g s h =
     let e : word q g ((64 - s) + s) ≡ word q g (64 - s) * 2 ^ s + word q (g + (64 - s)) s = word_cat q g (64 - s) s in
     let n : (64 - s) + s ≡ 64 = omega arith in
@@ -152,25 +145,19 @@ twice w p m =
 
 first_part : (q : ℕ → Bool) (g s : ℕ) → s < 64 → word q g 64 * 2 ^ 1 % 2 ^ 64 * 2 ^ (63 - s) % 2 ^ 64 ≡ word q (g + (64 - s)) s * 2 ^ (64 - s)
 first_part q g s h =
+    let one_more : suc (63 - s) ≡ 64 - s = omega arith in
+    let whole : s + (64 - s) ≡ 64 = omega arith in
+    let doubled : 2 * 2 ^ (63 - s) ≡ 2 ^ suc (63 - s) = omega (arith, pow_two (63 - s)) in
     let e : word q g ((64 - s) + s) ≡ word q g (64 - s) * 2 ^ s + word q (g + (64 - s)) s = word_cat q g (64 - s) s in
     let n : (64 - s) + s ≡ 64 = omega arith in
     let lt : word q (g + (64 - s)) s < 2 ^ s = word_lt q (g + (64 - s)) s in
-    let up : 2 * 2 ^ (63 - s) ≡ 2 ^ (64 - s) = doubled (63 - s) ∙ ap (λ k. 2 ^ k) (one_more s h) in
-    let all : 2 ^ s * 2 ^ (64 - s) ≡ 2 ^ 64 = sym (pow-add 2 s (64 - s)) ∙ ap (λ k. 2 ^ k) (whole s h) in
+    let up : 2 * 2 ^ (63 - s) ≡ 2 ^ (64 - s) = doubled ∙ ap (λ k. 2 ^ k) one_more in
+    let all : 2 ^ s * 2 ^ (64 - s) ≡ 2 ^ 64 = sym (pow-add 2 s (64 - s)) ∙ ap (λ k. 2 ^ k) whole in
     twice (word q g 64) (2 ^ (63 - s)) (2 ^ 64)
     ∙ ap (λ x. word q g 64 * x % 2 ^ 64) up
     ∙ ap (λ k. word q g k * 2 ^ (64 - s) % 2 ^ 64) (sym n)
     ∙ ap (λ x. x * 2 ^ (64 - s) % 2 ^ 64) e
     ∙ modded (word q g (64 - s)) (word q (g + (64 - s)) s) (2 ^ s) (2 ^ (64 - s)) (2 ^ 64) all lt (pow_pos (64 - s))
-  where
-    doubled : (k : ℕ) → 2 * 2 ^ k ≡ 2 ^ suc k
-    doubled k = let e : 2 ^ suc k ≡ 2 ^ k * 2 = pow_two k in omega (arith, e)
-
-    one_more : (t : ℕ) → t < 64 → suc (63 - t) ≡ 64 - t
-    one_more t lt = omega arith
-
-    whole : (t : ℕ) → t < 64 → t + (64 - t) ≡ 64
-    whole t lt = omega arith
 
 pub joined_is : (q : ℕ → Bool) (g s : ℕ) → s < 64 →
     bit_or (word q g 64 * 2 ^ 1 % 2 ^ 64 * 2 ^ (63 - s) % 2 ^ 64) (word q (g + 64) 64 / 2 ^ s) ≡ word q (g + 64 - s) 64
@@ -193,8 +180,8 @@ kept_same true true = refl
 kept_same true false = refl
 kept_same false s = refl
 
-start : (k : ℕ) → 0 + k ≡ k
-start k = omega arith
+pub shifted : (x i : ℕ) → (x + 1) + i ≡ x + (i + 1)
+shifted x i = omega arith
 
 -- a count by places, from elsewhere
 pub count_same : (f g : ℕ → Bool) (a b n : ℕ) → ((i : ℕ) → i < n → f (a + i) ≡ g (b + i)) → count_by f (numbers_from a n) ≡ count_by g (numbers_from b n)
@@ -205,28 +192,21 @@ count_same f g a b (suc n) h =
     ∙ ap (λ t. cond t 1 0 + count_by f (numbers_from (a + 1) n)) first
     ∙ ap (λ x. cond (g b) 1 0 + x) (count_same f g (a + 1) (b + 1) n (λ i lt. ap f (shifted a i) ∙ h (i + 1) (omega arith) ∙ ap g (sym (shifted b i))))
     ∙ sym (sum_by-cons (λ x. cond (g x) 1 0) b (numbers_from (b + 1) n))
-  where
-    shifted : (x i : ℕ) → (x + 1) + i ≡ x + (i + 1)
-    shifted x i = omega arith
 
 pub numbers_cat : (a n k : ℕ) → numbers_from a (n + k) ≡ numbers_from a n ++ numbers_from (a + n) k
-numbers_cat a zero k = ap (numbers_from a) (start k) ∙ ap (λ x. numbers_from x k) (sym (add-zero a))
+numbers_cat a zero k = ap (numbers_from a) (zero-add k) ∙ ap (λ x. numbers_from x k) (sym (add-zero a))
 numbers_cat a (suc n) k =
-    ap (numbers_from a) (later n k) ∙ ap (λ xs. a ∷ xs) (numbers_cat (a + 1) n k ∙ ap (λ x. numbers_from (a + 1) n ++ numbers_from x k) (moved a n))
-  where
-    later : (x y : ℕ) → suc x + y ≡ suc (x + y)
-    later x y = omega arith
-
-    moved : (x y : ℕ) → (x + 1) + y ≡ x + suc y
-    moved x y = omega arith
+    let later : suc n + k ≡ suc (n + k) = omega arith in
+    let moved : (a + 1) + n ≡ a + suc n = omega arith in
+    ap (numbers_from a) later ∙ ap (λ xs. a ∷ xs) (numbers_cat (a + 1) n k ∙ ap (λ x. numbers_from (a + 1) n ++ numbers_from x k) moved)
 
 pub count_cat : (f : ℕ → Bool) (a n k : ℕ) → count_by f (numbers_from a (n + k)) ≡ count_by f (numbers_from a n) + count_by f (numbers_from (a + n) k)
 count_cat f a n k = ap (count_by f) (numbers_cat a n k) ∙ sum_by-append (λ x. cond (f x) 1 0) (numbers_from a n) (numbers_from (a + n) k)
 
-agreed_word_n : (p q m : ℕ → Bool) (a b c n : ℕ) →
+pub agreed_word_is : (p q m : ℕ → Bool) (a b c n : ℕ) →
     count_ones (bit_and (word m c n) (2 ^ n - 1 - bit_xor (word p a n) (word q b n))) ≡ agreed_from (pixels_from p a) (pixels_from q b) (pixels_from m c) n
 unfolding agreed_from
-agreed_word_n p q m a b c n =
+agreed_word_is p q m a b c n =
     ap (λ x. count_ones (bit_and (word m c n) (2 ^ n - 1 - x))) (word_xor p q a b n)
     ∙ ap (λ x. count_ones (bit_and (word m c n) x)) (word_not (λ i. not (same (p (a + i)) (q (b + i)))) 0 n)
     ∙ ap count_ones (word_and m (λ i. not (not (same (p (a + i)) (q (b + i))))) c 0 n)
@@ -237,16 +217,9 @@ agreed_word_n p q m a b c n =
     here : (i : ℕ) → m (c + i) && not (not (same (p (a + (0 + i))) (q (b + (0 + i))))) ≡ (m (c + i) && same (p (a + i)) (q (b + i)))
     here i =
         kept_same (m (c + i)) (same (p (a + (0 + i))) (q (b + (0 + i))))
-        ∙ ap (λ k. m (c + i) && same (p (a + k)) (q (b + k))) (start i)
-
-pub agreed_word_is : (p q m : ℕ → Bool) (a b c : ℕ) →
-    count_ones (bit_and (word m c 64) (2 ^ 64 - 1 - bit_xor (word p a 64) (word q b 64))) ≡ agreed_from (pixels_from p a) (pixels_from q b) (pixels_from m c) 64
-agreed_word_is p q m a b c = agreed_word_n p q m a b c 64
+        ∙ ap (λ k. m (c + i) && same (p (a + k)) (q (b + k))) (zero-add i)
 
 -- ---- a word's left neighbour moves in, a pixel at a time
-
-pub begun : (q : ℕ → Bool) (g s : ℕ) → s < 64 → word q g 64 / 2 ^ s ≡ word q g (64 - s)
-begun q g s h = second_part q g s (omega (arith, h))
 
 pub far_next : (q : ℕ → Bool) (g d : ℕ) → d < 64 → word q g (64 - d) / 2 ≡ word q g (64 - (d + 1))
 far_next q g d h =
@@ -258,6 +231,8 @@ far_next q g d h =
 pub near_next : (q : ℕ → Bool) (g d : ℕ) → d < 64 →
     bit_or (word q g (64 - d) * 2 ^ 63 % 2 ^ 64) (word q (g + 64 - d) 64 / 2 ^ 1) ≡ word q (g + 64 - (d + 1)) 64
 near_next q g d h =
+    let beside : g + 64 - d ≡ g + (63 - d) + 1 = omega arith in
+    let one_left : g + (63 - d) ≡ g + 64 - (d + 1) = omega arith in
     let e : word q g ((63 - d) + 1) ≡ word q g (63 - d) * 2 ^ 1 + word q (g + (63 - d)) 1 = word_cat q g (63 - d) 1 in
     let n : 64 - d ≡ (63 - d) + 1 = omega arith in
     let last : word q (g + (63 - d)) 1 < 2 ^ 1 = word_lt q (g + (63 - d)) 1 in
@@ -266,15 +241,9 @@ near_next q g d h =
     ∙ ap (λ x. bit_or x (word q (g + 64 - d) 64 / 2 ^ 1)) (modded (word q g (63 - d)) (word q (g + (63 - d)) 1) 2 (2 ^ 63) (2 ^ 64) refl last (lit< tt))
     ∙ ap (bit_or (word q (g + (63 - d)) 1 * 2 ^ 63)) (second_part q (g + 64 - d) 1 (lit≤ tt))
     ∙ or_shifted (word q (g + (63 - d)) 1) 63 (word q (g + 64 - d) 63) (word_lt q (g + 64 - d) 63)
-    ∙ ap (λ k. word q (g + (63 - d)) 1 * 2 ^ 63 + word q k 63) (beside g d h)
+    ∙ ap (λ k. word q (g + (63 - d)) 1 * 2 ^ 63 + word q k 63) beside
     ∙ sym (word_cat q (g + (63 - d)) 1 63)
-    ∙ ap (λ k. word q k 64) (one_left g d h)
-  where
-    beside : (g d : ℕ) → d < 64 → g + 64 - d ≡ g + (63 - d) + 1
-    beside g d h = omega arith
-
-    one_left : (g d : ℕ) → d < 64 → g + (63 - d) ≡ g + 64 - (d + 1)
-    one_left g d h = omega arith
+    ∙ ap (λ k. word q k 64) one_left
 
 -- ---- words of one colour
 
@@ -313,47 +282,32 @@ in_all p place b one two three i lt =
 
     there : (i : ℕ) → i < 192 → p (place + i) ≡ b
     there i lt =
-        elim (order i 64) [
+        elim (cases_lt i 64) [
           | inl h ↦ one i h
-          | inr h ↦ elim (order i 128) [
+          | inr h ↦ elim (cases_lt i 128) [
             | inl k ↦ ap p (at i 64 h) ∙ two (i - 64) (omega (arith, k))
             | inr k ↦ ap p (at i 128 k) ∙ three (i - 128) (omega (arith, lt))
           ]
         ]
 
-same_self : (b : Bool) → same b b ≡ true
+pub same_self : (b : Bool) → same b b ≡ true
 same_self true = refl
 same_self false = refl
 
-even_n : (p m : ℕ → Bool) (place c lag n : ℕ) → ((i : ℕ) → i < 192 → p (place + i) ≡ p place) → lag ≤ 127 → n ≤ 64 →
+pub even_agreed : (p m : ℕ → Bool) (place c lag n : ℕ) → ((i : ℕ) → i < 192 → p (place + i) ≡ p place) → lag ≤ 127 → n ≤ 64 →
     count_ones (word m c n) ≡ agreed_from (pixels_from p (place + 128)) (pixels_from p (place + 128 - lag)) (pixels_from m c) n
 unfolding agreed_from
-even_n p m place c lag n h high le =
+even_agreed p m place c lag n h high le =
     word_ones m c n
     ∙ count_same m (λ i. m (c + i) && same (p (place + 128 + i)) (p ((place + 128 - lag) + i))) c 0 n (λ i lt. sym (here i lt))
   where
-    kept : (b : Bool) → b && true ≡ b
-    kept true = refl
-    kept false = refl
-
-    one_at : (i : ℕ) → place + 128 + (0 + i) ≡ place + (128 + i)
-    one_at i = omega arith
-
-    other_at : (i : ℕ) → (place + 128 - lag) + (0 + i) ≡ place + (128 - lag + i)
-    other_at i = omega (arith, high)
-
-    start : (i : ℕ) → 0 + i ≡ i
-    start i = omega arith
-
     here : (i : ℕ) → i < n → m (c + (0 + i)) && same (p (place + 128 + (0 + i))) (p ((place + 128 - lag) + (0 + i))) ≡ m (c + i)
     here i lt =
-        let one : p (place + 128 + (0 + i)) ≡ p place = ap p (one_at i) ∙ h (128 + i) (omega (arith, lt, le)) in
-        let other : p ((place + 128 - lag) + (0 + i)) ≡ p place = ap p (other_at i) ∙ h (128 - lag + i) (omega (arith, lt, le)) in
+        let one_at : place + 128 + (0 + i) ≡ place + (128 + i) = omega arith in
+        let other_at : (place + 128 - lag) + (0 + i) ≡ place + (128 - lag + i) = omega (arith, high) in
+        let one : p (place + 128 + (0 + i)) ≡ p place = ap p one_at ∙ h (128 + i) (omega (arith, lt, le)) in
+        let other : p ((place + 128 - lag) + (0 + i)) ≡ p place = ap p other_at ∙ h (128 - lag + i) (omega (arith, lt, le)) in
         ap (λ x. m (c + (0 + i)) && same x (p ((place + 128 - lag) + (0 + i)))) one
         ∙ ap (λ x. m (c + (0 + i)) && same (p place) x) other
         ∙ ap (λ x. m (c + (0 + i)) && x) (same_self (p place))
-        ∙ kept (m (c + (0 + i))) ∙ ap (λ k. m (c + k)) (start i)
-
-pub even_agreed : (p m : ℕ → Bool) (place c lag : ℕ) → ((i : ℕ) → i < 192 → p (place + i) ≡ p place) → lag ≤ 127 →
-    count_ones (word m c 64) ≡ agreed_from (pixels_from p (place + 128)) (pixels_from p (place + 128 - lag)) (pixels_from m c) 64
-even_agreed p m place c lag h high = even_n p m place c lag 64 h high (lit≤ tt)
+        ∙ and-true (m (c + (0 + i))) ∙ ap (λ k. m (c + k)) (zero-add i)

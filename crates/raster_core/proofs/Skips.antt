@@ -21,11 +21,8 @@ pub past_run : (row : List Bool) (offset past x byte : ℕ) → past ≡ before 
     past % 2 ^ (past_bits offset - 8) * 256 + byte ≡ before row (x + 8) (past_bits offset)
 past_run row offset past x byte p b =
     let low : past % 2 ^ (past_bits offset - 8) ≡ before row x (past_bits offset - 8) = ap (λ z. z % 2 ^ (past_bits offset - 8)) (p ∙ ap (λ w. before row x w) (past_size offset)) ∙ before_mod row x 8 (past_bits offset - 8) in
-    let size : (past_bits offset - 8) + 8 ≡ past_bits offset = turned (past_bits offset - 8) ∙ sym (past_size offset) in
+    let size : (past_bits offset - 8) + 8 ≡ past_bits offset = omega (arith, past_size offset) in
     ap (λ z. z * 256 + byte) low ∙ (ap (λ z. before row x (past_bits offset - 8) * 256 + z) b ∙ (sym (before_split row x (past_bits offset - 8) 8) ∙ ap (λ w. before row (x + 8) w) size))
-  where
-    turned : (v : ℕ) → v + 8 ≡ 8 + v
-    turned v = omega arith
 
 -- the pixels of a byte of one colour
 pub own_pixels : (row : List Bool) (byte x : ℕ) (c : Bool) → byte ≡ bit c * 255 → byte ≡ before row (x + 8) 8 → (k : ℕ) → k < 8 → pixel_at row (x + k) ≡ c

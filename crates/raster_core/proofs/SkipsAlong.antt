@@ -82,7 +82,7 @@ enough_run (suc n) s event count quiet h =
     let one : (step s event.context event.pixel).place.doublings ≡ s.place.doublings = quiet 1 (omega arith) in
     (h, enough_run n (step s event.context event.pixel) event count (λ k few. quiet (suc k) (omega (arith, few)) ∙ sym one) (subst (λ z. wanted_bytes z ≤ count) (sym one) h))
 
-not_stopped : (d : Decoder) (p : Place) (answers : List Pulled) → DecoderIsAt d p answers → has_stopped d ≡ false → heard_of answers ≡ Stopped → ⊥
+pub not_stopped : (d : Decoder) (p : Place) (answers : List Pulled) → DecoderIsAt d p answers → has_stopped d ≡ false → heard_of answers ≡ Stopped → ⊥
 not_stopped d p answers h going stopped =
     let e : is_stopped Stopped ≡ false = ap is_stopped (sym stopped) ∙ (ap is_stopped (sym h.heard) ∙ going) in
     cc

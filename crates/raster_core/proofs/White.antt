@@ -1,11 +1,12 @@
 -- White rows in bytes.
-use Rattle.std.proofs.Common.{◌≡◌, ℕ, zero, suc, ◌+◌, ◌*◌, false, List, length, refl, sym, ◌∙◌, ap, replicate}
-use Rattle.std.specs.Prelude.{slice_index}
+use Rattle.std.proofs.Common.{◌≡◌, ℕ, zero, suc, ◌+◌, ◌*◌, false, List, refl, sym, ◌∙◌, ap, replicate}
 use Rattle.raster_core.specs.Raster.{pixel_at, white_row}
 use Rattle.raster_core.specs.Packed.{packed_row, row_bytes, white_lines, HasLines}
 use Rattle.raster_core.specs.Machine.Registers.{before}
 use Rattle.raster_core.proofs.Before.{before_suc, before_none, before_zero}
 use Rattle.raster_core.proofs.Packed.{packed_is}
+use Rattle.std.proofs.lemmas.List.{length-replicate}
+use Rattle.raster_core.proofs.Choosing.{zeros}
 
 white_at : (n x : ℕ) → pixel_at (replicate n false) x ≡ false
 white_at zero x = refl
@@ -17,21 +18,12 @@ before_white_row n x zero = before_zero _ x
 before_white_row n zero (suc k) = before_none _ (suc k)
 before_white_row n (suc x) (suc k) = rw (before_suc (replicate n false) x k, before_white_row n x k, white_at n x) refl
 
-zero_at : (n k : ℕ) → slice_index (replicate n 0) k ≡ 0
-zero_at zero k = refl
-zero_at (suc n) zero = refl
-zero_at (suc n) (suc k) = zero_at n k
-
-pub long : {A : Type 0} (n : ℕ) (a : A) → length (replicate n a) ≡ n
-long zero a = refl
-long (suc n) a = ap suc (long n a)
-
 -- zeros are a white row
 pub packed-white : (width : ℕ) → replicate (row_bytes width) 0 ≡ packed_row (white_row width)
 packed-white width =
     packed_is (white_row width) (replicate (row_bytes width) 0)
-    (long (row_bytes width) 0 ∙ ap row_bytes (sym (long width false)))
-    (λ k h. zero_at (row_bytes width) k ∙ sym (before_white_row width (8 * k + 8) 8))
+    (length-replicate {A = ℕ} (row_bytes width) 0 ∙ ap row_bytes (sym (length-replicate width false)))
+    (λ k h. zeros (row_bytes width) k ∙ sym (before_white_row width (8 * k + 8) 8))
 
 -- three rows of zeros are white lines
 pub white_held : (width : ℕ) (current above second : List ℕ) → current ≡ replicate (row_bytes width) 0 → above ≡ replicate (row_bytes width) 0 → second ≡ replicate (row_bytes width) 0 →
@@ -41,7 +33,7 @@ white_held width current above second c a s =
       row_is = c ∙ packed-white width;
       above_is = a ∙ packed-white width;
       second_is = s ∙ packed-white width;
-      row_wide = long width false;
-      above_wide = long width false;
-      second_wide = long width false;
+      row_wide = length-replicate width false;
+      above_wide = length-replicate width false;
+      second_wide = length-replicate width false;
     }

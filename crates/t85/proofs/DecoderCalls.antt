@@ -26,7 +26,7 @@ use Rattle.t85_core.specs.Feeds.{HasFed, IsFeed}
 use Rattle.t85_core.specs.Pieces.{HasDecoded, HandsOut, HoldsImage}
 use Rattle.t85_core.specs.Pieces.{call_of as piece_call}
 use Rattle.t85.specs.Decoded.{window_bytes}
-use Rattle.t85.specs.Decoder.{AnnouncesMore, Answers, BehindHeader, BytesCall, GivesRowAt, HasRead, Hold, InHeader, InRows, IsBrokenStream, IsImageOf, IsShort, StandAt, bytes_of_call, bytes_call, bytes_held_by, hold_of, numbers_of_decoder}
+use Rattle.t85.specs.Decoder.{AnnouncesMore, Answers, BehindHeader, BytesCall, GivesRowAt, HasRead, Hold, InHeader, InRows, IsBrokenStream, IsImageOf, IsShort, StandAt, TellsAnswer, bytes_of_call, bytes_call, bytes_held_by, hold_of, numbers_of_decoder}
 use Rattle.t85.specs.DecoderSteps.{IsAwaited, IsFilled, IsJudged, IsOfEngine, IsToldOf}
 use Rattle.t85.specs.declared.decoder.T85Decoder.{T85Decoder}
 use Rattle.t85.specs.declared.decoder.Told.{Told}
@@ -44,14 +44,10 @@ not_some fault e = cc
 -- ---- where a decoder stands, by what comes next
 
 pub in_header : (hold : Hold) (stream out : List ℕ) → hold.decoder.next ≡ 0 → HasRead hold stream out → InHeader hold.decoder stream out
-in_header hold stream out e (inl h) = h
-in_header hold stream out e (inr (inl h)) = absurd (omega (arith, e, h.next_is))
-in_header hold stream out e (inr (inr h)) = absurd (omega (arith, e, h.next_is))
+in_header hold stream out e has = grind arith
 
 pub behind_header : (hold : Hold) (stream out : List ℕ) → hold.decoder.next ≡ 1 → HasRead hold stream out → BehindHeader hold.decoder stream out
-behind_header hold stream out e (inl h) = absurd (omega (arith, e, h.next_is))
-behind_header hold stream out e (inr (inl h)) = h
-behind_header hold stream out e (inr (inr h)) = absurd (omega (arith, e, h.next_is))
+behind_header hold stream out e has = grind arith
 
 pub in_rows : (hold : Hold) (stream out : List ℕ) → hold.decoder.next ≡ 2 → HasRead hold stream out → InRows hold stream out
 in_rows hold stream out e (inl h) = absurd (omega (arith, e, h.next_is))
@@ -65,11 +61,7 @@ answers_from old mid new call answer.Row k of a = record { bound = a.bound; tell
 answers_from old mid new call answer.More k of a = record { bound = a.bound; tells = (a.tells.0, λ s o h. a.tells.1 s o (k s o h)) }
 answers_from old mid new call answer.Done k of a = record { bound = a.bound; tells = (a.tells.0, λ s o r h m. a.tells.1 s o r (k s o h) m) }
 answers_from old mid new call (answer.Broken fault) k of a = record { bound = a.bound; tells = (a.tells.0, λ s o r h m. a.tells.1 s o r (k s o h) m) }
-answers_from old mid new call answer.Header k of a = absurd of
-answers_from old mid new call answer.TooManyRows k of a = absurd of
-answers_from old mid new call answer.ShortWindow k of a = absurd of
-answers_from old mid new call answer.NotBegun k of a = absurd of
-answers_from old mid new call (answer.Ended status) k of a = absurd of
+answers_from old mid new call what k of a = absurd of
 
 -- ---- the header
 
@@ -110,19 +102,10 @@ header_waits d mid new bytes window count is_all (answer.Broken fault) version n
         inl (ap header_fault (ap (λ r. (stream ++ bytes) ++ r) none ∙ append-nil (stream ++ bytes)) ∙ short_fault (stream ++ bytes) is_short ∙ ap Some (sym is), was.out_is),
   );
 }
-header_waits d mid new bytes window count is_all answer.Header version next fill few none = absurd none
-header_waits d mid new bytes window count is_all answer.Row version next fill few none = absurd none
-header_waits d mid new bytes window count is_all answer.Done version next fill few none = absurd none
-header_waits d mid new bytes window count is_all answer.TooManyRows version next fill few none = absurd none
-header_waits d mid new bytes window count is_all answer.ShortWindow version next fill few none = absurd none
-header_waits d mid new bytes window count is_all answer.NotBegun version next fill few none = absurd none
-header_waits d mid new bytes window count is_all (answer.Ended status) version next fill few none = absurd none
+header_waits d mid new bytes window count is_all what version next fill few none = absurd none
 
 -- what was filled is the stream so far
 module _ (laws : HeaderLaws) (d mid new : T85Decoder) (bytes window : List ℕ) (count : ℕ) (is_all : Bool) (version : d.version ≡ 1) (next : d.next ≡ 0) (few : d.header_len < 20) (fill : IsFilled d mid bytes count) (full : 20 ≤ mid.header_len) where
-  length_is : mid.header_len ≡ 20
-  length_is = omega (arith, fill.count_is, fill.len_is, few, full)
-
   stream_is : (stream out : List ℕ) → HasRead (hold_of d window) stream out → stream ++ take count bytes ≡ mid.header
   stream_is stream out has =
       let was = in_header (hold_of d window) stream out next has in
@@ -155,12 +138,7 @@ module _ (laws : HeaderLaws) (d mid new : T85Decoder) (bytes window : List ℕ) 
           inl (ap header_fault (goes_on stream out rest has) ∙ laws.refusal_stands mid.header (drop count bytes ++ rest) (omega (arith, fill.long)) ∙ is.1, out_is stream out has),
     );
   }
-  header_judged answer.Row is = absurd is
-  header_judged answer.More is = absurd is
-  header_judged answer.Done is = absurd is
-  header_judged answer.ShortWindow is = absurd is
-  header_judged answer.NotBegun is = absurd is
-  header_judged (answer.Ended status) is = absurd is
+  header_judged what is = absurd is
 
 -- ---- the rows
 
@@ -289,77 +267,57 @@ module _ (laws : HeaderLaws) (old kept new : T85Decoder) (memory memory' : List 
   height_of : kept.height ≡ e'.height
   height_of = ap (λ n. n.height) numbers
 
+  told_as : (what : Answer) → told.answer ≡ what → IsOfEngine what → TellsAnswer (InRows (hold_of old memory)) (hold_of old memory) (hold_of new memory') (bytes_call bytes is_all told.taken told.row) what →
+      IsOfEngine told.answer × Answers (InRows (hold_of old memory)) (hold_of old memory) (hold_of new memory') (bytes_call bytes is_all told.taken told.row) told.answer
+  told_as what is of tells = subst (λ a. IsOfEngine a × Answers (InRows (hold_of old memory)) (hold_of old memory) (hold_of new memory') (bytes_call bytes is_all told.taken told.row) a) (sym is) (of, record { bound = bound; tells = tells })
+
   pub row_told : (what : Outcome) → progress.outcome ≡ what → IsToldOf what header kept new told → IsOfEngine told.answer × Answers (InRows (hold_of old memory)) (hold_of old memory) (hold_of new memory') (bytes_call bytes is_all told.taken told.row) told.answer
   unfolding rows_of
   row_told outcome.Row e1 (is, same, at) =
-      subst (λ a. IsOfEngine a × Answers (InRows (hold_of old memory)) (hold_of old memory) (hold_of new memory') (bytes_call bytes is_all told.taken told.row) a) (sym is) (
-        tt,
-        record {
-          bound = bound;
-          tells = λ stream out k.
-              subst (λ d. GivesRowAt (hold_of d memory') (bytes_call bytes is_all told.taken told.row) (stream ++ take told.taken bytes) out) (sym same)
-              (let has = rows_of (stream ++ take told.taken bytes) out (k.text ++ take progress.taken bytes) (out ++ (rows_at kept.place header.xd memory').current) (further stream out k) (call.fed.row e1 k.text out (has_of stream out k)) in
-              let wide = placed_within (div_ceil header.xd 8) kept.place memory' small long' in
-              record {
-                row = (rows_at kept.place header.xd memory').current;
-                stands = stands_placed (div_ceil header.xd 8) kept.place told.row memory' small long' at;
-                has = has;
-                whole = wide ∙ ap (λ f. div_ceil f.xd 8) (sym fields_same);
-              });
-        },
-      )
+      told_as answer.Row is tt (λ stream out k.
+      subst (λ d. GivesRowAt (hold_of d memory') (bytes_call bytes is_all told.taken told.row) (stream ++ take told.taken bytes) out) (sym same)
+      (let has = rows_of (stream ++ take told.taken bytes) out (k.text ++ take progress.taken bytes) (out ++ (rows_at kept.place header.xd memory').current) (further stream out k) (call.fed.row e1 k.text out (has_of stream out k)) in
+      let wide = placed_within (div_ceil header.xd 8) kept.place memory' small long' in
+      record {
+        row = (rows_at kept.place header.xd memory').current;
+        stands = stands_placed (div_ceil header.xd 8) kept.place told.row memory' small long' at;
+        has = has;
+        whole = wide ∙ ap (λ f. div_ceil f.xd 8) (sym fields_same);
+      }))
   row_told outcome.More e1 (is, same) =
-      subst (λ a. IsOfEngine a × Answers (InRows (hold_of old memory)) (hold_of old memory) (hold_of new memory') (bytes_call bytes is_all told.taken told.row) a) (sym is) (
-        tt,
-        record {
-          bound = bound;
-          tells = (
-            taken ∙ call.all e1,
-            λ stream out k.
-                subst (λ d. HasRead (hold_of d memory') (stream ++ take told.taken bytes) out) (sym same)
-                (inr (inr (rows_of (stream ++ take told.taken bytes) out (k.text ++ take progress.taken bytes) out (further stream out k) (call.fed.more e1 k.text out (has_of stream out k)).0))),
-          );
-        },
+      told_as answer.More is tt (
+        taken ∙ call.all e1,
+        λ stream out k.
+            subst (λ d. HasRead (hold_of d memory') (stream ++ take told.taken bytes) out) (sym same)
+            (inr (inr (rows_of (stream ++ take told.taken bytes) out (k.text ++ take progress.taken bytes) out (further stream out k) (call.fed.more e1 k.text out (has_of stream out k)).0))),
       )
   row_told (outcome.Done height) e1 (is, ended, same) =
-      subst (λ a. IsOfEngine a × Answers (InRows (hold_of old memory)) (hold_of old memory) (hold_of new memory') (bytes_call bytes is_all told.taken told.row) a) (sym is) (
-        tt,
-        record {
-          bound = bound;
-          tells = (
-            ended,
-            λ stream out rest k follows.
-                let high : height ≡ new.height = sym (same ∙ height_of ∙ (call.fed.done height e1).0) in
-                subst (λ s. IsImageOf s new.height out) (sym (all_of stream out rest k))
-                (record {
-                  header = fields_of header;
-                  header_of = laws.stands old.header ((k.text ++ bytes) ++ rest) (fields_of header) header_of;
-                  holds = subst (λ b. HoldsImage (fields_of header) b new.height out) (sym (behind ((k.text ++ bytes) ++ rest)))
-                      (subst (λ n. HoldsImage (fields_of header) ((k.text ++ bytes) ++ rest) n out) high
-                      (subst (λ h. HoldsImage (fields_of h) ((k.text ++ bytes) ++ rest) height out) header_is ((call.fed.done height e1).1 k.text out rest (has_of stream out k) follows)));
-                }),
-          );
-        },
+      told_as answer.Done is tt (
+        ended,
+        λ stream out rest k follows.
+            let high : height ≡ new.height = sym (same ∙ height_of ∙ (call.fed.done height e1).0) in
+            subst (λ s. IsImageOf s new.height out) (sym (all_of stream out rest k))
+            (record {
+              header = fields_of header;
+              header_of = laws.stands old.header ((k.text ++ bytes) ++ rest) (fields_of header) header_of;
+              holds = subst (λ b. HoldsImage (fields_of header) b new.height out) (sym (behind ((k.text ++ bytes) ++ rest)))
+                  (subst (λ n. HoldsImage (fields_of header) ((k.text ++ bytes) ++ rest) n out) high
+                  (subst (λ h. HoldsImage (fields_of h) ((k.text ++ bytes) ++ rest) height out) header_is ((call.fed.done height e1).1 k.text out rest (has_of stream out k) follows)));
+            }),
       )
   row_told (outcome.Broken fault) e1 (is, ended, same) =
-      subst (λ a. IsOfEngine a × Answers (InRows (hold_of old memory)) (hold_of old memory) (hold_of new memory') (bytes_call bytes is_all told.taken told.row) a) (sym is) (
-        tt,
-        record {
-          bound = bound;
-          tells = (
-            ended,
-            λ stream out rest k follows.
-                let high : e'.height ≡ new.height = sym (same ∙ height_of) in
-                subst (λ s. IsBrokenStream s new.height fault out) (sym (all_of stream out rest k))
-                (inr (record {
-                  header = fields_of header;
-                  header_of = laws.stands old.header ((k.text ++ bytes) ++ rest) (fields_of header) header_of;
-                  hands = subst (λ b. HandsOut (fields_of header) b new.height fault out) (sym (behind ((k.text ++ bytes) ++ rest)))
-                      (subst (λ n. HandsOut (fields_of header) ((k.text ++ bytes) ++ rest) n fault out) high
-                      (subst (λ h. HandsOut (fields_of h) ((k.text ++ bytes) ++ rest) e'.height fault out) header_is (call.fed.broken fault e1 k.text out rest (has_of stream out k) follows)));
-                })),
-          );
-        },
+      told_as (answer.Broken fault) is tt (
+        ended,
+        λ stream out rest k follows.
+            let high : e'.height ≡ new.height = sym (same ∙ height_of) in
+            subst (λ s. IsBrokenStream s new.height fault out) (sym (all_of stream out rest k))
+            (inr (record {
+              header = fields_of header;
+              header_of = laws.stands old.header ((k.text ++ bytes) ++ rest) (fields_of header) header_of;
+              hands = subst (λ b. HandsOut (fields_of header) b new.height fault out) (sym (behind ((k.text ++ bytes) ++ rest)))
+                  (subst (λ n. HandsOut (fields_of header) ((k.text ++ bytes) ++ rest) n fault out) high
+                  (subst (λ h. HandsOut (fields_of h) ((k.text ++ bytes) ++ rest) e'.height fault out) header_is (call.fed.broken fault e1 k.text out rest (has_of stream out k) follows)));
+            })),
       )
 
 -- ---- nothing taken
@@ -379,50 +337,37 @@ short_window hold bytes is_all told is none short =
 take_long : (n : ℕ) (xs : List ℕ) → length (take n xs) ≤ n
 take_long n xs = subst (λ k. k ≤ n) (sym (length-take n xs)) (omega arith)
 
+-- other memory with the same window
+rows_with : (d : T85Decoder) (memory memory' stream out : List ℕ) (k : InRows (hold_of d memory) stream out) → take (window_bytes k.decoder.header.xd) memory ≡ take (window_bytes k.decoder.header.xd) memory' → InRows (hold_of d memory') stream out
+rows_with d memory memory' stream out k same = record {
+  version_is = k.version_is;
+  next_is = k.next_is;
+  place_to = k.place_to;
+  decoder = k.decoder;
+  header_of = k.header_of;
+  numbers_are = k.numbers_are;
+  text = k.text;
+  stream_is = k.stream_is;
+  has = subst (λ m. HasFed (decoder_view k.decoder (rows_at d.place k.decoder.header.xd m) d.learned) (bytes_held_by d) k.text out) same k.has;
+}
+
+read_with : (d : T85Decoder) (memory memory' : List ℕ) → ((stream out : List ℕ) (k : InRows (hold_of d memory) stream out) → take (window_bytes k.decoder.header.xd) memory ≡ take (window_bytes k.decoder.header.xd) memory') → (stream out : List ℕ) → HasRead (hold_of d memory) stream out → HasRead (hold_of d memory') stream out
+read_with d memory memory' same stream out (inl h) = inl h
+read_with d memory memory' same stream out (inr (inl h)) = inr (inl h)
+read_with d memory memory' same stream out (inr (inr k)) = inr (inr (rows_with d memory memory' stream out k (same stream out k)))
+
 module _ (laws : HeaderLaws) (d d' : T85Decoder) (window memory' rest : List ℕ) (needed : ℕ) (header : Header) (header_of : HeaderOf d.header (fields_of header)) (same : d'.header ≡ d.header) (needed_is : needed ≡ window_bytes header.xd) (long' : length memory' ≡ needed) where
   wide : (hold : Hold) (stream out : List ℕ) → hold.decoder.header ≡ d.header → (k : InRows hold stream out) → window_bytes k.decoder.header.xd ≡ needed
   wide hold stream out is k = ap (λ f. window_bytes f.xd) (laws.one d.header (fields_of k.decoder.header) (fields_of header) (subst (λ h. HeaderOf h (fields_of k.decoder.header)) is k.header_of) header_of) ∙ sym needed_is
 
-  rows_lent : (stream out : List ℕ) → InRows (hold_of d window) stream out → InRows (hold_of d (take needed window)) stream out
-  rows_lent stream out k = record {
-    version_is = k.version_is;
-    next_is = k.next_is;
-    place_to = k.place_to;
-    decoder = k.decoder;
-    header_of = k.header_of;
-    numbers_are = k.numbers_are;
-    text = k.text;
-    stream_is = k.stream_is;
-    has = subst (λ m. HasFed (decoder_view k.decoder (rows_at d.place k.decoder.header.xd m) d.learned) (bytes_held_by d) k.text out)
-        (subst (λ n. take n window ≡ take n (take needed window)) (sym (wide (hold_of d window) stream out refl k)) (sym (take_all needed (take needed window) (take_long needed window)))) k.has;
-  }
-
   lent : (stream out : List ℕ) → HasRead (hold_of d window) stream out → HasRead (hold_of d (take needed window)) stream out
-  lent stream out (inl h) = inl h
-  lent stream out (inr (inl h)) = inr (inl h)
-  lent stream out (inr (inr k)) = inr (inr (rows_lent stream out k))
+  lent = read_with d window (take needed window) (λ stream out k. subst (λ n. take n window ≡ take n (take needed window)) (sym (wide (hold_of d window) stream out refl k)) (sym (take_all needed (take needed window) (take_long needed window))))
 
-  rows_back : (stream out : List ℕ) → InRows (hold_of d' memory') stream out → InRows (hold_of d' (memory' ++ rest)) stream out
-  rows_back stream out k = record {
-    version_is = k.version_is;
-    next_is = k.next_is;
-    place_to = k.place_to;
-    decoder = k.decoder;
-    header_of = k.header_of;
-    numbers_are = k.numbers_are;
-    text = k.text;
-    stream_is = k.stream_is;
-    has = subst (λ m. HasFed (decoder_view k.decoder (rows_at d'.place k.decoder.header.xd m) d'.learned) (bytes_held_by d') k.text out)
-        (sym (take-append-le (window_bytes k.decoder.header.xd) memory' rest (omega (arith, wide (hold_of d' memory') stream out same k, long')))) k.has;
-  }
-
-  back : (stream out : List ℕ) → HasRead (hold_of d' memory') stream out → HasRead (hold_of d' (memory' ++ rest)) stream out
-  back stream out (inl h) = inl h
-  back stream out (inr (inl h)) = inr (inl h)
-  back stream out (inr (inr k)) = inr (inr (rows_back stream out k))
+  same_back : (stream out : List ℕ) (k : InRows (hold_of d' memory') stream out) → take (window_bytes k.decoder.header.xd) memory' ≡ take (window_bytes k.decoder.header.xd) (memory' ++ rest)
+  same_back stream out k = sym (take-append-le (window_bytes k.decoder.header.xd) memory' rest (omega (arith, wide (hold_of d' memory') stream out same k, long')))
 
   row_back : (call : BytesCall) (stream out : List ℕ) → GivesRowAt (hold_of d' memory') call stream out → GivesRowAt (hold_of d' (memory' ++ rest)) call stream out
-  unfolding rows_back
+  unfolding rows_with
   row_back call stream out g = record {
     row = g.row;
     stands = record {
@@ -431,17 +376,13 @@ module _ (laws : HeaderLaws) (d d' : T85Decoder) (window memory' rest : List ℕ
       others_are = ap (λ m. m ++ rest) g.stands.others_are ∙ append_assoc g.stands.front (g.row ++ g.stands.back) rest ∙ ap (λ m. g.stands.front ++ m) (append_assoc g.row g.stands.back rest);
       place_is = g.stands.place_is;
     };
-    has = rows_back stream (out ++ g.row) g.has;
+    has = rows_with d' memory' (memory' ++ rest) stream (out ++ g.row) g.has (same_back stream (out ++ g.row) g.has);
     whole = g.whole;
   }
 
   pub window_cut : (call : BytesCall) (what : Answer) → IsOfEngine what → Answers (HasRead (hold_of d (take needed window))) (hold_of d (take needed window)) (hold_of d' memory') call what → Answers (HasRead (hold_of d window)) (hold_of d window) (hold_of d' (memory' ++ rest)) call what
   window_cut call answer.Row of a = record { bound = a.bound; tells = λ s o h. row_back call (s ++ bytes_of_call call) o (a.tells s o (lent s o h)) }
-  window_cut call answer.More of a = record { bound = a.bound; tells = (a.tells.0, λ s o h. back (s ++ bytes_of_call call) o (a.tells.1 s o (lent s o h))) }
+  window_cut call answer.More of a = record { bound = a.bound; tells = (a.tells.0, λ s o h. read_with d' memory' (memory' ++ rest) same_back (s ++ bytes_of_call call) o (a.tells.1 s o (lent s o h))) }
   window_cut call answer.Done of a = record { bound = a.bound; tells = (a.tells.0, λ s o r h m. a.tells.1 s o r (lent s o h) m) }
   window_cut call (answer.Broken fault) of a = record { bound = a.bound; tells = (a.tells.0, λ s o r h m. a.tells.1 s o r (lent s o h) m) }
-  window_cut call answer.Header of a = absurd of
-  window_cut call answer.TooManyRows of a = absurd of
-  window_cut call answer.ShortWindow of a = absurd of
-  window_cut call answer.NotBegun of a = absurd of
-  window_cut call (answer.Ended status) of a = absurd of
+  window_cut call what of a = absurd of

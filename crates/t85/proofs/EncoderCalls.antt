@@ -1,6 +1,6 @@
 -- An encoder that a C caller holds.
-use Rattle.std.proofs.Common.{◌≡◌, ◌≢◌, ◌≤◌, ◌<◌, ◌+◌, ◌-◌, ◌*◌, ◌%◌, ◌⊎◌, inl, inr, ℕ, zero, suc, ◌==◌, Bool, true, false, not, ◌||◌, nat_lt, nat_le, List, [], ◌∷◌, ◌++◌, length, take, Option, None, Some, Result, Ok, Err, refl, sym, ap, subst, ◌∙◌, arith, append-nil, length-append, length-take, take_all, true≢false}
-use Rattle.std.specs.Prelude.{IfErr, IfSome, IsSomeAnd, MatchOption, OnOk, is_some, is_ok, option_map, option_to_list, replicate, unwrap_or, if◌then◌else◌}
+use Rattle.std.proofs.Common.{◌≡◌, ◌≤◌, ◌<◌, ◌+◌, ◌-◌, ◌*◌, ◌%◌, ◌⊎◌, inl, inr, ℕ, zero, suc, ◌==◌, Bool, true, false, not, ◌||◌, nat_lt, nat_le, List, [], ◌∷◌, ◌++◌, length, take, Option, None, Some, Result, Ok, Err, refl, sym, ap, subst, ◌∙◌, arith, append-nil, length-append, length-take, take_all, true≢false}
+use Rattle.std.specs.Prelude.{IfErr, IfSome, IsSomeAnd, MatchOption, OnOk, is_some, is_ok, option_to_list, replicate, unwrap_or, if◌then◌else◌}
 use Rattle.std.specs.Int.{div_ceil}
 use Rattle.std.specs.List.{AllByRecursion}
 use Rattle.std.proofs.lemmas.Bool.Decides.{nat_tests}
@@ -9,14 +9,12 @@ use Rattle.std.proofs.lemmas.List.{length-replicate, length-take-le, take-append
 use Rattle.pbm_core.specs.Device.{AppendsBeginning, one_more}
 use Rattle.pbm_core.specs.Image.{pixels_of}
 use Rattle.pbm_core.specs.declared.size.Size.{Size}
-use Rattle.qm_core.specs.Machine.{run_bytes}
 use Rattle.raster_core.specs.Packed.{Held, next_place, rows_at}
 use Rattle.raster_core.specs.Raster.{IsRaster, white_row}
 use Rattle.raster_core.specs.Window.{current_place, held as rows_held, width_of}
 use Rattle.raster_core.specs.declared.window.Window.{Window}
 use Rattle.t85_core.specs.Denotes.{Denotes}
 use Rattle.t85_core.specs.Encode.{HoldsStripes, raster_of}
-use Rattle.t85_core.specs.Fault.{fault_number}
 use Rattle.t85_core.specs.Failures.{CountsWrite, writes_after}
 use Rattle.t85_core.specs.Jbg.{AreSettings, Settings, head_of, is_low, jbg, jbg_up_to}
 use Rattle.t85_core.specs.Laws.{CodeDenotes}
@@ -25,7 +23,7 @@ use Rattle.t85_core.specs.RowNumbers.{row_numbers}
 use Rattle.t85_core.specs.Steps.ByRow.{EndsImage, HaveCome, IsPlan, MayGoOn, RowPlan, RowView, Stands, TakesNextRow, plan_of, view_of, encoder_at}
 use Rattle.t85_core.specs.RowImage.{MayCome, Image, image_of}
 use Rattle.t85_core.specs.Steps.RowLaws.{RowFronts, RowsGoElsewhere}
-use Rattle.t85_core.specs.Steps.MostBytes.{AppendsAtMost, most_end_bytes, most_row_bytes}
+use Rattle.t85_core.specs.Steps.MostBytes.{AppendsAtMost, most_row_bytes}
 use Rattle.t85_core.specs.Steps.RowSteps.{IsGoing, given_row}
 use Rattle.t85_core.specs.Steps.Sent.{Origin, Sends, behind, here}
 use Rattle.t85_core.specs.declared.encoding.by_row.RowEncoder.{RowEncoder}
@@ -33,15 +31,16 @@ use Rattle.t85_core.specs.declared.encoding.by_row.numbers.RowNumbers.{RowNumber
 use Rattle.t85_core.specs.declared.encoding.learning.Learning.{Learning}
 use Rattle.t85_core.specs.declared.options.Options.{Options}
 use Rattle.t85_core.specs.declared.fault.Fault.{Fault}
-use Rattle.t85_core.specs.declared.fault.Fault.TheVariants.{AnnouncedLow, CommentLong, MoveLarge, OptionBits, StripeZero, Write}
+use Rattle.t85_core.specs.declared.fault.Fault.TheVariants.{AnnouncedLow, MoveLarge, OptionBits, StripeZero, Write}
 use Rattle.t85.specs.Decoded.{window_bytes}
 use Rattle.t85.specs.Delivered.{lending}
-use Rattle.t85.specs.Encoded.{or_else, settings_chosen, status_if}
-use Rattle.t85.specs.Encoder.{BeginsStream, EndsStream, HasBeenEnded, HasCome, IsNotBegun, PutsEnd, PutsRow, StartCall, StartsStream, TakesOne, TellsLeft, TellsRoom, encoder_hold, end_refusal, numbers_of_encoder, row_refusal, settings_kept, start_refusal, without_comment}
+use Rattle.t85.specs.Encoded.{settings_chosen}
+use Rattle.t85.specs.Encoder.{BeginsStream, EndsStream, HasBeenEnded, HasCome, IsNotBegun, PutsEnd, PutsRow, StartCall, StartsStream, TakesOne, TellsLeft, encoder_hold, end_refusal, numbers_of_encoder, row_refusal, settings_kept, start_refusal, without_comment}
 use Rattle.t85.specs.EncoderSteps.{GoesOnFrom, HasBegun, IsIdle, IsOfNone, AwaitsCall, RefusesCall}
 use Rattle.t85.specs.Laws.{SentIsFront}
 use Rattle.t85.specs.declared.encoder.T85Encoder.{T85Encoder}
 use Rattle.t85.proofs.DecoderCalls.{not_some, window_rows}
+use Rattle.t85.proofs.Meaning.{none_zero, zero_else, zero_if}
 use Rattle.t85.proofs.Stored.{are_settings}
 
 -- ---- what stands says of the plan, and of the rows
@@ -73,22 +72,15 @@ plan_bare s width limit p is = record {
   limit_to = is.limit_to;
 }
 
-accepted : (p s m : ℕ) (layer : Bool) → p < 128 → p % 8 ≡ 0 → layer ≡ false → 1 ≤ s → m ≤ 127 → (not (p % 8 == 0) || layer || nat_le 128 p ≡ false) × ((s == 0) ≡ false) × (nat_lt 127 m ≡ false)
-accepted p s m layer small low none some within = (grind (arith, nat_tests), grind (arith, nat_tests), grind (arith, nat_tests))
-
-no_fault : (other empty large : Bool) → other ≡ false → empty ≡ false → large ≡ false → (if other then Some OptionBits else if empty then Some StripeZero else if large then Some MoveLarge else None) ≡ None
-no_fault true empty large a b c = absurd (true≢false a)
-no_fault false true large a b c = absurd (true≢false b)
-no_fault false false true a b c = absurd (true≢false c)
-no_fault false false false a b c = refl
+accepted : (p s m : ℕ) (layer : Bool) → p < 128 → p % 8 ≡ 0 → layer ≡ false → 1 ≤ s → m ≤ 127 →
+    (if not (p % 8 == 0) || layer || nat_le 128 p then Some OptionBits else if s == 0 then Some StripeZero else if nat_lt 127 m then Some MoveLarge else None) ≡ None
+accepted p s m layer small low none some within = grind (arith, nat_tests)
 
 -- so the choices of an image that is encoded are not refused
 unrefused : (d : T85Encoder) (s : Settings) (fault : Fault) → settings_kept d ≡ without_comment s → AreSettings s → refusal_of d.options d.stripe_rows d.most_offset None ≡ Some fault → ⊥
 unrefused d s fault same proper refused =
-    let a = accepted s.options s.stripe_rows s.most_offset _ proper.options_to proper.no_low_bit proper.no_layer_bit proper.stripe_from proper.offset_to in
     let b : refusal_of s.options s.stripe_rows s.most_offset None ≡ Some fault = subst (λ z. refusal_of z.options z.stripe_rows z.most_offset None ≡ Some fault) same refused in
-    let none : refusal_of s.options s.stripe_rows s.most_offset None ≡ None = no_fault _ _ _ a.0 a.1 a.2 in
-    not_some fault (sym none ∙ b)
+    not_some fault (sym (accepted s.options s.stripe_rows s.most_offset _ proper.options_to proper.no_low_bit proper.no_layer_bit proper.stripe_from proper.offset_to) ∙ b)
 
 -- no image is encoded by a struct with choices that are refused
 pub none_refused : (d : T85Encoder) (fault : Fault) → refusal_of d.options d.stripe_rows d.most_offset None ≡ Some fault → IsOfNone d
@@ -150,34 +142,19 @@ idle_refuses d refusal status i = record {
 pub left_told : (d : T85Encoder) (left : ℕ) → left ≡ d.height - d.rows → TellsLeft d left
 left_told d left is = λ window image rows sent k. (let come = come_in (k.stands None) in let few = come.few in omega (arith, is, few, k.limit_is, k.rows_are))
 
-pub none_left : (d : T85Encoder) (status : ℕ) → IsIdle d status → TellsRoom d 0
-none_left d status i = λ window image rows sent k. absurd (i.none window image rows sent k)
-
-run_length : (zeros : ℕ) (held : Option ℕ) (ones : ℕ) → length (run_bytes zeros held ones) ≡ zeros + ((if is_some held then 1 else 0) + ones)
-run_length zeros None ones =
-    let a = length-append {A = ℕ} (replicate zeros 0) (replicate ones 255) in
-    let b = length-replicate {A = ℕ} zeros 0 in
-    let c = length-replicate {A = ℕ} ones 255 in
-    omega (arith, a, b, c)
-run_length zeros (Some byte) ones =
-    let a = length-append {A = ℕ} (replicate zeros 0) (byte ∷ replicate ones 255) in
-    let b = length-replicate {A = ℕ} zeros 0 in
-    let c = length-replicate {A = ℕ} ones 255 in
-    omega (arith, a, b, c)
-
 -- ---- a room that is not filled
+
+spilled_long : (len : ℕ) (memory : List ℕ) (b : ℕ) → len ≡ length memory → length (take len memory ++ b ∷ []) ≡ length memory + 1
+spilled_long len memory b all = length-append (take len memory) (b ∷ []) ∙ ap (λ n. n + 1) (length-take-le len memory (omega (arith, all)) ∙ all)
 
 -- what an empty one holds that took no more bytes than it has room for
 pub never_full : (answer : Result (Unit {0}) Fault) (most len : ℕ) (memory old : List ℕ) (spilled : Option ℕ) (before after : ℕ) → old ≡ [] → AppendsAtMost most (Some old) (Some (take len memory ++ option_to_list spilled)) → most ≤ length memory → len ≤ length memory → (is_some spilled ≡ true → len ≡ length memory) →
     (0 < after → is_some spilled ≡ true) → before ≡ 0 → CountsWrite before after answer → IfErr answer (λ f. f ≡ Write) → (is_ok answer ≡ true) × (take len memory ++ option_to_list spilled ≡ take len memory)
 never_full answer most len memory old (Some b) before after none few enough within last full fresh counts err =
-    let all : len ≡ length memory = last refl in
     let grown : length (take len memory ++ b ∷ []) ≡ length old + length few.bytes = ap length few.appended ∙ length-append old few.bytes in
-    let long : length (take len memory ++ b ∷ []) ≡ length (take len memory) + 1 = length-append (take len memory) (b ∷ []) in
-    let cut : length (take len memory) ≡ len = length-take-le len memory within in
     let start : length old ≡ 0 = ap length none in
     let most_is = few.few in
-    absurd (omega (arith, all, grown, long, cut, start, most_is, enough))
+    absurd (omega (arith, spilled_long len memory b (last refl), grown, start, most_is, enough))
 never_full (Ok u) most len memory old None before after none few enough within last full fresh counts err = (refl, append-nil (take len memory))
 never_full (Err f) most len memory old None before after none few enough within last full fresh counts err =
     let one : after ≡ 1 = subst (λ g. after ≡ writes_after g before) err counts ∙ ap one_more fresh in
@@ -186,10 +163,6 @@ never_full (Err f) most len memory old None before after none few enough within 
 pub when_right : (answer : Result (Unit {0}) Fault) {P : Type 0} → is_ok answer ≡ true → OnOk answer P → P
 when_right (Ok u) is p = p
 when_right (Err f) is p = cc
-
--- the end writes no more than a row may
-pub end_within : (e : RowEncoder) (room : ℕ) → most_row_bytes e ≤ room → most_end_bytes e ≤ room
-end_within e room enough = omega (arith, enough)
 
 -- ---- a row
 
@@ -319,10 +292,7 @@ head_written s width limit len v window memory old (Some b) some none within las
     let at : Stands (image_of s width limit) [] v window (here (Some [])) (Some (take len memory ++ b ∷ [])) = subst (λ o. Stands (image_of s width limit) [] v window (here (Some o)) (Some (take len memory ++ b ∷ []))) none stands in
     let sends = head_sent some at in
     let long : length (take len memory ++ b ∷ []) ≡ length (head_of s width limit) = ap length (sends.appended ∙ sym sends.all) in
-    let more : length (take len memory ++ b ∷ []) ≡ length (take len memory) + 1 = length-append (take len memory) (b ∷ []) in
-    let cut : length (take len memory) ≡ len = length-take-le len memory within in
-    let all : len ≡ length memory = last refl in
-    absurd (omega (arith, long, more, cut, all, enough))
+    absurd (omega (arith, long, spilled_long len memory b (last refl), enough))
 head_written s width limit len v window memory old None some none within last enough stands =
     let at : Stands (image_of s width limit) [] v window (here (Some [])) (Some (take len memory)) = subst (λ o. Stands (image_of s width limit) [] v window (here (Some o)) (Some (take len memory))) none (subst (λ t. Stands (image_of s width limit) [] v window (here (Some old)) (Some t)) (append-nil (take len memory)) stands) in
     let sends = head_sent some at in
@@ -340,10 +310,7 @@ head_fails_not f s width limit len memory old (Some b) before after none within 
     let grown : length (take len memory ++ b ∷ []) ≡ length old + length begun.front = ap length begun.appends ∙ length-append old begun.front in
     let start : length old ≡ 0 = ap length none in
     let whole : length (head_of s width limit) ≡ length begun.front + length begun.rest = ap length begun.text_is ∙ length-append begun.front begun.rest in
-    let more : length (take len memory ++ b ∷ []) ≡ length (take len memory) + 1 = length-append (take len memory) (b ∷ []) in
-    let kept : length (take len memory) ≡ len = length-take-le len memory within in
-    let all : len ≡ length memory = last refl in
-    omega (arith, grown, start, whole, more, kept, all, enough)
+    omega (arith, grown, start, whole, spilled_long len memory b (last refl), enough)
 
 pub stream_begun : (law : RowsGoElsewhere) (o : Options) (size : Size) (d : T85Encoder) (memory room stream : List ℕ) (n : ℕ) (window : Window) → is_low (settings_of o) size.height ≡ false → length memory ≡ window_bytes size.width → width_of window ≡ size.width → current_place window ≡ 0 → memory ≡ window.rows.now → room ≡ stream →
     length (head_of (settings_of o) size.width size.height) ≤ length stream → (length (head_of (settings_of o) size.width size.height) ≤ length room → HasBegun (settings_of o) size d window (take n room)) → BeginsStream (image_of (settings_of o) size.width size.height) (encoder_hold d memory) (take n stream)
@@ -460,33 +427,10 @@ end_put d d' e window window' stream stream' n needed ready none needed_is withi
   within = within;
 }
 
--- no status of a refusal is 0
-not_first : (a b : Option ℕ) → (a ≡ Some 0 → ⊥) → (b ≡ Some 0 → ⊥) → or_else a b ≡ Some 0 → ⊥
-not_first (Some n) b first next e = first e
-not_first None b first next e = next e
-
-not_told : (test : Bool) (n : ℕ) → n ≢ 0 → status_if test n ≡ Some 0 → ⊥
-not_told true n some e = some (ap (λ o. unwrap_or o 0) e)
-not_told false n some e = cc
-
-fault_told : (other empty large long : Bool) → option_map fault_number (if other then Some OptionBits else if empty then Some StripeZero else if large then Some MoveLarge else if long then Some CommentLong else None) ≡ Some 0 → ⊥
-fault_told true empty large long e = (let n : 20 ≡ 0 = ap (λ o. unwrap_or o 0) e in omega (arith, n))
-fault_told false true large long e = (let n : 21 ≡ 0 = ap (λ o. unwrap_or o 0) e in omega (arith, n))
-fault_told false false true long e = (let n : 22 ≡ 0 = ap (λ o. unwrap_or o 0) e in omega (arith, n))
-fault_told false false false true e = (let n : 26 ≡ 0 = ap (λ o. unwrap_or o 0) e in omega (arith, n))
-fault_told false false false false e = cc
-
 start_some : (call : StartCall) (window room : ℕ) → start_refusal call window room ≡ Some 0 → ⊥
 start_some call window room =
-    not_first _ _ (not_told _ 50 (λ e. omega (arith, e)))
-    (not_first _ _
-    (not_first _ _ (not_told _ 50 (λ e. omega (arith, e)))
-    (not_first _ _ (fault_told _ _ _ _)
-    (not_first _ _ (not_told _ 33 (λ e. omega (arith, e)))
-    (not_first _ _ (not_told _ 34 (λ e. omega (arith, e)))
-    (not_first _ _ (not_told _ 51 (λ e. omega (arith, e)))
-    (not_first _ _ (not_told _ 23 (λ e. omega (arith, e))) (not_told _ 19 (λ e. omega (arith, e)))))))))
-    (not_told _ 18 (λ e. omega (arith, e))))
+    zero_else _ _ (zero_if _ 50 (omega arith))
+    (zero_else _ _ (none_zero call.choice call.comment call.width call.height (div_ceil call.width 8) window) (zero_if _ 18 (omega arith)))
 
 pub start_refused : (call : StartCall) (d : T85Encoder) (window stream : List ℕ) (status : ℕ) → start_refusal call (length window) (length stream) ≡ Some status → StartsStream call (encoder_hold d window) (encoder_hold d window) (lending stream stream 0 status)
 start_refused call d window stream status told = record {

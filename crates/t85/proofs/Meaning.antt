@@ -9,48 +9,24 @@ use Rattle.pbm_core.specs.Pbm.{header_text}
 use Rattle.raster_core.specs.Packed.{packed_row}
 use Rattle.raster_core.specs.Raster.{Raster, height}
 use Rattle.t85_core.specs.declared.fault.Fault.{Fault}
-use Rattle.t85_core.specs.declared.fault.Fault.TheVariants.{ShortHeader, ReservedBits, Layers, Planes, ZeroSize, TooWide, MoveRange, PrivateTable, Truncated, BadEscape, Aborted, MoveRefused, SecondMove, LengthRefused, SecondLength, Changed, Read, Write, OutOfMemory, OptionBits, StripeZero, MoveLarge, AnnouncedLow, TooManyRows, VariableHeight, CommentLong, Pbm}
+use Rattle.t85_core.specs.declared.fault.Fault.TheVariants.{Pbm}
 use Rattle.t85_core.specs.Denotes.{Denotes, DenotesAt}
 use Rattle.t85_core.specs.Encode.{raster_of}
 use Rattle.t85_core.specs.Fault.{fault_number}
 use Rattle.t85_core.specs.Laws.{OneRasterOfStream, HasOutcome}
 use Rattle.t85_core.specs.Outcome.{IsOutcome, pbm_rows}
 use Rattle.t85.specs.Decoded.{Opens}
+use Rattle.t85.specs.declared.options.T85Options.{T85Options}
 use Rattle.t85.specs.DecodedRows.{DeliversRows}
 use Rattle.t85.specs.Delivered.{fault_status, lined, lending}
-use Rattle.t85.specs.Encoded.{DeliversCode, DeliversAll, or_else, status_if, settings_chosen, Asked, EncodingCall, asked, refusal}
+use Rattle.t85.specs.Encoded.{DeliversCode, DeliversAll, or_else, status_if, settings_chosen, Asked, EncodingCall, asked, refusal_told}
 use Rattle.t85.specs.Laws.{IsOnly, IsStreamOf, DecodedIsImage, DecodedAreRows, EncodedIsStream}
 use Rattle.t85.proofs.Rowed.{length_rows}
 
 -- no fault is told as 0
 some_status : (f : Fault) → 0 ≡ fault_number f → ⊥
-some_status ShortHeader is = omega arith
-some_status ReservedBits is = omega arith
-some_status Layers is = omega arith
-some_status Planes is = omega arith
-some_status ZeroSize is = omega arith
-some_status TooWide is = omega arith
-some_status MoveRange is = omega arith
-some_status PrivateTable is = omega arith
-some_status Truncated is = omega arith
-some_status BadEscape is = omega arith
-some_status Aborted is = omega arith
-some_status MoveRefused is = omega arith
-some_status SecondMove is = omega arith
-some_status LengthRefused is = omega arith
-some_status SecondLength is = omega arith
-some_status Changed is = omega arith
-some_status Read is = omega arith
-some_status Write is = omega arith
-some_status OutOfMemory is = omega arith
-some_status OptionBits is = omega arith
-some_status StripeZero is = omega arith
-some_status MoveLarge is = omega arith
-some_status AnnouncedLow is = omega arith
-some_status TooManyRows is = omega arith
-some_status VariableHeight is = omega arith
-some_status CommentLong is = omega arith
 some_status (Pbm fault) is = omega arith
+some_status fault is = omega arith
 
 whole : (fault : Option Fault) → 0 ≡ fault_status fault → fault ≡ None
 whole None is = refl
@@ -119,11 +95,11 @@ decoded_rows one stream limit stride window old new written d = elim d [
 
 -- ---- encoding
 
-zero_else : (a b : Option ℕ) → (a ≡ Some 0 → ⊥) → (b ≡ Some 0 → ⊥) → or_else a b ≡ Some 0 → ⊥
+pub zero_else : (a b : Option ℕ) → (a ≡ Some 0 → ⊥) → (b ≡ Some 0 → ⊥) → or_else a b ≡ Some 0 → ⊥
 zero_else (Some n) b f g e = f e
 zero_else None b f g e = g e
 
-zero_if : (test : Bool) (n : ℕ) → 1 ≤ n → status_if test n ≡ Some 0 → ⊥
+pub zero_if : (test : Bool) (n : ℕ) → 1 ≤ n → status_if test n ≡ Some 0 → ⊥
 zero_if true n some e = (let same : n ≡ 0 = cc in omega arith)
 zero_if false n some e = (let bot : ⊥ = cc in bot)
 
@@ -132,8 +108,8 @@ zero_fault None e = (let bot : ⊥ = cc in bot)
 zero_fault (Some f) e = some_status f (let same : 0 ≡ fault_number f = cc in same)
 
 -- no refusal is told as 0
-none_zero : (call : EncodingCall) → refusal call ≡ Some 0 → ⊥
-none_zero call =
+pub none_zero : (choice : T85Options) (comment : List ℕ) (width height stride window : ℕ) → refusal_told choice comment width height stride window ≡ Some 0 → ⊥
+none_zero choice comment width height stride window =
     zero_else _ _ (zero_if _ 50 (omega arith))
     (zero_else _ _ (zero_fault _)
     (zero_else _ _ (zero_if _ 33 (omega arith))
@@ -171,6 +147,6 @@ module _ (one : OneRasterOfStream) (call : EncodingCall) (rows new : List ℕ) (
 
 pub encoded_stream : OneRasterOfStream → EncodedIsStream
 encoded_stream one call rows old new written e = elim e [
-  | inl refused ↦ absurd (none_zero call (refused.is ∙ ap Some (sym refused.refuses.answer_is)))
+  | inl refused ↦ absurd (none_zero call.choice call.comment call.width call.height call.stride call.window (refused.is ∙ ap Some (sym refused.refuses.answer_is)))
   | inr w ↦ code_written one call rows new written w.writes
 ]

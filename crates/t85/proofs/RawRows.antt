@@ -1,7 +1,7 @@
 -- The rows that bytes hold in the raw form.
-use Rattle.std.proofs.Common.{◌≡◌, ◌≤◌, ◌<◌, ◌+◌, ◌⊎◌, inl, inr, ℕ, zero, suc, Bool, true, false, nat_lt, List, [], ◌∷◌, ◌++◌, length, take, drop, map, refl, sym, ap, ◌∙◌, arith, append_assoc, append-nil, length-append, take-append-drop}
+use Rattle.std.proofs.Common.{◌≡◌, ◌≤◌, ◌<◌, ◌+◌, ◌⊎◌, inl, inr, ℕ, zero, suc, Bool, List, [], ◌∷◌, ◌++◌, length, take, drop, map, refl, sym, ap, ◌∙◌, arith, append_assoc, append-nil, length-append, take-append-drop}
 use Rattle.std.specs.List.{AllByRecursion}
-use Rattle.std.proofs.lemmas.Bool.Decides.{nat_tests}
+use Rattle.std.proofs.lemmas.Bool.{cases_lt}
 use Rattle.std.proofs.lemmas.Grind.{common_steps}
 use Rattle.std.proofs.Math.Seq.{take-append_seam, drop-append_seam}
 use Rattle.pbm_core.specs.declared.form.Form.TheVariants.{Raw}
@@ -45,15 +45,12 @@ module _ (width : ℕ) where
         ends = elim more.ends [ inl all ↦ inl (ap suc all) | inr few ↦ inr (omega (arith, few.0), few.1) ];
       }
 
-  next : (n : ℕ) (body : List ℕ) → RowsOf width n (drop (bytes_of_row width) body) → (test : Bool) → nat_lt (length body) (bytes_of_row width) ≡ test → RowsOf width (suc n) body
-  next n body more true short =
-      let less : length body < bytes_of_row width = grind (arith, nat_tests) in
-      record { rows = []; rest = body; holds = record { front = []; bytes_are = refl; are_rows = refl }; wide = tt; ends = inr (omega arith, less) }
-  next n body more false enough = (let long : bytes_of_row width ≤ length body = grind (arith, nat_tests) in one_more n body long more)
-
   pub rows_of : (wanted : ℕ) (body : List ℕ) → RowsOf width wanted body
   rows_of zero body = record { rows = []; rest = body; holds = record { front = []; bytes_are = refl; are_rows = refl }; wide = tt; ends = inl refl }
-  rows_of (suc n) body = next n body (rows_of n (drop (bytes_of_row width) body)) (nat_lt (length body) (bytes_of_row width)) refl
+  rows_of (suc n) body = elim (cases_lt (length body) (bytes_of_row width)) [
+    | inl short ↦ record { rows = []; rest = body; holds = record { front = []; bytes_are = refl; are_rows = refl }; wide = tt; ends = inr (omega arith, short) }
+    | inr long ↦ one_more n body long (rows_of n (drop (bytes_of_row width) body))
+  ]
 
   -- bytes that end within a row
   pub ends_within : (rest : List ℕ) → length rest < bytes_of_row width → HasRowFault Raw width rest Truncated

@@ -1,9 +1,9 @@
 -- From what the decoder leaves of an output of rows to the rows that stand in the lent memory.
-use Rattle.std.proofs.Common.{◌≡◌, ◌≤◌, ◌<◌, ◌+◌, ◌*◌, ◌/◌, ◌⊎◌, inl, inr, ℕ, zero, suc, Bool, true, false, List, [], ◌∷◌, ◌++◌, length, take, map, flat_map, nat_lt, Option, Some, None, Result, refl, sym, ap, ◌∙◌, subst, arith, append_assoc, append-nil, length-append, true≢false}
+use Rattle.std.proofs.Common.{◌≡◌, ◌≤◌, ◌<◌, ◌+◌, ◌*◌, ◌/◌, ◌⊎◌, inl, inr, ℕ, zero, suc, Bool, true, false, List, [], ◌∷◌, ◌++◌, length, take, map, flat_map, Option, Some, None, Result, refl, sym, ap, ◌∙◌, subst, arith, append_assoc, append-nil, length-append, true≢false}
 use Rattle.std.specs.Prelude.{is_some, option_to_list}
 use Rattle.std.specs.List.{AllByRecursion}
 use Rattle.std.specs.Int.{div_ceil}
-use Rattle.std.proofs.lemmas.Bool.Decides.{nat_tests}
+use Rattle.std.proofs.lemmas.Bool.{cases_lt}
 use Rattle.std.proofs.lemmas.Nat.{div-mul-add}
 use Rattle.std.proofs.Math.Nat.{mul-le-mul_right}
 use Rattle.std.proofs.lemmas.List.{length-take-le}
@@ -80,16 +80,8 @@ whole_rows row y x n part same =
     sym a ∙ ap (λ m. m / row) (same ∙ (let e : n * row ≡ n * row + 0 = omega arith in e)) ∙ b
 
 -- numbers in front of lists that are the same
-record SameFixed (a b c d e a' b' c' d' e' : ℕ) (l m : List ℕ) : Type 0 where
-  first : a ≡ a'
-  second : b ≡ b'
-  third : c ≡ c'
-  fourth : d ≡ d'
-  fifth : e ≡ e'
-  rest : l ≡ m
-
-same_fixed : (a b c d e a' b' c' d' e' : ℕ) (l m : List ℕ) → a ∷ b ∷ c ∷ d ∷ e ∷ l ≡ a' ∷ b' ∷ c' ∷ d' ∷ e' ∷ m → SameFixed a b c d e a' b' c' d' e' l m
-same_fixed a b c d e a' b' c' d' e' l m same = record { first = cc; second = cc; third = cc; fourth = cc; fifth = cc; rest = cc }
+same_fixed : (a b c d e a' b' c' d' e' : ℕ) (l m : List ℕ) → a ∷ b ∷ c ∷ d ∷ e ∷ l ≡ a' ∷ b' ∷ c' ∷ d' ∷ e' ∷ m → (a ≡ a') × (b ≡ b') × (c ≡ c') × (d ≡ d') × (e ≡ e') × (l ≡ m)
+same_fixed a b c d e a' b' c' d' e' l m same = (cc, cc, cc, cc, cc, cc)
 
 -- what an output of rows keeps
 pub record Kept (row stride fit skip at y x : ℕ) (bytes head : List ℕ) (spilled : Option ℕ) : Type 0 where
@@ -106,18 +98,17 @@ pub record Kept (row stride fit skip at y x : ℕ) (bytes head : List ℕ) (spil
   pub spilled_behind : is_some spilled ≡ true → at ≡ skip
 
 part_within : (row y x fit : ℕ) → y ≤ fit → x < row → (y ≡ fit → x ≡ 0) → y * row + x ≤ fit * row
-part_within row y x fit few part full = went (nat_lt y fit) refl where
-  went : (test : Bool) → nat_lt y fit ≡ test → y * row + x ≤ fit * row
-  went true less =
-      let fewer : suc y ≤ fit = grind (arith, nat_tests) in
-      let more = mul-le-mul_right row fewer in
+part_within row y x fit few part full = elim (cases_lt y fit) [
+  | inl less ↦
+      let more = mul-le-mul_right {m = suc y} {n = fit} row less in
       let sum : suc y * row ≡ row + y * row = omega arith in
       omega (arith, more, sum)
-  went false enough =
-      let all : y ≡ fit = (let past : fit ≤ y = grind (arith, nat_tests) in omega arith) in
+  | inr past ↦
+      let all : y ≡ fit = omega (arith, past, few) in
       let none : x ≡ 0 = full all in
       let same : y * row ≡ fit * row = ap (λ n. n * row) all in
-      omega arith
+      omega (arith, none, same)
+]
 
 module _ (width height row stride fit skip at y x : ℕ) (bytes head : List ℕ) (spilled : Option ℕ) (k : Kept row stride fit skip at y x bytes head spilled) (row_is : row ≡ div_ceil width 8) (skip_is : skip ≡ length (header_text width height)) (rows : List (List Bool)) (wide : AllByRecursion (λ r. length r ≡ width) rows) where
   abbrev all_rows : List ℕ
@@ -149,10 +140,7 @@ module _ (width height row stride fit skip at y x : ℕ) (bytes head : List ℕ)
       omega (arith, text, long, skip_is, short)
 
   whole_head : spilled ≡ None → taken_rows (state_with row stride fit skip bytes head at y x spilled) ≡ pbm_rows width height rows → at ≡ skip
-  whole_head none same = went (nat_lt at skip) refl where
-    went : (test : Bool) → nat_lt at skip ≡ test → at ≡ skip
-    went true less = (let short : at < skip = grind (arith, nat_tests) in absurd (head_only short none same))
-    went false enough = (let past : skip ≤ at = grind (arith, nat_tests) in omega (arith, k.head_within))
+  whole_head none same = elim (cases_lt at skip) [ inl short ↦ absurd (head_only short none same) | inr past ↦ omega (arith, k.head_within, past) ]
 
   pub fits_rows : (status answer : ℕ) → answer ≡ status → spilled ≡ None → taken_rows (state_with row stride fit skip bytes head at y x spilled) ≡ pbm_rows width height rows → FitsRows rows status (record { fit = fit; row = row; stride = stride }) bytes y answer
   fits_rows status answer told none same =
@@ -180,20 +168,13 @@ module _ (width height row stride fit skip at y x : ℕ) (bytes head : List ℕ)
       let came = behind_head ((take (y * row + x) all_rows ++ option_to_list spilled) ++ rest) (k.spilled_behind is) (sym (append_assoc (take at head) (take (y * row + x) all_rows ++ option_to_list spilled) rest) ∙ same) in
       let stood : packed ≡ all_rows ++ (b ∷ rest) = sym came ∙ ap (λ l. l ++ rest) whole ∙ append_assoc all_rows (b ∷ []) rest in
       let count : length rows * row ≡ fit * row + length (b ∷ rest) = sym packed_rows ∙ ap length stood ∙ length-append all_rows (b ∷ rest) ∙ ap (λ n. n + length (b ∷ rest)) all_length in
-      let more : fit < length rows = went (nat_lt fit (length rows)) refl count in
+      let more : fit < length rows = elim (cases_lt fit (length rows)) [ inl less ↦ less | inr few ↦ let fewer = mul-le-mul_right {m = length rows} {n = fit} row few in absurd (omega (arith, fewer, count)) ] in
       record {
         more = more;
         written_is = last;
         stands = sym (ap (take (length all_rows)) stood ∙ take-append_seam all_rows (b ∷ rest)) ∙ stands_first more;
         answer_is = refl;
       } where
-        went : (test : Bool) → nat_lt fit (length rows) ≡ test → length rows * row ≡ fit * row + length (b ∷ rest) → fit < length rows
-        went true less count = grind (arith, nat_tests)
-        went false enough count =
-            let few : length rows ≤ fit = grind (arith, nat_tests) in
-            let fewer = mul-le-mul_right row few in
-            absurd (omega (arith, fewer, count))
-
         stands_first : fit < length rows → take (length all_rows) packed ≡ flat_map packed_row (take fit rows)
         stands_first more =
             ap (λ n. take n packed) (all_length ∙ ap (λ r. fit * r) row_is) ∙ first_rows width fit rows wide (omega arith)
@@ -255,9 +236,9 @@ module _ (h : Fields) (height : ℕ) (body : List ℕ) (in_new : Option (List �
       same_output front e =
           let f = same_fixed (length bytes') row' stride' fit' skip' (length bytes) row stride fit skip (outside fit' row' stride' bytes' ++ taken_rows (state_with row' stride' fit' skip' bytes' head' at' y' x' spilled')) ((out ++ taken_rows (state_with row stride fit skip bytes head at y x spilled)) ++ front) e in
           let now : Kept row stride fit skip at' y' x' bytes' head' spilled' =
-          moved (λ a b c d. Kept a b c d at' y' x' bytes' head' spilled') row stride fit skip row' stride' fit' skip' f.second f.third f.fourth f.fifth k in
-          let same = moved (λ a b c d. outside c a b bytes' ++ taken_rows (state_with a b c d bytes' head' at' y' x' spilled') ≡ (out ++ taken_rows (state_with row stride fit skip bytes head at y x spilled)) ++ front) row stride fit skip row' stride' fit' skip' f.second f.third f.fourth f.fifth f.rest in
-          let both = came front now f.first same in
+          moved (λ a b c d. Kept a b c d at' y' x' bytes' head' spilled') row stride fit skip row' stride' fit' skip' f.1 f.2 f.3 f.4 k in
+          let same = moved (λ a b c d. outside c a b bytes' ++ taken_rows (state_with a b c d bytes' head' at' y' x' spilled') ≡ (out ++ taken_rows (state_with row stride fit skip bytes head at y x spilled)) ++ front) row stride fit skip row' stride' fit' skip' f.1 f.2 f.3 f.4 f.5 in
+          let both = came front now f.0 same in
           record { kept = now; stays = both.0; is = both.1 }
 
       pub rows_fit : (before failures : ℕ) (answer : Result (Unit {0}) Fault) → before ≡ 0 → is_some spilled' ≡ false → (0 < failures → is_some spilled' ≡ true) →

@@ -10,6 +10,7 @@ ghost use Rattle.t85.specs.Decoder.{Answers, BeginsDecoder, HasEnded, HasRead, I
 ghost use Rattle.t85.specs.DecoderSteps.{IsAwaited, IsFilled, IsJudged, IsOfEngine, IsToldOf, KeepsRest, MayEnterRows, MayTakeRows};
 
 use crate::opened::read_header;
+use crate::status::OTHER_VERSION;
 use pbm_core::row_bytes;
 use qm_core::{DecoderRegisters, Learned};
 use raster_core::{RowPlaceNumbers, Window, window_bytes};
@@ -32,8 +33,6 @@ const FIRST_ROW: u32 = 1;
 const ROWS: u32 = 2;
 
 const ENDED: u32 = 3;
-/// The status of a struct of another version.
-const OTHER_VERSION: u8 = 50;
 
 /// What a caller holds of a decoder. Whatever its bytes are, a call is safe.
 #[repr(C)]

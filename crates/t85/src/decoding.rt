@@ -7,12 +7,10 @@ ghost use Rattle.t85.specs.Delivered.{answer_status, lending};
 
 use crate::devices::{Room, Whole};
 use crate::opened::open;
+use crate::status::FULL;
 use raster_core::{Window, window_bytes};
 use t85_core::laws::outcomes;
 use t85_core::{Fault, Header, decode_in_memory};
-
-/// The status of a call whose output found too little room.
-pub const FULL: u8 = 18;
 
 /// The status of an answer of the engine.
 pub fn answer_status(answer: &Result<(), Fault>) -> u8

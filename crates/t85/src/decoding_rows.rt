@@ -9,11 +9,11 @@ ghost use Rattle.t85.specs.Decoded.{window_bytes as window_of};
 ghost use Rattle.t85.specs.Delivered.{lending};
 ghost use Rattle.t85.specs.DecodedRows.{DecodesRows, HasTakenNothing, HaveRoom, DeliversRows};
 
-use crate::decoding::{FULL, answer_status};
+use crate::decoding::answer_status;
 use crate::devices::Whole;
-use crate::encoding::SHORT_STRIDE;
 use crate::lined_output::LinedOutput;
 use crate::opened::open;
+use crate::status::{FULL, SHORT_STRIDE};
 use pbm_core::row_bytes;
 use raster_core::{Window, window_bytes};
 use t85_core::laws::outcomes;

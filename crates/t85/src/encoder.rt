@@ -17,10 +17,12 @@ ghost use Rattle.t85.specs.Encoded.{settings_chosen};
 ghost use Rattle.t85.specs.Encoder.{BeginsStream, EndsStream, HasBeenEnded, PutsEnd, PutsRow, StartsStream, TakesOne, TellsLeft, TellsRoom, encoder_hold, end_refusal, head_length, numbers_of_encoder, row_refusal, settings_kept, start_call, start_refusal, without_comment};
 ghost use Rattle.t85.specs.EncoderSteps.{GoesOnFrom, HasBegun, IsIdle, IsOfNone, AwaitsCall, KeepsChoices, RefusesCall};
 
-use crate::decoding::FULL;
 use crate::devices::Room;
-use crate::encoding::{MOST_WIDTH, OTHER_VERSION, judge};
+use crate::encoding::{MOST_WIDTH, judge};
 use crate::options::T85Options;
+use crate::status::{
+    FULL, NO_MORE_ROWS, NOT_BEGUN, OTHER_VERSION, ROWS_MISSING, SHORT_ROW, SHORT_WINDOW,
+};
 use pbm_core::{Size, row_bytes};
 use qm_core::EncoderRegisters;
 use raster_core::{Window, window_bytes};
@@ -35,17 +37,6 @@ const SIZE: usize = 5360;
 const ROWS: u32 = 1;
 
 const ENDED: u32 = 2;
-/// The statuses of a short window, of rows that are missing, of an encoder that was not begun, of one that takes no more
-/// rows, and of a short row.
-const SHORT_WINDOW: u8 = 19;
-
-const ROWS_MISSING: u8 = 36;
-
-const NOT_BEGUN: u8 = 53;
-
-const NO_MORE_ROWS: u8 = 54;
-
-const SHORT_ROW: u8 = 55;
 
 /// What a caller holds of an encoder. Whatever its bytes are, a call is safe.
 #[repr(C)]

@@ -9,10 +9,11 @@ ghost use Rattle.t85.specs.Decoded.{window_bytes as window_of};
 ghost use Rattle.t85.specs.Encoded.{EncodesImage, DeliversCode, asked, encoding_call, refusal_told, settings_chosen};
 ghost use Rattle.t85.specs.Delivered.{IsEmptyRoom, lending, lined};
 
-use crate::decoding::{FULL, answer_status};
+use crate::decoding::answer_status;
 use crate::devices::Room;
 use crate::lined_input::LinedInput;
 use crate::options::{T85Options, accept};
+use crate::status::{FULL, OTHER_VERSION, SHORT_STRIDE, TOO_WIDE, ZERO_SIZE};
 use pbm_core::{Form, Size, row_bytes};
 use raster_core::{Window, window_bytes};
 use t85_core::laws::{code_denotes, lengths};
@@ -20,14 +21,6 @@ use t85_core::{Fault, Options, encode_in_memory};
 
 /// The version of `T85Options`.
 const VERSION: u32 = 1;
-/// The status of a call with options of another version.
-pub const OTHER_VERSION: u8 = 50;
-/// The status of a call with rows that are closer than they are long.
-pub const SHORT_STRIDE: u8 = 51;
-/// The statuses of a width or height 0, and of a width that is too large.
-const ZERO_SIZE: u8 = 33;
-
-const TOO_WIDE: u8 = 34;
 /// The widest image.
 pub const MOST_WIDTH: u32 = 1_048_576;
 

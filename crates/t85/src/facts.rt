@@ -5,13 +5,12 @@ ghost use Rattle.t85_core.specs.Height.{StreamFault};
 ghost use Rattle.t85_core.specs.Parts.{Passed, EndsAt};
 ghost use Rattle.t85.specs.Facts.{FactsTold, HasFacts};
 
+use crate::status::OTHER_VERSION;
 use crate::summary::numbers_of;
 use t85_core::{Fault, Found, PartWalk};
 
 /// The version of `T85Facts`.
 const VERSION: u32 = 1;
-/// The status of a struct of another version.
-const OTHER_VERSION: u8 = 50;
 
 /// What `T85Summary` has of a stream, and its length.
 #[repr(C)]

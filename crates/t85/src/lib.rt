@@ -18,6 +18,7 @@ mod message;
 mod opened;
 mod options;
 mod parts;
+mod status;
 mod summary;
 #[cfg(test)]
 mod tests;

@@ -3,14 +3,11 @@
 ghost use Rattle.std.specs.Prelude.{◌≡◌};
 ghost use Rattle.t85.specs.Parts.{PartTold, IsTold, kind_number, walk_in};
 
+use crate::status::{NO_MORE_PARTS, OTHER_VERSION};
 use t85_core::{Fault, Found, PartKind, PartWalk};
 
 /// The version of `T85Part`.
 const VERSION: u32 = 1;
-/// The status of a struct of another version.
-const OTHER_VERSION: u8 = 50;
-/// The status where all parts were told.
-const NO_MORE: u8 = 52;
 
 /// A part of a stream, and how far the walk has come that told it.
 #[repr(C)]
@@ -114,7 +111,7 @@ impl T85Part {
                 self.offset = len;
                 self.len = 0;
                 self.stripe = self.entities;
-                NO_MORE
+                NO_MORE_PARTS
             }
             Found::Broken {
                 fault,

@@ -1,4 +1,4 @@
--- An image whose rows come one by one.
+-- The image of a row encoder.
 use Rattle.std.specs.Prelude.{ℕ, ◌≡◌, ◌≤◌, Bool, List, None, length, take}
 use Rattle.pbm_core.specs.declared.size.Size.{Size}
 use Rattle.raster_core.specs.Raster.{Raster, IsRaster, height}

@@ -200,10 +200,7 @@ module _ (old mid : PieceView) (first second : List ℕ) (limit taken : ℕ) (he
         (tells_on (stream_of old) mid answer (text ++ first) second (out ++ flat_map row_given p.calls) (p.tells text out has) other);
   }
 
-  -- memory ran out after the first piece, or in the second
-  pub first_short : (answer : Outcome) → PieceRead old (call_told first false taken answer mid) limit (gathered held held') → SomeRead old (gathered held held')
-  first_short answer p = record { calls = p.calls; made = p.made; appended = p.appended }
-
+  -- memory ran out in the second piece
   pub second_short : (answer : Outcome) → PieceRead old (call_told first false taken answer mid) limit (gathered held held') → (held'' : List ℕ) → SomeRead mid (gathered held' held'') → SomeRead old (gathered held held'')
   second_short answer p held'' q = record {
     calls = p.calls ++ q.calls;

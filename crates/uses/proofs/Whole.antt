@@ -24,16 +24,6 @@ use Rattle.uses.proofs.Headers.{splits}
 abbrev pub LineOrFault : Type 0
 LineOrFault = (bytes text : List ℕ) (f : Fault) → HasLine bytes text → StreamFault bytes f → ⊥
 
--- what the encoder reports is of the image
-pub of_image : (f : Fault) → (f ≢ AnnouncedLow → f ≢ OutOfMemory → f ≢ Write → (fault : PbmFault) × (f ≡ Pbm fault)) → IsOfImage f
-of_image AnnouncedLow told = tt
-of_image OutOfMemory told = tt
-of_image Write told = tt
-of_image (Pbm fault) told = tt
-of_image f told =
-    let pbm = told (λ e. absurd (let bot : ⊥ = cc in bot)) (λ e. absurd (let bot : ⊥ = cc in bot)) (λ e. absurd (let bot : ⊥ = cc in bot)) in
-    absurd (let bot : ⊥ = cc in bot)
-
 pub some_same : (f g : Fault) → Some f ≡ Some g → f ≡ g
 some_same f g e = cc
 

@@ -1,4 +1,4 @@
-//! What is fixed of a code is pushed.
+//! Shifting the registers, and handing on the bytes of a code that are fixed.
 
 ghost use Rattle.std.specs.Prelude.{◌≡◌, ◌+◌, ◌-◌, ◌*◌, ◌^◌, ◌≤◌, ◌<◌, List, ℕ, false, Ok};
 ghost use Rattle.qm_core.specs.Place.{Place, renormalised};

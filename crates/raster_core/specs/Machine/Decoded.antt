@@ -1,5 +1,5 @@
 -- What decoding the pixels of a row leaves, on the way.
-use Rattle.std.specs.Prelude.{ℕ, ◌+◌, ◌*◌, ◌≡◌, ◌≤◌, ◌<◌, Bool, true, false, List, ◌++◌, length, replicate, slice_index, Result, IfOk, IfErr}
+use Rattle.std.specs.Prelude.{ℕ, ◌+◌, ◌*◌, ◌≡◌, ◌≤◌, ◌<◌, Bool, true, false, List, ◌++◌, length, replicate, slice_index, Result, IfOk, IfErr, OnOk}
 use Rattle.std.specs.Int.{div_ceil}
 use Rattle.qm_core.specs.Place.{Place, State, Event, Estimate, after}
 use Rattle.qm_core.specs.Source.{SourceAt, bytes_of, heard_of, source_at}
@@ -22,8 +22,7 @@ use Rattle.raster_core.specs.Machine.Uniform.{uniform_event, StaysUniform, AreFi
 abbrev pub with_row : Lines → List Bool → Lines
 with_row lines row = record { row = row; above = lines.above; second = lines.second }
 
--- A plain row that is decoded: its mode and its adaptive pixel, what is decoded before its pixels, the state before
--- that, and the lines.
+-- A plain row that is decoded: mode and adaptive pixel, what comes before its pixels, the state before that, the lines.
 pub record PlainRow : Type 0 where
   pub mode : Mode
   pub offset : ℕ
@@ -59,8 +58,7 @@ pub record PixelsStop {S : Type 0} (old : SourceAt S) (row : PlainRow) (done : L
   pub more : List Pulled
   pub stops : Stops old row.state more (events_up_to row (done ++ pixels)) new
 
--- What the pixels of a byte are decoded with: the mode, the adaptive pixel, the registers of the two rows above, and
--- the last pixels of the row.
+-- What the pixels of a byte are decoded with: mode, adaptive pixel, the registers of the rows above, the last pixels.
 pub record ByteAround : Type 0 where
   pub mode : Mode
   pub offset : ℕ
@@ -95,8 +93,7 @@ DecodesPixels pull b old n new result = IfOk result (λ past. Along pull b old n
 abbrev pub later : ℕ → Pause → Pause
 later n pause = record { count = n + pause.count; past = pause.past }
 
--- What pixels with three lines and the adaptive pixel in its nominal place are decoded with: the lanes that the rows
--- above give to their contexts, and the last pixels of the row.
+-- What pixels with three lines and a nominal adaptive pixel are decoded with: the lanes of the rows above, the last pixels.
 pub record LanesAround : Type 0 where
   pub lanes : ℕ
   pub past : ℕ
@@ -153,8 +150,7 @@ pub record SkipsFilledAlong (run : FilledRun) (above second : List ℕ) (d : Dec
       × DecoderIsAt d' (after (record { place = p; learned = learned }) (replicate (8 * run.count) (uniform_event run.colour))).place answers
       × (1 ≤ run.count → heard_of answers ≡ More → wanted_bytes p.doublings ≤ length (bytes_of answers))
 
--- Where the decoding of a row's bytes is: how many pixels are left, the next byte, the registers of the two rows above,
--- the last pixels of the row, and its bytes.
+-- Where the decoding of a row's bytes is: pixels left, the next byte, the registers above, the last pixels, its bytes.
 pub record BytesAt : Type 0 where
   pub left : ℕ
   pub i : ℕ
@@ -175,7 +171,7 @@ pub record BytesSoFar {S : Type 0} (old : SourceAt S) (row : PlainRow) (width : 
   pub second_is : b.second ≡ before row.lines.second (8 * b.i + 8) 24
   pub above_is : b.above ≡ before row.lines.above (8 * b.i + 8) 24
 
--- Pixels of a row that are decoded, as its place says, and written as far as they fill bytes.
+-- Pixels of a row that are decoded, as its place says, and written where they fill bytes.
 pub record PixelsHeld (offset : ℕ) (place : RowPlace) (current : List ℕ) (done : List Bool) : Type 0 where
   pub count : place.done ≡ length done
   pub past_is : place.past ≡ before done (length done) (past_bits offset)
@@ -236,6 +232,10 @@ pub record RowPaused {S : Type 0} (old : SourceAt S) (row : PlainRow) (width : �
 -- the source stopped in the rest of it
 abbrev pub RowStops : {S : Type 0} (pull : S → Pulled → S → Type 0) (a : RowAround) (part : RowPart S) (width : ℕ) (part' : RowPart S) → Type 0
 RowStops pull a part width part' = FromPixels pull a part (λ old row. RowPaused old row width part')
+
+-- What decoding the rest of a row leaves: it was decoded, or the source stopped in it, at the place of the result.
+abbrev pub DecodesRow : {S T : Type 0} (pull : S → Pulled → S → Type 0) (a : RowAround) (part : RowPart S) (width : ℕ) (part' : RowPart S) → Result T RowPlace → Type 0
+DecodesRow pull a part width part' result = OnOk result (RowAlong pull a part width part'.current part'.state) × IfErr result (λ at. RowStops pull a part width (record { place = at; current = part'.current; state = part'.state }))
 
 -- What is left of a byte was decoded and written, up to its last pixel or the row's.
 pub record ByteEnded {S : Type 0} (old : SourceAt S) (row : PlainRow) (part : RowPart S) : Type 0 where

@@ -1,10 +1,10 @@
 //! Decoding the pixels of a plain row.
 
-ghost use Rattle.std.specs.Prelude.{◌≡◌, ◌+◌, ◌-◌, ◌*◌, ◌%◌, ◌<◌, ◌≤◌, OnOk, IfOk, IfErr};
+ghost use Rattle.std.specs.Prelude.{◌≡◌, ◌+◌, ◌-◌, ◌*◌, ◌%◌, ◌<◌, ◌≤◌, IfOk, IfErr};
 ghost use Rattle.qm_core.specs.Source.{Pulls};
-ghost use Rattle.qm_core.specs.Decoder.{StopsOnce, decoder_state};
+ghost use Rattle.qm_core.specs.Decoder.{StopsOnce};
 ghost use Rattle.raster_core.specs.Machine.Places.{IsPartOf};
-ghost use Rattle.raster_core.specs.Machine.Decoded.{ByteEnds, RowAlong, RowStops, row_around, row_part};
+ghost use Rattle.raster_core.specs.Machine.Decoded.{ByteEnds, DecodesRow, RowStops, row_around, row_part};
 ghost use Rattle.raster_core.specs.Window.{shape_mode};
 ghost use Rattle.raster_core.specs.Machine.Registers.{IsTemplate};
 
@@ -86,14 +86,10 @@ fn decode_bytes<S: CodeBytes, const TWO_LINE: bool, const MOVED: bool>(
     requires part { IsPartOf shape place current.old }
     ensures stop { StopsOnce S.failed decoder.old decoder.new source.old source.new result }
     ensures inside { IfErr result (λ at. at.done < shape.width) }
-    ensures ok { OnOk result (RowAlong (Pulls S.gives S.failed)
-        (row_around (shape_mode shape) offset above.now second.now)
-        (row_part place current.old source.old decoder.old learned.old) shape.width current.new
-        (decoder_state source.new decoder.new learned.new)) }
-    ensures err { IfErr result (λ at. RowStops (Pulls S.gives S.failed)
+    ensures leaves { DecodesRow (Pulls S.gives S.failed)
         (row_around (shape_mode shape) offset above.now second.now)
         (row_part place current.old source.old decoder.old learned.old) shape.width
-        (row_part at current.new source.new decoder.new learned.new)) }
+        (row_part place current.new source.new decoder.new learned.new) result }
 {
     let mut i = (place.done / 8) as usize;
     let mut above_bytes = register_at(above, i);
@@ -178,14 +174,10 @@ fn decode_rest<S: CodeBytes, const TWO_LINE: bool, const MOVED: bool>(
     requires part { IsPartOf shape place current.old }
     ensures stop { StopsOnce S.failed decoder.old decoder.new source.old source.new result }
     ensures inside { IfErr result (λ at. at.done < shape.width) }
-    ensures ok { OnOk result (RowAlong (Pulls S.gives S.failed)
-        (row_around (shape_mode shape) offset above.now second.now)
-        (row_part place current.old source.old decoder.old learned.old) shape.width current.new
-        (decoder_state source.new decoder.new learned.new)) }
-    ensures err { IfErr result (λ at. RowStops (Pulls S.gives S.failed)
+    ensures leaves { DecodesRow (Pulls S.gives S.failed)
         (row_around (shape_mode shape) offset above.now second.now)
         (row_part place current.old source.old decoder.old learned.old) shape.width
-        (row_part at current.new source.new decoder.new learned.new)) }
+        (row_part place current.new source.new decoder.new learned.new) result }
 {
     if place.done % 8 == 0 {
         return decode_bytes::<_, TWO_LINE, MOVED>(
@@ -220,14 +212,10 @@ pub(crate) fn decode_pixels<S: CodeBytes>(
     requires part { IsPartOf shape place current.old }
     ensures stop { StopsOnce S.failed decoder.old decoder.new source.old source.new result }
     ensures inside { IfErr result (λ at. at.done < shape.width) }
-    ensures ok { OnOk result (RowAlong (Pulls S.gives S.failed)
-        (row_around (shape_mode shape) offset above.now second.now)
-        (row_part place current.old source.old decoder.old learned.old) shape.width current.new
-        (decoder_state source.new decoder.new learned.new)) }
-    ensures err { IfErr result (λ at. RowStops (Pulls S.gives S.failed)
+    ensures leaves { DecodesRow (Pulls S.gives S.failed)
         (row_around (shape_mode shape) offset above.now second.now)
         (row_part place current.old source.old decoder.old learned.old) shape.width
-        (row_part at current.new source.new decoder.new learned.new)) }
+        (row_part place current.new source.new decoder.new learned.new) result }
 {
     by_template!(
         decode_rest,

@@ -40,11 +40,6 @@ pub exit_of : {T : Type 0} {P : Type 0} (r : Result T Fault) {e f : Fault} → I
 exit_of (Ok x) a k b = absurd a
 exit_of (Err y) a k b = k (cc)
 
--- what holds of the fault, holds of the answer that a `?` passed on
-pub exit_same : {T E : Type 0} {P : Type 0} (r : Result T E) {e f : E} → IsErrAnd r (λ y. y ≡ e) → (IsErrOf {T = T} {E = E} (Err e) f → P) → IsErrOf r f → P
-exit_same (Ok x) a k b = absurd a
-exit_same {T} {E} {P} (Err y) {e} {f} a k b = k (subst (λ z. IsErrOf {T = T} {E = E} (Err z) f) a b)
-
 pub on_ok : {T E : Type 0} (r : Result T E) {P Q S : Type 0} → (P → Q → S) → OnOk r P → OnOk r Q → OnOk r S
 on_ok (Ok x) k p q = k p q
 on_ok (Err e) k p q = tt
@@ -56,10 +51,6 @@ map_ok (Err e) k p = tt
 pub map_if_ok : {T E : Type 0} (r : Result T E) {P Q : T → Type 0} → ((x : T) → P x → Q x) → IfOk r P → IfOk r Q
 map_if_ok (Ok x) k p = k x p
 map_if_ok (Err e) k p = tt
-
-pub all_ok : {T E : Type 0} (r : Result T E) {P Q S U V : Type 0} → OnOk r P → OnOk r Q → OnOk r S → OnOk r U → (P → Q → S → U → V) → OnOk r V
-all_ok (Ok x) p q s u k = k p q s u
-all_ok (Err e) p q s u k = tt
 
 pub if_err : {T E : Type 0} (r : Result T E) {P Q S : E → Type 0} → ((e : E) → P e → Q e → S e) → IfErr r P → IfErr r Q → IfErr r S
 if_err (Ok x) k p q = tt

@@ -94,9 +94,7 @@ stable_move : (h : Fields) (moves : ℕ) → IsStable (move_fault h moves)
 stable_move h moves = stable_cond (not (moves == 0)) (λ _. Some SecondMove) (move_fault h 0) (stable_constant (Some SecondMove)) (λ bytes more f e. stable_first h bytes more f (cases_lt (length bytes) 6) e)
 
 two_tests : (t u : Bool) (f : Fault) → cond t (Some Truncated) (cond u (Some Truncated) None) ≡ Some f → f ≡ Truncated
-two_tests true u f e = cc
-two_tests false true f e = cc
-two_tests false false f e = cc
+two_tests t u f e = grind (arith, nat_tests)
 
 stable_comment : IsStable comment_fault
 stable_comment bytes more f e = inl (two_tests (nat_lt (length bytes) 4) (nat_lt (length bytes) (4 + big_number 4 bytes)) f e)

@@ -1,5 +1,5 @@
 -- The heights that segments give.
-use Rattle.std.proofs.Common.{◌≡◌, ◌≤◌, ◌+◌, ◌-◌, ◌*◌, ◌<◌, ◌&&◌, ℕ, zero, suc, Bool, true, false, List, [], ◌∷◌, ◌++◌, length, nat_le, nat_lt, refl, sym, ap, ◌∙◌, subst, length-append, arith, true≢false}
+use Rattle.std.proofs.Common.{◌≡◌, ◌≤◌, ◌+◌, ◌-◌, ◌*◌, ◌<◌, ℕ, zero, suc, true, List, [], ◌∷◌, ◌++◌, length, refl, sym, ap, ◌∙◌, subst, length-append, arith, ◌⊎◌, inl, inr}
 use Rattle.std.specs.List.{AllByRecursion}
 use Rattle.std.proofs.lemmas.Bool.Decides.{nat_tests}
 use Rattle.std.proofs.lemmas.Grind.{div_ceil_times}
@@ -7,6 +7,7 @@ use Rattle.std.proofs.Math.Nat.{mul-le-mul_right}
 use Rattle.t85_core.specs.Header.{Fields}
 use Rattle.t85_core.specs.Grammar.{Segment, NewLength, Move, Comment, lengths, GiveOnly, IsLegal, is_valid_length, stripe_count}
 use Rattle.t85_core.proofs.Bytes.Lists.{All-append}
+use Rattle.std.proofs.lemmas.Bool.{cases_lt}
 
 pub lengths_append : (ss ts : List Segment) → lengths (ss ++ ts) ≡ lengths ss ++ lengths ts
 lengths_append [] ts = refl
@@ -55,11 +56,18 @@ legal_give_none h (Comment text ∷ ss) l g = legal_give_none h ss l.1 g
 -- ---- valid heights
 
 pub valid_parts : (h : Fields) (k n : ℕ) → is_valid_length h k n ≡ true → (1 ≤ n) × (n ≤ h.yd)
-valid_parts h k n e = went (nat_le 1 n) (nat_le n h.yd) (nat_lt ((k - 1) * h.l0) n) refl refl e where
-  went : (a b c : Bool) → nat_le 1 n ≡ a → nat_le n h.yd ≡ b → (a && b && c) ≡ true → (1 ≤ n) × (n ≤ h.yd)
-  went true true c p q e = (grind (arith, nat_tests), grind (arith, nat_tests))
-  went true false c p q e = absurd (true≢false (sym e))
-  went false b c p q e = absurd (true≢false (sym e))
+valid_parts h k n e = (grind (arith, nat_tests), grind (arith, nat_tests))
+
+-- and the last of so many stripes has a row
+pub valid_over : (h : Fields) (k n : ℕ) → is_valid_length h k n ≡ true → (k - 1) * h.l0 < n
+valid_over h k n e = grind (arith, nat_tests)
+
+-- a height that has a row after e stripes has more than e stripes
+pub more_stripes : (n l e : ℕ) → 1 ≤ l → e * l < n → e < stripe_count n l
+more_stripes n l e one over = went (cases_lt e (stripe_count n l)) where
+  went : (e < stripe_count n l) ⊎ (stripe_count n l ≤ e) → e < stripe_count n l
+  went (inl lt) = lt
+  went (inr le) = let k : stripe_count n l * l ≤ e * l = mul-le-mul_right l le in let t = div_ceil_times n l one in absurd (omega (arith, k, t.0, over))
 
 -- a height in use is valid after as many entities as it makes, or fewer
 pub valid_in_use : (h : Fields) (height k : ℕ) → 0 < h.l0 → 1 ≤ height → height ≤ h.yd → k ≤ stripe_count height h.l0 → is_valid_length h k height ≡ true

@@ -5,7 +5,7 @@ use Rattle.std.specs.Io.KnownBytes.{Consumes, Keeps, append_known}
 use Rattle.raster_core.specs.Packed.{packed_row}
 use Rattle.pbm_core.specs.declared.fault.PbmFault.TheVariants as pbm
 use Rattle.t85_core.specs.declared.fault.Fault.{Fault}
-use Rattle.t85_core.specs.declared.fault.Fault.TheVariants.{ShortHeader, ReservedBits, Layers, Planes, ZeroSize, TooWide, MoveRange, PrivateTable, Truncated, BadEscape, Aborted, MoveRefused, SecondMove, LengthRefused, SecondLength, Changed, AnnouncedLow, TooManyRows, VariableHeight, Read, Write, OutOfMemory, OptionBits, StripeZero, MoveLarge, CommentLong, Pbm}
+use Rattle.t85_core.specs.declared.fault.Fault.TheVariants.{Read, Write, Pbm}
 use Rattle.t85_core.specs.Header.{Fields}
 use Rattle.t85_core.specs.Steps.Buffers.{held_of}
 use Rattle.pbm_core.specs.Device.{one_more}
@@ -65,68 +65,12 @@ image_begun q h height use_ known known' text text' i = record {
 
 pub counts_any : (old new : ℕ) (fault : Fault) → new ≡ reads_after fault old → CountsFault old new fault
 counts_any old new Write e = inl e
-counts_any old new ShortHeader e = e
-counts_any old new ReservedBits e = e
-counts_any old new Layers e = e
-counts_any old new Planes e = e
-counts_any old new ZeroSize e = e
-counts_any old new TooWide e = e
-counts_any old new MoveRange e = e
-counts_any old new PrivateTable e = e
-counts_any old new Truncated e = e
-counts_any old new BadEscape e = e
-counts_any old new Aborted e = e
-counts_any old new MoveRefused e = e
-counts_any old new SecondMove e = e
-counts_any old new LengthRefused e = e
-counts_any old new SecondLength e = e
-counts_any old new Changed e = e
-counts_any old new AnnouncedLow e = e
-counts_any old new TooManyRows e = e
-counts_any old new VariableHeight e = e
-counts_any old new Read e = e
-counts_any old new OutOfMemory e = e
-counts_any old new OptionBits e = e
-counts_any old new StripeZero e = e
-counts_any old new MoveLarge e = e
-counts_any old new CommentLong e = e
-counts_any old new (Pbm f) e = e
+counts_any old new f e = e
 
 reads_few : (fault : Fault) → ((n : ℕ) → reads_after fault n ≡ n) ⊎ ((n : ℕ) → reads_after fault n ≡ one_more n)
 reads_few Read = inr (λ n. refl)
-reads_few ShortHeader = inl (λ n. refl)
-reads_few ReservedBits = inl (λ n. refl)
-reads_few Layers = inl (λ n. refl)
-reads_few Planes = inl (λ n. refl)
-reads_few ZeroSize = inl (λ n. refl)
-reads_few TooWide = inl (λ n. refl)
-reads_few MoveRange = inl (λ n. refl)
-reads_few PrivateTable = inl (λ n. refl)
-reads_few Truncated = inl (λ n. refl)
-reads_few BadEscape = inl (λ n. refl)
-reads_few Aborted = inl (λ n. refl)
-reads_few MoveRefused = inl (λ n. refl)
-reads_few SecondMove = inl (λ n. refl)
-reads_few LengthRefused = inl (λ n. refl)
-reads_few SecondLength = inl (λ n. refl)
-reads_few Changed = inl (λ n. refl)
-reads_few AnnouncedLow = inl (λ n. refl)
-reads_few TooManyRows = inl (λ n. refl)
-reads_few VariableHeight = inl (λ n. refl)
-reads_few Write = inl (λ n. refl)
-reads_few OutOfMemory = inl (λ n. refl)
-reads_few OptionBits = inl (λ n. refl)
-reads_few StripeZero = inl (λ n. refl)
-reads_few MoveLarge = inl (λ n. refl)
-reads_few CommentLong = inl (λ n. refl)
 reads_few (Pbm pbm.Read) = inr (λ n. refl)
-reads_few (Pbm pbm.NotPbm) = inl (λ n. refl)
-reads_few (Pbm pbm.BadNumber) = inl (λ n. refl)
-reads_few (Pbm pbm.ZeroSize) = inl (λ n. refl)
-reads_few (Pbm pbm.TooWide) = inl (λ n. refl)
-reads_few (Pbm pbm.TooTall) = inl (λ n. refl)
-reads_few (Pbm pbm.BadDigit) = inl (λ n. refl)
-reads_few (Pbm pbm.Truncated) = inl (λ n. refl)
+reads_few f = inl (λ n. refl)
 
 -- whatever was reported of the rows, a write failed after them
 pub counts_written : (old new : ℕ) (fault last : Fault) → new ≡ reads_after fault old → last ≡ Write → CountsFault old new last
@@ -142,32 +86,7 @@ counts_whole old new (Err f) e is = subst (CountsFault old new) (sym is) (inl e)
 -- no write has failed with another fault
 pub no_failed_write : (fault : Fault) → fault ≢ Write → (n : ℕ) → writes_after fault n ≡ n
 no_failed_write Write n = absurd (n refl)
-no_failed_write ShortHeader n = λ m. refl
-no_failed_write ReservedBits n = λ m. refl
-no_failed_write Layers n = λ m. refl
-no_failed_write Planes n = λ m. refl
-no_failed_write ZeroSize n = λ m. refl
-no_failed_write TooWide n = λ m. refl
-no_failed_write MoveRange n = λ m. refl
-no_failed_write PrivateTable n = λ m. refl
-no_failed_write Truncated n = λ m. refl
-no_failed_write BadEscape n = λ m. refl
-no_failed_write Aborted n = λ m. refl
-no_failed_write MoveRefused n = λ m. refl
-no_failed_write SecondMove n = λ m. refl
-no_failed_write LengthRefused n = λ m. refl
-no_failed_write SecondLength n = λ m. refl
-no_failed_write Changed n = λ m. refl
-no_failed_write AnnouncedLow n = λ m. refl
-no_failed_write TooManyRows n = λ m. refl
-no_failed_write VariableHeight n = λ m. refl
-no_failed_write Read n = λ m. refl
-no_failed_write OutOfMemory n = λ m. refl
-no_failed_write OptionBits n = λ m. refl
-no_failed_write StripeZero n = λ m. refl
-no_failed_write MoveLarge n = λ m. refl
-no_failed_write CommentLong n = λ m. refl
-no_failed_write (Pbm f) n = λ m. refl
+no_failed_write f n = λ m. refl
 
 -- a buffer that is empty
 pub text_unheld : (bytes : List ℕ) (at end : ℕ) (a : Option (List ℕ)) → at ≡ end → append_known a (held_of bytes at end) ≡ a

@@ -49,9 +49,6 @@ rows_more : (c : Coding) (first k : ℕ) → flat_map (events_of_row c) (numbers
 rows_more c first k = ap (flat_map (events_of_row c)) (numbers_from_last first k) ∙ flat_map-append (events_of_row c) (numbers_from first k) ((first + k) ∷ [])
 
 module _ (c : Coding) (i count : ℕ) (move : Option (ℕ × ℕ)) (move_is : slice_index_or c.moves i None ≡ move) where
-  abbrev stripe_start : State
-  stripe_start = begun (learned_at c i)
-
   abbrev to_row : ℕ → List Event
   to_row r = flat_map (events_of_row c) (numbers_from (i * c.stripe_rows) r)
 
@@ -293,9 +290,6 @@ module _ (h : Fields) (height : ℕ) (ok : IsAccepted h) (stripes : List Stripe)
 
     last_one : length all ≡ length stripes + 1
     last_one = begun_length stripes segments code
-
-    m_is : length (first ++ more) ≡ length stripes * h.l0 + (0 + length more)
-    m_is = omega (arith, all_many)
 
     with_row : Coding
     with_row = coding_in h all other ((first ++ more) ++ row ∷ [])

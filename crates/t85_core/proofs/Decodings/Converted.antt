@@ -1,5 +1,5 @@
 -- From a header and a body to what is said of the whole stream.
-use Rattle.std.proofs.Common.{◌≡◌, ◌≢◌, ◌≤◌, ◌<◌, inl, inr, ◌⊎◌, ℕ, Bool, true, false, ◌&&◌, List, [], drop, nat_eq, Option, None, Some, IfSome, Result, Ok, Err, refl, sym, ap, ◌∙◌, subst, arith, true≢false}
+use Rattle.std.proofs.Common.{◌++◌, ◌≡◌, ◌≢◌, ◌≤◌, ◌<◌, inl, inr, ◌⊎◌, ℕ, Bool, true, false, List, [], drop, nat_eq, Option, None, Some, IfSome, Result, Ok, Err, refl, sym, ap, ◌∙◌, subst, arith, true≢false}
 use Rattle.std.specs.Prelude.{OnOk, is_some}
 use Rattle.std.specs.Io.KnownBytes.{Consumes, Keeps}
 use Rattle.std.proofs.lemmas.Bool.Decides.{nat_tests}
@@ -21,7 +21,7 @@ use Rattle.t85_core.proofs.Theorems.OneRaster.{one_raster_of}
 use Rattle.t85_core.proofs.Grammar.Unique.{header_is}
 use Rattle.t85_core.proofs.Walks.Passed.{Consumes-none}
 use Rattle.t85_core.proofs.Decodings.RowPut.{appends_nothing}
-use Rattle.t85_core.proofs.Bytes.Streams.{Appends-keeps}
+use Rattle.t85_core.proofs.Bytes.Streams.{Appends-keeps, known_behind}
 
 no_body_fault : (f : Fault) → f ≡ OutOfMemory → IsBodyFault f → ⊥
 no_body_fault f e p = subst IsBodyFault e p
@@ -117,23 +117,13 @@ module _ (h : Fields) (height limit : ℕ) (in_old in_new : Option (List ℕ)) (
 -- ---- headers
 
 same_true : (a b : Fields) → is_same_header a b ≡ true → a ≡ b
-same_true a b e = went (nat_eq a.xd b.xd) (nat_eq a.yd b.yd) (nat_eq a.l0 b.l0) (nat_eq a.mx b.mx) (nat_eq a.options b.options) refl refl refl refl refl e where
-  make : ℕ → ℕ → ℕ → ℕ → ℕ → Fields
-  make xd yd l0 mx options = record { xd = xd; yd = yd; l0 = l0; mx = mx; options = options }
-
-  went : (p q r s t : Bool) → nat_eq a.xd b.xd ≡ p → nat_eq a.yd b.yd ≡ q → nat_eq a.l0 b.l0 ≡ r → nat_eq a.mx b.mx ≡ s → nat_eq a.options b.options ≡ t → (p && q && r && s && t) ≡ true → a ≡ b
-  went true true true true true p q r s t e =
-      let xd : a.xd ≡ b.xd = grind (arith, nat_tests) in
-      let yd : a.yd ≡ b.yd = grind (arith, nat_tests) in
-      let l0 : a.l0 ≡ b.l0 = grind (arith, nat_tests) in
-      let mx : a.mx ≡ b.mx = grind (arith, nat_tests) in
-      let options : a.options ≡ b.options = grind (arith, nat_tests) in
-      ap (λ z. make z a.yd a.l0 a.mx a.options) xd ∙ ap (λ z. make b.xd z a.l0 a.mx a.options) yd ∙ ap (λ z. make b.xd b.yd z a.mx a.options) l0 ∙ ap (λ z. make b.xd b.yd b.l0 z a.options) mx ∙ ap (λ z. make b.xd b.yd b.l0 b.mx z) options
-  went true true true true false p q r s t e = absurd (true≢false (sym e))
-  went true true true false t' p q r s t e = absurd (true≢false (sym e))
-  went true true false s' t' p q r s t e = absurd (true≢false (sym e))
-  went true false r' s' t' p q r s t e = absurd (true≢false (sym e))
-  went false q' r' s' t' p q r s t e = absurd (true≢false (sym e))
+same_true a b e =
+    let xd : a.xd ≡ b.xd = grind (arith, nat_tests) in
+    let yd : a.yd ≡ b.yd = grind (arith, nat_tests) in
+    let l0 : a.l0 ≡ b.l0 = grind (arith, nat_tests) in
+    let mx : a.mx ≡ b.mx = grind (arith, nat_tests) in
+    let options : a.options ≡ b.options = grind (arith, nat_tests) in
+    ap (λ z. record a { xd = z }) xd ∙ ap (λ z. record b { yd = z; l0 = a.l0; mx = a.mx; options = a.options }) yd ∙ ap (λ z. record b { l0 = z; mx = a.mx; options = a.options }) l0 ∙ ap (λ z. record b { mx = z; options = a.options }) mx ∙ ap (λ z. record b { options = z }) options
 
 pub same_fields : (a b : Fields) (t : Bool) → t ≡ is_same_header a b → t ≡ true → a ≡ b
 same_fields a b t is so = same_true a b (sym is ∙ so)
@@ -172,12 +162,9 @@ module _ (q : CoderLaws) (in_old : Option (List ℕ)) (again_old : Option (List 
   pub denoted_once : (limit : ℕ) (in_new : Option (List ℕ)) (reads_old reads_new writes_old writes_new : ℕ) (flushed : Bool) (r : Result (Unit {0}) Fault) → ToPbmOnce limit (between in_old in_new reads_old reads_new) (delivery (between out_old out_new writes_old writes_new) flushed) r →
       OnOk r (IfSome in_old (λ first. IsFixed first ⊎ (again_old ≡ Some first) → WritesDenoted first out_old out_new))
   denoted_once limit in_new reads_old reads_new writes_old writes_new flushed (Err f) p = tt
-  denoted_once limit in_new reads_old reads_new writes_old writes_new flushed (Ok u) p = went in_old p.body p.taken.taken p.converts.whole where
-    went : (old body : Option (List ℕ)) → Consumes old body p.taken.given → IfSome body (λ b. WritesRaster p.header p.header.yd b out_old out_new) → IfSome old (λ first. IsFixed first ⊎ (again_old ≡ Some first) → WritesDenoted first out_old out_new)
-    went None body taken w = tt
-    went (Some bytes) None taken w = absurd taken
-    went (Some bytes) (Some body) taken w = λ _. denoted q p.header p.header.yd bytes body out_old out_new (subst (λ z. HeaderOf z p.header) (sym taken) (HeaderOf-append p.taken.given body p.header p.taken.header_of))
-        (inr (refl, λ n g. true≢false (sym g.variable ∙ p.fixed))) (ap (drop 20) taken ∙ behind p.taken.given body p.taken.long) w
+  denoted_once limit in_new reads_old reads_new writes_old writes_new flushed (Ok u) p =
+      known_behind (λ first. IsFixed first ⊎ (again_old ≡ Some first) → WritesDenoted first out_old out_new) (λ b. WritesRaster p.header p.header.yd b out_old out_new) in_old p.body p.taken.given p.taken.taken p.converts.whole (λ body w _.
+      denoted q p.header p.header.yd (p.taken.given ++ body) body out_old out_new (HeaderOf-append p.taken.given body p.header p.taken.header_of) (inr (refl, λ n g. true≢false (sym g.variable ∙ p.fixed))) (behind p.taken.given body p.taken.long) w)
 
   -- after the same bytes
   pub denoted_twice : (h : Fields) (height limit : ℕ) (mid in_new again_new : Option (List ℕ)) (first_old first_new reads_old reads_new writes_old writes_new : ℕ) (flushed : Bool) (r : Result (Unit {0}) Fault) → is_variable h ≡ true → TakesHeader h in_old mid →

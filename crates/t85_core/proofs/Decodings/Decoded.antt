@@ -1,9 +1,8 @@
 -- From what decoding took and wrote to what is said of the whole body.
-use Rattle.std.proofs.Common.{◌≡◌, ◌≢◌, ◌<◌, ◌^◌, ◌≤◌, ◌⊎◌, inl, inr, ℕ, Bool, List, [], ◌++◌, not, count_by, Option, None, Some, Result, Ok, Err, refl, sym, ap, ◌∙◌, subst, append_assoc, append-nil, arith}
+use Rattle.std.proofs.Common.{◌≡◌, ◌≢◌, ◌<◌, ◌^◌, ◌≤◌, ◌⊎◌, inl, inr, ℕ, Bool, List, [], ◌++◌, not, count_by, Option, None, Some, Result, Ok, Err, refl, sym, ap, ◌∙◌, subst, append_assoc, arith}
 use Rattle.std.specs.Prelude.{IfSome, OnOk, IfErr, IsErrOf, flat_map}
 use Rattle.std.specs.Io.KnownBytes.{Appends, Consumes, prepend_known, append_known}
-use Rattle.pbm_core.specs.Device.{AppendsBeginning}
-use Rattle.pbm_core.specs.Device.{one_more}
+use Rattle.pbm_core.specs.Device.{AppendsBeginning, one_more}
 use Rattle.t85_core.specs.Change.{between}
 use Rattle.pbm_core.specs.Pbm.{header_text}
 use Rattle.qm_core.specs.Code.{stuffed}
@@ -33,7 +32,7 @@ use Rattle.t85_core.proofs.Decodings.Entities.{consumes_front}
 use Rattle.t85_core.proofs.Decodings.Firsts.{pbm_of}
 use Rattle.t85_core.proofs.Bytes.HeldBack.{beginning_handed}
 use Rattle.t85_core.proofs.Walks.Passed.{Consumes-none}
-use Rattle.t85_core.proofs.Bytes.Streams.{Appends-more, Consumes-more, beginning_after, beginning_longer}
+use Rattle.t85_core.proofs.Bytes.Streams.{Appends-more, Consumes-more, beginning_after, beginning_longer, longer_or_all}
 
 -- what is fixed stays so, whatever bytes follow, but where the end is the fault
 pub fixes_more : (h : Fields) (height : ℕ) (given more : List ℕ) (fault : Fault) (rows : List (List Bool)) → Fixes h height given fault rows → (fault ≡ Truncated) ⊎ Fixes h height (given ++ more) fault rows
@@ -94,13 +93,9 @@ module _ (q : CoderLaws) (h : Fields) (height : ℕ) (use_ : IsInUse h height) (
   rows_known : (bytes known : Option (List ℕ)) (fault : Fault) → ImageCut h height (passage bytes known out_mid out_new) fault → fault ≢ Read → IfSome bytes (λ body. WritesRows h height body fault out_old out_new)
   rows_known None known fault i other = tt
   rows_known (Some body) None fault i other = absurd i.ends.taken
-  rows_known (Some body) (Some rest) fault i other = rows_written body fault i.rows (subst (λ z. Fixes h height z fault i.rows) (sym i.ends.taken) (went (fixes_more h height i.ends.given rest fault i.rows has))) i.appended where
+  rows_known (Some body) (Some rest) fault i other = rows_written body fault i.rows (subst (λ z. Fixes h height z fault i.rows) (sym i.ends.taken) (longer_or_all (λ z. Fixes h height z fault i.rows) i.ends.given rest has i.ends.at_end (fixes_more h height i.ends.given rest fault i.rows has))) i.appended where
     has : Fixes h height i.ends.given fault i.rows
     has = subst (λ f. Fixes h height i.ends.given f i.rows) (counted-other Truncated fault other) i.ends.has_fault
-
-    went : (fault ≡ Truncated) ⊎ Fixes h height (i.ends.given ++ rest) fault i.rows → Fixes h height (i.ends.given ++ rest) fault i.rows
-    went (inl ended) = subst (λ z. Fixes h height z fault i.rows) (sym (ap (λ z. i.ends.given ++ z) (i.ends.at_end ended) ∙ append-nil i.ends.given)) has
-    went (inr f) = f
 
   rows_unread : (bytes known in_new : Option (List ℕ)) (fault : Fault) → ImageCut h height (passage bytes known out_mid out_new) fault → fault ≡ Read → known ≡ in_new →
       (given : List ℕ) × Consumes bytes in_new given × WritesRows h height given Truncated out_old out_new

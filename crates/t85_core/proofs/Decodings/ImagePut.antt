@@ -23,6 +23,7 @@ use Rattle.t85_core.specs.Coding.{flagged}
 use Rattle.t85_core.specs.Steps.Passage.{passage}
 use Rattle.t85_core.proofs.Decodings.CarriedDenotes.{carried_denotes}
 use Rattle.t85_core.proofs.Decodings.CarriedFixes.{carried_fixes}
+use Rattle.t85_core.proofs.Walks.HeightFound.{accepted}
 use Rattle.t85_core.proofs.Bytes.Ends.{Ends-after}
 use Rattle.t85_core.proofs.Bytes.Lists.{flat_map_push}
 use Rattle.t85_core.proofs.Bytes.Lengths.{many_lengths, gives_both, gives_none}
@@ -121,17 +122,7 @@ image_read h height known known' count heights carried text text' r use_ all = r
 -- a header, and a height from 1 to its own
 pub in_use : (header : Header) (height : ℕ) → 1 ≤ height → height ≤ header.yd → IsInUse (fields_of header) height
 in_use header height from to = record {
-  accepted = record {
-    width_from = header.some_width;
-    width_to = header.not_too_wide;
-    height_from = header.some_height;
-    height_to = header.not_too_tall;
-    stripe_from = header.some_rows;
-    stripe_to = header.not_too_long;
-    offset_to = header.in_range;
-    options_to = header.no_reserved_bit;
-    no_table = header.no_private_table;
-  };
+  accepted = accepted header;
   from = from;
   to = to;
 }

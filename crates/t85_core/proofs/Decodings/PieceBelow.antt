@@ -8,9 +8,8 @@ use Rattle.byteorder.specs.Endian.{big_bytes}
 use Rattle.qm_core.specs.Code.{stuffed}
 use Rattle.t85_core.specs.declared.fault.Fault.{Fault}
 use Rattle.t85_core.specs.declared.fault.Fault.TheVariants.{Truncated, Changed}
-use Rattle.t85_core.specs.Lent.{PieceView}
+use Rattle.t85_core.specs.Lent.{PieceView, WalkView}
 use Rattle.t85_core.specs.declared.pieces.Outcome.TheVariants as outcome
-use Rattle.t85_core.specs.Lent.{WalkView}
 use Rattle.t85_core.specs.declared.pieces.walk.Stage.TheVariants as stage
 use Rattle.t85_core.specs.declared.segments.Code as code_type
 use Rattle.t85_core.specs.declared.segments.Code.TheVariants as code

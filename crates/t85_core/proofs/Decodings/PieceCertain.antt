@@ -9,15 +9,13 @@ use Rattle.qm_core.specs.Code.{stuffed}
 use Rattle.qm_core.specs.Source.{bytes_of}
 use Rattle.qm_core.specs.declared.source.Pulled.{Pulled}
 use Rattle.t85_core.specs.declared.fault.Fault.TheVariants.{Changed}
-use Rattle.t85_core.specs.Lent.{PieceView}
+use Rattle.t85_core.specs.Lent.{PieceView, WalkView, Carried}
 use Rattle.t85_core.specs.declared.pieces.behind.Behind.{Behind}
-use Rattle.t85_core.specs.Lent.{WalkView}
 use Rattle.t85_core.specs.declared.pieces.walk.Stage.TheVariants as stage
 use Rattle.t85_core.specs.declared.segments.Code as code_type
 use Rattle.t85_core.specs.declared.segments.Code.TheVariants as code
 use Rattle.t85_core.specs.declared.segments.Move as move
 use Rattle.t85_core.specs.declared.segments.Place.{Place}
-use Rattle.t85_core.specs.Lent.{Carried}
 use Rattle.t85_core.specs.Header.{Fields, IsAccepted, is_variable}
 use Rattle.t85_core.specs.Options.{fields_of}
 use Rattle.t85_core.specs.Grammar.{Segment, NewLength, Stripe, segment_bytes, stripe_bytes, marker_bytes, stripe_count, all_segments, lengths, is_comment, is_valid_length, IsBegun, AreStripes}
@@ -30,7 +28,7 @@ use Rattle.t85_core.specs.Steps.Pieces.{HeadStands, WalkStands, IsInCode, HasMar
 use Rattle.t85_core.specs.Steps.SizedImage.{sized}
 use Rattle.t85_core.specs.Steps.PieceStands.{DecoderStands, HeightKnown, CodeWalks, WalkWaits, IsAtMarker, entities_behind, is_last, place_behind, last_behind}
 use Rattle.t85_core.specs.Steps.Behind.{BehindStands, behind_at}
-use Rattle.t85_core.proofs.Bytes.Lengths.{lengths_append, gives_none, valid_in_use}
+use Rattle.t85_core.proofs.Bytes.Lengths.{lengths_append, gives_none, valid_in_use, valid_over}
 use Rattle.t85_core.proofs.Bytes.Lists.{All-append, flat_map_push}
 use Rattle.t85_core.proofs.Bytes.Stuffing.{stuffed_append}
 use Rattle.t85_core.proofs.Walks.Passed.{passed_none, segments_push}
@@ -40,10 +38,10 @@ use Rattle.t85_core.proofs.Decodings.CarriedDenotes.{stripes_whole}
 use Rattle.t85_core.proofs.Decodings.PieceBehind.{front_is, behind_ends}
 use Rattle.t85_core.proofs.Decodings.PieceEnds.{Marked}
 use Rattle.t85_core.proofs.Decodings.PieceGiven.{height_known}
-use Rattle.t85_core.proofs.Decodings.PieceHeights.{valid_over, stripes_of, at_height}
+use Rattle.t85_core.proofs.Decodings.PieceHeights.{stripes_of, at_height}
 use Rattle.t85_core.proofs.Decodings.PieceLook.{only_comments, comments_behind}
 use Rattle.t85_core.proofs.Decodings.PieceSteps.{nil_of, some_row, at_stage}
-use Rattle.t85_core.proofs.Decodings.PieceStood.{own_height, code_of, waits_of, head_walk, in_code_entities}
+use Rattle.t85_core.proofs.Decodings.PieceStood.{own_height, place_at, code_of, waits_of, head_walk, in_code_entities}
 
 -- ---- the code of a stripe that has begun
 
@@ -311,9 +309,7 @@ module _ (h : Fields) (ok : IsAccepted h) (variable : IsTrue (is_variable h)) (w
       zero = let e : w.entities * h.l0 ≡ 0 * h.l0 = ap (λ (m : ℕ). m * h.l0) first in omega (arith, e)
 
       place_is : place_behind h w.stage w.entities ≡ record { height = h.yd; entities = w.entities; given = false }
-      place_is = ap (λ k. place_of (entities_behind k w.entities)) is where
-        place_of : ℕ → Place
-        place_of n = record { height = h.yd; entities = n; given = false }
+      place_is = ap (λ k. place_at h.yd (entities_behind k w.entities)) is
 
       there : BehindStands h (behind_at (place_behind h w.stage w.entities) false) ends.1 (s.back ++ ends.0)
       there = subst (λ l. BehindStands h (behind_at (place_behind h w.stage w.entities) l) ends.1 (s.back ++ ends.0)) (ap (λ k. is_last k (nat_le w.left h.l0)) is) ends.3
@@ -336,9 +332,7 @@ module _ (h : Fields) (ok : IsAccepted h) (variable : IsTrue (is_variable h)) (w
     at_marker : IsInCode w.stage → HasMarker w → IsLeastHeight h text (w.entities * h.l0 + 1)
     at_marker inside marked = whole (by inside) where
       place_is : place_behind h w.stage w.entities ≡ record { height = h.yd; entities = w.entities + 1; given = false }
-      place_is = ap place_of (in_code_entities w.stage w.entities inside) where
-        place_of : ℕ → Place
-        place_of n = record { height = h.yd; entities = n; given = false }
+      place_is = ap (place_at h.yd) (in_code_entities w.stage w.entities inside)
 
       there : BehindStands h (behind_at (record { height = h.yd; entities = w.entities + 1; given = false }) (last_behind h w.stage w.left)) ends.1 (s.back ++ ends.0)
       there = subst (λ p. BehindStands h (behind_at p (last_behind h w.stage w.left)) ends.1 (s.back ++ ends.0)) place_is ends.3

@@ -1,6 +1,6 @@
 -- The code of a stripe that comes in pieces.
 use Rattle.std.proofs.Common.{◌≡◌, ◌≤◌, ◌⊎◌, inl, inr, ℕ, Bool, true, false, List, [], ◌∷◌, ◌++◌, length, Option, None, Some, refl, sym, ap, ◌∙◌, subst, append_assoc, append-nil, length-append, arith}
-use Rattle.std.specs.Prelude.{◌≢◌, ◌==◌, ◌||◌, IfSome, if◌then◌else◌}
+use Rattle.std.specs.Prelude.{◌≢◌, ◌==◌, IfSome, if◌then◌else◌}
 use Rattle.std.proofs.lemmas.Bool.{cases_eq}
 use Rattle.std.proofs.lemmas.Bool.Decides.{nat_tests}
 use Rattle.std.specs.Io.KnownBytes.{Consumes, IsAtEnd}
@@ -12,12 +12,11 @@ use Rattle.qm_core.specs.declared.source.Pulled.TheVariants.{Byte, End, Fault}
 use Rattle.qm_core.specs.declared.source.Heard.{Heard}
 use Rattle.qm_core.specs.declared.source.Heard.TheVariants.{More, Ended, Stopped}
 use Rattle.t85_core.specs.declared.fault.Fault as fault
-use Rattle.t85_core.specs.declared.fault.Fault.TheVariants.{Truncated, BadEscape, Aborted, Read}
+use Rattle.t85_core.specs.declared.fault.Fault.TheVariants.{Truncated, Read}
 use Rattle.t85_core.specs.declared.segments.Code.{Code}
 use Rattle.t85_core.specs.declared.segments.Code.TheVariants as code
 use Rattle.t85_core.specs.Header.{Fields}
 use Rattle.t85_core.specs.Grammar.{marker_bytes, ESC}
-use Rattle.t85_core.specs.Refusal.{escape_fault}
 use Rattle.t85_core.specs.Failures.{reads_after}
 use Rattle.t85_core.specs.Steps.Segments.{code_bytes, IsByteOrMarker, RestFault}
 use Rattle.t85_core.specs.Steps.Entity.{EntityView, GivesEnd, GivesFault, entity_known}
@@ -81,25 +80,18 @@ taken_marker (Some c) (b ∷ bs) reset p p1 e = taken_bytes (Some c) (b ∷ bs) 
 closed_right : (xs ys : List Pulled) → heard_of xs ≡ More → IsClosed (xs ++ ys) → IsClosed ys
 closed_right [] ys h c = c
 closed_right (Byte b ∷ xs) ys h c = closed_right xs ys h c
-closed_right (End ∷ xs) ys h c = absurd (let bot : ⊥ = cc in bot)
-closed_right (Fault ∷ xs) ys h c = absurd (let bot : ⊥ = cc in bot)
+closed_right xs ys h c = absurd (let bot : ⊥ = cc in bot)
 
-nothing_after : (xs ys : List Pulled) → heard_of xs ≡ Ended → IsClosed (xs ++ ys) → ys ≡ []
-nothing_after [] ys h c = absurd (let bot : ⊥ = cc in bot)
+-- nothing is asked after an end
+pub nothing_after : (xs ys : List Pulled) → heard_of xs ≡ Ended → IsClosed (xs ++ ys) → ys ≡ []
 nothing_after (Byte b ∷ xs) ys h c = nothing_after xs ys h c
 nothing_after (End ∷ []) ys h c = c
-nothing_after (End ∷ x ∷ xs) ys h c = absurd (let bot : ⊥ = cc in bot)
-nothing_after (Fault ∷ xs) ys h c = absurd (let bot : ⊥ = cc in bot)
+nothing_after xs ys h c = absurd (let bot : ⊥ = cc in bot)
 
 heard_right : (xs ys : List Pulled) → heard_of xs ≡ More → heard_of (xs ++ ys) ≡ heard_of ys
 heard_right [] ys h = refl
 heard_right (Byte b ∷ xs) ys h = heard_right xs ys h
-heard_right (End ∷ xs) ys h = absurd (let bot : ⊥ = cc in bot)
-heard_right (Fault ∷ xs) ys h = absurd (let bot : ⊥ = cc in bot)
-
-small_right : (xs ys : List ℕ) → IsBytes (xs ++ ys) → IsBytes ys
-small_right [] ys h = h
-small_right (x ∷ xs) ys h = small_right xs ys h.1
+heard_right xs ys h = absurd (let bot : ⊥ = cc in bot)
 
 -- without the fault
 bytes_again : (xs : List Pulled) → IsClosed xs → bytes_of (before_fault xs) ≡ bytes_of xs
@@ -117,16 +109,9 @@ heard_again (Fault ∷ xs) h = refl
 pub again_right : (xs ys : List Pulled) → heard_of xs ≡ More → before_fault (xs ++ ys) ≡ xs ++ before_fault ys
 again_right [] ys h = refl
 again_right (Byte b ∷ xs) ys h = ap (λ z. Byte b ∷ z) (again_right xs ys h)
-again_right (End ∷ xs) ys h = absurd (let bot : ⊥ = cc in bot)
-again_right (Fault ∷ xs) ys h = absurd (let bot : ⊥ = cc in bot)
+again_right xs ys h = absurd (let bot : ⊥ = cc in bot)
 
 -- a rest of a code that is cut short
-cut_short : (a b c : Bool) (w : Option fault.Fault) → (if a then None else if b then Some Aborted else if c || true then Some BadEscape else w) ≡ Some Truncated → ⊥
-cut_short true b c w e = cc
-cut_short false true c w e = cc
-cut_short false false true w e = cc
-cut_short false false false w e = cc
-
 rest_is : (h : Fields) (rest : List ℕ) → RestFault rest Truncated → (rest ≡ []) ⊎ (rest ≡ 255 ∷ [])
 rest_is h [] f = inl refl
 rest_is h (b ∷ []) f = by (cases_eq b 255)
@@ -137,22 +122,13 @@ rest_is h (b ∷ []) f = by (cases_eq b 255)
     by : (b ≡ 255) ⊎ (b ≢ 255) → (b ∷ [] ≡ []) ⊎ (b ∷ [] ≡ 255 ∷ [])
     by (inl e) = inr (ap (λ z. z ∷ []) e)
     by (inr n) = let t : (b == ESC) ≡ false = grind (arith, nat_tests) in absurd (let z : None ≡ Some Truncated = subst (λ u. (if u then Some Truncated else None) ≡ Some Truncated) t at in let bot : ⊥ = cc in bot)
-rest_is h (b ∷ e ∷ bytes) f = by (b == ESC) (f h (record { height = 0; entities = 0; heights = 0 }) 0)
-  where
-    by : (u : Bool) → (if u then escape_fault h (record { height = 0; entities = 0; heights = 0 }) 0 true e bytes else None) ≡ Some Truncated → (b ∷ e ∷ bytes ≡ []) ⊎ (b ∷ e ∷ bytes ≡ 255 ∷ [])
-    by true k = absurd (cut_short _ _ _ _ k)
-    by false k = absurd (let bot : ⊥ = cc in bot)
+rest_is h (b ∷ e ∷ bytes) f = let k = f h (record { height = 0; entities = 0; heights = 0 }) 0 in absurd (let bot : ⊥ = grind (arith, nat_tests) in bot)
 
 known_is : (first : Option Code) (p : List ℕ) → entity_known first (Some p) ≡ Some (ahead_bytes first ++ p)
 known_is None p = refl
 known_is (Some c) p = refl
 
 -- ---- a call
-
--- it stays the same stream
-pub pulls_same : {T : Type 0} (standing : T → EntityView) (failed : T → ℕ) (answers : List Pulled) (s t : T) → Gives (Pull standing failed) s answers t → (standing t).source ≡ (standing s).source
-pulls_same standing failed [] s t g = ap (λ z. (standing z).source) (sym g)
-pulls_same standing failed (a ∷ answers) s t g = pulls_same standing failed answers g.0 t g.2 ∙ g.1.step.same_source
 
 module _ {T : Type 0} (standing : T → EntityView) (failed : T → ℕ) (s t : T) (first first1 : Option Code) (marker marker1 : Option Bool) (p p1 : List ℕ)
     (known_s : (standing s).known ≡ entity_known first (Some p)) (known_t : (standing t).known ≡ entity_known first1 (Some p1))

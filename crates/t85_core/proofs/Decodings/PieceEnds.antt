@@ -1,20 +1,22 @@
 -- A code whose end marker came: no row of it breaks, or waits.
-use Rattle.std.proofs.Common.{cond, ◌≡◌, ◌≢◌, ◌⊎◌, inl, inr, ℕ, Bool, true, false, ◌||◌, ◌==◌, nat_le, if◌then◌else◌, List, [], ◌∷◌, ◌++◌, Option, None, Some, refl, sym, ap, ◌∙◌, subst, append_assoc, append-nil}
+use Rattle.std.proofs.Common.{◌≡◌, ◌≢◌, ◌⊎◌, inl, inr, ℕ, Bool, true, false, List, [], ◌∷◌, ◌++◌, Option, None, Some, refl, sym, ap, ◌∙◌, subst, append_assoc, append-nil, arith}
 use Rattle.qm_core.specs.Code.{stuffed}
 use Rattle.qm_core.specs.Source.{bytes_of}
 use Rattle.qm_core.specs.declared.source.Pulled.{Pulled}
 use Rattle.t85_core.specs.declared.fault.Fault.{Fault}
-use Rattle.t85_core.specs.declared.fault.Fault.TheVariants.{Truncated, BadEscape, Aborted, Changed}
+use Rattle.t85_core.specs.declared.fault.Fault.TheVariants.{Changed}
 use Rattle.t85_core.specs.declared.segments.Code.{Code}
 use Rattle.t85_core.specs.declared.segments.Code.TheVariants as code
 use Rattle.t85_core.specs.Header.{Fields}
 use Rattle.t85_core.specs.Grammar.{marker_bytes}
-use Rattle.t85_core.specs.Refusal.{Spot, rest_fault, length_fault, move_fault, comment_fault}
+use Rattle.t85_core.specs.Refusal.{Spot, rest_fault}
 use Rattle.t85_core.specs.Steps.Segments.{RestFault}
 use Rattle.t85_core.specs.Steps.PieceCode.{ahead_bytes, CodeText, CodeBreaks}
 use Rattle.t85_core.proofs.Bytes.Known.{stable_rest}
 use Rattle.t85_core.proofs.Bytes.Stuffing.{stuff, stuff_cases, stuffed_append}
 use Rattle.t85_core.proofs.Grammar.Cut.{NoCode, one_code, no_code_in, no_marker_fault, marker_no_code}
+use Rattle.std.proofs.lemmas.Bool.Decides.{nat_tests}
+use Rattle.t85_core.proofs.Bytes.Streams.{longer_or_all}
 
 -- no height is in use, and nothing came before
 abbrev pub before_all : Spot
@@ -36,12 +38,8 @@ whole_text first (Some r) answers extra text o m = (bytes_of answers, r, o.text_
 -- it doesn't break
 pub never_breaks : (h : Fields) (spot : Spot) (text p bytes : List ℕ) (f : Fault) → WholeText text → CodeBreaks text p bytes f → ⊥
 never_breaks h spot text p bytes f w k = no_marker_fault h spot 0 true w.1 p f (subst (λ z. rest_fault h spot 0 true z ≡ Some f) same.1 has) where
-  all : (f ≡ Truncated) ⊎ (rest_fault h spot 0 true (k.rest ++ k.unread) ≡ Some f) → rest_fault h spot 0 true (k.rest ++ k.unread) ≡ Some f
-  all (inl ended) = subst (λ z. rest_fault h spot 0 true z ≡ Some f) (sym (ap (λ z. k.rest ++ z) (k.at_end ended) ∙ append-nil k.rest)) (k.broken h spot 0)
-  all (inr e) = e
-
   has : rest_fault h spot 0 true (k.rest ++ k.unread) ≡ Some f
-  has = all (stable_rest h spot 0 true k.rest k.unread f (k.broken h spot 0))
+  has = longer_or_all (λ z. rest_fault h spot 0 true z ≡ Some f) k.rest k.unread (k.broken h spot 0) k.at_end (stable_rest h spot 0 true k.rest k.unread f (k.broken h spot 0))
 
   same : (bytes ≡ w.0) × (k.rest ++ k.unread ≡ marker_bytes w.1 ++ p)
   same =
@@ -73,21 +71,7 @@ stays_marked text given w (Some (code.Marker reset)) None answers extra o = (res
 -- inside a code no height comes, so none is another
 pub never_changed : Fields → Spot → (rest : List ℕ) → RestFault rest Changed → ⊥
 never_changed h spot rest broken = went rest (broken h spot 0) where
-  one : (t : Bool) → cond t (Some Truncated) None ≡ Some Changed → ⊥
-  one true e = cc
-  one false e = cc
-
-  two : (a b c d e : Bool) (more : Option Fault) → cond a (cond b None (cond c (Some Aborted) (cond ((d || e) || true) (Some BadEscape) more))) None ≡ Some Changed → ⊥
-  two true true c d e more k = cc
-  two true false true d e more k = cc
-  two true false false true e more k = cc
-  two true false false false true more k = cc
-  two true false false false false more k = cc
-  two false b c d e more k = cc
-
   went : (rest : List ℕ) → rest_fault h spot 0 true rest ≡ Some Changed → ⊥
   went [] e = cc
-  went (b ∷ []) e = one (b == 255) e
-  went (b ∷ escape ∷ bytes) e =
-      two (b == 255) ((escape == 0) || (escape == 2) || (escape == 3)) (escape == 4) (escape == 1) (nat_le 8 escape)
-      (if escape == 5 then length_fault h spot bytes else if escape == 6 then move_fault h 0 bytes else comment_fault bytes) e
+  went (b ∷ []) e = grind (arith, nat_tests)
+  went (b ∷ escape ∷ bytes) e = grind (arith, nat_tests)

@@ -1,15 +1,13 @@
 -- What is left where a piece ends: the beginning of an escape or of a segment.
-use Rattle.std.proofs.Common.{cond, ◌||◌, ◌≡◌, ◌≢◌, ◌⊎◌, inl, inr, ◌<◌, ◌≤◌, ℕ, Bool, true, false, not, List, [], ◌∷◌, ◌++◌, Option, None, Some, length, nat_lt, nat_le, if◌then◌else◌, Result, Ok, Err, refl, sym, ap, ◌∙◌, subst, append-nil, arith}
+use Rattle.std.proofs.Common.{cond, ◌||◌, ◌≡◌, ◌≢◌, ◌⊎◌, inl, inr, ◌<◌, ◌≤◌, ℕ, Bool, true, false, List, [], ◌∷◌, ◌++◌, Option, None, Some, length, nat_le, Result, Ok, Err, refl, sym, ap, ◌∙◌, subst, append-nil, arith}
 use Rattle.std.specs.Bool.{◌==◌}
 use Rattle.std.specs.Result.{IfErr, IsErrOf}
 use Rattle.std.proofs.lemmas.Bool.Decides.{nat_tests}
-use Rattle.byteorder.specs.Endian.{big_number}
 use Rattle.t85_core.specs.declared.fault.Fault.{Fault}
-use Rattle.t85_core.specs.declared.fault.Fault.TheVariants.{Truncated, MoveRefused, Aborted, BadEscape, LengthRefused, SecondMove, SecondLength, Changed}
+use Rattle.t85_core.specs.declared.fault.Fault.TheVariants.{Truncated, Aborted, BadEscape}
 use Rattle.t85_core.specs.declared.segments.Place.{Place}
-use Rattle.t85_core.specs.Header.{Fields, is_variable}
-use Rattle.t85_core.specs.Grammar.{is_valid_length}
-use Rattle.t85_core.specs.Refusal.{Spot, rest_fault, escape_fault, length_fault, move_fault, comment_fault, is_legal_move}
+use Rattle.t85_core.specs.Header.{Fields}
+use Rattle.t85_core.specs.Refusal.{Spot, rest_fault, escape_fault, length_fault, move_fault, comment_fault}
 use Rattle.t85_core.specs.Failures.{Ends, counted_as}
 use Rattle.t85_core.specs.Steps.Segments.{PieceFault}
 use Rattle.t85_core.specs.Steps.PieceCode.{SkipBreaks}
@@ -17,20 +15,10 @@ use Rattle.t85_core.proofs.Decodings.PieceEnds.{before_all}
 
 -- ---- in a code
 
-in_code : (a b c d e : Bool) (more : Option Fault) → cond a (cond b None (cond c (Some Aborted) (cond ((d || e) || true) (Some BadEscape) more))) None ≡ Some Truncated → ⊥
-in_code true true c d e more k = cc
-in_code true false true d e more k = cc
-in_code true false false true e more k = cc
-in_code true false false false true more k = cc
-in_code true false false false false more k = cc
-in_code false b c d e more k = cc
-
 code_few : (h : Fields) (spot : Spot) (rest : List ℕ) → rest_fault h spot 0 true rest ≡ Some Truncated → length rest ≤ 1
 code_few h spot [] e = omega arith
 code_few h spot (b ∷ []) e = omega arith
-code_few h spot (b ∷ escape ∷ bytes) e =
-    absurd (in_code (b == 255) ((escape == 0) || (escape == 2) || (escape == 3)) (escape == 4) (escape == 1) (nat_le 8 escape)
-    (if escape == 5 then length_fault h spot bytes else if escape == 6 then move_fault h 0 bytes else comment_fault bytes) e)
+code_few h spot (b ∷ escape ∷ bytes) e = absurd (let bot : ⊥ = grind (arith, nat_tests) in bot)
 
 -- any header
 some_fields : Fields
@@ -48,42 +36,17 @@ skip_few p p' (Err f) k e = skip_short p p' (subst (SkipBreaks p p') (let same :
 -- which test is met
 tests : (a b c d e f g h : Bool) (l m k : Option Fault) → cond ((a || b) || c) None (cond d (Some Aborted) (cond ((e || f) || false) (Some BadEscape) (cond g l (cond h m k)))) ≡ Some Truncated →
     (l ≡ Some Truncated) ⊎ ((m ≡ Some Truncated) ⊎ ((a ≡ false) × (b ≡ false) × (c ≡ false) × (d ≡ false) × (e ≡ false) × (f ≡ false) × (g ≡ false) × (h ≡ false)))
-tests true b c d e f g h l m k is = absurd (let bot : ⊥ = cc in bot)
-tests false true c d e f g h l m k is = absurd (let bot : ⊥ = cc in bot)
-tests false false true d e f g h l m k is = absurd (let bot : ⊥ = cc in bot)
-tests false false false true e f g h l m k is = absurd (let bot : ⊥ = cc in bot)
-tests false false false false true f g h l m k is = absurd (let bot : ⊥ = cc in bot)
-tests false false false false false true g h l m k is = absurd (let bot : ⊥ = cc in bot)
 tests false false false false false false true h l m k is = inl is
 tests false false false false false false false true l m k is = inr (inl is)
 tests false false false false false false false false l m k is = inr (inr (refl, refl, refl, refl, refl, refl, refl, refl))
-
-length_short : (a b c d e : Bool) → cond a (Some LengthRefused) (cond b (Some SecondLength) (cond c (Some Truncated) (cond d (Some LengthRefused) (cond e None (Some Changed))))) ≡ Some Truncated → c ≡ true
-length_short true b c d e is = absurd (let bot : ⊥ = cc in bot)
-length_short false true c d e is = absurd (let bot : ⊥ = cc in bot)
-length_short false false true d e is = refl
-length_short false false false true e is = absurd (let bot : ⊥ = cc in bot)
-length_short false false false false true is = absurd (let bot : ⊥ = cc in bot)
-length_short false false false false false is = absurd (let bot : ⊥ = cc in bot)
-
-move_short : (a b c : Bool) → cond a (Some SecondMove) (cond b (Some Truncated) (cond c None (Some MoveRefused))) ≡ Some Truncated → b ≡ true
-move_short true b c is = absurd (let bot : ⊥ = cc in bot)
-move_short false true c is = refl
-move_short false false true is = absurd (let bot : ⊥ = cc in bot)
-move_short false false false is = absurd (let bot : ⊥ = cc in bot)
+tests a b c d e f g h l m k is = absurd (let bot : ⊥ = cc in bot)
 
 escape_few : (h : Fields) (spot : Spot) (moves escape : ℕ) (bytes : List ℕ) → escape_fault h spot moves false escape bytes ≡ Some Truncated → escape ≢ 7 → length bytes ≤ 5
 escape_few h spot moves escape bytes is other =
     went (tests (escape == 0) (escape == 2) (escape == 3) (escape == 4) (escape == 1) (nat_le 8 escape) (escape == 5) (escape == 6) (length_fault h spot bytes) (move_fault h moves bytes) (comment_fault bytes) is) where
       went : (length_fault h spot bytes ≡ Some Truncated) ⊎ ((move_fault h moves bytes ≡ Some Truncated) ⊎ (((escape == 0) ≡ false) × ((escape == 2) ≡ false) × ((escape == 3) ≡ false) × ((escape == 4) ≡ false) × ((escape == 1) ≡ false) × (nat_le 8 escape ≡ false) × ((escape == 5) ≡ false) × ((escape == 6) ≡ false))) → length bytes ≤ 5
-      went (inl e) =
-          let t : nat_lt (length bytes) 4 ≡ true = length_short (not (is_variable h)) (not (spot.heights == 0)) (nat_lt (length bytes) 4) (not (is_valid_length h spot.entities (big_number 4 bytes))) (big_number 4 bytes == spot.height) e in
-          let short : length bytes < 4 = grind (arith, nat_tests) in
-          omega (arith, short)
-      went (inr (inl e)) =
-          let t : nat_lt (length bytes) 6 ≡ true = move_short (not (moves == 0)) (nat_lt (length bytes) 6) (is_legal_move h bytes) e in
-          let short : length bytes < 6 = grind (arith, nat_tests) in
-          omega (arith, short)
+      went (inl e) = let short : length bytes < 4 = grind (arith, nat_tests) in omega (arith, short)
+      went (inr (inl e)) = let short : length bytes < 6 = grind (arith, nat_tests) in omega (arith, short)
       went (inr (inr (a, b, c, d, e, f, g, i))) = let seven : escape ≡ 7 = grind (arith, nat_tests) in absurd (other seven)
 
 rest_few : (h : Fields) (spot : Spot) (moves : ℕ) (rest : List ℕ) → rest_fault h spot moves false rest ≡ Some Truncated → ((more : List ℕ) → rest ≡ 255 ∷ 7 ∷ more → ⊥) → length rest ≤ 7

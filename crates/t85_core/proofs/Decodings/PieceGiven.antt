@@ -1,15 +1,15 @@
 -- What was given of a stream that comes in pieces: its height, its image, or its fault and the rows that it fixes.
-use Rattle.std.proofs.Common.{cond, ◌≡◌, ◌≢◌, ◌+◌, ◌⊎◌, inl, inr, not, ℕ, Bool, true, false, List, [], ◌∷◌, ◌++◌, length, take, nat_eq, nat_lt, nat_le, ◌==◌, ◌||◌, Option, None, Some, refl, sym, ap, ◌∙◌, subst, append_assoc, append-nil, arith, true≢false}
+use Rattle.std.proofs.Common.{cond, ◌≡◌, ◌≢◌, ◌+◌, ◌⊎◌, inl, inr, ℕ, Bool, true, false, List, [], ◌∷◌, ◌++◌, length, take, nat_eq, nat_le, ◌==◌, ◌||◌, Option, None, Some, refl, sym, ap, ◌∙◌, subst, append_assoc, append-nil, arith, true≢false}
 use Rattle.std.specs.Prelude.{flat_map}
 use Rattle.std.proofs.lemmas.Bool.Decides.{nat_tests}
 use Rattle.std.proofs.lemmas.Bool.{cases_eq}
 use Rattle.std.proofs.Math.Seq.{take-length}
 use Rattle.byteorder.specs.Endian.{big_bytes, big_number}
 use Rattle.t85_core.specs.declared.fault.Fault.{Fault}
-use Rattle.t85_core.specs.declared.fault.Fault.TheVariants.{Truncated, BadEscape, Aborted, LengthRefused, SecondLength, MoveRefused, SecondMove, Changed}
+use Rattle.t85_core.specs.declared.fault.Fault.TheVariants.{Truncated, BadEscape, Aborted, Changed}
 use Rattle.t85_core.specs.Header.{Fields, IsAccepted, is_variable}
-use Rattle.t85_core.specs.Grammar.{NewLength, segment_bytes, stripe_count, all_segments, lengths, is_valid_length}
-use Rattle.t85_core.specs.Refusal.{BodyFault, StripeFault, spot_after, rest_fault, length_fault, move_fault, comment_fault, is_legal_move}
+use Rattle.t85_core.specs.Grammar.{NewLength, segment_bytes, stripe_count, all_segments, lengths}
+use Rattle.t85_core.specs.Refusal.{BodyFault, StripeFault, spot_after, rest_fault, length_fault, move_fault, comment_fault}
 use Rattle.t85_core.specs.Denotes.{DenotesAt}
 use Rattle.t85_core.specs.Fixed.{Fixes}
 use Rattle.t85_core.specs.Laws.{IsInUse}
@@ -26,6 +26,7 @@ use Rattle.t85_core.proofs.Grammar.Cut.{one_broken}
 use Rattle.t85_core.proofs.Grammar.Heights.{one_height_of, suits_in_use, none_left, none_right}
 use Rattle.t85_core.proofs.Walks.Segments.{length_changed}
 use Rattle.t85_core.proofs.Decodings.Decoded.{fixes_more}
+use Rattle.t85_core.proofs.Bytes.Streams.{longer_or_all}
 
 -- ---- the height
 
@@ -72,68 +73,34 @@ height_broken h body f use_ b other n (inl g) = went (cases_eq n h.yd) where
 
 -- what breaks before a code breaks so at each height, so a height is no such fault
 module _ (h : Fields) (place : Place) (moved : Bool) (fresh : place.given ≡ false) where
-  length_same : (v z s w t : Bool) → t ≡ true → cond (not v) (Some LengthRefused) (cond (not z) (Some SecondLength) (cond s (Some Truncated) (cond (not w) (Some LengthRefused) (cond t None (Some Changed))))) ≡ Some Changed → ⊥
-  length_same false z s w t e k = cc
-  length_same true false s w t e k = cc
-  length_same true true true w t e k = cc
-  length_same true true false false t e k = cc
-  length_same true true false true true e k = cc
-  length_same true true false true false e k = true≢false (sym e)
-
-  move_other : (a b c : Bool) → cond a (Some SecondMove) (cond b (Some Truncated) (cond c None (Some MoveRefused))) ≡ Some Changed → ⊥
-  move_other true b c k = cc
-  move_other false true c k = cc
-  move_other false false true k = cc
-  move_other false false false k = cc
-
-  comment_other : (a b : Bool) → cond a (Some Truncated) (cond b (Some Truncated) None) ≡ Some Changed → ⊥
-  comment_other true b k = cc
-  comment_other false true k = cc
-  comment_other false false k = cc
-
   by_escape : (a b c d e f g : Bool) (x y z : Option Fault) → (x ≡ Some Changed → ⊥) → (y ≡ Some Changed → ⊥) → (z ≡ Some Changed → ⊥) →
       cond a (cond b None (cond c (Some Aborted) (cond ((d || e) || false) (Some BadEscape) (cond f x (cond g y z))))) None ≡ Some Changed → ⊥
-  by_escape false b c d e f g x y z p q r k = cc
-  by_escape true true c d e f g x y z p q r k = cc
-  by_escape true false true d e f g x y z p q r k = cc
-  by_escape true false false true e f g x y z p q r k = cc
-  by_escape true false false false true f g x y z p q r k = cc
-  by_escape true false false false false true g x y z p q r k = p k
-  by_escape true false false false false false true x y z p q r k = q k
-  by_escape true false false false false false false x y z p q r k = r k
-
-  one_byte : (t : Bool) → cond t (Some Truncated) None ≡ Some Changed → ⊥
-  one_byte true e = cc
-  one_byte false e = cc
+  by_escape a b c d e f g x y z p q r k = grind (arith, nat_tests)
 
   pub piece_other : (rest : List ℕ) (f : Fault) → PieceFault h place moved rest f → f ≢ Changed
   piece_other rest f broken is = went rest (λ height. subst (λ z. rest_fault h (record { height = height; entities = place.entities; heights = cond place.given 1 0 }) (cond moved 1 0) false rest ≡ Some z) is (broken height)) where
     went : (rest : List ℕ) → ((height : ℕ) → rest_fault h (record { height = height; entities = place.entities; heights = cond place.given 1 0 }) (cond moved 1 0) false rest ≡ Some Changed) → ⊥
     went [] k = let e = k 0 in cc
-    went (b ∷ []) k = one_byte (b == 255) (k 0)
+    went (b ∷ []) k = let e = k 0 in grind (arith, nat_tests)
     went (b ∷ escape ∷ bytes) k =
         let same : nat_eq (big_number 4 bytes) (big_number 4 bytes) ≡ true = grind (arith, nat_tests) in
         by_escape (b == 255) ((escape == 0) || (escape == 2) || (escape == 3)) (escape == 4) (escape == 1) (nat_le 8 escape) (escape == 5) (escape == 6)
         (length_fault h (record { height = big_number 4 bytes; entities = place.entities; heights = cond place.given 1 0 }) bytes) (move_fault h (cond moved 1 0) bytes) (comment_fault bytes)
-        (length_same (is_variable h) (cond place.given 1 0 == 0) (nat_lt (length bytes) 4) (is_valid_length h place.entities (big_number 4 bytes)) (nat_eq (big_number 4 bytes) (big_number 4 bytes)) same)
-        (move_other (not (cond moved 1 0 == 0)) (nat_lt (length bytes) 6) (is_legal_move h bytes))
-        (comment_other (nat_lt (length bytes) 4) (nat_lt (length bytes) (4 + big_number 4 bytes)))
+        (λ e. let bot : ⊥ = grind (arith, nat_tests) in bot) (λ e. let bot : ⊥ = grind (arith, nat_tests) in bot) (λ e. let bot : ⊥ = grind (arith, nat_tests) in bot)
         (k (big_number 4 bytes))
 
 -- ---- the ends
 
 -- what bytes fix that are broken or end too early, whatever follows
 pub cut_fixes : (h : Fields) (height : ℕ) (text out rest : List ℕ) (f : Fault) → (c : CutOff (sized h height) text out f) → (f ≡ Truncated → rest ≡ []) → Fixes h height (text ++ rest) f c.cut.rows
-cut_fixes h height text out rest f c nothing = went (fixes_more h height c.cut.ends.given (c.unread ++ rest) f c.cut.rows has) where
-  has : Fixes h height c.cut.ends.given f c.cut.rows
-  has = subst (λ z. Fixes h height c.cut.ends.given z c.cut.rows) c.counted c.cut.ends.has_fault
+cut_fixes h height text out rest f c nothing =
+    subst (λ z. Fixes h height z f c.cut.rows) (sym all) (longer_or_all (λ z. Fixes h height z f c.cut.rows) c.cut.ends.given (c.unread ++ rest) has (λ ended. ap (λ z. z ++ rest) (c.cut.ends.at_end ended) ∙ nothing ended) (fixes_more h height c.cut.ends.given (c.unread ++ rest) f c.cut.rows has))
+  where
+    has : Fixes h height c.cut.ends.given f c.cut.rows
+    has = subst (λ z. Fixes h height c.cut.ends.given z c.cut.rows) c.counted c.cut.ends.has_fault
 
-  all : text ++ rest ≡ c.cut.ends.given ++ (c.unread ++ rest)
-  all = ap (λ z. z ++ rest) c.cut.ends.taken ∙ append_assoc c.cut.ends.given c.unread rest
-
-  went : (f ≡ Truncated) ⊎ Fixes h height (c.cut.ends.given ++ (c.unread ++ rest)) f c.cut.rows → Fixes h height (text ++ rest) f c.cut.rows
-  went (inl ended) = subst (λ z. Fixes h height z f c.cut.rows) (sym (all ∙ ap (λ z. c.cut.ends.given ++ z) (ap (λ z. z ++ rest) (c.cut.ends.at_end ended) ∙ nothing ended) ∙ append-nil c.cut.ends.given)) has
-  went (inr more) = subst (λ z. Fixes h height z f c.cut.rows) (sym all) more
+    all : text ++ rest ≡ c.cut.ends.given ++ (c.unread ++ rest)
+    all = ap (λ z. z ++ rest) c.cut.ends.taken ∙ append_assoc c.cut.ends.given c.unread rest
 
 pub cut_hands : (h : Fields) (height : ℕ) (text out rest : List ℕ) (f : Fault) → HasHeight h (text ++ rest) height → (f ≡ Truncated → rest ≡ []) → CutOff (sized h height) text out f → HandsOut h (text ++ rest) height f out
 cut_hands h height text out rest f is nothing c = record { height_is = is; rows = c.cut.rows; fixes = cut_fixes h height text out rest f c nothing; out_is = c.cut.appended }

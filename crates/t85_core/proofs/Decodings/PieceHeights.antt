@@ -1,12 +1,9 @@
 -- A height that comes late: stripes that were decoded at the header's height are those of another, which has all of them.
-use Rattle.std.proofs.Common.{cond, ◌≡◌, ◌<◌, ◌≤◌, ◌+◌, ◌-◌, ◌*◌, ◌^◌, ◌⊎◌, inl, inr, ◌&&◌, ℕ, Bool, true, false, List, [], ◌∷◌, ◌++◌, length, min, nat_lt, nat_le, count_by, Option, None, Some, refl, sym, ap, ◌∙◌, subst, append_assoc, append-nil, arith, true≢false}
+use Rattle.std.proofs.Common.{cond, ◌≡◌, ◌<◌, ◌≤◌, ◌+◌, ◌-◌, ◌*◌, ◌^◌, ℕ, Bool, true, false, List, [], ◌∷◌, ◌++◌, length, min, count_by, Option, None, Some, refl, sym, ap, ◌∙◌, subst, append_assoc, append-nil, arith}
 use Rattle.std.specs.Prelude.{flat_map, is_some, IsTrue}
 use Rattle.std.specs.Int.{div_ceil}
-use Rattle.std.proofs.lemmas.Bool.{cases_lt}
-use Rattle.std.proofs.lemmas.Bool.Decides.{nat_tests}
-use Rattle.std.proofs.lemmas.Grind.{div_ceil_times, flat_map-append}
+use Rattle.std.proofs.lemmas.Grind.{flat_map-append}
 use Rattle.std.proofs.lemmas.List.Sums.{sum_by-append}
-use Rattle.std.proofs.Math.Nat.{mul-le-mul_right}
 use Rattle.t85_core.specs.declared.segments.Move as move
 use Rattle.t85_core.specs.declared.segments.Place.{Place}
 use Rattle.t85_core.specs.Lent.{Carried}
@@ -21,40 +18,14 @@ use Rattle.t85_core.specs.Steps.Pieces.{HeadStands, head_place}
 use Rattle.t85_core.specs.Steps.SizedImage.{sized}
 use Rattle.t85_core.specs.Steps.Passage.{passage}
 use Rattle.t85_core.proofs.Bytes.Lists.{All-append}
-use Rattle.t85_core.proofs.Bytes.Lengths.{lengths_append, gives_none}
+use Rattle.t85_core.proofs.Bytes.Lengths.{lengths_append, gives_none, more_stripes}
 use Rattle.t85_core.proofs.Decodings.CarriedDenotes.{stripes_whole}
 use Rattle.t85_core.proofs.Decodings.PieceHead.{head_length}
-use Rattle.t85_core.proofs.Decodings.PieceSteps.{nil_of}
-
--- a valid height has a row of the last stripe
-pub valid_over : (h : Fields) (k n : ℕ) → is_valid_length h k n ≡ true → (k - 1) * h.l0 < n
-valid_over h k n e = went (nat_le 1 n) (nat_le n h.yd) (nat_lt ((k - 1) * h.l0) n) refl e where
-  went : (a b c : Bool) → nat_lt ((k - 1) * h.l0) n ≡ c → (a && b && c) ≡ true → (k - 1) * h.l0 < n
-  went true true true p e = grind (arith, nat_tests)
-  went true true false p e = absurd (true≢false (sym e))
-  went true false c p e = absurd (true≢false (sym e))
-  went false b c p e = absurd (true≢false (sym e))
-
--- a height that has a row after e stripes has more than e stripes
-pub more_stripes : (n l e : ℕ) → 1 ≤ l → e * l < n → e < div_ceil n l
-more_stripes n l e one over = went (cases_lt e (div_ceil n l)) where
-  went : (e < div_ceil n l) ⊎ (div_ceil n l ≤ e) → e < div_ceil n l
-  went (inl lt) = lt
-  went (inr le) = let k : div_ceil n l * l ≤ e * l = mul-le-mul_right l le in let t = div_ceil_times n l one in absurd (omega (arith, k, t.0, over))
+use Rattle.t85_core.proofs.Decodings.PieceSteps.{nil_of, last_stripe}
 
 -- so many stripes has a height
 pub stripes_of : (n l e : ℕ) → 1 ≤ l → e * l < n → n ≤ e * l + l → e + 1 ≡ div_ceil n l
-stripes_of n l e one over all = went (cases_lt (e + 1) (div_ceil n l)) where
-  some : e < div_ceil n l
-  some = more_stripes n l e one over
-
-  went : (e + 1 < div_ceil n l) ⊎ (div_ceil n l ≤ e + 1) → e + 1 ≡ div_ceil n l
-  went (inr le) = omega (arith, le, some)
-  went (inl lt) =
-      let k : ((e + 1) + 1) * l ≤ div_ceil n l * l = mul-le-mul_right l (omega (arith, lt)) in
-      let t = div_ceil_times n l one in
-      let s : ((e + 1) + 1) * l ≡ e * l + l + l = omega arith in
-      absurd (omega (arith, k, t.1, s, all))
+stripes_of n l e one over all = last_stripe n l e one (more_stripes n l e one over) (omega (arith, all))
 
 -- stripes that have all their rows have the same at each height that has all of these
 pub other_run : (h : Fields) (left n : ℕ) (c : StripeStart) (stripes : List Stripe) (rows : List (List Bool)) (flags : List Bool) (next : StripeStart) → length stripes * h.l0 ≤ n → length stripes * h.l0 ≤ left →
@@ -102,9 +73,6 @@ moves_none (Comment text ∷ segments) more none = moves_none segments more (let
 -- segments without a height and a move, and more without a height
 module _ {h : Fields} {place : Place} {front back : List ℕ} {at : Option move.Move} {comments comments' : ℕ} (fresh : place.given ≡ false) (p : HasPassed h place false (Some front) (Some []) (segments_so_far None false false comments))
     (q : HasPassed h place false (Some back) (Some []) (segments_so_far at (is_some at) false comments')) where
-  both : List Segment
-  both = p.segments ++ q.segments
-
   zero : cond {A = ℕ} place.given 1 0 ≡ 0
   zero = ap (λ (t : Bool). cond {A = ℕ} t 1 0) fresh
 

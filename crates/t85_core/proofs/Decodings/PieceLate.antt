@@ -8,11 +8,11 @@ use Rattle.std.proofs.Math.Seq.{take-append-add}
 use Rattle.qm_core.specs.Code.{stuffed, Lies}
 use Rattle.qm_core.specs.Source.{bytes_of, heard_of, IsClosed, Agrees}
 use Rattle.qm_core.specs.declared.source.Pulled.{Pulled}
-use Rattle.qm_core.specs.declared.source.Pulled.TheVariants.{Byte, End, Fault}
 use Rattle.qm_core.specs.declared.source.Heard.TheVariants.{Ended}
 use Rattle.qm_core.specs.declared.decoder.Decoder.{Decoder}
 use Rattle.raster_core.specs.Packed.{packed_row}
 use Rattle.raster_core.specs.declared.place.RowPlace.{RowPlace}
+use Rattle.raster_core.specs.declared.shape.Shape.{Shape}
 use Rattle.t85_core.specs.declared.segments.Code as code_type
 use Rattle.t85_core.specs.declared.segments.Move as move
 use Rattle.t85_core.specs.Lent.{Carried}
@@ -24,7 +24,9 @@ use Rattle.t85_core.specs.Coding.{mode_of, move_of, flagged}
 use Rattle.t85_core.specs.Denotes.{DenotesAt}
 use Rattle.t85_core.specs.Steps.CoderLaws.{CoderLaws}
 use Rattle.t85_core.specs.Steps.State.{RowStart, first_row_start, image_start, next_stripe_start, Run, StripeRun, StripesRun, stripe_coding}
-use Rattle.t85_core.specs.Steps.PieceCode.{CodeText, MarkerFound}
+use Rattle.t85_core.specs.Steps.Cut.{open_stripe}
+use Rattle.t85_core.specs.Steps.DecodeRows.{rows_done}
+use Rattle.t85_core.specs.Steps.PieceCode.{CodeText, MarkerFound, RowsKnown}
 use Rattle.t85_core.specs.Steps.Pieces.{HeadStands, CodeStands, InRowStands, head_place, code_place}
 use Rattle.t85_core.specs.Steps.SizedImage.{sized}
 use Rattle.t85_core.proofs.Bytes.Lists.{flat_map_push}
@@ -40,6 +42,7 @@ use Rattle.t85_core.proofs.Decodings.PieceMarker.{found_before, found_ahead}
 use Rattle.t85_core.proofs.Decodings.PieceSteps.{nil_of}
 use Rattle.t85_core.proofs.Decodings.PieceHeights.{other_run, stripes_of}
 use Rattle.t85_core.proofs.Decodings.PieceEnds.{Marked}
+use Rattle.t85_core.proofs.Decodings.PieceCode.{nothing_after}
 
 -- First rows of a stripe whose code came whole, in a stream that gave no height.
 pub record RowsHeld (h : Fields) (entities row : ℕ) (text out : List ℕ) : Type 0 where
@@ -71,44 +74,41 @@ whole_of {answers} {text} {reset} m = sym (append-nil text) ∙ ap (λ z. text +
   none : m.given ≡ []
   none = sym (append-nil m.given) ∙ sym m.taken
 
+marked_rows : {h : Fields} {entities row : ℕ} {at : Option move.Move} {start carried : Carried} {shape : Shape} {d : Decoder} {before began text out code : List ℕ} {answers : List Pulled}
+    (head : HeadStands (sized h h.yd) (head_place entities false at start) before began) (read : RowsKnown (open_stripe h head.stripes.next head.passed.segments) shape (rows_done row carried d) began out) (m : (reset : Bool) × MarkerFound answers code [] [] reset) →
+    Lies m.1.code read.last.state.place → text ≡ before ++ code → RowsHeld h entities row text out
+marked_rows {at = at} {start = start} {before = before} {began = began} head read m lies text_is = record {
+  at = at;
+  start = start;
+  before = before;
+  began = began;
+  head = head;
+  code = m.1.code;
+  small = m.1.small;
+  reset = m.0;
+  rows = read.rows;
+  flags = read.flags;
+  last = read.last;
+  run = read.so_far.run;
+  many = read.many;
+  lies = lies;
+  text_is = text_is ∙ ap (λ z. before ++ z) (whole_of m.1);
+  out_is = read.appended;
+}
+
 -- between two rows
 pub code_held : CoderLaws → {h : Fields} {entities : ℕ} {at : Option move.Move} {row : ℕ} {first : Option code_type.Code} {marker : Option Bool} {carried : Carried} {d : Decoder} {text out : List ℕ} →
     CodeStands (sized h h.yd) (head_place entities false at carried) (code_place row first marker d) text out → Marked first marker → RowsHeld h entities row text out
 code_held q {h} {entities} {at} {row} {first} {marker} {carried} {d} {text} {out} s marked =
     let m = marker_found first marker s.read.answers s.extra s.code s.code_is marked in
-    record {
-      at = at;
-      start = s.start;
-      before = s.before;
-      began = s.began;
-      head = s.head;
-      code = m.1.code;
-      small = m.1.small;
-      reset = m.0;
-      rows = s.read.rows;
-      flags = s.read.flags;
-      last = s.read.last;
-      run = s.read.so_far.run;
-      many = s.read.many;
-      lies = q.answers_lie d s.read.last.state.place s.read.answers m.1.code s.read.stands m.1.agrees;
-      text_is = s.text_is ∙ ap (λ z. s.before ++ z) (whole_of m.1);
-      out_is = s.read.appended;
-    }
-
--- nothing is asked after an end
-closed_end : (xs ys : List Pulled) → IsClosed (xs ++ ys) → heard_of xs ≡ Ended → ys ≡ []
-closed_end [] ys closed e = absurd (let bot : ⊥ = cc in bot)
-closed_end (Byte b ∷ xs) ys closed e = closed_end xs ys closed e
-closed_end (End ∷ []) ys closed e = closed
-closed_end (End ∷ x ∷ xs) ys closed e = absurd (let bot : ⊥ = cc in bot)
-closed_end (Fault ∷ xs) ys closed e = absurd (let bot : ⊥ = cc in bot)
+    marked_rows s.head s.read m (q.answers_lie d s.read.last.state.place s.read.answers m.1.code s.read.stands m.1.agrees) s.text_is
 
 first_answers : (xs ys : List Pulled) (c : List ℕ) → IsClosed (xs ++ ys) → AllByRecursion (λ b. b < 256) c → Agrees (xs ++ ys) c → Agrees xs c
 first_answers xs ys c closed small a = record {
   rest = bytes_of ys ++ a.rest;
   is = is;
   bytes = all_right (λ b. b < 256) (bytes_of xs) (bytes_of ys ++ a.rest) (subst (AllByRecursion (λ b. b < 256)) is small);
-  ended = λ e. ended e (closed_end xs ys closed e);
+  ended = λ e. ended e (nothing_after xs ys e closed);
 } where
   is : c ≡ bytes_of xs ++ (bytes_of ys ++ a.rest)
   is = a.is ∙ ap (λ z. z ++ a.rest) (bytes_append xs ys) ∙ append_assoc (bytes_of xs) (bytes_of ys) a.rest
@@ -123,24 +123,7 @@ pub in_row_held : CoderLaws → {h : Fields} {entities : ℕ} {at : Option move.
     InRowStands (sized h h.yd) (head_place entities false at carried) (code_place row first marker d) in_row text out → Marked first marker → RowsHeld h entities row text out
 in_row_held q {h} {entities} {at} {row} {first} {marker} {carried} {d} {in_row} {text} {out} s marked =
     let m = marker_found first marker (s.begun.read.answers ++ s.begun.since) [] s.code s.code_is marked in
-    record {
-      at = at;
-      start = s.start;
-      before = s.before;
-      began = s.began;
-      head = s.head;
-      code = m.1.code;
-      small = m.1.small;
-      reset = m.0;
-      rows = s.begun.read.rows;
-      flags = s.begun.read.flags;
-      last = s.begun.read.last;
-      run = s.begun.read.so_far.run;
-      many = s.begun.read.many;
-      lies = q.answers_lie s.begun.decoder s.begun.read.last.state.place s.begun.read.answers m.1.code s.begun.read.stands (first_answers s.begun.read.answers s.begun.since m.1.code closed m.1.small m.1.agrees);
-      text_is = s.text_is ∙ ap (λ z. s.before ++ z) (whole_of m.1);
-      out_is = s.begun.read.appended;
-    }
+    marked_rows s.head s.begun.read m (q.answers_lie s.begun.decoder s.begun.read.last.state.place s.begun.read.answers m.1.code s.begun.read.stands (first_answers s.begun.read.answers s.begun.since m.1.code closed m.1.small m.1.agrees)) s.text_is
   where
     by : (b : Bool) → in_row.is_begun ≡ b → IsClosed (s.begun.read.answers ++ s.begun.since)
     by true e = (s.begun.stands.in_it e).stands.closed

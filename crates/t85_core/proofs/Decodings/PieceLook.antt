@@ -8,9 +8,8 @@ use Rattle.std.proofs.lemmas.Grind.{div_ceil_times}
 use Rattle.byteorder.specs.Endian.{big_bytes}
 use Rattle.t85_core.specs.declared.fault.Fault.{Fault}
 use Rattle.t85_core.specs.declared.fault.Fault.TheVariants.{Truncated, Read}
-use Rattle.t85_core.specs.Lent.{PieceView}
+use Rattle.t85_core.specs.Lent.{PieceView, WalkView}
 use Rattle.t85_core.specs.declared.pieces.behind.Behind.{Behind}
-use Rattle.t85_core.specs.Lent.{WalkView}
 use Rattle.t85_core.specs.declared.pieces.walk.Stage.TheVariants as stage
 use Rattle.t85_core.specs.declared.segments.Code as code_type
 use Rattle.t85_core.specs.declared.segments.Move as move
@@ -33,7 +32,7 @@ use Rattle.t85_core.specs.Steps.SizedImage.{sized}
 use Rattle.t85_core.specs.Steps.PieceStands.{HeightKnown, WalkWaits, IsAtMarker, place_behind, last_behind, entities_behind, is_last}
 use Rattle.t85_core.specs.Steps.PieceSteps.{SomeStand, DecoderOn, EndsWhole, StripeLeft, HeadEntered, HeightComes, LookIsOver, head_stage}
 use Rattle.t85_core.specs.Steps.Passage.{passage}
-use Rattle.t85_core.proofs.Bytes.Lengths.{gives_none}
+use Rattle.t85_core.proofs.Bytes.Lengths.{gives_none, valid_over}
 use Rattle.t85_core.proofs.Grammar.Heights.{one_height_of}
 use Rattle.t85_core.proofs.Grammar.SomeHeight.{height_of_ended}
 use Rattle.t85_core.proofs.Walks.Looked.{HasLooked, looked_fault, looked_code}
@@ -42,11 +41,11 @@ use Rattle.t85_core.proofs.Decodings.CarriedDenotes.{stripes_whole}
 use Rattle.t85_core.proofs.Decodings.ImagePut.{image_read}
 use Rattle.t85_core.proofs.Decodings.PieceHead.{passed_ext}
 use Rattle.t85_core.proofs.Decodings.PieceSteps.{at_stage, put_stage, nil_of, last_stripe}
-use Rattle.t85_core.proofs.Decodings.PieceHeights.{valid_over, at_height, head_raised}
+use Rattle.t85_core.proofs.Decodings.PieceHeights.{at_height, head_raised}
 use Rattle.t85_core.proofs.Decodings.PieceBehind.{front_is, part_of}
 use Rattle.t85_core.proofs.Decodings.PieceGiven.{read_holds}
 use Rattle.t85_core.proofs.Decodings.PieceLate.{RowsHeld, code_held, in_row_held, late_denotes, late_out, late_gives}
-use Rattle.t85_core.proofs.Decodings.PieceStood.{own_height, waits_of, put_walks, put_waits, known_more, in_code_entities, in_code_last, marker_of}
+use Rattle.t85_core.proofs.Decodings.PieceStood.{own_height, place_at, waits_of, put_walks, put_waits, known_more, in_code_entities, in_code_last, marker_of}
 
 -- segments without a move and a height are comments
 pub only_comments : (segments : List Segment) → count_by is_move segments ≡ 0 → lengths segments ≡ [] → AllByRecursion (λ s. IsTrue (is_comment s)) segments
@@ -122,9 +121,7 @@ module _ (h : Fields) (w : WalkView) (b : Behind) (text out : List ℕ) (q : Cod
   fewer_here = rows_held.head.fewer
 
   pub place_here : place_behind h w.stage w.entities ≡ record { height = h.yd; entities = w.entities + 1; given = false }
-  place_here = ap place_of (in_code_entities w.stage w.entities in_code) where
-    place_of : ℕ → Place
-    place_of n = record { height = h.yd; entities = n; given = false }
+  place_here = ap (place_at h.yd) (in_code_entities w.stage w.entities in_code)
 
 -- behind the last stripe only comments came
 pub comments_behind : (h : Fields) (w : WalkView) → 1 ≤ h.l0 → IsInCode w.stage → w.left ≡ h.yd - w.entities * h.l0 → {place : Place} {front : List ℕ} {at : Option move.Move} {comments : ℕ}

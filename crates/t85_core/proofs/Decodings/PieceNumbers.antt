@@ -2,9 +2,6 @@
 use Rattle.std.proofs.Common.{◌≡◌, ◌≢◌, ◌%◌, ℕ, Bool, true, false, List, Option, Some, None, refl, sym, ap, ◌∙◌, subst, arith}
 use Rattle.std.specs.Prelude.{IfSome}
 use Rattle.qm_core.specs.Source.{is_stopped}
-use Rattle.qm_core.specs.Decoder.{DecoderIsAt}
-use Rattle.qm_core.specs.declared.source.Heard.{Heard}
-use Rattle.qm_core.specs.declared.source.Heard.TheVariants.{More, Ended, Stopped}
 use Rattle.qm_core.specs.declared.decoder.Decoder.{Decoder}
 use Rattle.qm_core.specs.Place.{Estimate}
 use Rattle.raster_core.specs.Packed.{Held}
@@ -25,7 +22,8 @@ use Rattle.t85_core.specs.Steps.Segments.{IsByteOrMarker}
 use Rattle.t85_core.specs.Steps.Pieces.{CodeStands, InRowStands, StageStands, WalkStands, head_place, code_place}
 use Rattle.t85_core.specs.Steps.SizedImage.{sized}
 use Rattle.t85_core.specs.Steps.PieceStands.{DecoderStands, HeightKnown, CodeWalks, WalkWaits}
-use Rattle.t85_core.proofs.Decodings.PieceWalk.{in_row_going}
+use Rattle.t85_core.proofs.Decodings.PieceSteps.{walk_at}
+use Rattle.t85_core.proofs.Decodings.PieceWalk.{in_row_going, going}
 use Rattle.t85_core.proofs.Decodings.PieceStood.{walks_of, code_of, waits_of, put_walks, put_code, put_waits}
 
 -- a number that stands for a byte
@@ -52,11 +50,6 @@ walk_of kept decoder stage entities left given at comment row place first marker
   marker = marker;
 }
 
-going : (t : Heard) → (t ≡ Stopped → ⊥) → is_stopped t ≡ false
-going More n = refl
-going Ended n = refl
-going Stopped n = absurd (n refl)
-
 -- ---- the same, but for a decoder that has stopped
 
 module _ {w w' : Walk} (k : IsWalkAs w w') (rows : Held) (learned : List Estimate) where
@@ -68,33 +61,8 @@ module _ {w w' : Walk} (k : IsWalkAs w w') (rows : Held) (learned : List Estimat
 
   code_as : {h : Fields} {height entities : ℕ} {given : Bool} {at : Option move.Move} {row : ℕ} {first : Option code_type.Code} {marker : Option Bool} {text out : List ℕ} →
       CodeStands (sized h height) (head_place entities given at before.carried) (code_place row first marker w.decoder) text out → CodeStands (sized h height) (head_place entities given at before.carried) (code_place row first marker w'.decoder) text out
-  code_as s = record {
-    before = s.before;
-    began = s.began;
-    start = s.start;
-    head = s.head;
-    shape = s.shape;
-    read = (let r = s.read in record {
-      answers = r.answers;
-      gives = r.gives;
-      rows = r.rows;
-      flags = r.flags;
-      last = r.last;
-      so_far = r.so_far;
-      many = r.many;
-      stands = subst (λ z. DecoderIsAt z r.last.state.place r.answers) (sym (k.decoder_is (ap is_stopped r.stands.heard ∙ going _ r.unstopped))) r.stands;
-      unstopped = r.unstopped;
-      shape_is = r.shape_is;
-      is_carried = r.is_carried;
-      appended = r.appended;
-    });
-    few = s.few;
-    extra = s.extra;
-    rows_first = s.rows_first;
-    code = s.code;
-    code_is = s.code_is;
-    text_is = s.text_is;
-  }
+  code_as {h} {height} {entities} {given} {at} {row} {first} {marker} {text} {out} s =
+      subst (λ z. CodeStands (sized h height) (head_place entities given at before.carried) (code_place row first marker z) text out) (sym (k.decoder_is (ap is_stopped s.read.stands.heard ∙ going _ s.read.unstopped))) s
 
   in_row_as : {h : Fields} {height entities : ℕ} {given : Bool} {at : Option move.Move} {row : ℕ} {first : Option code_type.Code} {marker : Option Bool} {place : RowPlace} {text out : List ℕ} →
       InRowStands (sized h height) (head_place entities given at before.carried) (code_place row first marker w.decoder) place text out → InRowStands (sized h height) (head_place entities given at before.carried) (code_place row first marker w'.decoder) place text out
@@ -102,23 +70,12 @@ module _ {w w' : Walk} (k : IsWalkAs w w') (rows : Held) (learned : List Estimat
       subst (λ z. InRowStands (sized h height) (head_place entities given at before.carried) (code_place row first marker z) place text out) (sym (k.decoder_is (in_row_going s))) s
 
   stage_as : (h : Fields) (height : ℕ) (text out : List ℕ) (s : Stage) → StageStands s (sized h height) before text out → StageStands s (sized h height) there text out
-  stage_as h height text out stage.Head s = s
-  stage_as h height text out stage.Comment s = s
   stage_as h height text out stage.Code s = code_as s
   stage_as h height text out stage.Row s = in_row_as s
-  stage_as h height text out stage.Done s = s
+  stage_as h height text out k s = s
 
   walk_there : {h : Fields} {height : ℕ} {text out : List ℕ} → WalkStands (sized h height) before text out → WalkStands (sized h height) there text out
-  walk_there {h} {height} {text} {out} s = record {
-    left_is = s.left_is;
-    width_is = s.width_is;
-    offset_is = s.offset_is;
-    at_is = s.at_is;
-    code_is = s.code_is;
-    behind = s.behind;
-    within = s.within;
-    stands = stage_as h height text out w.stage s.stands;
-  }
+  walk_there {h} {height} {text} {out} s = walk_at s s.at_is s.code_is s.behind (stage_as h height text out w.stage s.stands)
 
   walk_as : {h : Fields} {height : ℕ} {text out : List ℕ} → WalkStands (sized h height) before text out → WalkStands (sized h height) (walk_view w' rows learned) text out
   walk_as {h} {height} {text} {out} s = subst (λ z. WalkStands (sized h height) (walk_view z rows learned) text out) (sym k.same) (walk_there s)

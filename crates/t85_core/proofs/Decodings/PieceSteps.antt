@@ -1,26 +1,30 @@
 -- Steps of a walk, one after another.
-use Rattle.std.proofs.Common.{◌≡◌, ◌≢◌, ◌<◌, ◌≤◌, ◌+◌, ◌-◌, ◌*◌, ℕ, suc, ◌⊎◌, inl, inr, Bool, true, false, cond, List, [], ◌∷◌, ◌++◌, length, min, Some, None, Result, Ok, Err, refl, sym, ap, ◌∙◌, subst, append_assoc, append-nil, arith}
-use Rattle.std.specs.Prelude.{OnOk, IfErr}
+use Rattle.std.proofs.Common.{◌≡◌, ◌≢◌, ◌<◌, ◌≤◌, ◌+◌, ◌-◌, ◌*◌, ℕ, suc, ◌⊎◌, inl, inr, Bool, true, false, cond, List, [], ◌∷◌, ◌++◌, length, min, Option, Some, None, Result, Ok, Err, refl, sym, ap, ◌∙◌, subst, append_assoc, append-nil, arith}
+use Rattle.std.specs.Prelude.{OnOk, IfErr, IfSome}
 use Rattle.std.specs.Int.{div_ceil}
 use Rattle.std.specs.Result.{IsErrAnd}
 use Rattle.std.proofs.lemmas.Bool.{cases_lt}
 use Rattle.std.proofs.lemmas.Grind.{div_ceil_times}
 use Rattle.std.proofs.Math.Nat.{mul-le-mul_right}
+use Rattle.qm_core.specs.declared.decoder.Decoder.{Decoder}
 use Rattle.t85_core.specs.declared.fault.Fault.{Fault}
 use Rattle.t85_core.specs.declared.fault.Fault.TheVariants.{Truncated, Changed}
-use Rattle.t85_core.specs.Lent.{WalkView}
+use Rattle.t85_core.specs.Lent.{WalkView, Carried}
 use Rattle.t85_core.specs.declared.pieces.walk.Stage.{Stage}
 use Rattle.t85_core.specs.declared.pieces.walk.Stage.TheVariants as stage
-use Rattle.t85_core.specs.Lent.{Carried}
 use Rattle.t85_core.specs.Header.{Fields}
 use Rattle.t85_core.specs.Steps.State.{RowStart, image_start, first_row_start, next_stripe_start}
 use Rattle.t85_core.specs.Steps.DecodeRows.{IsCarried}
+use Rattle.t85_core.specs.declared.segments.Code.{Code}
 use Rattle.t85_core.specs.declared.segments.Code.TheVariants as code
+use Rattle.t85_core.specs.declared.segments.Move.{Move}
+use Rattle.t85_core.specs.Steps.Segments.{IsByteOrMarker}
 use Rattle.t85_core.specs.Steps.PieceCode.{EndsInNoEscape}
 use Rattle.t85_core.specs.Steps.Pieces.{CutOff, HeadStands, WalkStands, StageStands, StepsOn, StepsOff, StepsToEnd, Step, RowStep, RowLeaves, KeepsPlace, HasMarker, Turn, IsOver, CodeStands, IsInCode, rows_in, head_place, code_place}
-use Rattle.t85_core.specs.Steps.SizedImage.{sized}
+use Rattle.t85_core.specs.Steps.SizedImage.{SizedImage, sized}
 use Rattle.t85_core.proofs.Walks.Passed.{passed_none}
 use Rattle.t85_core.proofs.Decodings.ImagePut.{stripes_start}
+use Rattle.t85_core.proofs.Bytes.Lengths.{more_stripes}
 
 -- bytes were taken, and nothing was handed out
 pub on_same : (h : Fields) (height : ℕ) (w' : WalkView) (text out p p' given : List ℕ) → p ≡ given ++ p' → WalkStands (sized h height) w' (text ++ given) out →
@@ -38,6 +42,22 @@ at_stage {h} {height} {w} {text} {out} e s = subst (λ z. StageStands z (sized h
 -- it is that of the walk
 pub put_stage : (h : Fields) (height : ℕ) (w : WalkView) (text out : List ℕ) (k : Stage) → w.stage ≡ k → StageStands k (sized h height) w text out → StageStands w.stage (sized h height) w text out
 put_stage h height w text out k e s = subst (λ z. StageStands z (sized h height) w text out) (sym e) s
+
+-- a walk that carries the same, at another stage or of another text
+pub walk_at : {h : Fields} {height : ℕ} {w : WalkView} {text out text' out' : List ℕ} {decoder : Decoder} {stage' : Stage} {given : Bool} {at : Option Move} {comment row : ℕ} {first : Option Code} {marker : Option Bool} →
+    WalkStands (sized h height) w text out → IfSome at (λ to. to.offset ≤ 127) → IfSome first IsByteOrMarker → IfSome marker (λ _. first ≡ None) →
+    StageStands stage' (sized h height) (record w { decoder = decoder; stage = stage'; given = given; at = at; comment = comment; row = row; first = first; marker = marker }) text' out' →
+    WalkStands (sized h height) (record w { decoder = decoder; stage = stage'; given = given; at = at; comment = comment; row = row; first = first; marker = marker }) text' out'
+walk_at s at_is code_is behind stands = record {
+  left_is = s.left_is;
+  width_is = s.width_is;
+  offset_is = s.offset_is;
+  at_is = at_is;
+  code_is = code_is;
+  behind = behind;
+  within = s.within;
+  stands = stands;
+}
 
 pub nil_of : (xs : List ℕ) → length xs ≡ 0 → xs ≡ []
 nil_of [] e = refl
@@ -90,7 +110,6 @@ last_stripe height l e some lt le = went (cases_lt (e + 1) (div_ceil height l)) 
       let s : ((e + 1) + 1) * l ≡ (e + 1) * l + l = omega arith in
       absurd (omega (arith, k, t.1, s, le))
 
--- where rows are left a stripe is
 -- so many stripes have so many rows at least
 pub few_before : (height l e : ℕ) → 1 ≤ l → e < div_ceil height l → e < height
 few_before height l e some lt =
@@ -98,14 +117,9 @@ few_before height l e some lt =
     let many : 1 * e ≤ l * e = mul-le-mul_right e some in
     omega (arith, row, many)
 
+-- where rows are left a stripe is
 pub next_stripe : (height l e : ℕ) → 1 ≤ l → (e + 1) * l < height → e + 1 < div_ceil height l
-next_stripe height l e some lt = went (cases_lt (e + 1) (div_ceil height l)) where
-  went : (e + 1 < div_ceil height l) ⊎ (div_ceil height l ≤ e + 1) → e + 1 < div_ceil height l
-  went (inl more) = more
-  went (inr few) =
-      let k : div_ceil height l * l ≤ (e + 1) * l = mul-le-mul_right l few in
-      let t = div_ceil_times height l some in
-      absurd (omega (arith, k, t.0, lt))
+next_stripe height l e some lt = more_stripes height l (e + 1) some lt
 
 -- before the first byte
 pub head_first : (h : Fields) (height width : ℕ) (carried : Carried) → 1 ≤ height → 1 ≤ h.l0 → width ≡ h.xd → IsCarried (first_row_start (image_start width)) carried →
@@ -122,6 +136,10 @@ head_first h height width carried one some wide first = record {
 }
 
 -- ---- exits
+
+-- a step went well
+pub step_ok : {image : SizedImage} {w w' : WalkView} {p p' : List ℕ} {u : Unit {0}} → StepsOn image w w' p p' [] → Step image w w' p p' (Ok u)
+step_ok on = record { ok = on; err = tt; more = λ e. absurd (let bot : ⊥ = cc in bot) }
 
 pub step_exit : (h : Fields) (height : ℕ) (w w' : WalkView) (p p' : List ℕ) (r : Result (Unit {0}) Fault) (e : Fault) → IsErrAnd r (λ y. y ≡ e) → StepsOff (sized h height) w p e → (e ≡ Truncated → StepsToEnd (sized h height) w w' p p') → Step (sized h height) w w' p p' r
 step_exit h height w w' p p' (Ok x) e a off on = absurd a
@@ -171,11 +189,6 @@ leaves_then w w1 w2 p p' r keeps same next = record {
   marker_of reset (inl e) = inl (same.2 ∙ e)
   marker_of reset (inr e) = inr (same.1 ∙ e)
 
--- one of two stages, and not the third
-pub two_of : {A B C : Type 0} → A ⊎ (B ⊎ C) → (A → ⊥) → B ⊎ C
-two_of (inl a) n = absurd (n a)
-two_of (inr x) n = x
-
 -- an offset stays low
 pub offset_low : (reset : Bool) (old new : ℕ) → old ≤ 127 → new ≡ cond reset 0 old → new ≤ 127
 offset_low true old new low e = omega (arith, e)
@@ -219,19 +232,9 @@ turn_then h height w w1 w2 p p1 p2 on (Err f) t = record {
 }
 
 -- which stage it is
-pub over_not_code : (k : Stage) → IsOver k → k ≡ stage.Code → ⊥
-over_not_code stage.Head o e = o
-over_not_code stage.Comment o e = o
-over_not_code stage.Code o e = o
-over_not_code stage.Row o e = o
-over_not_code stage.Done o e = cc
-
 pub over_done : (k : Stage) → IsOver k → k ≡ stage.Done
-over_done stage.Head o = absurd o
-over_done stage.Comment o = absurd o
-over_done stage.Code o = absurd o
-over_done stage.Row o = absurd o
 over_done stage.Done o = refl
+over_done k o = absurd o
 
 pub is_over : (k : Stage) → k ≡ stage.Done → IsOver k
 is_over k e = subst IsOver (sym e) tt

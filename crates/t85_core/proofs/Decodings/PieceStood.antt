@@ -7,10 +7,9 @@ use Rattle.std.proofs.lemmas.Bool.{cases_lt}
 use Rattle.std.proofs.lemmas.List.{take-append-drop}
 use Rattle.byteorder.specs.Endian.{big_bytes}
 use Rattle.t85_core.proofs.Decodings.PieceHeights.{head_behind}
-use Rattle.t85_core.specs.Grammar.{ESC, COMMENT}
+use Rattle.t85_core.specs.Grammar.{ESC, COMMENT, marker_bytes}
 use Rattle.t85_core.specs.declared.segments.Code.TheVariants as code
-use Rattle.t85_core.specs.Grammar.{marker_bytes}
-use Rattle.t85_core.proofs.Decodings.PieceSteps.{at_stage, put_stage, walk_few}
+use Rattle.t85_core.proofs.Decodings.PieceSteps.{walk_at, at_stage, put_stage, walk_few}
 use Rattle.t85_core.proofs.Decodings.PieceWalk.{code_ahead, row_ahead}
 use Rattle.t85_core.specs.declared.segments.Place.{Place}
 use Rattle.t85_core.specs.Steps.DecodeStripes.{StripesRead}
@@ -24,11 +23,10 @@ use Rattle.t85_core.specs.Steps.Segments.{IsByteOrMarker, PieceFault, code_bytes
 use Rattle.t85_core.specs.declared.fault.Fault.{Fault}
 use Rattle.t85_core.specs.declared.fault.Fault.TheVariants.{Truncated, Changed}
 use Rattle.t85_core.specs.declared.header.Header.{Header}
-use Rattle.t85_core.specs.Lent.{PieceView}
+use Rattle.t85_core.specs.Lent.{PieceView, WalkView}
 use Rattle.t85_core.specs.declared.pieces.Outcome.{Outcome}
 use Rattle.t85_core.specs.declared.pieces.Outcome.TheVariants as outcome
 use Rattle.t85_core.specs.declared.pieces.behind.Behind.{Behind}
-use Rattle.t85_core.specs.Lent.{WalkView}
 use Rattle.t85_core.specs.declared.pieces.walk.Stage.{Stage}
 use Rattle.t85_core.specs.declared.pieces.walk.Stage.TheVariants as stage
 use Rattle.t85_core.specs.Header.{Fields, is_variable}
@@ -46,7 +44,6 @@ use Rattle.t85_core.proofs.Decodings.ImagePut.{in_use}
 use Rattle.t85_core.proofs.Decodings.PieceBehind.{behind_first, front_is, part_of}
 use Rattle.t85_core.proofs.Decodings.PieceGiven.{cut_hands, cut_hands_first, piece_other, height_known, read_holds}
 use Rattle.t85_core.proofs.Decodings.PieceHead.{head_code, head_cut, comment_off}
-use Rattle.t85_core.proofs.Bytes.Stuffing.{stuff, stuff_cases, stuffed_cons}
 
 -- more text
 pub known_more : (h : Fields) (height : ℕ) (is_open : Bool) (text more : List ℕ) → HeightKnown h height is_open text → HeightKnown h height is_open (text ++ more)
@@ -95,12 +92,7 @@ waits_first h w b text out s at ungiven none empty = record {
 -- ---- how many steps are left
 
 pub fewer_bytes : (old new : Bool) (p p' : List ℕ) → length p' < length p → steps_left new p' < steps_left old p
-fewer_bytes old new p p' less = went old new where
-  went : (a b : Bool) → 2 * length p' + cond {A = ℕ} b 0 1 < 2 * length p + cond {A = ℕ} a 0 1
-  went true true = omega (arith, less)
-  went true false = omega (arith, less)
-  went false true = omega (arith, less)
-  went false false = omega (arith, less)
+fewer_bytes old new p p' less = grind (arith, nat_tests)
 
 pub begins_to_wait : (old new : Bool) (p p' : List ℕ) → old ≡ false → new ≡ true → length p' ≤ length p → steps_left new p' < steps_left old p
 begins_to_wait old new p p' going waits le =
@@ -115,31 +107,33 @@ taken_less p given p' e = let l = length-append given p' in let k : length p ≡
 none_some : {A : Type 0} {x : A} → None ≡ Some x → ⊥
 none_some e = cc
 
--- another step is to be taken
-pub leaves_on : (is_all : Bool) (d d' : PieceView) (p p' : List ℕ) → d'.header ≡ d.header → d'.end ≡ d.end → DecoderOn d d' p p' [] → StepLeaves is_all d d' p p' None
-leaves_on is_all d d' p p' header going on = record {
+-- what each answer says
+abbrev AnswerLeaves : Bool → PieceView → PieceView → List ℕ → List ℕ → Option Outcome → Type 0
+AnswerLeaves is_all d d' p p' None = DecoderOn d d' p p' []
+AnswerLeaves is_all d d' p p' (Some outcome.Row) = DecoderOn d d' p p' (row_held d') × NoHeightBelow is_all d d' p
+AnswerLeaves is_all d d' p p' (Some outcome.More) = (is_all ≡ false) × DecoderOn d d' p p' [] × (d'.waits ≡ false → EndsBroken true d p d'.height Truncated) × (length p' ≤ 7)
+AnswerLeaves is_all d d' p p' (Some (outcome.Done n)) = (d'.height ≡ n) × EndsWhole is_all d p n
+AnswerLeaves is_all d d' p p' (Some (outcome.Broken f)) = EndsBroken is_all d p d'.height f
+
+leaves_as : (is_all : Bool) (d d' : PieceView) (p p' : List ℕ) (r : Option Outcome) → d'.header ≡ d.header → d'.end ≡ d.end → AnswerLeaves is_all d d' p p' r → StepLeaves is_all d d' p p' r
+leaves_as is_all d d' p p' r header going k = record {
   header = header;
   going = going;
-  on = λ _. on;
-  row = λ e. absurd (none_some e);
-  waits = λ e. absurd (none_some e);
-  more = λ e. absurd (none_some e);
-  done = λ n e. absurd (none_some e);
-  broken = λ f e. absurd (none_some e);
+  on = λ e. subst (AnswerLeaves is_all d d' p p') e k;
+  row = λ e. (subst (AnswerLeaves is_all d d' p p') e k).0;
+  waits = λ e. (subst (AnswerLeaves is_all d d' p p') e k).1;
+  more = λ e. subst (AnswerLeaves is_all d d' p p') e k;
+  done = λ n e. subst (AnswerLeaves is_all d d' p p') e k;
+  broken = λ f e. subst (AnswerLeaves is_all d d' p p') e k;
 }
+
+-- another step is to be taken
+pub leaves_on : (is_all : Bool) (d d' : PieceView) (p p' : List ℕ) → d'.header ≡ d.header → d'.end ≡ d.end → DecoderOn d d' p p' [] → StepLeaves is_all d d' p p' None
+leaves_on is_all d d' p p' header going on = leaves_as is_all d d' p p' None header going on
 
 -- a row
 pub leaves_row : (is_all : Bool) (d d' : PieceView) (p p' : List ℕ) → d'.header ≡ d.header → d'.end ≡ d.end → DecoderOn d d' p p' (row_held d') → NoHeightBelow is_all d d' p → StepLeaves is_all d d' p p' (Some outcome.Row)
-leaves_row is_all d d' p p' header going on waits = record {
-  header = header;
-  going = going;
-  on = λ e. absurd (none_some (sym e));
-  row = λ _. on;
-  waits = λ _. waits;
-  more = λ e. absurd (let bot : ⊥ = cc in bot);
-  done = λ n e. absurd (let bot : ⊥ = cc in bot);
-  broken = λ f e. absurd (let bot : ⊥ = cc in bot);
-}
+leaves_row is_all d d' p p' header going on waits = leaves_as is_all d d' p p' (Some outcome.Row) header going (on, waits)
 
 -- what a fault comes to
 pub record Comes (fault : Fault) (is_all : Bool) (r : Outcome) : Type 0 where
@@ -180,6 +174,10 @@ pub in_code_last : (s : Stage) (b : Bool) → IsInCode s → is_last s b ≡ b
 in_code_last s b (inl k) = ap (λ z. is_last z b) k
 in_code_last s b (inr k) = ap (λ z. is_last z b) k
 
+-- the place there
+abbrev pub place_at : ℕ → ℕ → Place
+place_at height entities = record { height = height; entities = entities; given = false }
+
 not_head : (s : Stage) → s ≡ stage.Head → IsInCode s → ⊥
 not_head s e (inl k) = let z : stage.Head ≡ stage.Code = sym e ∙ k in cc
 not_head s e (inr k) = let z : stage.Head ≡ stage.Row = sym e ∙ k in cc
@@ -195,11 +193,8 @@ head_of w (inr k) outside = absurd (outside k.0)
 -- what came stays behind the same marker
 pub behind_same : (h : Fields) (w w' : WalkView) (b : Behind) (back : List ℕ) → IsInCode w.stage → IsInCode w'.stage → KeepsPlace w w' → BehindStands h (behind_at (place_behind h w.stage w.entities) (last_behind h w.stage w.left)) b back → BehindStands h (behind_at (place_behind h w'.stage w'.entities) (last_behind h w'.stage w'.left)) b back
 behind_same h w w' b back code code' keeps s =
-    subst (λ p. BehindStands h (behind_at p (last_behind h w'.stage w'.left)) b back) (ap (λ e. place_at e) entities) (subst (λ l. BehindStands h (behind_at (place_behind h w.stage w.entities) l) b back) last s)
+    subst (λ p. BehindStands h (behind_at p (last_behind h w'.stage w'.left)) b back) (ap (place_at h.yd) entities) (subst (λ l. BehindStands h (behind_at (place_behind h w.stage w.entities) l) b back) last s)
   where
-    place_at : ℕ → Place
-    place_at e = record { height = h.yd; entities = e; given = false }
-
     entities : entities_behind w.stage w.entities ≡ entities_behind w'.stage w'.entities
     entities = in_code_entities w.stage w.entities code ∙ ap (λ z. z + 1) (sym keeps.entities) ∙ sym (in_code_entities w'.stage w'.entities code')
 
@@ -334,28 +329,10 @@ module _ (is_all : Bool) (d e d' : PieceView) (p p1 p' : List ℕ) (header : e.h
 
 -- a fault for good
 pub leaves_broken : (is_all : Bool) (d d' : PieceView) (p p' : List ℕ) (f : Fault) → d'.header ≡ d.header → d'.end ≡ d.end → EndsBroken is_all d p d'.height f → StepLeaves is_all d d' p p' (Some (outcome.Broken f))
-leaves_broken is_all d d' p p' f header going broken = record {
-  header = header;
-  going = going;
-  on = λ e. absurd (none_some (sym e));
-  row = λ e. absurd (let bot : ⊥ = cc in bot);
-  waits = λ e. absurd (let bot : ⊥ = cc in bot);
-  more = λ e. absurd (let bot : ⊥ = cc in bot);
-  done = λ n e. absurd (let bot : ⊥ = cc in bot);
-  broken = λ g e. subst (EndsBroken is_all d p d'.height) (let k : f ≡ g = cc in k) broken;
-}
+leaves_broken is_all d d' p p' f header going broken = leaves_as is_all d d' p p' (Some (outcome.Broken f)) header going broken
 
 pub leaves_done : (is_all : Bool) (d d' : PieceView) (p p' : List ℕ) (n : ℕ) → d'.header ≡ d.header → d'.end ≡ d.end → d'.height ≡ n → EndsWhole is_all d p n → StepLeaves is_all d d' p p' (Some (outcome.Done n))
-leaves_done is_all d d' p p' n header going height whole = record {
-  header = header;
-  going = going;
-  on = λ e. absurd (none_some (sym e));
-  row = λ e. absurd (let bot : ⊥ = cc in bot);
-  waits = λ e. absurd (let bot : ⊥ = cc in bot);
-  more = λ e. absurd (let bot : ⊥ = cc in bot);
-  done = λ m e. let k : n ≡ m = cc in (height ∙ k, subst (EndsWhole is_all d p) k whole);
-  broken = λ g e. absurd (let bot : ⊥ = cc in bot);
-}
+leaves_done is_all d d' p p' n header going height whole = leaves_as is_all d d' p p' (Some (outcome.Done n)) header going (height, whole)
 
 -- ---- in the code
 
@@ -382,16 +359,7 @@ part_broken d p front behind fault late going p_is off other not_end is_all text
 -- an end marker is read ahead
 pub walk_ahead : (h : Fields) (height : ℕ) (w : WalkView) (text out : List ℕ) (reset : Bool) → IsInCode w.stage → w.first ≡ None → w.marker ≡ None → WalkStands (sized h height) w text out →
     WalkStands (sized h height) (record w { first = Some (code.Marker reset) }) (text ++ marker_bytes reset) out
-walk_ahead h height w text out reset in_code none unmarked s = record {
-  left_is = s.left_is;
-  width_is = s.width_is;
-  offset_is = s.offset_is;
-  at_is = s.at_is;
-  code_is = tt;
-  behind = subst (λ z. IfSome z (λ _. Some (code.Marker reset) ≡ None)) (sym unmarked) tt;
-  within = s.within;
-  stands = by in_code;
-} where
+walk_ahead h height w text out reset in_code none unmarked s = walk_at s s.at_is tt (subst (λ z. IfSome z (λ _. Some (code.Marker reset) ≡ None)) (sym unmarked) tt) (by in_code) where
   by : IsInCode w.stage → StageStands w.stage (sized h height) (record w { first = Some (code.Marker reset) }) (text ++ marker_bytes reset) out
   by (inl e) = put_stage h height (record w { first = Some (code.Marker reset) }) (text ++ marker_bytes reset) out stage.Code e (code_ahead reset none unmarked (at_stage e s))
   by (inr e) = put_stage h height (record w { first = Some (code.Marker reset) }) (text ++ marker_bytes reset) out stage.Row e (row_ahead reset none unmarked (at_stage e s))
@@ -450,13 +418,12 @@ shorter_rest p front behind p' p_is le less =
 
 -- an end marker at the front
 pub marker_front : (xs : List ℕ) (n b : ℕ) → n ≡ 0 → slice_index xs n ≡ 255 → slice_index xs (n + 1) ≡ b → n + 1 < length xs → xs ≡ 255 ∷ b ∷ drop 2 xs
-marker_front [] n b zero first second some = absurd (omega (arith, some))
-marker_front (x ∷ []) n b zero first second some = absurd (omega (arith, some))
 marker_front (x ∷ y ∷ xs) n b zero first second some =
     let e : x ≡ 255 = ap (slice_index (x ∷ y ∷ xs)) (sym zero) ∙ first in
     let one : n + 1 ≡ 1 = omega (arith, zero) in
     let f : y ≡ b = ap (slice_index (x ∷ y ∷ xs)) (sym one) ∙ second in
     ap (λ z. z ∷ y ∷ xs) e ∙ ap (λ z. 255 ∷ z ∷ xs) f
+marker_front xs n b zero first second some = absurd (omega (arith, some))
 
 same_left : {m n : ℕ} → Some m ≡ Some n → m ≡ n
 same_left e = cc
@@ -472,36 +439,18 @@ module _ (h : Fields) (w : WalkView) (b : Behind) (place : Place) (done back out
   full = subst (λ g. HeadStands (sized h h.yd) (head_place w.entities g b.at w.carried) (done ++ bs.front) out) (sym ungiven) (head_behind entities bare bs.passed)
 
   pub head_walk : b.comment ≡ None → WalkStands (sized h h.yd) (record w { at = b.at }) (done ++ back) out
-  head_walk between = record {
-    left_is = s.left_is;
-    width_is = s.width_is;
-    offset_is = s.offset_is;
-    at_is = bs.at_is;
-    code_is = s.code_is;
-    behind = s.behind;
-    within = s.within;
-    stands = put_stage h h.yd (record w { at = b.at }) (done ++ back) out stage.Head is (subst (λ z. HeadStands (sized h h.yd) (head_place w.entities w.given b.at w.carried) (done ++ z) out) (sym (front_is bs between)) full);
-  }
+  head_walk between = walk_at s bs.at_is s.code_is s.behind (put_stage _ _ _ _ _ _ is (subst (λ z. HeadStands (sized h h.yd) (head_place w.entities w.given b.at w.carried) (done ++ z) out) (sym (front_is bs between)) full))
 
   pub comment_walk : (left : ℕ) → b.comment ≡ Some left → WalkStands (sized h h.yd) (record w { at = b.at; comment = left; stage = stage.Comment }) (done ++ back) out
   comment_walk left inside =
       let k = part_of bs left inside in
-      record {
-        left_is = s.left_is;
-        width_is = s.width_is;
-        offset_is = s.offset_is;
-        at_is = bs.at_is;
-        code_is = s.code_is;
-        behind = s.behind;
-        within = s.within;
-        stands = record {
-          before = done ++ bs.front;
-          head = full;
-          part = k.0;
-          small = k.1;
-          text_is = ap (λ z. done ++ z) k.2 ∙ sym (append_assoc done bs.front (ESC ∷ COMMENT ∷ (big_bytes 4 (length k.0 + left) ++ k.0)));
-        };
-      }
+      walk_at s bs.at_is s.code_is s.behind (record {
+        before = done ++ bs.front;
+        head = full;
+        part = k.0;
+        small = k.1;
+        text_is = ap (λ z. done ++ z) k.2 ∙ sym (append_assoc done bs.front (ESC ∷ COMMENT ∷ (big_bytes 4 (length k.0 + left) ++ k.0)));
+      })
 
 module _ (d e d' : PieceView) (closed : StripeClosed d e) (keeps : KeepsDecoder e d') (more : last_behind (fields_of d.header) d.walk.stage d.walk.left ≡ false) where
   all_keeps : KeepsDecoder d d'
@@ -515,9 +464,7 @@ module _ (d e d' : PieceView) (closed : StripeClosed d e) (keeps : KeepsDecoder 
   }
 
   place_is : place_behind (fields_of d.header) d.walk.stage d.walk.entities ≡ record { height = d.header.yd; entities = e.walk.entities; given = false }
-  place_is = ap at_entities (sym closed.entities) where
-    at_entities : ℕ → Place
-    at_entities n = record { height = d.header.yd; entities = n; given = false }
+  place_is = ap (place_at d.header.yd) (sym closed.entities)
 
   there : {text out : List ℕ} (w : WalkWaits (fields_of d.header) d.walk d.behind text out) → BehindStands (fields_of d.header) (behind_at (place_behind (fields_of d.header) d.walk.stage d.walk.entities) false) d.behind w.back
   there w = subst (λ l. BehindStands (fields_of d.header) (behind_at (place_behind (fields_of d.header) d.walk.stage d.walk.entities) l) d.behind w.back) more w.behind
@@ -567,27 +514,10 @@ code_entered d e d' c dec p rest late waits head between is at p_is header heigh
 
   now : CodeWalks (fields_of d.header) (record e.walk { decoder = dec; stage = stage.Code; row = 0; first = Some c; marker = None }) (text ++ code_bytes c) (out ++ [])
   now = record {
-    walk = subst (WalkStands (sized (fields_of d.header) d.header.yd) (record e.walk { decoder = dec; stage = stage.Code; row = 0; first = Some c; marker = None }) (text ++ code_bytes c)) (sym (append-nil out)) (record {
-      left_is = there.left_is;
-      width_is = there.width_is;
-      offset_is = there.offset_is;
-      at_is = there.at_is;
-      code_is = is;
-      behind = tt;
-      within = there.within;
-      stands = head_code in_head c is dec at;
-    });
+    walk = subst (WalkStands (sized (fields_of d.header) d.header.yd) (record e.walk { decoder = dec; stage = stage.Code; row = 0; first = Some c; marker = None }) (text ++ code_bytes c)) (sym (append-nil out)) (walk_at there there.at_is is tt (head_code in_head c is dec at));
     in_code = inl refl;
     ungiven = head.given;
   }
-
-pub code_some : (c : code_type.Code) (p rest : List ℕ) → p ≡ code_bytes c ++ rest → length rest < length p
-code_some (code.Byte b) p rest e = by (stuff_cases b) where
-  by : ((b ≡ 255) × (stuff b ≡ 255 ∷ 0 ∷ [])) ⊎ ((b ≢ 255) × (stuff b ≡ b ∷ [])) → length rest < length p
-  by (inl k) = let z : length p ≡ length (255 ∷ 0 ∷ rest) = ap length (e ∙ stuffed_cons b [] rest ∙ ap (λ z. z ++ rest) k.1) in omega (arith, z)
-  by (inr k) = let z : length p ≡ length (b ∷ rest) = ap length (e ∙ stuffed_cons b [] rest ∙ ap (λ z. z ++ rest) k.1) in omega (arith, z)
-code_some (code.Marker true) p rest e = let z : length p ≡ length (255 ∷ 3 ∷ rest) = ap length e in omega (arith, z)
-code_some (code.Marker false) p rest e = let z : length p ≡ length (255 ∷ 2 ∷ rest) = ap length e in omega (arith, z)
 
 -- a fault comes next
 module _ (d e : PieceView) (q : CoderLaws) (late : d.is_open ≡ true) (waits : d.waits ≡ true) (head : HeadEntered d e) (p : List ℕ) (f : Fault) (stops : StopsBehind (fields_of d.header) (behind_at (place_behind (fields_of d.header) d.walk.stage d.walk.entities) false) d.behind p f) where
@@ -649,16 +579,7 @@ module _ (d : PieceView) (known : d.is_open ≡ false) where
 
 -- more is wanted behind a marker
 pub leaves_more : (is_all : Bool) (d d' : PieceView) (p p' : List ℕ) → d'.header ≡ d.header → d'.end ≡ d.end → is_all ≡ false → d'.waits ≡ true → DecoderOn d d' p p' [] → length p' ≤ 7 → StepLeaves is_all d d' p p' (Some outcome.More)
-leaves_more is_all d d' p p' header going open_ waits on few = record {
-  header = header;
-  going = going;
-  on = λ e. absurd (none_some (sym e));
-  row = λ e. absurd (let bot : ⊥ = cc in bot);
-  waits = λ e. absurd (let bot : ⊥ = cc in bot);
-  more = λ _. (open_, on, (λ w. absurd (true≢false (sym waits ∙ w))), few);
-  done = λ n e. absurd (let bot : ⊥ = cc in bot);
-  broken = λ f e. absurd (let bot : ⊥ = cc in bot);
-}
+leaves_more is_all d d' p p' header going open_ waits on few = leaves_as is_all d d' p p' (Some outcome.More) header going (open_, on, (λ w. absurd (true≢false (sym waits ∙ w))), few)
 
 pub fewer_after : (old mid new : Bool) (p p1 p' : List ℕ) → mid ≡ old → length p1 ≤ length p → steps_left new p' < steps_left mid p1 → steps_left new p' < steps_left old p
 fewer_after old mid new p p1 p' same le less = let k : steps_left new p' < 2 * length p1 + cond {A = ℕ} old 0 1 = subst (λ b. steps_left new p' < 2 * length p1 + cond {A = ℕ} b 0 1) same less in omega (arith, k, le)

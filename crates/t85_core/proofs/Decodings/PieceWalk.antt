@@ -1,12 +1,12 @@
 -- The code of a stripe in a walk: a row more, or the stripe's end.
-use Rattle.std.proofs.Common.{cond, ◌≡◌, ◌<◌, ◌+◌, ℕ, Bool, true, false, List, [], ◌++◌, count_by, Option, None, Some, refl, sym, ap, ◌∙◌, subst, append_assoc, append-nil, arith}
+use Rattle.std.proofs.Common.{cond, ◌≡◌, ◌<◌, ◌≤◌, ◌+◌, ℕ, Bool, true, false, List, [], ◌++◌, count_by, Option, None, Some, refl, sym, ap, ◌∙◌, subst, append_assoc, append-nil, arith}
 use Rattle.std.specs.Prelude.{flat_map, option_map, IfSome}
 use Rattle.qm_core.specs.Code.{stuffed}
 use Rattle.qm_core.specs.Place.{Place}
 use Rattle.qm_core.specs.Source.{bytes_of, heard_of, is_stopped}
 use Rattle.qm_core.specs.Decoder.{DecoderIsAt, has_stopped}
 use Rattle.qm_core.specs.declared.source.Heard.{Heard}
-use Rattle.qm_core.specs.declared.source.Heard.TheVariants.{More, Ended, Stopped}
+use Rattle.qm_core.specs.declared.source.Heard.TheVariants.{Stopped}
 use Rattle.qm_core.specs.declared.source.Pulled.{Pulled}
 use Rattle.qm_core.specs.declared.decoder.Decoder.{Decoder}
 use Rattle.raster_core.specs.Packed.{packed_row}
@@ -27,9 +27,9 @@ use Rattle.t85_core.specs.Steps.CoderLaws.{CoderLaws}
 use Rattle.t85_core.specs.Steps.Segments.{IsByteOrMarker, spot_at}
 use Rattle.t85_core.specs.Steps.State.{StripeStart, first_row_start, next_stripe_start, offset_at}
 use Rattle.t85_core.specs.Steps.Cut.{BegunRun, open_stripe}
-use Rattle.t85_core.specs.Steps.DecodeRows.{pair_of, IsShapeOf, IsCarried}
+use Rattle.t85_core.specs.Steps.DecodeRows.{pair_of, IsShapeOf, IsCarried, rows_done}
 use Rattle.t85_core.specs.Steps.DecodeStripes.{StripeCut, StripeRead, StripesRead, ImageRead, stripe_place}
-use Rattle.t85_core.specs.Steps.PieceCode.{CodeText, CodeOpen, CodeBreaks, PieceRowTaken, RowBroken, RowWaits, MarkerFound, MarkerMissing, CodeKept, row_state_at, handed}
+use Rattle.t85_core.specs.Steps.PieceCode.{CodeText, CodeOpen, CodeBreaks, PieceRowTaken, RowBroken, RowWaits, MarkerFound, MarkerMissing, CodeKept, RowsKnown, RowBegun, row_state_at, open_row, handed}
 use Rattle.t85_core.specs.Steps.Pieces.{CutOff, HeadStands, CodeStands, InRowStands, rows_in, head_place, code_place}
 use Rattle.t85_core.specs.Steps.SizedImage.{sized}
 use Rattle.t85_core.specs.Steps.Passage.{passage}
@@ -100,17 +100,16 @@ module _ {h : Fields} {height entities : ℕ} {given : Bool} {at : Option move.M
 
 -- ---- in a row that has begun
 
+pub going : (t : Heard) → (t ≡ Stopped → ⊥) → is_stopped t ≡ false
+going Stopped n = absurd (n refl)
+going t n = refl
+
 module _ {h : Fields} {height entities : ℕ} {given : Bool} {at : Option move.Move} {row : ℕ} {first : Option code_type.Code} {marker : Option Bool} {carried : Carried} {d : Decoder} {in_row : RowPlace} {text out : List ℕ}
     (s : InRowStands (sized h height) (head_place entities given at carried) (code_place row first marker d) in_row text out) where
   -- its decoder goes on
   pub in_row_going : has_stopped d ≡ false
   in_row_going = by in_row.is_begun refl
     where
-      going : (t : Heard) → (t ≡ Stopped → ⊥) → is_stopped t ≡ false
-      going More n = refl
-      going Ended n = refl
-      going Stopped n = absurd (n refl)
-
       at_answers : {x : Place} → DecoderIsAt d x (s.begun.read.answers ++ s.begun.since) → has_stopped d ≡ false
       at_answers e = ap is_stopped e.heard ∙ going _ s.begun.unstopped
 
@@ -145,21 +144,26 @@ module _ {h : Fields} {height entities : ℕ} {given : Bool} {at : Option move.M
     text_is = sym (in_row_more m.given);
   }
 
-  -- it waits
-  pub row_kept : {first' : Option code_type.Code} {marker' : Option Bool} {carried' : Carried} {d' : Decoder} {in_row' : RowPlace} {p p' : List ℕ} →
-      (m : RowWaits (open_stripe h s.head.stripes.next s.head.passed.segments) s.shape row (row_state_at carried' d' in_row' first' marker' p') (handed s.began out s.code) p) → InRowStands (sized h height) (head_place entities given at carried') (code_place row first' marker' d') in_row' (text ++ m.given) out
-  row_kept m = record {
+  -- with more of its code
+  in_row_with : {first' : Option code_type.Code} {marker' : Option Bool} {carried' : Carried} {d' : Decoder} {in_row' : RowPlace} (p : List ℕ) (begun : RowBegun (open_stripe h s.head.stripes.next s.head.passed.segments) s.shape (open_row row carried' d' in_row') s.began out) →
+      CodeText first' marker' (begun.read.answers ++ begun.since) [] (s.code ++ p) → InRowStands (sized h height) (head_place entities given at carried') (code_place row first' marker' d') in_row' (text ++ p) out
+  in_row_with p begun code_is = record {
     before = s.before;
     began = s.began;
     start = s.start;
     head = s.head;
     shape = s.shape;
-    begun = m.begun;
+    begun = begun;
     few = s.few;
-    code = s.code ++ m.given;
-    code_is = m.code_is;
-    text_is = sym (in_row_more m.given);
+    code = s.code ++ p;
+    code_is = code_is;
+    text_is = sym (in_row_more p);
   }
+
+  -- it waits
+  pub row_kept : {first' : Option code_type.Code} {marker' : Option Bool} {carried' : Carried} {d' : Decoder} {in_row' : RowPlace} {p p' : List ℕ} →
+      (m : RowWaits (open_stripe h s.head.stripes.next s.head.passed.segments) s.shape row (row_state_at carried' d' in_row' first' marker' p') (handed s.began out s.code) p) → InRowStands (sized h height) (head_place entities given at carried') (code_place row first' marker' d') in_row' (text ++ m.given) out
+  row_kept m = in_row_with m.given m.begun m.code_is
 
 module _ {h : Fields} {height entities : ℕ} {given : Bool} {at : Option move.Move} {row : ℕ} {first : Option code_type.Code} {marker : Option Bool} {carried : Carried} {d : Decoder} {text out : List ℕ}
     (s : CodeStands (sized h height) (head_place entities given at carried) (code_place row first marker d) text out) where
@@ -282,52 +286,45 @@ module _ {h : Fields} {height entities : ℕ} {given : Bool} {at : Option move.M
       text_is = s.text_is;
     }
 
-  -- what is left of it was skipped, as far as it came
-  pub code_kept : row ≡ count → {first' : Option code_type.Code} (p p' : List ℕ) → (m : CodeKept first' marker s.read.answers s.code p p') → CodeStands (sized h height) (head_place entities given at carried) (code_place row first' marker d) (text ++ m.given) out
-  code_kept all p p' m = record {
+  -- the same stripe, with other rows or other code
+  pub code_with : {row' : ℕ} {first' : Option code_type.Code} {marker' : Option Bool} {carried' : Carried} {d' : Decoder} {text' out' : List ℕ} (read : RowsKnown (open_stripe h s.head.stripes.next s.head.passed.segments) s.shape (rows_done row' carried' d') s.began out') → row' ≤ count →
+      (extra : List ℕ) → (row' < count → extra ≡ []) → (code : List ℕ) → CodeText first' marker' read.answers extra code → text' ≡ s.before ++ code → CodeStands (sized h height) (head_place entities given at carried') (code_place row' first' marker' d') text' out'
+  code_with read few extra rows_first code code_is text_is = record {
     before = s.before;
     began = s.began;
     start = s.start;
     head = s.head;
     shape = s.shape;
-    read = s.read;
-    few = s.few;
-    extra = m.extra;
-    rows_first = λ lt. absurd (omega (arith, lt, all));
-    code = s.code ++ m.given;
-    code_is = m.code_is;
-    text_is = sym (with_more m.given);
+    read = read;
+    few = few;
+    extra = extra;
+    rows_first = rows_first;
+    code = code;
+    code_is = code_is;
+    text_is = text_is;
   }
+
+  -- what is left of it was skipped, as far as it came
+  pub code_kept : row ≡ count → {first' : Option code_type.Code} (p p' : List ℕ) → (m : CodeKept first' marker s.read.answers s.code p p') → CodeStands (sized h height) (head_place entities given at carried) (code_place row first' marker d) (text ++ m.given) out
+  code_kept all p p' m = code_with s.read s.few m.extra (λ lt. absurd (omega (arith, lt, all))) (s.code ++ m.given) m.code_is (sym (with_more m.given))
 
   -- its end marker came
   pub code_marked : row ≡ count → marker ≡ None → (p p' : List ℕ) (reset : Bool) → (m : MarkerFound s.read.answers s.code p p' reset) →
       CodeStands (sized h height) (head_place entities given at carried) (code_place row (Some (code.Marker reset)) marker d) (text ++ m.given) out
-  code_marked all unmarked p p' reset m = record {
-    before = s.before;
-    began = s.began;
-    start = s.start;
-    head = s.head;
-    shape = s.shape;
-    read = s.read;
-    few = s.few;
-    extra = m.agrees.rest;
-    rows_first = λ lt. absurd (omega (arith, lt, all));
-    code = s.code ++ m.given;
-    code_is = subst (λ z. CodeText (Some (code.Marker reset)) z s.read.answers m.agrees.rest (s.code ++ m.given)) (sym unmarked) open_;
-    text_is = sym (with_more m.given);
-  } where
-    was_open : CodeOpen first s.read.answers s.extra s.code
-    was_open = subst (λ z. CodeText first z s.read.answers s.extra s.code) unmarked s.code_is
+  code_marked all unmarked p p' reset m =
+      code_with s.read s.few m.agrees.rest (λ lt. absurd (omega (arith, lt, all))) (s.code ++ m.given) (subst (λ z. CodeText (Some (code.Marker reset)) z s.read.answers m.agrees.rest (s.code ++ m.given)) (sym unmarked) open_) (sym (with_more m.given)) where
+        was_open : CodeOpen first s.read.answers s.extra s.code
+        was_open = subst (λ z. CodeText first z s.read.answers s.extra s.code) unmarked s.code_is
 
-    open_ : CodeOpen (Some (code.Marker reset)) s.read.answers m.agrees.rest (s.code ++ m.given)
-    open_ = record {
-      going = was_open.going;
-      bytes = was_open.bytes;
-      small = m.agrees.bytes;
-      ahead = tt;
-      begun = λ none. absurd (let bot : ⊥ = cc in bot);
-      text_is = m.text_is ∙ ap (λ z. stuffed z ++ marker_bytes reset) m.agrees.is;
-    }
+        open_ : CodeOpen (Some (code.Marker reset)) s.read.answers m.agrees.rest (s.code ++ m.given)
+        open_ = record {
+          going = was_open.going;
+          bytes = was_open.bytes;
+          small = m.agrees.bytes;
+          ahead = tt;
+          begun = λ none. absurd (let bot : ⊥ = cc in bot);
+          text_is = m.text_is ∙ ap (λ z. stuffed z ++ marker_bytes reset) m.agrees.is;
+        }
 
 -- ---- an end marker is read ahead
 
@@ -349,32 +346,9 @@ text_marked first marker answers extra text reset none unmarked o = subst (λ z.
 
 pub code_ahead : {h : Fields} {height entities : ℕ} {given : Bool} {at : Option move.Move} {row : ℕ} {first : Option code_type.Code} {marker : Option Bool} {carried : Carried} {d : Decoder} {text out : List ℕ} (reset : Bool) → first ≡ None → marker ≡ None →
     CodeStands (sized h height) (head_place entities given at carried) (code_place row first marker d) text out → CodeStands (sized h height) (head_place entities given at carried) (code_place row (Some (code.Marker reset)) marker d) (text ++ marker_bytes reset) out
-code_ahead {first = first} {marker = marker} reset none unmarked s = record {
-  before = s.before;
-  began = s.began;
-  start = s.start;
-  head = s.head;
-  shape = s.shape;
-  read = s.read;
-  few = s.few;
-  extra = s.extra;
-  rows_first = s.rows_first;
-  code = s.code ++ marker_bytes reset;
-  code_is = text_marked first marker s.read.answers s.extra s.code reset none unmarked s.code_is;
-  text_is = ap (λ z. z ++ marker_bytes reset) s.text_is ∙ append_assoc s.before s.code (marker_bytes reset);
-}
+code_ahead {first = first} {marker = marker} reset none unmarked s =
+    code_with s s.read s.few s.extra s.rows_first (s.code ++ marker_bytes reset) (text_marked first marker s.read.answers s.extra s.code reset none unmarked s.code_is) (sym (with_more s (marker_bytes reset)))
 
 pub row_ahead : {h : Fields} {height entities : ℕ} {given : Bool} {at : Option move.Move} {row : ℕ} {first : Option code_type.Code} {marker : Option Bool} {carried : Carried} {d : Decoder} {in_row : RowPlace} {text out : List ℕ} (reset : Bool) → first ≡ None → marker ≡ None →
     InRowStands (sized h height) (head_place entities given at carried) (code_place row first marker d) in_row text out → InRowStands (sized h height) (head_place entities given at carried) (code_place row (Some (code.Marker reset)) marker d) in_row (text ++ marker_bytes reset) out
-row_ahead {first = first} {marker = marker} reset none unmarked s = record {
-  before = s.before;
-  began = s.began;
-  start = s.start;
-  head = s.head;
-  shape = s.shape;
-  begun = s.begun;
-  few = s.few;
-  code = s.code ++ marker_bytes reset;
-  code_is = text_marked first marker (s.begun.read.answers ++ s.begun.since) [] s.code reset none unmarked s.code_is;
-  text_is = ap (λ z. z ++ marker_bytes reset) s.text_is ∙ append_assoc s.before s.code (marker_bytes reset);
-}
+row_ahead {first = first} {marker = marker} reset none unmarked s = in_row_with s (marker_bytes reset) s.begun (text_marked first marker (s.begun.read.answers ++ s.begun.since) [] s.code reset none unmarked s.code_is)

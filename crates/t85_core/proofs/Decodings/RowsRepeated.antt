@@ -26,7 +26,8 @@ use Rattle.t85_core.specs.Steps.Cut.{RowsSoFar, open_stripe}
 use Rattle.t85_core.specs.Steps.DecodeRows.{IsShapeOf, IsCarried, RowsRead, RowsRepeated, RepeatsRows, Leads, rows_done}
 use Rattle.t85_core.specs.Lent.{Carried}
 use Rattle.t85_core.proofs.Bytes.Streams.{Appends-more}
-use Rattle.t85_core.proofs.Decodings.TypicalRows.{run_append, run_enough_append, behind, state_behind, above_behind, second_behind, previous_behind, offset_behind, run_behind, enough_behind, flat_copies}
+use Rattle.t85_core.proofs.Decodings.TypicalRows.{behind, state_behind, above_behind, second_behind, previous_behind, offset_behind, run_behind, enough_behind, flat_copies}
+use Rattle.t85_core.proofs.Decodings.Runs.{run_append, run_enough_append}
 
 -- ---- they are decoded
 

@@ -34,14 +34,11 @@ bytes_append (Fault ∷ xs) ys = bytes_append xs ys
 pub went_on : (xs ys : List Pulled) → heard_of (xs ++ ys) ≡ More → heard_of xs ≡ More
 went_on [] ys h = refl
 went_on (Byte b ∷ xs) ys h = went_on xs ys h
-went_on (End ∷ xs) ys h = absurd (let bot : ⊥ = cc in bot)
-went_on (Fault ∷ xs) ys h = absurd (let bot : ⊥ = cc in bot)
+went_on xs ys h = absurd (let bot : ⊥ = cc in bot)
 
 pub not_ended : (xs ys : List Pulled) → heard_of (xs ++ ys) ≡ Stopped → heard_of xs ≡ Ended → ⊥
-not_ended [] ys h e = cc
 not_ended (Byte b ∷ xs) ys h e = not_ended xs ys h e
-not_ended (End ∷ xs) ys h e = cc
-not_ended (Fault ∷ xs) ys h e = cc
+not_ended xs ys h e = cc
 
 -- a source that stops now went on before, unless it had stopped before
 pub was_going : (xs ys : List Pulled) → heard_of (xs ++ ys) ≡ Stopped → (heard_of xs ≡ Stopped → ⊥) → heard_of xs ≡ More

@@ -25,22 +25,34 @@ use Rattle.t85_core.specs.Steps.Cut.{events_with, RunEnough, NoneDecided}
 use Rattle.t85_core.specs.Steps.CoderLaws.{CoderLaws}
 use Rattle.t85_core.specs.Coding.{flagged}
 
+-- ---- runs, one after another
+
+pub run_append : (coding : RowCoding) (r : ℕ) (b : RowStart) (rows : List (List Bool)) (flags : List Bool) (mid : RowStart) (more : List (List Bool)) (more_flags : List Bool) (last : RowStart) →
+    Run coding r b rows flags mid → Run coding (r + length rows) mid more more_flags last → Run coding r b (rows ++ more) (flags ++ more_flags) last
+run_append coding r b [] [] mid more more_flags last run k =
+    let r0 : r + 0 ≡ r = omega arith in
+    subst (λ z. Run coding r z more more_flags last) (sym run) (subst (λ z. Run coding z mid more more_flags last) r0 k)
+run_append coding r b (x ∷ rows) (f ∷ flags) mid more more_flags last run k =
+    let at : r + suc (length rows) ≡ (r + 1) + length rows = omega arith in
+    (run.0, run_append coding (r + 1) (after_row coding.mode coding.move r b x f) rows flags mid more more_flags last run.1 (subst (λ z. Run coding z mid more more_flags last) at k))
+run_append coding r b rows flags mid more more_flags last run k = absurd run
+
+pub run_enough_append : (count : ℕ) (coding : RowCoding) (r : ℕ) (b : RowStart) (rows : List (List Bool)) (flags : List Bool) (mid : RowStart) (more : List (List Bool)) (more_flags : List Bool) →
+    Run coding r b rows flags mid → RunEnough count coding r b rows flags → RunEnough count coding (r + length rows) mid more more_flags → RunEnough count coding r b (rows ++ more) (flags ++ more_flags)
+run_enough_append count coding r b [] [] mid more more_flags run h k =
+    let r0 : r + 0 ≡ r = omega arith in
+    subst (λ z. RunEnough count coding r z more more_flags) (sym run) (subst (λ z. RunEnough count coding z mid more more_flags) r0 k)
+run_enough_append count coding r b (x ∷ rows) (f ∷ flags) mid more more_flags run h k =
+    let at : r + suc (length rows) ≡ (r + 1) + length rows = omega arith in
+    (h.0, run_enough_append count coding (r + 1) (after_row coding.mode coding.move r b x f) rows flags mid more more_flags run.1 h.1 (subst (λ z. RunEnough count coding z mid more more_flags) at k))
+run_enough_append count coding r b rows flags mid more more_flags run h k = absurd run
+
 -- ---- a row more
 
 pub run_push : (coding : RowCoding) (r : ℕ) (b : RowStart) (rows : List (List Bool)) (flags : List Bool) (last : RowStart) (row : List Bool) (flag : Bool) →
     Run coding r b rows flags last → IsNextRow coding.width coding.mode last row flag →
     Run coding r b (rows ++ row ∷ []) (flags ++ flag ∷ []) (after_row coding.mode coding.move (r + length rows) last row flag)
-run_push coding r b [] [] last row flag run k =
-    let r0 : r ≡ r + 0 = omega arith in
-    (subst (λ z. IsNextRow coding.width coding.mode z row flag) (sym run) k, ap (λ z. after_row coding.mode coding.move r z row flag) run ∙ ap (λ z. after_row coding.mode coding.move z last row flag) r0)
-run_push coding r b [] (f ∷ flags) last row flag run k = absurd run
-run_push coding r b (x ∷ rows) [] last row flag run k = absurd run
-run_push coding r b (x ∷ rows) (f ∷ flags) last row flag run k =
-    let at : (r + 1) + length rows ≡ r + suc (length rows) = omega arith in (
-      run.0,
-      subst (λ z. Run coding (r + 1) (after_row coding.mode coding.move r b x f) (rows ++ row ∷ []) (flags ++ flag ∷ []) (after_row coding.mode coding.move z last row flag)) at
-          (run_push coding (r + 1) (after_row coding.mode coding.move r b x f) rows flags last row flag run.1 k),
-    )
+run_push coding r b rows flags last row flag run k = run_append coding r b rows flags last (row ∷ []) (flag ∷ []) _ run (k, refl)
 
 -- more bytes decide what fewer do
 pub enough_more : (count more : ℕ) (s : State) (events : List Event) → count ≤ more → AreEnough count s events → AreEnough more s events
@@ -58,14 +70,7 @@ run_enough_more count more coding r b (row ∷ rows) (flag ∷ flags) le h =
 pub run_enough_push : (count : ℕ) (coding : RowCoding) (r : ℕ) (b : RowStart) (rows : List (List Bool)) (flags : List Bool) (last : RowStart) (row : List Bool) (flag : Bool) →
     Run coding r b rows flags last → RunEnough count coding r b rows flags → AreEnough count last.state (events_with coding.mode coding.move (r + length rows) last row flag) →
     RunEnough count coding r b (rows ++ row ∷ []) (flags ++ flag ∷ [])
-run_enough_push count coding r b [] [] last row flag run h k =
-    let r0 : r + 0 ≡ r = omega arith in
-    (subst (λ z. AreEnough count z.state (events_with coding.mode coding.move r z row flag)) (sym run) (subst (λ z. AreEnough count last.state (events_with coding.mode coding.move z last row flag)) r0 k), tt)
-run_enough_push count coding r b [] (f ∷ flags) last row flag run h k = absurd run
-run_enough_push count coding r b (x ∷ rows) [] last row flag run h k = absurd run
-run_enough_push count coding r b (x ∷ rows) (f ∷ flags) last row flag run h k =
-    let at : r + suc (length rows) ≡ (r + 1) + length rows = omega arith in
-    (h.0, run_enough_push count coding (r + 1) (after_row coding.mode coding.move r b x f) rows flags last row flag run.1 h.1 (subst (λ z. AreEnough count last.state (events_with coding.mode coding.move z last row flag)) at k))
+run_enough_push count coding r b rows flags last row flag run h k = run_enough_append count coding r b rows flags last (row ∷ []) (flag ∷ []) run h (k, tt)
 
 -- ---- a stripe more
 
@@ -168,7 +173,6 @@ module _ (shape : Shape) (kept : Kept) (s : State) (lines : Lines) (mode : Mode)
 pub run_place : CoderLaws → (coding : RowCoding) (r : ℕ) (b : RowStart) (rows : List (List Bool)) (flags : List Bool) (last : RowStart) →
     IsPlace b.state.place → Run coding r b rows flags last → IsPlace last.state.place
 run_place q coding r b [] [] last p run = subst (λ z. IsPlace z.state.place) run p
-run_place q coding r b [] (f ∷ flags) last p run = absurd run
-run_place q coding r b (row ∷ rows) [] last p run = absurd run
 run_place q coding r b (row ∷ rows) (f ∷ flags) last p run =
     run_place q coding (r + 1) (after_row coding.mode coding.move r b row f) rows flags last (q.events_keep_place (events_with coding.mode coding.move r b row f) b.state p) run.1
+run_place q coding r b rows flags last p run = absurd run

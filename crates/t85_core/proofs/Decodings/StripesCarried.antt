@@ -21,15 +21,13 @@ use Rattle.t85_core.proofs.Theorems.StateLookedUp.{CarriedAt, stripe_begins, row
 -- as many flags as rows, each as wide as it should be
 pub run_flags : (coding : RowCoding) (r : ℕ) (b : RowStart) (rows : List (List Bool)) (flags : List Bool) (last : RowStart) → Run coding r b rows flags last → length flags ≡ length rows
 run_flags coding r b [] [] last h = refl
-run_flags coding r b [] (f ∷ flags) last h = absurd h
-run_flags coding r b (row ∷ rows) [] last h = absurd h
 run_flags coding r b (row ∷ rows) (f ∷ flags) last h = ap suc (run_flags coding (r + 1) (after_row coding.mode coding.move r b row f) rows flags last h.1)
+run_flags coding r b rows flags last h = absurd h
 
 pub run_wide : (coding : RowCoding) (r : ℕ) (b : RowStart) (rows : List (List Bool)) (flags : List Bool) (last : RowStart) → Run coding r b rows flags last → AllByRecursion (λ row. length row ≡ coding.width) rows
 run_wide coding r b [] [] last h = tt
-run_wide coding r b [] (f ∷ flags) last h = absurd h
-run_wide coding r b (row ∷ rows) [] last h = absurd h
 run_wide coding r b (row ∷ rows) (f ∷ flags) last h = (h.0.wide, run_wide coding (r + 1) (after_row coding.mode coding.move r b row f) rows flags last h.1)
+run_wide coding r b rows flags last h = absurd h
 
 module _ (h : Fields) (some : 0 < h.l0) (all : List Stripe) (all_flags : List Bool) (all_rows : List (List Bool)) where
   abbrev c : Coding

@@ -7,32 +7,8 @@ use Rattle.raster_core.specs.Lines.{Mode, pseudo_event, same_row}
 use Rattle.raster_core.specs.Enough.{AreEnough}
 use Rattle.raster_core.specs.Packed.{packed_row}
 use Rattle.t85_core.specs.Steps.Buffers.{copies}
-use Rattle.t85_core.specs.Steps.State.{RowStart, offset_at, after_row, Run, row_coding, RowCoding}
+use Rattle.t85_core.specs.Steps.State.{RowStart, offset_at, after_row, Run, row_coding}
 use Rattle.t85_core.specs.Steps.Cut.{events_with, RunEnough}
-
--- ---- runs, one after another
-
-pub run_append : (coding : RowCoding) (r : ℕ) (b : RowStart) (rows : List (List Bool)) (flags : List Bool) (mid : RowStart) (more : List (List Bool)) (more_flags : List Bool) (last : RowStart) →
-    Run coding r b rows flags mid → Run coding (r + length rows) mid more more_flags last → Run coding r b (rows ++ more) (flags ++ more_flags) last
-run_append coding r b [] [] mid more more_flags last run k =
-    let r0 : r + 0 ≡ r = omega arith in
-    subst (λ z. Run coding r z more more_flags last) (sym run) (subst (λ z. Run coding z mid more more_flags last) r0 k)
-run_append coding r b [] (f ∷ flags) mid more more_flags last run k = absurd run
-run_append coding r b (x ∷ rows) [] mid more more_flags last run k = absurd run
-run_append coding r b (x ∷ rows) (f ∷ flags) mid more more_flags last run k =
-    let at : r + suc (length rows) ≡ (r + 1) + length rows = omega arith in
-    (run.0, run_append coding (r + 1) (after_row coding.mode coding.move r b x f) rows flags mid more more_flags last run.1 (subst (λ z. Run coding z mid more more_flags last) at k))
-
-pub run_enough_append : (count : ℕ) (coding : RowCoding) (r : ℕ) (b : RowStart) (rows : List (List Bool)) (flags : List Bool) (mid : RowStart) (more : List (List Bool)) (more_flags : List Bool) →
-    Run coding r b rows flags mid → RunEnough count coding r b rows flags → RunEnough count coding (r + length rows) mid more more_flags → RunEnough count coding r b (rows ++ more) (flags ++ more_flags)
-run_enough_append count coding r b [] [] mid more more_flags run h k =
-    let r0 : r + 0 ≡ r = omega arith in
-    subst (λ z. RunEnough count coding r z more more_flags) (sym run) (subst (λ z. RunEnough count coding z mid more more_flags) r0 k)
-run_enough_append count coding r b [] (f ∷ flags) mid more more_flags run h k = absurd run
-run_enough_append count coding r b (x ∷ rows) [] mid more more_flags run h k = absurd run
-run_enough_append count coding r b (x ∷ rows) (f ∷ flags) mid more more_flags run h k =
-    let at : r + suc (length rows) ≡ (r + 1) + length rows = omega arith in
-    (h.0, run_enough_append count coding (r + 1) (after_row coding.mode coding.move r b x f) rows flags mid more more_flags run.1 h.1 (subst (λ z. RunEnough count coding z mid more more_flags) at k))
 
 -- ---- typical rows after another
 

@@ -33,7 +33,7 @@ use Rattle.t85_core.proofs.Bytes.Streams.{Consumes-more, beginning_all, beginnin
 use Rattle.t85_core.proofs.Decodings.Firsts.{pbm_of, text_first}
 use Rattle.t85_core.proofs.Decodings.ImagePut.{image_unset}
 use Rattle.t85_core.proofs.Decodings.PieceHead.{stripes_ext}
-use Rattle.t85_core.proofs.Decodings.PieceWalk.{shape_here}
+use Rattle.t85_core.proofs.Decodings.PieceWalk.{shape_here, code_with}
 use Rattle.t85_core.proofs.Decodings.RowsRepeated.{repeated_read, repeated_answers}
 use Rattle.t85_core.proofs.Decodings.CarriedDenotes.{run_many, stripes_wide}
 use Rattle.t85_core.proofs.Decodings.StripesCarried.{run_wide}
@@ -72,22 +72,11 @@ module _ {h : Fields} {height entities : ℕ} {given : Bool} {at : Option move.M
       CodeStands (sized h height) (head_place entities given at carried') (code_place (row + count) first marker d') text (out ++ copies count carried.held.current)
   code_repeated shape shape_is count carried' d' repeats few =
       let here = subst (λ z. RepeatsRows z (option_map pair_of at) count (rows_done row carried d) (rows_done (row + count) carried' d')) (shape_here s shape shape_is) repeats in
-      record {
-        before = s.before;
-        began = s.began;
-        start = s.start;
-        head = s.head;
-        shape = s.shape;
-        read = repeated_read Anything tt tt h s.shape s.head.stripes.next s.head.passed.segments row count carried carried' d d' (Some s.began) (Some out) s.read (option_map pair_of at) s.head.passed.move_is here
-            (Some (out ++ copies count carried.held.current)) refl;
-        few = few;
-        extra = s.extra;
-        rows_first = λ lt. s.rows_first (omega (arith, lt));
-        code = s.code;
-        code_is = subst (λ z. CodeText first marker z s.extra s.code) (sym (repeated_answers Anything tt tt h s.shape s.head.stripes.next s.head.passed.segments row count carried carried' d d' (Some s.began) (Some out) s.read (option_map pair_of at) s.head.passed.move_is here
-            (Some (out ++ copies count carried.held.current)) refl)) s.code_is;
-        text_is = s.text_is;
-      }
+      code_with s
+      (repeated_read Anything tt tt h s.shape s.head.stripes.next s.head.passed.segments row count carried carried' d d' (Some s.began) (Some out) s.read (option_map pair_of at) s.head.passed.move_is here (Some (out ++ copies count carried.held.current)) refl)
+      few s.extra (λ lt. s.rows_first (omega (arith, lt))) s.code
+      (subst (λ z. CodeText first marker z s.extra s.code) (sym (repeated_answers Anything tt tt h s.shape s.head.stripes.next s.head.passed.segments row count carried carried' d d' (Some s.began) (Some out) s.read (option_map pair_of at) s.head.passed.move_is here (Some (out ++ copies count carried.held.current)) refl)) s.code_is)
+      s.text_is
 
   -- ---- what was written is first
 

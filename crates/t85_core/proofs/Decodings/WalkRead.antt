@@ -4,11 +4,10 @@ use Rattle.std.specs.Prelude.{flat_map, IfErr}
 use Rattle.std.specs.Io.KnownBytes.{Appends, Consumes, Keeps}
 use Rattle.raster_core.specs.Packed.{packed_row, row_bytes}
 use Rattle.t85_core.specs.declared.fault.Fault.{Fault}
-use Rattle.t85_core.specs.declared.fault.Fault.TheVariants.{Truncated, BadEscape, Aborted, MoveRefused, SecondMove, LengthRefused, SecondLength, Changed, Read}
+use Rattle.t85_core.specs.declared.fault.Fault.TheVariants.{Truncated, Read}
 use Rattle.t85_core.specs.Lent.{WalkView}
 use Rattle.t85_core.specs.Header.{Fields}
 use Rattle.t85_core.specs.Fixed.{Fixes}
-use Rattle.t85_core.specs.Info.{IsBodyFault}
 use Rattle.t85_core.specs.Failures.{CountsRead, Ends, counted_as, reads_after, writes_after}
 use Rattle.t85_core.specs.Steps.Buffers.{SourceView, ReadsOn, copies, reading}
 use Rattle.t85_core.specs.Steps.Pieces.{CutOff, WalkStands, SomeStands, StepsOff, StepsOn, Turn, CodeStands, head_place, code_place}
@@ -24,42 +23,27 @@ use Rattle.t85_core.specs.Laws.{IsInUse}
 use Rattle.t85_core.specs.Steps.CoderLaws.{CoderLaws}
 use Rattle.t85_core.specs.Steps.DecodeStripes.{ImageRead, ImageCut, ImageUnwritten}
 use Rattle.t85_core.specs.Steps.Passage.{passage}
-use Rattle.t85_core.proofs.Bytes.Streams.{Appends-more, Consumes-more, Consumes-keeps, beginning_after, beginning_all}
+use Rattle.t85_core.proofs.Bytes.Streams.{Appends-more, Consumes-more, Consumes-keeps, beginning_after, beginning_all, longer_or_all}
 use Rattle.t85_core.proofs.Walks.Passed.{Consumes-none}
 use Rattle.t85_core.proofs.Decodings.PieceSteps.{at_stage}
 use Rattle.t85_core.proofs.Decodings.RowPut.{appends_nothing}
 use Rattle.t85_core.proofs.Decodings.WalkDecoded.{code_unset, code_many, code_wide, copies_long, none_unset, unset_there}
+use Rattle.t85_core.proofs.Walks.Looked.{no_failed_read}
 use Rattle.t85_core.proofs.Grammar.Faults.{body_faults, uncounted_body, walk_fault, unwritten}
 use Rattle.t85_core.proofs.Decodings.Decoded.{fixes_more}
 
 -- what came fixes what was handed out
 pub cut_all : (h : Fields) (height : ℕ) (text out : List ℕ) (f : Fault) → CutOff (sized h height) text out f → (rows : List (List Bool)) × Fixes h height text f rows × (out ≡ flat_map packed_row rows)
-cut_all h height text out f c = (c.cut.rows, subst (λ z. Fixes h height z f c.cut.rows) (sym c.cut.ends.taken) (went (fixes_more h height c.cut.ends.given c.unread f c.cut.rows has)), c.cut.appended) where
+cut_all h height text out f c = (c.cut.rows, subst (λ z. Fixes h height z f c.cut.rows) (sym c.cut.ends.taken) (longer_or_all (λ z. Fixes h height z f c.cut.rows) c.cut.ends.given c.unread has c.cut.ends.at_end (fixes_more h height c.cut.ends.given c.unread f c.cut.rows has)), c.cut.appended) where
   has : Fixes h height c.cut.ends.given f c.cut.rows
   has = subst (λ z. Fixes h height c.cut.ends.given z c.cut.rows) c.counted c.cut.ends.has_fault
-
-  went : (f ≡ Truncated) ⊎ Fixes h height (c.cut.ends.given ++ c.unread) f c.cut.rows → Fixes h height (c.cut.ends.given ++ c.unread) f c.cut.rows
-  went (inl ended) = subst (λ z. Fixes h height z f c.cut.rows) (sym (ap (λ z. c.cut.ends.given ++ z) (c.cut.ends.at_end ended) ∙ append-nil c.cut.ends.given)) has
-  went (inr k) = k
 
 -- a fault that is counted as itself is no failed read
 counted_never : (f : Fault) → counted_as Truncated f ≡ f → f ≢ Read
 counted_never f e is = let both : counted_as Truncated Read ≡ Read = subst (λ z. counted_as Truncated z ≡ z) is e in let bot : ⊥ = cc in bot
 
-body_unread : (f : Fault) → IsBodyFault f → f ≢ Read → (n : ℕ) → reads_after f n ≡ n
-body_unread Truncated p other n = refl
-body_unread BadEscape p other n = refl
-body_unread Aborted p other n = refl
-body_unread MoveRefused p other n = refl
-body_unread SecondMove p other n = refl
-body_unread LengthRefused p other n = refl
-body_unread SecondLength p other n = refl
-body_unread Changed p other n = refl
-body_unread Read p other n = absurd (other refl)
-body_unread _ p other n = absurd p
-
 cut_unread : (h : Fields) (height : ℕ) (text out : List ℕ) (f : Fault) → CutOff (sized h height) text out f → (n : ℕ) → reads_after f n ≡ n
-cut_unread h height text out f c = body_unread f (body_faults h height _ text f (cut_all h height text out f c).1.broken) (counted_never f c.counted)
+cut_unread h height text out f c = no_failed_read f (walk_fault f (body_faults h height _ text f (cut_all h height text out f c).1.broken)) (counted_never f c.counted)
 
 -- ---- a turn over what is held
 

@@ -49,28 +49,6 @@ nothing_short Raw width some = (let enough = (div_ceil_times width 8 (omega arit
 nothing_short Plain width some = record { pixels = []; digits = []; space = []; following = []; bytes_are = refl; few = omega (arith, some); are_pixels = refl; is_space = tt; has_fault = refl }
 
 module _ {form : Form} (width height' : ℕ) (whole : Raster → List ℕ) (known known' text text' : Option (List ℕ)) where
-  -- all rows were read
-  pub coded_front : 1 ≤ width → ImageCoded (layout_of form width height') whole (passage known known' text text') → ImageFront (layout_of form width height') whole (passage known known' text text')
-  coded_front some i = record {
-    rows = i.rows;
-    few = (let many = i.many in omega (arith, many));
-    mid = known';
-    read = i.read;
-    part = [];
-    part_taken = Consumes-none known';
-    fault = pbm.Truncated;
-    short = nothing_short form width some;
-    bytes = whole (raster_of width i.rows);
-    begins = λ raster b. record {
-      rest = [];
-      bytes_are =
-          ap (λ w. whole (raster_of w raster.rows)) b.width_is
-          ∙ ap (λ rows. whole (raster_of width rows)) (sym (take-length raster.rows) ∙ ap (λ n. take n raster.rows) (b.height_is ∙ sym i.many) ∙ b.first)
-          ∙ sym (append-nil (whole (raster_of width i.rows)));
-    };
-    appended = i.appended;
-  }
-
   -- some were, and nothing more
   pub refused_front : 1 ≤ width → ImageRefused (layout_of form width height') whole (passage known known' text text') → ImageFront (layout_of form width height') whole (passage known known' text text')
   refused_front some i = record {
@@ -86,6 +64,23 @@ module _ {form : Form} (width height' : ℕ) (whole : Raster → List ℕ) (know
     begins = i.begins;
     appended = i.appended;
   }
+
+  -- all rows were read
+  pub coded_front : 1 ≤ width → ImageCoded (layout_of form width height') whole (passage known known' text text') → ImageFront (layout_of form width height') whole (passage known known' text text')
+  coded_front some i = refused_front some (record {
+    rows = i.rows;
+    few = (let many = i.many in omega (arith, many));
+    read = i.read;
+    bytes = whole (raster_of width i.rows);
+    begins = λ raster b. record {
+      rest = [];
+      bytes_are =
+          ap (λ w. whole (raster_of w raster.rows)) b.width_is
+          ∙ ap (λ rows. whole (raster_of width rows)) (sym (take-length raster.rows) ∙ ap (λ n. take n raster.rows) (b.height_is ∙ sym i.many) ∙ b.first)
+          ∙ sym (append-nil (whole (raster_of width i.rows)));
+    };
+    appended = i.appended;
+  })
 
   -- some were, and a row of which less came
   pub short_front : (s : Settings) (up_to : Raster → ℕ → List ℕ) (fault : PbmFault) → ImageShort s (layout_of form width height') up_to whole (passage known known' text text') fault → ImageFront (layout_of form width height') whole (passage known known' text text')

@@ -27,7 +27,7 @@ use Rattle.t85_core.proofs.Encodings.BufferEncoded.{nothing_short}
 use Rattle.t85_core.proofs.Walks.Passed.{Consumes-none}
 use Rattle.t85_core.proofs.Decodings.RowPut.{appends_nothing}
 use Rattle.t85_core.proofs.Encodings.RowsHeld.{rows_hold, rows_wide}
-use Rattle.t85_core.proofs.Bytes.Streams.{Consumes-more, beginning_all}
+use Rattle.t85_core.proofs.Bytes.Streams.{Consumes-more, beginning_all, known_all}
 use Rattle.t85_core.proofs.Bytes.HeldBack.{beginning_handed}
 use Rattle.t85_core.specs.Steps.Passage.{passage}
 
@@ -82,7 +82,7 @@ fault_stays fault other = refl
 module _ (s : Settings) (form : Form) (width height' : ℕ) (in_old in_new out_old out_new : Option (List ℕ)) where
   -- all rows were read and written
   code_whole : CodeDenotes → AreSettings s → is_low s height' ≡ false → IsSize width height' → ImageCoded (layout_of form width height') (λ raster. jbg s raster) (passage in_old in_new out_old out_new) → IfSome in_old (λ body. WritesCode s (layout_of form width height') body out_old out_new)
-  code_whole law are low size i = went in_old in_new i.read.taken where
+  code_whole law are low size i = known_all (λ body. WritesCode s (layout_of form width height') body out_old out_new) in_old in_new i.read.given i.read.taken whole where
     proper : IsRaster (raster_of width i.rows)
     proper = record {
       width_from = size.width_from;
@@ -92,13 +92,11 @@ module _ (s : Settings) (form : Form) (width height' : ℕ) (in_old in_new out_o
       rows = rows_wide form width i.read.given i.rows i.read.are_rows;
     }
 
-    went : (old new : Option (List ℕ)) → Consumes old new i.read.given → IfSome old (λ body. WritesCode s (layout_of form width height') body out_old out_new)
-    went None new taken = tt
-    went (Some body) None taken = absurd taken
-    went (Some body) (Some rest) taken = record {
+    whole : (rest : List ℕ) → WritesCode s (layout_of form width height') (i.read.given ++ rest) out_old out_new
+    whole rest = record {
       rows = i.rows;
       rest = rest;
-      holds = subst (λ z. HoldsRows form z width i.rows rest) (sym taken) (rows_hold form width i.read.given rest i.rows i.read.are_rows);
+      holds = rows_hold form width i.read.given rest i.rows i.read.are_rows;
       many = i.many;
       appends = i.appended;
       denotes = law s (raster_of width i.rows) are proper (subst (λ n. IsAnnounced s n) (sym i.many) (not_low (unwrap_or s.announced height') height' low));

@@ -1,6 +1,6 @@
 -- How many bytes the steps of a row encoder append at most.
 use Rattle.std.proofs.Common.{◌≡◌, ◌≤◌, ◌+◌, ◌*◌, ℕ, Bool, List, [], ◌++◌, length, sym, ap, ◌∙◌, arith, length-append, Option, Result, Ok, Err}
-use Rattle.std.specs.Prelude.{nat_lt, if◌then◌else◌, true, false, OnOk, OnErr}
+use Rattle.std.specs.Prelude.{OnOk, OnErr}
 use Rattle.std.specs.Io.KnownBytes.{Appends, Keeps, append_known}
 use Rattle.std.proofs.lemmas.List.{length-map}
 use Rattle.pbm_core.specs.Device.{AppendsBeginning}
@@ -14,7 +14,7 @@ use Rattle.raster_core.specs.Window.{shape_mode}
 use Rattle.raster_core.specs.declared.shape.Shape.{Shape}
 use Rattle.raster_core.specs.declared.shape.Kept.{Kept}
 use Rattle.t85_core.specs.declared.fault.Fault.{Fault}
-use Rattle.t85_core.specs.Grammar.{NewLength, segment_bytes, marker_bytes}
+use Rattle.t85_core.specs.Grammar.{marker_bytes}
 use Rattle.t85_core.specs.Steps.Buffers.{known_length}
 use Rattle.t85_core.specs.Steps.CoderLaws.{WritingLaws}
 use Rattle.t85_core.specs.Steps.MostBytes.{AppendsBeside, AppendsAtMost}
@@ -22,13 +22,9 @@ use Rattle.t85_core.specs.Steps.RowSteps.{RowPut, RowCut, CodeEnded}
 use Rattle.t85_core.specs.Steps.Written.{ending_of}
 use Rattle.t85_core.proofs.Bytes.HeldBack.{beginning_handed}
 use Rattle.t85_core.proofs.Bytes.Streams.{Appends-more, Appends-keeps, beginning_all}
-use Rattle.t85_core.proofs.Encodings.SinkTakes.{appends_none}
-use Rattle.t85_core.proofs.Theorems.StreamLength.{many, row_short}
+use Rattle.t85_core.proofs.Theorems.StreamLength.{many, row_short, ending_short}
 
 -- ---- bytes after bytes
-
-pub none_appended : (most : ℕ) (old : Option (List ℕ)) → AppendsAtMost most old old
-none_appended most old = record { bytes = []; appended = appends_none old; few = omega arith }
 
 pub beginning_few : (most : ℕ) (old new : Option (List ℕ)) (text : List ℕ) → length text ≤ most → AppendsBeginning old new text → AppendsAtMost most old new
 beginning_few most old new text few begins =
@@ -110,12 +106,6 @@ row_begun_few waits was n n' a b c same width first row =
     (eased_few 0 0 (2 * was + 4 * (n' + 1)) (2 * was + 4 * (n' + 1) + 2) b c (omega arith) row)
 
 -- ---- the end of a stream
-
-pub ending_short : (announced : ℕ) (reset : Bool) (height' : ℕ) → length (ending_of announced reset height') ≤ 8
-ending_short announced reset height' = went (nat_lt height' announced) where
-  went : (test : Bool) → length (if test then segment_bytes (NewLength height') ++ marker_bytes reset else []) ≤ 8
-  went true = omega arith
-  went false = omega arith
 
 pub end_few : (waits : ℕ) (a b c : Option (List ℕ)) → AppendsAtMost (2 * waits + 2) a b → AppendsAtMost 8 b c → AppendsAtMost (2 * waits + 10) a c
 end_few waits a b c first last = joined_few 0 8 (2 * waits + 10) a b c (eased_few 0 8 (2 * waits + 2) (2 * waits + 10) a b (omega arith) first) last

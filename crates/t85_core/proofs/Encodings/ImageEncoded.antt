@@ -34,13 +34,7 @@ among_faults f p no_memory written = went (which f p) where
 -- the count of failed reads, as it was reported of the header
 pub counts_told : (old new : ℕ) (fault : PbmFault) → CountsPbm {T = Size × Form} old new (Err fault) → new ≡ reads_after (Pbm fault) old
 counts_told old new pbm.Read e = e
-counts_told old new pbm.Truncated e = e
-counts_told old new pbm.NotPbm e = e
-counts_told old new pbm.BadNumber e = e
-counts_told old new pbm.ZeroSize e = e
-counts_told old new pbm.TooWide e = e
-counts_told old new pbm.TooTall e = e
-counts_told old new pbm.BadDigit e = e
+counts_told old new f e = e
 
 -- A header was taken, and nothing after it.
 pub record TakesHeader (old new : Option (List ℕ)) (form : Form) (width height' : ℕ) : Type 0 where

@@ -1,6 +1,5 @@
 -- From a header and the rows after it to what is said of a whole image that was written, or begun.
-use Rattle.std.proofs.Common.{◌≡◌, inl, inr, ℕ, Bool, true, false, ap, List, ◌++◌, length, Option, None, Some, Ok, Err, refl, sym, ◌∙◌, subst, append-nil}
-use Rattle.std.specs.Prelude.{IfSome}
+use Rattle.std.proofs.Common.{◌≡◌, inl, inr, ℕ, Bool, true, false, ap, List, ◌++◌, Option, Ok, Err, refl, sym, ◌∙◌, subst, append-nil}
 use Rattle.std.specs.Io.KnownBytes.{Consumes, Keeps}
 use Rattle.pbm_core.specs.Device.{one_more}
 use Rattle.t85_core.specs.Change.{between}
@@ -16,7 +15,7 @@ use Rattle.t85_core.specs.Jbg.{Settings, is_low, jbg}
 use Rattle.t85_core.specs.Failures.{CountsBoth}
 use Rattle.t85_core.proofs.Encodings.ImageEncoded.{TakesHeader, among_faults, not_no_memory}
 use Rattle.t85_core.proofs.Bytes.Held.{Keeps-same}
-use Rattle.t85_core.proofs.Bytes.Streams.{Appends-keeps, Consumes-more}
+use Rattle.t85_core.proofs.Bytes.Streams.{Appends-keeps, Consumes-more, known_behind}
 
 module _ (s : Settings) (in_old mid in_new : Option (List ℕ)) (reads_old reads_mid reads_new : ℕ) (out_old out_new : Option (List ℕ)) (writes_old writes_new : ℕ)
     (form : Form) (width height' : ℕ) (t : TakesHeader in_old mid form width height') (counted : reads_mid ≡ reads_old) where
@@ -59,7 +58,7 @@ module _ (s : Settings) (in_old mid in_new : Option (List ℕ)) (reads_old reads
     taken = tt;
     flushed_last = tt;
     refused = λ fault read is.
-        refused in_old mid fault t.taken (e.short fault read is);
+        known_behind (λ bytes. RefusesPbm s bytes fault out_old out_new) (λ body. WritesCodeBegun s (layout_of form width height') body fault out_old out_new) in_old mid t.front t.taken (e.short fault read is) (λ body w. inr (some fault body w));
     low = λ is. absurd (not_low_told (e.low is).0);
     no_memory = λ is. absurd (not_no_memory (subst IsEncodeFault (let same : f ≡ OutOfMemory = cc in same) may));
     unread = λ is. (let u = e.unread is in (t.front ++ u.0, Consumes-more in_old mid in_new t.front u.0 t.taken u.1, inr (some pbm.Truncated u.0 u.2)));
@@ -77,16 +76,11 @@ module _ (s : Settings) (in_old mid in_new : Option (List ℕ)) (reads_old reads
     some : (fault : PbmFault) (body : List ℕ) → WritesCodeBegun s (layout_of form width height') body fault out_old out_new → WritesStreamBegun s (t.front ++ body) fault out_old out_new
     some fault body w = record { layout = layout_of form width height'; body = body; header = t.header body; fits = fits; writes = w }
 
-    refused : (old new : Option (List ℕ)) (fault : PbmFault) → Consumes old new t.front → IfSome new (λ body. WritesCodeBegun s (layout_of form width height') body fault out_old out_new) → IfSome old (λ bytes. RefusesPbm s bytes fault out_old out_new)
-    refused None new fault taken w = tt
-    refused (Some bytes) None fault taken w = absurd taken
-    refused (Some bytes) (Some body) fault taken w = inr (subst (λ z. WritesStreamBegun s z fault out_old out_new) (sym taken) (some fault body w))
-
   -- the stream was written, and flushed
   pub image_whole : (flushed : Bool) (out_last : Option (List ℕ)) (writes_last : ℕ) → Encode s (layout_of form width height') (between mid in_new reads_mid reads_new) (between out_old out_new writes_old writes_new) (Ok tt) → Keeps out_new out_last → flushed ≡ true → writes_last ≡ writes_new →
       ToJbg s (between in_old in_new reads_old reads_new) (between out_old out_last writes_old writes_last) flushed (Ok tt)
   image_whole flushed out_last writes_last e keeps last same = record {
-    whole = whole in_old mid t.taken e.whole;
+    whole = known_behind (λ bytes. WritesStream s bytes out_old out_last) (λ body. WritesCode s (layout_of form width height') body out_old out_new) in_old mid t.front t.taken e.whole whole;
     taken = (t.front ++ e.taken.0, Consumes-more in_old mid in_new t.front e.taken.0 t.taken e.taken.1, image e.taken.0 e.taken.2);
     flushed_last = last;
     refused = λ fault _ is. absurd (let bot : ⊥ = cc in bot);
@@ -110,16 +104,14 @@ module _ (s : Settings) (in_old mid in_new : Option (List ℕ)) (reads_old reads
       };
     }
 
-    whole : (old new : Option (List ℕ)) → Consumes old new t.front → IfSome new (λ body. WritesCode s (layout_of form width height') body out_old out_new) → IfSome old (λ bytes. WritesStream s bytes out_old out_last)
-    whole None new taken w = tt
-    whole (Some bytes) None taken w = absurd taken
-    whole (Some bytes) (Some body) taken w = record {
+    whole : (body : List ℕ) → WritesCode s (layout_of form width height') body out_old out_new → WritesStream s (t.front ++ body) out_old out_last
+    whole body w = record {
       raster = raster_of width w.rows;
       rest = w.rest;
       is = record {
         form = form;
         body = body;
-        header = subst (λ z. HasHeader z form width (length w.rows) body) (sym taken) (subst (λ n. HasHeader (t.front ++ body) form width n body) (sym w.many) (t.header body));
+        header = subst (λ n. HasHeader (t.front ++ body) form width n body) (sym w.many) (t.header body);
         holds = w.holds;
       };
       proper = w.denotes.denotes.proper;

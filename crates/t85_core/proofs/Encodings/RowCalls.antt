@@ -1,16 +1,28 @@
 -- The calls of a row encoder, which hold nothing back.
-use Rattle.std.proofs.Common.{◌≡◌, ◌≤◌, inl, inr, ℕ, Bool, List, ◌++◌, length, sym, ap, ◌∙◌, subst, append_assoc, Option, None}
+use Rattle.std.proofs.Common.{◌≡◌, ◌≤◌, ◌<◌, ◌*◌, inl, inr, ℕ, Bool, List, ◌++◌, sym, ap, ◌∙◌, subst, append_assoc, Option}
 use Rattle.std.specs.Io.KnownBytes.{Keeps, append_known}
-use Rattle.qm_core.specs.Place.{Estimate}
 use Rattle.raster_core.specs.Packed.{Held}
-use Rattle.raster_core.specs.declared.shape.Kept.{Kept}
 use Rattle.t85_core.specs.Steps.Buffers.{known_length}
-use Rattle.t85_core.specs.Steps.State.{RowStart, first_row_start}
-use Rattle.t85_core.specs.Steps.Written.{next_move, row_start_in}
 use Rattle.t85_core.specs.Steps.Sent.{Origin, Sends, behind}
-use Rattle.t85_core.specs.Steps.ByRow.{RowView, StreamCut, StreamFront, Stands, IsHeldBy, IsLined, move_bytes}
+use Rattle.t85_core.specs.Steps.ByRow.{RowView, StreamCut, StreamFront, Stands, Waits, IsStart, IsLined, move_bytes}
 use Rattle.t85_core.specs.RowImage.{Image}
 use Rattle.t85_core.proofs.Bytes.Sendings.{Sends-keeps, sends_grows, sends_handed, sent_behind, appends_none}
+
+-- where no stripe runs, with another window or where the bytes went elsewhere
+waits_at : {image : Image} {rows : List (List Bool)} {v : RowView} {window window' : Held} {origin origin' : Origin} {text text' : Option (List ℕ)} (w : Waits image rows v window origin text) →
+    (w.i * image.settings.stripe_rows < image.limit → IsStart image.settings image.width w.at v window') → Sends origin' text' w.front → Waits image rows v window' origin' text'
+waits_at w on_course sent = record {
+  plan_is = w.plan_is;
+  come = w.come;
+  i = w.i;
+  at = w.at;
+  front = w.front;
+  stripes = w.stripes;
+  in_stripe = w.in_stripe;
+  codes = w.codes;
+  on_course = on_course;
+  sent = sent;
+}
 
 module _ (image : Image) (rows : List (List Bool)) (v : RowView) (window : Held) (origin : Origin) (text : Option (List ℕ)) where
   -- the bytes so far
@@ -26,18 +38,7 @@ module _ (image : Image) (rows : List (List Bool)) (v : RowView) (window : Held)
   -- where they went elsewhere
   resent : (origin' : Origin) (text' : Option (List ℕ)) (so : Stands image rows v window origin text) → Sends origin' text' (bytes_of so) → Stands image rows v window origin' text'
   unfolding bytes_of
-  resent origin' text' (inl w) sent = inl (record {
-    plan_is = w.plan_is;
-    come = w.come;
-    i = w.i;
-    at = w.at;
-    front = w.front;
-    stripes = w.stripes;
-    in_stripe = w.in_stripe;
-    codes = w.codes;
-    on_course = w.on_course;
-    sent = sent;
-  })
+  resent origin' text' (inl w) sent = inl (waits_at w w.on_course sent)
   resent origin' text' (inr (r, some, few)) sent = inr (
     record {
       plan_is = r.plan_is;
@@ -76,54 +77,11 @@ module _ (image : Image) (rows : List (List Bool)) (origin : Origin) (mid text' 
   pub front_cut : Keeps mid text' → StreamFront image rows origin mid → StreamCut image rows origin text'
   front_cut k f = record { bytes = f.bytes; sent = Sends-keeps origin mid text' f.bytes f.sent k; begins = λ raster b. (f.begun raster b).begins }
 
-  pub cut_kept : Keeps mid text' → StreamCut image rows origin mid → StreamCut image rows origin text'
-  cut_kept k c = record { bytes = c.bytes; sent = Sends-keeps origin mid text' c.bytes c.sent k; begins = c.begins }
-
 module _ (image : Image) (rows : List (List Bool)) (v : RowView) (old new : Held) (origin : Origin) (text : Option (List ℕ)) (stays : IsLined old → new ≡ old) where
   -- the padding of a window that has lines is 0
-  held_cleared : (move : Option (ℕ × ℕ)) (r : ℕ) (b : RowStart) (kept : Kept) (learned : List Estimate) → IsHeldBy move r b kept learned old → IsHeldBy move r b kept learned new
-  held_cleared move r b kept learned h = subst (IsHeldBy move r b kept learned) (sym (stays (_, h.lines_are))) h
-
   pub stands_cleared : Stands image rows v old origin text → Stands image rows v new origin text
-  stands_cleared (inl w) = inl (record {
-    plan_is = w.plan_is;
-    come = w.come;
-    i = w.i;
-    at = w.at;
-    front = w.front;
-    stripes = w.stripes;
-    in_stripe = w.in_stripe;
-    codes = w.codes;
-    on_course = λ within. (let on = w.on_course within in record { is_held = held_cleared None 0 (first_row_start w.at.carry) v.kept v.learned on.is_held; is_tallied = on.is_tallied });
-    sent = w.sent;
-  })
-  stands_cleared (inr (r, some, few)) = inr (
-    record {
-      plan_is = r.plan_is;
-      come = r.come;
-      i = r.i;
-      whole = r.whole;
-      part = r.part;
-      all = r.all;
-      at = r.at;
-      front = r.front;
-      stripes = r.stripes;
-      in_stripe = r.in_stripe;
-      few = r.few;
-      pushed = r.pushed;
-      running = record {
-        codes = r.running.codes;
-        is_held = held_cleared (next_move image.settings image.width r.at) (length r.part) (row_start_in image.settings image.width r.at r.part) v.kept v.learned r.running.is_held;
-        two_line = r.running.two_line;
-        most = r.running.most;
-        tallied = r.running.tallied;
-      };
-      counts = r.counts;
-      sent = r.sent;
-    },
-    some,
-    few,
-  )
+  stands_cleared (inl w) = inl (waits_at w (λ within. (let on = w.on_course within in subst (IsStart image.settings image.width w.at v) (sym (stays (_, on.is_held.lines_are))) on)) w.sent)
+  stands_cleared (inr r) = subst (λ z. Stands image rows v z origin text) (sym (stays (_, r.0.running.is_held.lines_are))) (inr r)
 
 -- what was written of a beginning is a beginning
 pub cut_written : (image : Image) (rows : List (List Bool)) (origin : Origin) (out : Option (List ℕ)) (held : List ℕ) → known_length origin.text ≤ known_length out → StreamCut image rows origin (append_known out held) → StreamCut image rows origin out

@@ -4,7 +4,7 @@ use Rattle.std.specs.Prelude.{◌==◌}
 use Rattle.std.proofs.Math.Nat.{mul-mod_right}
 use Rattle.std.proofs.lemmas.Nat.{pow_pos, one_shl}
 use Rattle.pbm_core.specs.Pbm.{bytes_of_row, padding_of, pixel, masked_row, IsMasked, MaskKeepsPixels}
-use Rattle.pbm_core.specs.Image.{pixels_of, MaskedIsPacked, IsRowOf}
+use Rattle.pbm_core.specs.Image.{pixels_of, MaskedIsPacked}
 use Rattle.pbm_core.specs.Image as pbm
 use Rattle.raster_core.specs.Packed.{Held}
 use Rattle.raster_core.specs.Window.{turned}

@@ -4,7 +4,7 @@ use Rattle.std.specs.Prelude.{min, unwrap_or, flat_map}
 use Rattle.std.proofs.lemmas.Grind.{div_ceil_times}
 use Rattle.std.proofs.lemmas.Bool.Decides.{nat_tests}
 use Rattle.std.proofs.lemmas.List.{take-take}
-use Rattle.std.proofs.Math.Seq.{take-append_seam, take-length}
+use Rattle.std.proofs.Math.Seq.{take-append_seam}
 use Rattle.raster_core.specs.Raster.{Raster, height, white_row}
 use Rattle.t85_core.specs.Header.{header_bytes}
 use Rattle.t85_core.specs.Grammar.{Comment, segment_bytes, stripe_bytes, stripe_count}

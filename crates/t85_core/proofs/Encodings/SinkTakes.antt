@@ -1,12 +1,12 @@
 -- What a target took of a code.
-use Rattle.std.proofs.Common.{◌≡◌, ℕ, List, [], ◌∷◌, ◌++◌, refl, sym, ap, ◌∙◌, subst, Option, None, Some, Result, Ok, Err, ◌⊎◌, inl, inr, arith}
+use Rattle.std.proofs.Common.{◌≡◌, ℕ, List, [], ◌∷◌, refl, sym, ap, ◌∙◌, subst, Option, None, Some, Err, ◌⊎◌, inl, inr, arith}
 use Rattle.std.specs.Prelude.{IsErrOf}
 use Rattle.std.specs.Io.KnownBytes.{Appends}
 use Rattle.qm_core.specs.Sink.{Took}
 use Rattle.pbm_core.specs.declared.fault.PbmFault.{PbmFault}
 use Rattle.t85_core.specs.declared.fault.Fault.{Fault}
-use Rattle.t85_core.specs.declared.fault.Fault.TheVariants.{ShortHeader, ReservedBits, Layers, Planes, ZeroSize, TooWide, MoveRange, PrivateTable, Truncated, BadEscape, Aborted, MoveRefused, SecondMove, LengthRefused, SecondLength, Changed, AnnouncedLow, TooManyRows, VariableHeight, Read, OutOfMemory, OptionBits, StripeZero, MoveLarge, CommentLong, Pbm, Write}
-use Rattle.t85_core.specs.Steps.Buffers.{SinkView, SameSink, TakesByte, RefusesByte}
+use Rattle.t85_core.specs.declared.fault.Fault.TheVariants.{Pbm, Write}
+use Rattle.t85_core.specs.Steps.Buffers.{SinkView, SameSink, TakesByte}
 use Rattle.t85_core.specs.Encode.{IsEncodeFault}
 use Rattle.t85_core.proofs.Bytes.Streams.{Appends-more}
 
@@ -18,31 +18,7 @@ appends_none (Some a) = sym (Rattle.std.proofs.Common.append-nil a)
 pub which : (fault : Fault) → IsEncodeFault fault → (fault ≡ Write) ⊎ ((why : PbmFault) × (fault ≡ Pbm why))
 which Write p = inl refl
 which (Pbm why) p = inr (why, refl)
-which ShortHeader p = absurd p
-which ReservedBits p = absurd p
-which Layers p = absurd p
-which Planes p = absurd p
-which ZeroSize p = absurd p
-which TooWide p = absurd p
-which MoveRange p = absurd p
-which PrivateTable p = absurd p
-which Truncated p = absurd p
-which BadEscape p = absurd p
-which Aborted p = absurd p
-which MoveRefused p = absurd p
-which SecondMove p = absurd p
-which LengthRefused p = absurd p
-which SecondLength p = absurd p
-which Changed p = absurd p
-which AnnouncedLow p = absurd p
-which TooManyRows p = absurd p
-which VariableHeight p = absurd p
-which Read p = absurd p
-which OutOfMemory p = absurd p
-which OptionBits p = absurd p
-which StripeZero p = absurd p
-which MoveLarge p = absurd p
-which CommentLong p = absurd p
+which f p = absurd p
 
 pub is_of : (fault f : Fault) → fault ≡ f → IsErrOf {T = Unit {0}} {E = Fault} (Err fault) f
 is_of fault f is = ap Err is
@@ -50,9 +26,6 @@ is_of fault f is = ap Err is
 module _ {S : Type 0} (view : S → SinkView) where
   abbrev takes : S → ℕ → S → Type 0
   takes s byte t = TakesByte (view s) byte (view t)
-
-  abbrev refuses : S → S → Type 0
-  refuses s t = RefusesByte (view s) (view t)
 
   pub took_inked : (from to : S) (bytes : List ℕ) → Took takes from bytes to → SameSink (view from) (view to) × Appends (view from).text (view to).text bytes
   took_inked from to [] took = subst (λ z. SameSink (view from) (view z) × Appends (view from).text (view z).text []) took (record { same_buffer = refl; same_writer = refl; grows = omega arith }, appends_none (view from).text)

@@ -43,21 +43,16 @@ pub one_segment : (h : Fields) → IsAccepted h → (s t : Segment) (x y : List 
 one_segment h ok (NewLength a) (NewLength b) x y p q e =
     let k = one_number a b x y (omega (arith, p.2, ok.height_to)) (omega (arith, q.2, ok.height_to)) (ap (drop 2) e) in
     (ap NewLength k.0, k.1)
-one_segment h ok (NewLength a) (Move row offset) x y p q e = let k : 5 ≡ 6 = second e in absurd (omega (arith, k))
-one_segment h ok (NewLength a) (Comment text) x y p q e = let k : 5 ≡ 7 = second e in absurd (omega (arith, k))
-one_segment h ok (Move row offset) (NewLength a) x y p q e = let k : 6 ≡ 5 = second e in absurd (omega (arith, k))
 one_segment h ok (Move row offset) (Move row' offset') x y p q e =
     let k = one_number row row' (offset ∷ 0 ∷ x) (offset' ∷ 0 ∷ y) (omega (arith, p.0, ok.stripe_to)) (omega (arith, q.0, ok.stripe_to)) (ap (drop 2) e) in
     let o : offset ∷ 0 ∷ x ≡ offset' ∷ 0 ∷ y = k.1 in
     let same : offset ≡ offset' = cc in
     (ap (λ r. Move r offset) k.0 ∙ ap (Move row') same, (cc))
-one_segment h ok (Move row offset) (Comment text) x y p q e = let k : 6 ≡ 7 = second e in absurd (omega (arith, k))
-one_segment h ok (Comment text) (NewLength a) x y p q e = let k : 7 ≡ 5 = second e in absurd (omega (arith, k))
-one_segment h ok (Comment text) (Move row offset) x y p q e = let k : 7 ≡ 6 = second e in absurd (omega (arith, k))
 one_segment h ok (Comment text) (Comment text') x y p q e =
     let k = one_number (length text) (length text') (text ++ x) (text' ++ y) p q (ap (drop 2) e) in
     let front : text ≡ text' = sym (take_at text x (length text) refl) ∙ ap (take (length text)) k.1 ∙ ap (λ n. take n (text' ++ y)) k.0 ∙ take_at text' y (length text') refl in
     (ap Comment front, sym (drop_at text x (length text) refl) ∙ ap (drop (length text)) k.1 ∙ ap (λ n. drop n (text' ++ y)) k.0 ∙ drop_at text' y (length text') refl)
+one_segment h ok s t x y p q e = absurd (let bot : ⊥ = cc in bot)
 
 -- no segment begins as a code byte does
 pub no_segment_in_code : (b : ℕ) (x y : List ℕ) (s : Segment) → stuff b ++ x ≡ segment_bytes s ++ y → ⊥
@@ -120,21 +115,17 @@ marker_no_code reset x b z e = went reset (stuff_cases b) e where
   went false (inr p) e = let k : 255 ∷ 2 ∷ x ≡ b ∷ z = e ∙ ap (λ u. u ++ z) p.1 in p.0 (cc)
 
 pub marker_no_segment : (reset : Bool) (x : List ℕ) (s : Segment) (z : List ℕ) → marker_bytes reset ++ x ≡ segment_bytes s ++ z → ⊥
-marker_no_segment true x (NewLength a) z e = let k : 3 ≡ 5 = second e in omega (arith, k)
-marker_no_segment true x (Move row offset) z e = let k : 3 ≡ 6 = second e in omega (arith, k)
-marker_no_segment true x (Comment text) z e = let k : 3 ≡ 7 = second e in omega (arith, k)
-marker_no_segment false x (NewLength a) z e = let k : 2 ≡ 5 = second e in omega (arith, k)
-marker_no_segment false x (Move row offset) z e = let k : 2 ≡ 6 = second e in omega (arith, k)
-marker_no_segment false x (Comment text) z e = let k : 2 ≡ 7 = second e in omega (arith, k)
+marker_no_segment true x (NewLength a) z e = cc
+marker_no_segment false x (NewLength a) z e = cc
+marker_no_segment reset x s z e = cc
 
 marker_ends : (h : Fields) (Fits : List Segment → Type 0) (ss : List Segment) (c : List ℕ) (reset : Bool) (x : List ℕ) → EndsPieces h Fits ss c (marker_bytes reset ++ x)
 marker_ends h Fits ss c reset x = record { no_code = marker_no_code reset x; no_segment = λ _ s z _ _ e. marker_no_segment reset x s z e }
 
 pub one_marker : (a b : Bool) (x y : List ℕ) → marker_bytes a ++ x ≡ marker_bytes b ++ y → (a ≡ b) × (x ≡ y)
 one_marker true true x y e = (refl, (cc))
-one_marker true false x y e = let k : 3 ≡ 2 = second e in absurd (omega (arith, k))
-one_marker false true x y e = let k : 2 ≡ 3 = second e in absurd (omega (arith, k))
 one_marker false false x y e = (refl, (cc))
+one_marker a b x y e = absurd (let bot : ⊥ = cc in bot)
 
 -- what a stripe is made of
 abbrev pub IsStripe : Fields → Stripe → Type 0
@@ -154,13 +145,12 @@ one_stripe h ok s t x y p q e =
 -- as many whole stripes, and the same bytes after them
 pub one_front : (h : Fields) → IsAccepted h → (ss ts : List Stripe) (x y : List ℕ) → AllByRecursion (IsStripe h) ss → AllByRecursion (IsStripe h) ts → length ss ≡ length ts → flat_map stripe_bytes ss ++ x ≡ flat_map stripe_bytes ts ++ y → (ss ≡ ts) × (x ≡ y)
 one_front h ok [] [] x y p q n e = (refl, e)
-one_front h ok [] (t ∷ ts) x y p q n e = absurd (omega (arith, n))
-one_front h ok (s ∷ ss) [] x y p q n e = absurd (omega (arith, n))
 one_front h ok (s ∷ ss) (t ∷ ts) x y p q n e =
     let first = one_stripe h ok s t (flat_map stripe_bytes ss ++ x) (flat_map stripe_bytes ts ++ y) p.0 q.0 (sym (append_assoc (stripe_bytes s) (flat_map stripe_bytes ss) x) ∙ e ∙ append_assoc (stripe_bytes t) (flat_map stripe_bytes ts) y) in
     let fewer : length ss ≡ length ts = omega (arith, n) in
     let rest = one_front h ok ss ts x y p.1 q.1 fewer first.1 in
     (ap (λ z. z ∷ ss) first.0 ∙ ap (λ z. t ∷ z) rest.0, rest.1)
+one_front h ok ss ts x y p q n e = absurd (omega (arith, n))
 
 pub one_parts : (h : Fields) → IsAccepted h → (ss ts : List Stripe) (x y : List ℕ) → AllByRecursion (IsStripe h) ss → AllByRecursion (IsStripe h) ts → length ss ≡ length ts → flat_map stripe_bytes ss ++ x ≡ flat_map stripe_bytes ts ++ y → ss ≡ ts
 one_parts h ok ss ts x y p q n e = (one_front h ok ss ts x y p q n e).0

@@ -4,7 +4,7 @@ use Rattle.std.specs.Prelude.{IfSome, ◌==◌, if◌then◌else◌}
 use Rattle.std.specs.List.{AllByRecursion}
 use Rattle.byteorder.specs.Endian.{big_number}
 use Rattle.t85_core.specs.declared.fault.Fault.{Fault}
-use Rattle.t85_core.specs.declared.fault.Fault.TheVariants.{ShortHeader, ReservedBits, Layers, Planes, ZeroSize, TooWide, MoveRange, PrivateTable, Truncated, BadEscape, Aborted, MoveRefused, SecondMove, LengthRefused, SecondLength, Changed, Read, Write, OutOfMemory, OptionBits, StripeZero, MoveLarge, AnnouncedLow, TooManyRows, VariableHeight, CommentLong, Pbm}
+use Rattle.t85_core.specs.declared.fault.Fault.TheVariants.{ShortHeader, Truncated, BadEscape, Aborted, MoveRefused, SecondMove, LengthRefused, SecondLength, Changed, Read, Write}
 use Rattle.t85_core.specs.Header.{Fields, is_variable, Refusal, refusals, first_refusal, header_fault}
 use Rattle.t85_core.specs.Refusal.{Spot, rest_fault, escape_fault, length_fault, move_fault, comment_fault, is_legal_move, StripesFault}
 use Rattle.t85_core.specs.Grammar.{is_valid_length}
@@ -83,33 +83,8 @@ pub body_faults : (h : Fields) (height count : ℕ) (bytes : List ℕ) (f : Faul
 body_faults h height count bytes f p = subst (λ o. MayBe o) p.tail_has.rest_has (rest_may h _ _ _ p.tail_has.rest)
 
 uncounted_of : (P : Fault → Type 0) → P Read → (ending f : Fault) → P (counted_as ending f) → P f
-uncounted_of P read ending ShortHeader p = p
-uncounted_of P read ending ReservedBits p = p
-uncounted_of P read ending Layers p = p
-uncounted_of P read ending Planes p = p
-uncounted_of P read ending ZeroSize p = p
-uncounted_of P read ending TooWide p = p
-uncounted_of P read ending MoveRange p = p
-uncounted_of P read ending PrivateTable p = p
-uncounted_of P read ending Truncated p = p
-uncounted_of P read ending BadEscape p = p
-uncounted_of P read ending Aborted p = p
-uncounted_of P read ending MoveRefused p = p
-uncounted_of P read ending SecondMove p = p
-uncounted_of P read ending LengthRefused p = p
-uncounted_of P read ending SecondLength p = p
-uncounted_of P read ending Changed p = p
 uncounted_of P read ending Read p = read
-uncounted_of P read ending Write p = p
-uncounted_of P read ending OutOfMemory p = p
-uncounted_of P read ending OptionBits p = p
-uncounted_of P read ending StripeZero p = p
-uncounted_of P read ending MoveLarge p = p
-uncounted_of P read ending AnnouncedLow p = p
-uncounted_of P read ending TooManyRows p = p
-uncounted_of P read ending VariableHeight p = p
-uncounted_of P read ending CommentLong p = p
-uncounted_of P read ending (Pbm f) p = p
+uncounted_of P read ending f p = p
 
 pub uncounted : (ending f : Fault) → IsWalkFault (counted_as ending f) → IsWalkFault f
 uncounted ending f p = uncounted_of (λ x. IsWalkFault x) tt ending f p
@@ -121,33 +96,8 @@ pub no_write : (f : Fault) → IsWalkFault f → f ≢ Write
 no_write f p e = subst IsWalkFault e p
 
 pub unwritten : (f : Fault) → IsWalkFault f → (n : ℕ) → writes_after f n ≡ n
-unwritten ShortHeader p = λ n. refl
-unwritten ReservedBits p = λ n. refl
-unwritten Layers p = λ n. refl
-unwritten Planes p = λ n. refl
-unwritten ZeroSize p = λ n. refl
-unwritten TooWide p = λ n. refl
-unwritten MoveRange p = λ n. refl
-unwritten PrivateTable p = λ n. refl
-unwritten Truncated p = λ n. refl
-unwritten BadEscape p = λ n. refl
-unwritten Aborted p = λ n. refl
-unwritten MoveRefused p = λ n. refl
-unwritten SecondMove p = λ n. refl
-unwritten LengthRefused p = λ n. refl
-unwritten SecondLength p = λ n. refl
-unwritten Changed p = λ n. refl
-unwritten Read p = λ n. refl
 unwritten Write p = absurd p
-unwritten OutOfMemory p = λ n. refl
-unwritten OptionBits p = absurd p
-unwritten StripeZero p = absurd p
-unwritten MoveLarge p = absurd p
-unwritten AnnouncedLow p = absurd p
-unwritten TooManyRows p = absurd p
-unwritten VariableHeight p = absurd p
-unwritten CommentLong p = absurd p
-unwritten (Pbm f) p = absurd p
+unwritten f p = λ n. refl
 
 pub rest_faults : (h : Fields) (spot : Spot) (moves : ℕ) (in_code : Bool) (bytes : List ℕ) (f : Fault) → rest_fault h spot moves in_code bytes ≡ Some f → IsWalkFault f
 rest_faults h spot moves in_code bytes f e = walk_fault f (subst (λ o. MayBe o) e (rest_may h spot moves in_code bytes))

@@ -1,5 +1,5 @@
 -- What stands at the front of a rest that has no fault.
-use Rattle.std.proofs.Common.{cond, ◌≡◌, ◌≢◌, ◌⊎◌, inl, inr, ◌<◌, ◌≤◌, ◌+◌, ◌*◌, ◌/◌, ◌%◌, ◌^◌, ◌&&◌, ◌||◌, ℕ, Bool, true, false, not, List, [], ◌∷◌, ◌++◌, Option, None, Some, length, drop, take, nat_eq, nat_lt, nat_le, refl, sym, ap, ◌∙◌, subst, append_assoc, length-take-le, arith, true≢false}
+use Rattle.std.proofs.Common.{cond, ◌≡◌, ◌≢◌, ◌⊎◌, inl, inr, ◌<◌, ◌≤◌, ◌+◌, ◌*◌, ◌/◌, ◌%◌, ◌^◌, ℕ, Bool, true, false, not, List, [], ◌∷◌, ◌++◌, Option, None, Some, length, drop, take, nat_eq, refl, sym, ap, ◌∙◌, subst, append_assoc, length-take-le, arith}
 use Rattle.std.specs.Prelude.{if◌then◌else◌}
 use Rattle.std.specs.List.{AllByRecursion}
 use Rattle.std.proofs.lemmas.Bool.{cases_eq, cases_lt}
@@ -7,7 +7,7 @@ use Rattle.std.proofs.lemmas.Bool.Decides.{nat_tests}
 use Rattle.std.proofs.lemmas.List.{take-append-drop}
 use Rattle.byteorder.specs.Endian.{big_bytes, big_number}
 use Rattle.t85_core.specs.declared.fault.Fault.{Fault}
-use Rattle.t85_core.specs.declared.fault.Fault.TheVariants.{Truncated, BadEscape, Aborted, MoveRefused, SecondMove, LengthRefused, SecondLength, Changed}
+use Rattle.t85_core.specs.declared.fault.Fault.TheVariants.{Truncated, BadEscape}
 use Rattle.t85_core.specs.Header.{Fields, is_variable}
 use Rattle.t85_core.specs.Grammar.{Segment, NewLength, Move, Comment, segment_bytes, marker_bytes, is_valid_length, IsLegal, is_move, GiveOnly}
 use Rattle.t85_core.specs.Refusal.{Spot, rest_fault, escape_fault, length_fault, move_fault, comment_fault, is_legal_move}
@@ -15,39 +15,10 @@ use Rattle.t85_core.proofs.Bytes.Lengths.{gives_none, valid_parts}
 use Rattle.t85_core.proofs.Bytes.Stuffing.{stuff}
 
 some_else : (t : Bool) (f : Fault) (r : Option Fault) → (if t then Some f else r) ≡ None → (t ≡ false) × (r ≡ None)
-some_else true f r e = absurd (let bot : ⊥ = cc in bot)
-some_else false f r e = (refl, e)
-
-some_last : (t : Bool) (f : Fault) → (if t then Some f else None) ≡ None → t ≡ false
-some_last true f e = absurd (let bot : ⊥ = cc in bot)
-some_last false f e = refl
-
-none_else : (t : Bool) (f : Fault) → (if t then None else Some f) ≡ None → t ≡ true
-none_else true f e = refl
-none_else false f e = absurd (let bot : ⊥ = cc in bot)
+some_else t f r e = (grind (arith, nat_tests), grind (arith, nat_tests))
 
 not_false : (t : Bool) → not t ≡ false → t ≡ true
-not_false true e = refl
-not_false false e = absurd (true≢false e)
-
-and_true : (a b : Bool) → (a && b) ≡ true → (a ≡ true) × (b ≡ true)
-and_true true b e = (refl, e)
-and_true false b e = absurd (true≢false (sym e))
-
-is_zero : (n : ℕ) → not (nat_eq n 0) ≡ false → n ≡ 0
-is_zero n e = let t : nat_eq n 0 ≡ true = not_false (nat_eq n 0) e in grind (arith, nat_tests)
-
-not_below : (a b : ℕ) → nat_lt a b ≡ false → b ≤ a
-not_below a b e = grind (arith, nat_tests)
-
-is_below : (a b : ℕ) → nat_lt a b ≡ true → a < b
-is_below a b e = grind (arith, nat_tests)
-
-is_most : (a b : ℕ) → nat_le a b ≡ true → a ≤ b
-is_most a b e = grind (arith, nat_tests)
-
-is_equal : (a b : ℕ) → nat_eq a b ≡ true → a ≡ b
-is_equal a b e = grind (arith, nat_tests)
+not_false t e = grind (arith, nat_tests)
 
 -- four bytes are those of their number
 pub four_back : (a b c d : ℕ) (z : List ℕ) → a < 256 → b < 256 → c < 256 → d < 256 → big_bytes 4 (big_number 4 (a ∷ b ∷ c ∷ d ∷ z)) ≡ a ∷ b ∷ c ∷ d ∷ []
@@ -80,81 +51,47 @@ module _ (h : Fields) (spot : Spot) (moves : ℕ) where
     pub gives : GiveOnly spot.height spot.heights (segment ∷ [])
 
   length_at : (bytes : List ℕ) → AreBytes bytes → length_fault h spot bytes ≡ None → moves ≤ 1 → SegmentAt (255 ∷ 5 ∷ bytes)
-  length_at bytes all e few = went bytes all (not_below (length bytes) 4 s3.0) s5 s4.0 where
-    s1 : (not (is_variable h) ≡ false) × ((if not (nat_eq spot.heights 0) then Some SecondLength else if nat_lt (length bytes) 4 then Some Truncated else if not (is_valid_length h spot.entities (big_number 4 bytes)) then Some LengthRefused else if nat_eq (big_number 4 bytes) spot.height then None else Some Changed) ≡ None)
-    s1 = some_else (not (is_variable h)) LengthRefused _ e
+  length_at bytes all e few = went bytes all (grind (arith, nat_tests)) (grind (arith, nat_tests)) (grind (arith, nat_tests)) where
+    variable : is_variable h ≡ true
+    variable = grind (arith, nat_tests)
 
-    s2 : (not (nat_eq spot.heights 0) ≡ false) × ((if nat_lt (length bytes) 4 then Some Truncated else if not (is_valid_length h spot.entities (big_number 4 bytes)) then Some LengthRefused else if nat_eq (big_number 4 bytes) spot.height then None else Some Changed) ≡ None)
-    s2 = some_else (not (nat_eq spot.heights 0)) SecondLength _ s1.1
-
-    s3 : (nat_lt (length bytes) 4 ≡ false) × ((if not (is_valid_length h spot.entities (big_number 4 bytes)) then Some LengthRefused else if nat_eq (big_number 4 bytes) spot.height then None else Some Changed) ≡ None)
-    s3 = some_else (nat_lt (length bytes) 4) Truncated _ s2.1
-
-    s4 : (not (is_valid_length h spot.entities (big_number 4 bytes)) ≡ false) × ((if nat_eq (big_number 4 bytes) spot.height then None else Some Changed) ≡ None)
-    s4 = some_else (not (is_valid_length h spot.entities (big_number 4 bytes))) LengthRefused _ s3.1
-
-    s5 : big_number 4 bytes ≡ spot.height
-    s5 = is_equal (big_number 4 bytes) spot.height (none_else (nat_eq (big_number 4 bytes) spot.height) Changed s4.1)
+    none : spot.heights ≡ 0
+    none = grind (arith, nat_tests)
 
     went : (xs : List ℕ) → AreBytes xs → 4 ≤ length xs → big_number 4 xs ≡ spot.height → not (is_valid_length h spot.entities (big_number 4 xs)) ≡ false → SegmentAt (255 ∷ 5 ∷ xs)
-    went [] a long g v = absurd (omega (arith, long))
-    went (x ∷ []) a long g v = absurd (omega (arith, long))
-    went (x ∷ y ∷ []) a long g v = absurd (omega (arith, long))
-    went (x ∷ y ∷ z ∷ []) a long g v = absurd (omega (arith, long))
     went (x ∷ y ∷ z ∷ w ∷ xs) a long g v =
-        let none : spot.heights ≡ 0 = is_zero spot.heights s2.0 in
         let valid = valid_parts h spot.entities (big_number 4 (x ∷ y ∷ z ∷ w ∷ xs)) (not_false _ v) in
         record {
           segment = NewLength (big_number 4 (x ∷ y ∷ z ∷ w ∷ xs));
           more = xs;
           tail_is = ap (λ u. 255 ∷ 5 ∷ (u ++ xs)) (sym (four_back x y z w xs a.0 a.1.0 a.1.1.0 a.1.1.1.0));
-          legal = (not_false (is_variable h) s1.0, valid.0, valid.1);
+          legal = (variable, valid.0, valid.1);
           one_move = omega (arith, few);
           gives = record { one = omega (arith, none); this = (g, tt) };
         }
+    went xs a long g v = absurd (omega (arith, long))
 
   move_at : (bytes : List ℕ) → AreBytes bytes → move_fault h moves bytes ≡ None → spot.heights ≤ 1 → SegmentAt (255 ∷ 6 ∷ bytes)
-  move_at bytes all e once = went bytes all (not_below (length bytes) 6 s2.0) (none_else (is_legal_move h bytes) MoveRefused s2.1) where
-    s1 : (not (nat_eq moves 0) ≡ false) × ((if nat_lt (length bytes) 6 then Some Truncated else if is_legal_move h bytes then None else Some MoveRefused) ≡ None)
-    s1 = some_else (not (nat_eq moves 0)) SecondMove _ e
-
-    s2 : (nat_lt (length bytes) 6 ≡ false) × ((if is_legal_move h bytes then None else Some MoveRefused) ≡ None)
-    s2 = some_else (nat_lt (length bytes) 6) Truncated _ s1.1
+  move_at bytes all e once = went bytes all (grind (arith, nat_tests)) (grind (arith, nat_tests)) where
+    none : moves ≡ 0
+    none = grind (arith, nat_tests)
 
     went : (xs : List ℕ) → AreBytes xs → 6 ≤ length xs → is_legal_move h xs ≡ true → SegmentAt (255 ∷ 6 ∷ xs)
-    went [] a long g = absurd (omega (arith, long))
-    went (x ∷ []) a long g = absurd (omega (arith, long))
-    went (x ∷ y ∷ []) a long g = absurd (omega (arith, long))
-    went (x ∷ y ∷ z ∷ []) a long g = absurd (omega (arith, long))
-    went (x ∷ y ∷ z ∷ w ∷ []) a long g = absurd (omega (arith, long))
-    went (x ∷ y ∷ z ∷ w ∷ o ∷ []) a long g = absurd (omega (arith, long))
     went (x ∷ y ∷ z ∷ w ∷ o ∷ last ∷ xs) a long g =
-        let t = and_true (nat_lt (big_number 4 (x ∷ y ∷ z ∷ w ∷ o ∷ last ∷ xs)) h.l0 && nat_le o h.mx) (nat_eq last 0) g in
-        let u = and_true (nat_lt (big_number 4 (x ∷ y ∷ z ∷ w ∷ o ∷ last ∷ xs)) h.l0) (nat_le o h.mx) t.0 in
-        let zero_last : last ≡ 0 = is_equal last 0 t.1 in
-        let none : moves ≡ 0 = is_zero moves s1.0 in
+        let zero_last : last ≡ 0 = grind (arith, nat_tests) in
         record {
           segment = Move (big_number 4 (x ∷ y ∷ z ∷ w ∷ o ∷ last ∷ xs)) o;
           more = xs;
           tail_is = ap (λ v. 255 ∷ 6 ∷ (v ++ o ∷ last ∷ xs)) (sym (four_back x y z w (o ∷ last ∷ xs) a.0 a.1.0 a.1.1.0 a.1.1.1.0)) ∙ ap (λ v. 255 ∷ 6 ∷ (big_bytes 4 (big_number 4 (x ∷ y ∷ z ∷ w ∷ o ∷ last ∷ xs)) ++ o ∷ v ∷ xs)) zero_last;
-          legal = (is_below _ _ u.0, is_most _ _ u.1);
+          legal = (grind (arith, nat_tests), grind (arith, nat_tests));
           one_move = omega (arith, none);
           gives = gives_none spot.height spot.heights (Move (big_number 4 (x ∷ y ∷ z ∷ w ∷ o ∷ last ∷ xs)) o ∷ []) once refl;
         }
+    went xs a long g = absurd (omega (arith, long))
 
   comment_at : (bytes : List ℕ) → AreBytes bytes → comment_fault bytes ≡ None → moves ≤ 1 → spot.heights ≤ 1 → SegmentAt (255 ∷ 7 ∷ bytes)
-  comment_at bytes all e few once = went bytes all (not_below (length bytes) 4 s1.0) (not_below (length bytes) (4 + big_number 4 bytes) s2) where
-    s1 : (nat_lt (length bytes) 4 ≡ false) × ((if nat_lt (length bytes) (4 + big_number 4 bytes) then Some Truncated else None) ≡ None)
-    s1 = some_else (nat_lt (length bytes) 4) Truncated _ e
-
-    s2 : nat_lt (length bytes) (4 + big_number 4 bytes) ≡ false
-    s2 = some_last (nat_lt (length bytes) (4 + big_number 4 bytes)) Truncated s1.1
-
+  comment_at bytes all e few once = went bytes all (grind (arith, nat_tests)) (grind (arith, nat_tests)) where
     went : (xs : List ℕ) → AreBytes xs → 4 ≤ length xs → 4 + big_number 4 xs ≤ length xs → SegmentAt (255 ∷ 7 ∷ xs)
-    went [] a long g = absurd (omega (arith, long))
-    went (x ∷ []) a long g = absurd (omega (arith, long))
-    went (x ∷ y ∷ []) a long g = absurd (omega (arith, long))
-    went (x ∷ y ∷ z ∷ []) a long g = absurd (omega (arith, long))
     went (x ∷ y ∷ z ∷ w ∷ xs) a long g =
         let le : big_number 4 (x ∷ y ∷ z ∷ w ∷ xs) ≤ length xs = omega (arith, g) in
         let many : length (take (big_number 4 (x ∷ y ∷ z ∷ w ∷ xs)) xs) ≡ big_number 4 (x ∷ y ∷ z ∷ w ∷ xs) = length-take-le (big_number 4 (x ∷ y ∷ z ∷ w ∷ xs)) xs le in
@@ -170,6 +107,7 @@ module _ (h : Fields) (spot : Spot) (moves : ℕ) where
           one_move = omega (arith, few);
           gives = gives_none spot.height spot.heights (Comment (take (big_number 4 (x ∷ y ∷ z ∷ w ∷ xs)) xs) ∷ []) once refl;
         }
+    went xs a long g = absurd (omega (arith, long))
 
   -- what is at the front of a rest: a code byte, an end marker, or before the code a segment
   pub data Front (in_code : Bool) (tail : List ℕ) : Type 0 where
@@ -181,10 +119,6 @@ module _ (h : Fields) (spot : Spot) (moves : ℕ) where
   plain_byte c b z small n =
       let t : nat_eq b 255 ≡ false = grind (arith, nat_tests) in
       code_byte b z small (ap (λ u. cond u (255 ∷ 0 ∷ []) (b ∷ []) ++ z) (sym t))
-
-  -- the fault of a segment by its escape byte
-  abbrev deeper : ℕ → List ℕ → Option Fault
-  deeper e bytes = if nat_eq e 5 then length_fault h spot bytes else if nat_eq e 6 then move_fault h moves bytes else comment_fault bytes
 
   escape_front : (c : Bool) (e : ℕ) (bytes : List ℕ) → AreBytes bytes → moves ≤ 1 → spot.heights ≤ 1 → escape_fault h spot moves c e bytes ≡ None → Front c (255 ∷ e ∷ bytes)
   escape_front c e bytes all few once none = zero_or (cases_eq e 0) where
@@ -207,31 +141,7 @@ module _ (h : Fields) (spot : Spot) (moves : ℕ) where
     at n same = subst (λ u. escape_fault h spot moves c u bytes ≡ None) same none
 
     bad : e ≢ 0 → e ≢ 2 → e ≢ 3 → e ≢ 4 → (e ≡ 1) ⊎ (8 ≤ e) → ⊥
-    bad n0 n2 n3 n4 q =
-        let t0 : ((nat_eq e 0) || (nat_eq e 2) || (nat_eq e 3)) ≡ false = grind (arith, nat_tests) in
-        let t4 : nat_eq e 4 ≡ false = grind (arith, nat_tests) in
-        let t1 : ((nat_eq e 1) || nat_le 8 e || c) ≡ true = beyond q c in
-        let g : escape_fault h spot moves c e bytes ≡ Some BadEscape =
-        ap (λ u. cond u None (cond (nat_eq e 4) (Some Aborted) (cond ((nat_eq e 1) || nat_le 8 e || c) (Some BadEscape) (deeper e bytes)))) t0
-        ∙ ap (λ u. cond u (Some Aborted) (cond ((nat_eq e 1) || nat_le 8 e || c) (Some BadEscape) (deeper e bytes))) t4
-        ∙ ap (λ u. cond u (Some BadEscape) (deeper e bytes)) t1 in
-        some_none (sym g ∙ none)
-      where
-        some_none : Some BadEscape ≡ None → ⊥
-        some_none q = cc
-
-        or_left : (a b c : Bool) → a ≡ true → (a || b || c) ≡ true
-        or_left true b c q = refl
-        or_left false b c q = absurd (true≢false (sym q))
-
-        or_mid : (a b c : Bool) → b ≡ true → (a || b || c) ≡ true
-        or_mid true b c q = refl
-        or_mid false true c q = refl
-        or_mid false false c q = absurd (true≢false (sym q))
-
-        beyond : (e ≡ 1) ⊎ (8 ≤ e) → (z : Bool) → ((nat_eq e 1) || nat_le 8 e || z) ≡ true
-        beyond (inl one) z = let t : nat_eq e 1 ≡ true = grind (arith, nat_tests) in or_left (nat_eq e 1) (nat_le 8 e) z t
-        beyond (inr more) z = let t : nat_le 8 e ≡ true = grind (arith, nat_tests) in or_mid (nat_eq e 1) (nat_le 8 e) z t
+    bad n0 n2 n3 n4 q = grind (arith, nat_tests)
 
     others : e ≢ 0 → e ≢ 2 → e ≢ 3 → e ≢ 4 → (e ≡ 5) ⊎ (e ≢ 5) → (e ≡ 6) ⊎ (e ≢ 6) → (e ≡ 7) ⊎ (e ≢ 7) → Front c (255 ∷ e ∷ bytes)
     others n0 n2 n3 n4 (inl s) q r = subst (λ u. Front c (255 ∷ u ∷ bytes)) (sym s) (five (at 5 s))

@@ -31,16 +31,7 @@ module _ (h : Fields) (ok : IsAccepted h) where
   short k rest less = nowhere (λ n more valid e. let l : length rest ≡ length (segment_bytes (NewLength n) ++ more) = ap length e in omega (arith, less, l))
 
   height_at : (k : ℕ) (rest : List ℕ) → AreBytes rest → HeightAt k rest
-  height_at k [] all = short k [] (omega arith)
-  height_at k (a ∷ []) all = short k (a ∷ []) (omega arith)
-  height_at k (a ∷ b ∷ []) all = short k (a ∷ b ∷ []) (omega arith)
-  height_at k (a ∷ b ∷ x ∷ []) all = short k (a ∷ b ∷ x ∷ []) (omega arith)
-  height_at k (a ∷ b ∷ x ∷ y ∷ []) all = short k (a ∷ b ∷ x ∷ y ∷ []) (omega arith)
-  height_at k (a ∷ b ∷ x ∷ y ∷ z ∷ []) all = short k (a ∷ b ∷ x ∷ y ∷ z ∷ []) (omega arith)
   height_at k (a ∷ b ∷ x ∷ y ∷ z ∷ w ∷ more) all = went (cases_eq a 255) (cases_eq b 5) where
-    number : ℕ
-    number = big_number 4 (x ∷ y ∷ z ∷ w ∷ more)
-
     first_two : (n : ℕ) (tail : List ℕ) → a ∷ b ∷ x ∷ y ∷ z ∷ w ∷ more ≡ 255 ∷ 5 ∷ tail → (a ≡ 255) × (b ≡ 5)
     first_two n tail e = ((cc), (cc))
 
@@ -57,6 +48,7 @@ module _ (h : Fields) (ok : IsAccepted h) where
     went (inl p) (inl q) = subst (λ u. HeightAt k (u ∷ b ∷ x ∷ y ∷ z ∷ w ∷ more)) (sym p) (subst (λ u. HeightAt k (255 ∷ u ∷ x ∷ y ∷ z ∷ w ∷ more)) (sym q) (judged (is_valid_length h k (big_number 4 (x ∷ y ∷ z ∷ w ∷ more))) refl))
     went (inr p) q = nowhere (λ n tail valid e. p (first_two n (big_bytes 4 n ++ tail) e).0)
     went (inl p) (inr q) = nowhere (λ n tail valid e. q (first_two n (big_bytes 4 n ++ tail) e).1)
+  height_at k rest all = short k rest (omega arith)
 
   -- ---- the look after the last stripe
 
@@ -120,17 +112,16 @@ module _ (h : Fields) (ok : IsAccepted h) where
   -- comments give no height and make no move
   pub comments_give_none : (cs : List Segment) → AllByRecursion (λ s. IsTrue (is_comment s)) cs → lengths cs ≡ []
   comments_give_none [] c = refl
-  comments_give_none (NewLength n ∷ cs) c = absurd (true≢false (sym c.0))
-  comments_give_none (Move row offset ∷ cs) c = absurd (true≢false (sym c.0))
   comments_give_none (Comment text ∷ cs) c = comments_give_none cs c.1
+  comments_give_none (s ∷ cs) c = absurd (true≢false (sym c.0))
+
+  pub no_moves : (cs : List Segment) → AllByRecursion (λ s. IsTrue (is_comment s)) cs → count_by is_move cs ≡ 0
+  no_moves [] c = refl
+  no_moves (Comment text ∷ cs) c = no_moves cs c.1
+  no_moves (s ∷ cs) c = absurd (true≢false (sym c.0))
 
   pub comments_make_none : (cs : List Segment) → AllByRecursion (λ s. IsTrue (is_comment s)) cs → count_by is_move cs ≤ 1
-  comments_make_none cs c = let e = zero_moves cs c in omega (arith, e) where
-    zero_moves : (cs : List Segment) → AllByRecursion (λ s. IsTrue (is_comment s)) cs → count_by is_move cs ≡ 0
-    zero_moves [] c = refl
-    zero_moves (NewLength n ∷ cs) c = absurd (true≢false (sym c.0))
-    zero_moves (Move row offset ∷ cs) c = absurd (true≢false (sym c.0))
-    zero_moves (Comment text ∷ cs) c = zero_moves cs c.1
+  comments_make_none cs c = let e = no_moves cs c in omega (arith, e)
 
   -- where the look ended there is no height
   no_look : (k n : ℕ) (cs ds : List Segment) (last more : List ℕ) → AllByRecursion (λ s. IsTrue (is_comment s)) cs → AllByRecursion (IsLegal h) cs → AllByRecursion (λ s. IsTrue (is_comment s)) ds → AllByRecursion (IsLegal h) ds →
@@ -139,19 +130,16 @@ module _ (h : Fields) (ok : IsAccepted h) where
       ((text more : List ℕ) → length text < 2 ^ 32 → last ≡ segment_bytes (Comment text) ++ more → ⊥) →
       flat_map segment_bytes cs ++ last ≡ flat_map segment_bytes ds ++ (segment_bytes (NewLength n) ++ more) → ⊥
   no_look k n [] [] last more c l d m valid no_height no_comment e = no_height n more valid e
-  no_look k n [] (NewLength a ∷ ds) last more c l d m valid no_height no_comment e = true≢false (sym d.0)
-  no_look k n [] (Move row offset ∷ ds) last more c l d m valid no_height no_comment e = true≢false (sym d.0)
   no_look k n [] (Comment text ∷ ds) last more c l d m valid no_height no_comment e =
       no_comment text (flat_map segment_bytes ds ++ (segment_bytes (NewLength n) ++ more)) m.0 (e ∙ append_assoc (segment_bytes (Comment text)) (flat_map segment_bytes ds) (segment_bytes (NewLength n) ++ more))
-  no_look k n (NewLength a ∷ cs) ds last more c l d m valid no_height no_comment e = true≢false (sym c.0)
-  no_look k n (Move row offset ∷ cs) ds last more c l d m valid no_height no_comment e = true≢false (sym c.0)
+  no_look k n [] (s ∷ ds) last more c l d m valid no_height no_comment e = true≢false (sym d.0)
   no_look k n (Comment text ∷ cs) [] last more c l d m valid no_height no_comment e = let s : 7 ≡ 5 = second e in omega (arith, s)
-  no_look k n (Comment text ∷ cs) (NewLength a ∷ ds) last more c l d m valid no_height no_comment e = true≢false (sym d.0)
-  no_look k n (Comment text ∷ cs) (Move row offset ∷ ds) last more c l d m valid no_height no_comment e = true≢false (sym d.0)
   no_look k n (Comment text ∷ cs) (Comment text' ∷ ds) last more c l d m valid no_height no_comment e =
       let first = one_segment h ok (Comment text) (Comment text') (flat_map segment_bytes cs ++ last) (flat_map segment_bytes ds ++ (segment_bytes (NewLength n) ++ more)) l.0 m.0
       (sym (append_assoc (segment_bytes (Comment text)) (flat_map segment_bytes cs) last) ∙ e ∙ append_assoc (segment_bytes (Comment text')) (flat_map segment_bytes ds) (segment_bytes (NewLength n) ++ more)) in
       no_look k n cs ds last more c.1 l.1 d.1 m.1 valid no_height no_comment first.1
+  no_look k n (Comment text ∷ cs) (s ∷ ds) last more c l d m valid no_height no_comment e = true≢false (sym d.0)
+  no_look k n (s ∷ cs) ds last more c l d m valid no_height no_comment e = true≢false (sym c.0)
 
   -- ---- the height
 

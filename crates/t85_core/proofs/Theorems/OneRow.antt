@@ -3,11 +3,12 @@ use Rattle.std.proofs.Common.{◌≡◌, ℕ, zero, suc, ◌+◌, ◌-◌, ◌<�
 use Rattle.std.specs.Prelude.{if◌then◌else◌, ◌&&◌, ◌==◌, IsTrue}
 use Rattle.std.proofs.lemmas.Bool.{lt-ltb, le-ltb, cases_lt}
 use Rattle.raster_core.specs.Raster.{pixel_at, pixel_left}
-use Rattle.raster_core.specs.Lines.{Mode, Lines, context_at, adaptive, two_line, three_line, pixel_events, pseudo_event, row_events, numbers_from, same_row, may_be_typical, IsLegalFlag}
+use Rattle.raster_core.specs.Lines.{Mode, Lines, context_at, adaptive, two_line, pixel_events, pseudo_event, row_events, numbers_from, same_row, IsLegalFlag}
 use Rattle.qm_core.specs.Place.{IsPlace, State, Event, step, after, same}
 use Rattle.qm_core.specs.Code.{Lies}
 use Rattle.t85_core.specs.Steps.CoderLaws.{CoderLaws}
 use Rattle.t85_core.proofs.Bytes.Elements.{same_list}
+use Rattle.std.proofs.lemmas.Bool.Decides.{nat_tests}
 
 -- the first k pixels are the same
 abbrev pub AgreeBelow : ℕ → List Bool → List Bool → Type 0
@@ -76,19 +77,12 @@ module _ (mode : Mode) (above second : List Bool) (offset : ℕ) where
 
 pub same_row_is : (a b : List Bool) → IsTrue (same_row a b) → a ≡ b
 same_row_is [] [] h = refl
-same_row_is [] (y ∷ b) h = absurd (true≢false (sym h))
-same_row_is (x ∷ a) [] h = absurd (true≢false (sym h))
 same_row_is (true ∷ a) (true ∷ b) h = ap (λ u. true ∷ u) (same_row_is a b h)
-same_row_is (true ∷ a) (false ∷ b) h = absurd (true≢false (sym h))
-same_row_is (false ∷ a) (true ∷ b) h = absurd (true≢false (sym h))
 same_row_is (false ∷ a) (false ∷ b) h = ap (λ u. false ∷ u) (same_row_is a b h)
+same_row_is a b h = absurd (true≢false (sym h))
 
 same_back : (p x y : Bool) → same p x ≡ same p y → x ≡ y
-same_back true x y e = e
-same_back false true true e = refl
-same_back false true false e = absurd (true≢false (sym e))
-same_back false false true e = absurd (true≢false e)
-same_back false false false e = refl
+same_back p x y e = grind (arith, nat_tests)
 
 -- A code that lies where both rows lead decides the row, and whether it is typical.
 pub one_row : (q : CoderLaws) (two typical : Bool) (above second : List Bool) (offset w : ℕ) (previous : Bool) (a b : List Bool) (f g : Bool) (s : State) (code : List ℕ) (more other : List Event) →

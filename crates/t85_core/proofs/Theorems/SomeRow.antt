@@ -1,14 +1,16 @@
 -- Each code has a row at each place in which it lies.
-use Rattle.std.proofs.Common.{◌≡◌, ℕ, zero, suc, ◌+◌, ◌-◌, ◌*◌, ◌/◌, ◌<◌, ◌≤◌, ◌⊎◌, inl, inr, Bool, true, false, not, List, [], ◌∷◌, ◌++◌, length, map, arith, refl, ap, ◌∙◌, sym, subst, append_assoc, append-nil, length-append}
-use Rattle.std.specs.Prelude.{if◌then◌else◌, IsTrue}
+use Rattle.std.proofs.Common.{◌≡◌, ℕ, zero, suc, ◌+◌, ◌-◌, Bool, true, false, List, [], ◌∷◌, ◌++◌, length, map, refl, ap, ◌∙◌, sym, subst, append_assoc, length-append, arith}
+use Rattle.std.specs.Prelude.{if◌then◌else◌}
 use Rattle.raster_core.specs.Raster.{pixel_at}
-use Rattle.raster_core.specs.Lines.{Mode, context_at, row_events, numbers_from, same_row, IsLegalFlag}
+use Rattle.raster_core.specs.Lines.{Mode, context_at, row_events, numbers_from, IsLegalFlag}
 use Rattle.qm_core.specs.Place.{IsPlace, State, step, after, same}
 use Rattle.qm_core.specs.Code.{Lies}
 use Rattle.qm_core.specs.Laws.{OnePixel}
 use Rattle.t85_core.specs.Steps.CoderLaws.{CoderLaws}
 use Rattle.t85_core.proofs.Bytes.Elements.{get_left, get_here}
 use Rattle.t85_core.proofs.Theorems.OneRow.{AgreeBelow, lines, context_same, event}
+use Rattle.t85_core.proofs.Decodings.TypicalRows.{same_row_self}
+use Rattle.std.proofs.lemmas.Bool.Decides.{nat_tests}
 
 module _ (mode : Mode) (above second : List Bool) (offset : ℕ) (code : List ℕ) where
   -- what a code has of a row, after the pixels that are there
@@ -42,14 +44,7 @@ module _ (mode : Mode) (above second : List Bool) (offset : ℕ) (code : List �
     pub lies : Lies code (after s (row_events mode (lines row above second) offset previous flag)).place
 
 pub same_twice : (p x : Bool) → same p (same p x) ≡ x
-same_twice true x = refl
-same_twice false true = refl
-same_twice false false = refl
-
-pub same_row_self : (a : List Bool) → IsTrue (same_row a a)
-same_row_self [] = refl
-same_row_self (true ∷ a) = same_row_self a
-same_row_self (false ∷ a) = same_row_self a
+same_twice p x = grind (arith, nat_tests)
 
 pub some_row : (q : CoderLaws) (two typical : Bool) (above second : List Bool) (offset : ℕ) (code : List ℕ) (w : ℕ) (previous : Bool) (s : State) → length above ≡ w → IsPlace s.place → Lies code s.place →
     Row (record { two_line = two; typical = typical }) above second offset code w previous s

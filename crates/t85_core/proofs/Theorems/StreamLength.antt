@@ -13,6 +13,7 @@ use Rattle.t85_core.specs.Grammar.{NewLength, segment_bytes, marker_bytes, strip
 use Rattle.t85_core.specs.Coding.{Coding, top_of, lines_of, offset_of, previous_of, flag_of, events_of_row, events_of, rows_of, begun, learned_at, place_of}
 use Rattle.t85_core.specs.Jbg.{Settings, move_segments, coded_stripe, coding_of, head_of, stripes_of, ending, jbg}
 use Rattle.t85_core.specs.Laws.{most_bytes}
+use Rattle.t85_core.specs.Steps.Written.{ending_of}
 
 pub many : (t k : ℕ) → length (numbers_from t k) ≡ k
 many t zero = refl
@@ -43,6 +44,12 @@ above_long raster proper top y k = went (nat_lt y (top + k)) where
   went : (test : Bool) → length (if test then white_row raster.width else slice_index_or raster.rows (y - k) (white_row raster.width)) ≡ raster.width
   went true = length-replicate raster.width false
   went false = any_row raster.width raster.rows proper.rows (y - k)
+
+pub ending_short : (announced : ℕ) (reset : Bool) (height' : ℕ) → length (ending_of announced reset height') ≤ 8
+ending_short announced reset height' = went (nat_lt height' announced) where
+  went : (test : Bool) → length (if test then segment_bytes (NewLength height') ++ marker_bytes reset else []) ≤ 8
+  went true = omega arith
+  went false = omega arith
 
 module _ (c : Coding) (proper : IsRaster c.raster) where
   row_events_short : (y : ℕ) → length (events_of_row c y) ≤ c.raster.width + 1
@@ -101,19 +108,13 @@ module _ (events_double : EventsDouble) (code_is_short : CodeIsShort) where
   head_short s None width height' = omega arith
   head_short s (Some text) width height' = omega (arith, length-append text [])
 
-  ending_short : (s : Settings) (height' : ℕ) → length (ending s height') ≤ 8
-  ending_short s height' = went (nat_lt height' (unwrap_or s.announced height')) where
-    went : (test : Bool) → length (if test then segment_bytes (NewLength height') ++ marker_bytes s.reset else []) ≤ 8
-    went true = omega arith
-    went false = omega arith
-
   pub stream_is_short : (s : Settings) (raster : Raster) → IsRaster raster → length (jbg s raster) ≤ most_bytes s raster.width (height raster)
   stream_is_short s raster proper =
       let n = stripe_count (height raster) s.stripe_rows in
       let head = head_short s s.comment raster.width (height raster) in
       let all : height raster - 0 * s.stripe_rows ≡ height raster = omega arith in
       let stripes = subst (λ rows. length (stripes_of s raster) ≤ 14 * n + 4 * (rows * (raster.width + 1))) all (stripes_short (coding_of s raster) proper n 0) in
-      let last = ending_short s (height raster) in
+      let last = ending_short (unwrap_or s.announced (height raster)) s.reset (height raster) in
       let whole = length-append (head_of s raster.width (height raster) ++ stripes_of s raster) (ending s (height raster)) in
       let front = length-append (head_of s raster.width (height raster)) (stripes_of s raster) in
       omega (arith, head, stripes, last, whole, front)

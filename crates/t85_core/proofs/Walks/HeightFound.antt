@@ -1,26 +1,25 @@
 -- What a walk from the first stripe on found says of the height.
-use Rattle.std.proofs.Common.{cond, ◌≡◌, ◌≢◌, ◌⊎◌, inl, inr, ◌<◌, ◌+◌, ◌-◌, ◌^◌, ℕ, Bool, true, false, not, List, [], ◌∷◌, ◌++◌, Option, None, Some, IfSome, count_by, length, refl, sym, ap, ◌∙◌, subst, append-nil, arith, true≢false}
-use Rattle.std.specs.Prelude.{flat_map, IsTrue}
-use Rattle.std.specs.List.{AllByRecursion}
+use Rattle.std.proofs.Common.{cond, ◌≡◌, ◌≢◌, inl, inr, ◌<◌, ◌+◌, ◌-◌, ◌^◌, ℕ, Bool, true, false, not, List, [], ◌∷◌, ◌++◌, Option, None, Some, IfSome, count_by, length, refl, sym, ap, ◌∙◌, subst, arith, true≢false}
+use Rattle.std.specs.Prelude.{flat_map}
 use Rattle.std.specs.Io.KnownBytes.{Consumes, IsAtEnd}
 use Rattle.t85_core.specs.declared.fault.Fault.{Fault}
 use Rattle.t85_core.specs.declared.fault.Fault.TheVariants.{Truncated, Changed, Read}
 use Rattle.t85_core.specs.declared.header.Header.{Header}
 use Rattle.t85_core.specs.Options.{fields_of}
 use Rattle.t85_core.specs.Header.{Fields, IsAccepted, is_variable}
-use Rattle.t85_core.specs.Grammar.{Segment, NewLength, Move, Comment, segment_bytes, is_move, is_comment, is_nil, lengths, all_segments, Stripe, stripe_bytes, stripe_count, is_valid_length}
+use Rattle.t85_core.specs.Grammar.{NewLength, segment_bytes, is_move, is_nil, lengths, all_segments, Stripe, stripe_bytes, stripe_count, is_valid_length}
 use Rattle.t85_core.specs.Refusal.{rest_fault, StripesFault}
 use Rattle.t85_core.specs.Height.{GivesHeight, IsHeight, IsOpen}
 use Rattle.t85_core.specs.Failures.{Ends}
 use Rattle.t85_core.specs.Steps.HeightWalk.{moved_behind, SkipsStripes, SkipsFault, Sought, LooksTo, LookEnds, LookOpen, FindsGiven, FindsNone, Finds, FindsOpen, BodyRefused, BodyUnfinished, search_place, search_end, segment_counts}
 use Rattle.t85_core.specs.Steps.Buffers.{reading}
-use Rattle.t85_core.proofs.Bytes.Streams.{Consumes-more}
+use Rattle.t85_core.proofs.Bytes.Streams.{Consumes-more, known_behind, longer_or_all}
 use Rattle.t85_core.proofs.Bytes.Lengths.{lengths_append, gives_none, valid_parts}
 use Rattle.t85_core.proofs.Walks.Segments.{length_whole}
 use Rattle.t85_core.proofs.Grammar.Cut.{one_broken}
 use Rattle.t85_core.proofs.Bytes.Known.{counted-other}
 use Rattle.t85_core.proofs.Grammar.Heights.{never_suits, given_breaks, stripes_give_none}
-use Rattle.t85_core.proofs.Grammar.SomeHeight.{height_of_ended, comments_give_none, comments_make_none}
+use Rattle.t85_core.proofs.Grammar.SomeHeight.{height_of_ended, comments_give_none, comments_make_none, no_moves}
 use Rattle.t85_core.proofs.Walks.Found.{same_rest, skips_longer}
 
 pub moved_false : (ss : List Stripe) → moved_behind false ss ≡ false
@@ -65,13 +64,9 @@ skipped_whole h from count given moved old new f e other = went old new e.taken 
   went : (old new : Option (List ℕ)) → Consumes old new e.given → (f ≡ Truncated → IsAtEnd new) → IfSome old (λ body. SkipsFault h (search_place from given moved) count body f)
   went None new taken end = tt
   went (Some body) None taken end = absurd taken
-  went (Some body) (Some left) taken end = subst (λ z. SkipsFault h (search_place from given moved) count z f) (sym taken) (all (skips_longer h from count given moved e.given left f has)) where
+  went (Some body) (Some left) taken end = subst (λ z. SkipsFault h (search_place from given moved) count z f) (sym taken) (longer_or_all (λ z. SkipsFault h (search_place from given moved) count z f) e.given left has end (skips_longer h from count given moved e.given left f has)) where
     has : SkipsFault h (search_place from given moved) count e.given f
     has = subst (SkipsFault h (search_place from given moved) count e.given) (counted-other Truncated f other) e.has_fault
-
-    all : (f ≡ Truncated) ⊎ SkipsFault h (search_place from given moved) count (e.given ++ left) f → SkipsFault h (search_place from given moved) count (e.given ++ left) f
-    all (inl ended) = subst (λ z. SkipsFault h (search_place from given moved) count z f) (sym (ap (λ z. e.given ++ z) (end ended) ∙ append-nil e.given)) has
-    all (inr q) = q
 
 -- a header's fields are accepted
 pub accepted : (header : Header) → IsAccepted (fields_of header)
@@ -197,11 +192,9 @@ module _ (h : Fields) (ok : IsAccepted h) where
 
     -- no height is after the stripes
     found_none : IfSome mid (LookEnds h entities) → FindsNone h (reading old mid) entities (segment_counts moves comments)
-    found_none looked = record { mid = mid; before = before; all = many; height_is = went old mid before.taken looked } where
-      went : (old mid : Option (List ℕ)) → Consumes old mid (flat_map stripe_bytes before.stripes) → IfSome mid (LookEnds h entities) → IfSome old (λ body. IsHeight h body h.yd)
-      went None mid taken l = tt
-      went (Some body) None taken l = absurd taken
-      went (Some body) (Some rest) taken l = height_of_ended h ok body before.stripes rest l.segments l.last (before.count_is ∙ many) before.each (gives_none 0 0 (all_segments before.stripes) (omega arith) before.none) taken l.are.comments l.are.legal
+    found_none looked = record { mid = mid; before = before; all = many; height_is = known_behind (λ body. IsHeight h body h.yd) (LookEnds h entities) old mid (flat_map stripe_bytes before.stripes) before.taken looked height } where
+      height : (rest : List ℕ) → LookEnds h entities rest → IsHeight h (flat_map stripe_bytes before.stripes ++ rest) h.yd
+      height rest l = height_of_ended h ok (flat_map stripe_bytes before.stripes ++ rest) before.stripes rest l.segments l.last (before.count_is ∙ many) before.each (gives_none 0 0 (all_segments before.stripes) (omega arith) before.none) refl l.are.comments l.are.legal
           (λ n z valid e. l.no_height n z (subst (λ k. is_valid_length h k n ≡ true) before.count_is valid) e) l.no_comment l.rest_is
 
     found_behind : (new : Option (List ℕ)) (n : ℕ) → LooksTo h entities mid new n → FindsGiven h (reading old new) (search_end entities moves comments part_moves part_comments) n
@@ -215,15 +208,10 @@ module _ (h : Fields) (ok : IsAccepted h) where
       valid = l.valid;
       within = omega (arith, many);
       behind = λ _. l.are.comments;
-      part_moves_are = s.1 ∙ sym (no_moves l.segments l.are.comments);
+      part_moves_are = s.1 ∙ sym (no_moves h ok l.segments l.are.comments);
       part_comments_are = λ less. absurd (omega (arith, less, many));
       taken = l.taken;
-    } where
-      no_moves : (cs : List Segment) → AllByRecursion (λ s. IsTrue (is_comment s)) cs → count_by is_move cs ≡ 0
-      no_moves [] c = refl
-      no_moves (NewLength a ∷ cs) c = absurd (true≢false (sym c.0))
-      no_moves (Move row offset ∷ cs) c = absurd (true≢false (sym c.0))
-      no_moves (Comment text ∷ cs) c = no_moves cs c.1
+    }
 
     -- the look answered
     pub found_looking : (new : Option (List ℕ)) (height : Option ℕ) → IfSome height (LooksTo h entities mid new) → (height ≡ None → IfSome mid (LookEnds h entities)) → Finds h (reading old new) (search_end entities moves comments part_moves part_comments) height

@@ -1,5 +1,5 @@
 -- What `summarize` and `info` leave, whichever way they end.
-use Rattle.std.proofs.Common.{◌≡◌, ◌≢◌, inl, inr, ◌≤◌, ◌++◌, ℕ, Bool, true, List, Option, None, Some, Result, Ok, Err, length, drop, sym, ap, ◌∙◌, subst, arith}
+use Rattle.std.proofs.Common.{◌≡◌, ◌≢◌, inl, inr, ◌≤◌, ◌++◌, ℕ, Bool, true, List, Option, None, Some, Result, Ok, Err, length, sym, ap, ◌∙◌, subst, arith}
 use Rattle.std.specs.Prelude.{IfSome, OnOk, IfOk, IfErr, IsErrOf}
 use Rattle.std.specs.Io.KnownBytes.{Consumes, Appends}
 use Rattle.std.specs.Result.{IsErrAnd}
@@ -17,7 +17,7 @@ use Rattle.t85_core.specs.Info.{Info, Summarize, HasNumbers, HasLine, numbers_in
 use Rattle.t85_core.proofs.Grammar.Faults.{header_faults, uncounted, no_write, unwritten}
 use Rattle.t85_core.proofs.Bytes.Held.{Keeps-same}
 use Rattle.t85_core.proofs.Bytes.Known.{HeaderOf-append, behind, refused_header}
-use Rattle.t85_core.proofs.Bytes.Streams.{Consumes-more}
+use Rattle.t85_core.proofs.Bytes.Streams.{Consumes-more, known_behind}
 
 -- the exit of a `?`, for what is said of the whole answer
 pub exit_all : {T : Type 0} (Q : Result T Fault → Type 0) (r : Result T Fault) {e : Fault} → IsErrAnd r (λ y. y ≡ e) → Q (Err e) → Q r
@@ -29,43 +29,32 @@ unread_header old new f e read =
     let has : header_fault e.given ≡ Some ShortHeader = subst (λ x. header_fault e.given ≡ Some (counted_as ShortHeader x)) read e.has_fault.1 in
     (e.given, e.taken, inl (inl has))
 
-refused_stream : (old mid : Option (List ℕ)) (given : List ℕ) (h : Fields) (f : Fault) → length given ≡ 20 → Consumes old mid given → HeaderOf given h → IfSome mid (BodyRefused h f) → IfSome old (λ bytes. StreamFault bytes f)
-refused_stream None mid given h f long taken is r = tt
-refused_stream (Some bytes) None given h f long taken is r = absurd taken
-refused_stream (Some bytes) (Some body) given h f long taken is r =
-    let whole : drop 20 bytes ≡ body = ap (drop 20) taken ∙ behind given body long in
-    inr (record {
-      header = h;
-      header_of = subst (λ z. HeaderOf z h) (sym taken) (HeaderOf-append given body h is);
-      height = r.height;
-      height_is = subst (λ z. IsHeight h z r.height) (sym whole) r.height_is;
-      broken = subst (λ z. BodyFault h r.height z f) (sym whole) r.broken;
-    })
-
-unread_stream : (given body : List ℕ) (h : Fields) → length given ≡ 20 → HeaderOf given h → BodyUnfinished h body → IsUnfinished (given ++ body)
-unread_stream given body h long is (inl r) = inr (inl (inr (record {
+refused_behind : (given body : List ℕ) (h : Fields) (f : Fault) → length given ≡ 20 → HeaderOf given h → BodyRefused h f body → StreamFault (given ++ body) f
+refused_behind given body h f long is r = inr (record {
   header = h;
   header_of = HeaderOf-append given body h is;
   height = r.height;
   height_is = subst (λ z. IsHeight h z r.height) (sym (behind given body long)) r.height_is;
-  broken = subst (λ z. BodyFault h r.height z Truncated) (sym (behind given body long)) r.broken;
-})))
+  broken = subst (λ z. BodyFault h r.height z f) (sym (behind given body long)) r.broken;
+})
+
+refused_stream : (old mid : Option (List ℕ)) (given : List ℕ) (h : Fields) (f : Fault) → length given ≡ 20 → Consumes old mid given → HeaderOf given h → IfSome mid (BodyRefused h f) → IfSome old (λ bytes. StreamFault bytes f)
+refused_stream old mid given h f long taken is r = known_behind (λ bytes. StreamFault bytes f) (BodyRefused h f) old mid given taken r (λ body q. refused_behind given body h f long is q)
+
+unread_stream : (given body : List ℕ) (h : Fields) → length given ≡ 20 → HeaderOf given h → BodyUnfinished h body → IsUnfinished (given ++ body)
+unread_stream given body h long is (inl r) = inr (inl (refused_behind given body h Truncated long is r))
 unread_stream given body h long is (inr o) = inr (inr (record { header = h; header_of = HeaderOf-append given body h is; open_still = subst (IsOpen h) (sym (behind given body long)) o }))
 
 -- the numbers of the body are those of the stream
 known_numbers : (old mid : Option (List ℕ)) (given : List ℕ) (h : Fields) (numbers : List ℕ) → length given ≡ 20 → Consumes old mid given → HeaderOf given h → IfSome mid (BodyNumbers h numbers) → IfSome old (λ bytes. HasNumbers bytes numbers)
-known_numbers None mid given h numbers long taken is n = tt
-known_numbers (Some bytes) None given h numbers long taken is n = absurd taken
-known_numbers (Some bytes) (Some body) given h numbers long taken is n =
-    let whole : drop 20 bytes ≡ body = ap (drop 20) taken ∙ behind given body long in
-    record {
-      header = h;
-      header_of = subst (λ z. HeaderOf z h) (sym taken) (HeaderOf-append given body h is);
-      height = n.height;
-      height_is = subst (λ z. IsHeight h z n.height) (sym whole) n.height_is;
-      parts = record { stripes = n.parts.stripes; rest = n.parts.rest; body_is = whole ∙ n.parts.body_is; count = n.parts.count; each = n.parts.each; gives = n.parts.gives };
-      numbers_are = n.numbers_are;
-    }
+known_numbers old mid given h numbers long taken is r = known_behind (λ bytes. HasNumbers bytes numbers) (BodyNumbers h numbers) old mid given taken r (λ body n. record {
+  header = h;
+  header_of = HeaderOf-append given body h is;
+  height = n.height;
+  height_is = subst (λ z. IsHeight h z n.height) (sym (behind given body long)) n.height_is;
+  parts = record { stripes = n.parts.stripes; rest = n.parts.rest; body_is = behind given body long ∙ n.parts.body_is; count = n.parts.count; each = n.parts.each; gives = n.parts.gives };
+  numbers_are = n.numbers_are;
+})
 
 module _ (in_old in_new : Option (List ℕ)) (reads_old reads_new : ℕ) where
   -- the header was refused

@@ -1,5 +1,5 @@
 -- The look after the last stripe that the header's height makes.
-use Rattle.std.proofs.Common.{◌≡◌, ◌≢◌, ◌⊎◌, inl, inr, ◌<◌, ◌^◌, ℕ, true, false, List, [], ◌∷◌, ◌++◌, Option, None, Some, IfSome, refl, sym, ap, ◌∙◌, subst, append-nil, arith}
+use Rattle.std.proofs.Common.{◌≡◌, ◌≢◌, ◌<◌, ◌^◌, ℕ, true, false, List, [], ◌∷◌, ◌++◌, Option, None, Some, IfSome, refl, sym, ◌∙◌, subst, arith}
 use Rattle.std.specs.Prelude.{flat_map, IsTrue}
 use Rattle.std.specs.Io.KnownBytes.{Consumes, IsAtEnd}
 use Rattle.t85_core.specs.declared.fault.Fault.{Fault}
@@ -13,7 +13,7 @@ use Rattle.t85_core.specs.Failures.{Ends, reads_after}
 use Rattle.t85_core.specs.Info.{IsWalkFault}
 use Rattle.t85_core.specs.Steps.Segments.{code_bytes, PassesSegment, PieceFault}
 use Rattle.t85_core.specs.Steps.HeightWalk.{Comments, LooksTo, LookEnds, LookOpen}
-use Rattle.t85_core.proofs.Bytes.Streams.{Consumes-more}
+use Rattle.t85_core.proofs.Bytes.Streams.{Consumes-more, longer_or_all}
 use Rattle.t85_core.proofs.Bytes.Lists.{All-push, flat_map_push}
 use Rattle.t85_core.proofs.Bytes.Lengths.{valid_parts}
 use Rattle.t85_core.proofs.Walks.Passed.{Consumes-none}
@@ -84,12 +84,9 @@ module _ {h : Fields} {a b c : Option (List ℕ)} (p : HasLooked h a b) where
       told : (n : ℕ) → rest_fault h (record { height = n; entities = k; heights = 0 }) 1 false e.given ≡ Some f
       told n = subst (λ x. rest_fault h (record { height = n; entities = k; heights = 0 }) 1 false e.given ≡ Some x) (counted-other Truncated f other) (e.has_fault n)
 
-      all : (n : ℕ) → (f ≡ Truncated) ⊎ (rest_fault h (record { height = n; entities = k; heights = 0 }) 1 false (e.given ++ left) ≡ Some f) → rest_fault h (record { height = n; entities = k; heights = 0 }) 1 false (e.given ++ left) ≡ Some f
-      all n (inl ended) = subst (λ z. rest_fault h (record { height = n; entities = k; heights = 0 }) 1 false z ≡ Some f) (sym (ap (λ z. e.given ++ z) (end ended) ∙ append-nil e.given)) (told n)
-      all n (inr has) = has
-
       has : (n : ℕ) → rest_fault h (record { height = n; entities = k; heights = 0 }) 1 false last ≡ Some f
-      has n = subst (λ z. rest_fault h (record { height = n; entities = k; heights = 0 }) 1 false z ≡ Some f) (sym r) (all n (stable_rest h (record { height = n; entities = k; heights = 0 }) 1 false e.given left f (told n)))
+      has n = subst (λ z. rest_fault h (record { height = n; entities = k; heights = 0 }) 1 false z ≡ Some f) (sym r)
+          (longer_or_all (λ z. rest_fault h (record { height = n; entities = k; heights = 0 }) 1 false z ≡ Some f) e.given left (told n) end (stable_rest h (record { height = n; entities = k; heights = 0 }) 1 false e.given left f (told n)))
 
 -- a code begins
 pub looked_code : {h : Fields} {a b : Option (List ℕ)} (p : HasLooked h a b) (d : Option (List ℕ)) (k : ℕ) (first : Code) → Consumes b d (code_bytes first) → IfSome a (LookEnds h k)

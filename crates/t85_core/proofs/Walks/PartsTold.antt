@@ -1,5 +1,5 @@
 -- What a walk over the parts of a stream tells.
-use Rattle.std.proofs.Common.{cond, not, ◌≡◌, ◌≢◌, ◌⊎◌, inl, inr, ◌<◌, ◌≤◌, ◌+◌, ◌-◌, ◌^◌, ℕ, Bool, true, false, nat_eq, List, [], ◌∷◌, ◌++◌, Option, None, Some, IfSome, is_some, count_by, length, take, drop, refl, sym, ap, ◌∙◌, subst, append_assoc, length-append, arith, true≢false}
+use Rattle.std.proofs.Common.{cond, not, ◌≡◌, ◌≢◌, ◌⊎◌, inl, inr, ◌<◌, ◌≤◌, ◌+◌, ◌-◌, ℕ, Bool, true, false, nat_eq, List, [], ◌∷◌, ◌++◌, Option, None, Some, IfSome, is_some, count_by, length, take, drop, refl, sym, ap, ◌∙◌, subst, append_assoc, length-append, arith, true≢false}
 use Rattle.std.specs.Prelude.{flat_map, IsTrue}
 use Rattle.std.specs.List.{AllByRecursion}
 use Rattle.std.proofs.lemmas.Bool.Decides.{nat_tests}
@@ -20,7 +20,7 @@ use Rattle.t85_core.specs.Refusal.{BodyFault, rest_fault}
 use Rattle.t85_core.specs.Height.{GivesHeight, IsHeight}
 use Rattle.t85_core.specs.Steps.HeightWalk.{moved_behind, IsAlone, SkipsFault, LooksTo, LookEnds, search_place}
 use Rattle.t85_core.specs.Parts.{Passed, Nothing, Behind, TellsNext, TellsOfAny, passed_bytes, EndsInHeight, IsTail, IsUngiven, IsGiven, StandsBehind, Adds, IsBehind, TakesPart, IsWholeStream, BreaksAt}
-use Rattle.t85_core.specs.Steps.PartSteps.{ReadsPart, MissesPart, IsSegment, place_before, kind_of, part_told, walk_behind, is_given, height_told, stripes_in_use, header_part, header_walk, CanPass, TellsThere, TellsBehind, TellsBefore, SeesHeight, ComesOrEnds, IsDone, TailIs}
+use Rattle.t85_core.specs.Steps.PartSteps.{ReadsPart, MissesPart, IsSegment, place_before, kind_of, part_told, walk_behind, is_given, height_told, stripes_in_use, header_part, header_walk, TellsThere, TellsBehind, TellsBefore, SeesHeight, ComesOrEnds, IsDone, TailIs}
 use Rattle.t85_core.proofs.Bytes.Lists.{All-append}
 use Rattle.t85_core.proofs.Bytes.Lengths.{many_lengths, lengths_append, gives_none, gives_left, gives_right, valid_parts}
 use Rattle.t85_core.proofs.Grammar.Unique.{header_is, accepted}
@@ -30,6 +30,7 @@ use Rattle.t85_core.proofs.Walks.Found.{same_rest}
 use Rattle.t85_core.proofs.Walks.HeightFound.{height_of_skipped, moved_false}
 use Rattle.t85_core.proofs.Walks.PartsRead.{header_front}
 use Rattle.t85_core.proofs.Walks.PartsPassed.{ended, stands_segment, stands_entity, ungiven_segment, ungiven_comment, ungiven_entity, given_now, given_segment, given_entity, gives_there}
+use Rattle.t85_core.proofs.Walks.Passed.{few_byte}
 
 -- whether a height was given, by its number
 given_of : (n : ℕ) → 1 ≤ n → not (nat_eq n 0) ≡ true
@@ -46,17 +47,12 @@ in_use_given h w e = let t : nat_eq w.late_height 0 ≡ false = grind (arith, na
 
 -- the one height that is given
 single : (ns : List ℕ) (n : ℕ) → length ns ≡ 1 → AllByRecursion (λ m. m ≡ n) ns → ns ≡ n ∷ []
-single [] n one all = absurd (omega (arith, one))
 single (m ∷ []) n one all = ap (λ k. k ∷ []) all.0
-single (m ∷ k ∷ ns) n one all = absurd (omega (arith, one))
+single ns n one all = absurd (omega (arith, one))
 
 -- it is known that a height comes
 abbrev pub known : PartWalk → PartWalk
 known w = record { offset = w.offset; entities = w.entities; late_height = w.late_height; moved = w.moved; at_height = true }
-
-few_moves : (t : Bool) → cond {A = ℕ} t 1 0 ≤ 1
-few_moves true = omega arith
-few_moves false = omega arith
 
 module _ {stream : List ℕ} {w : PartWalk} {h : Fields} {ss : List Stripe} {gs : List Segment} (p : StandsBehind stream w h ss gs) where
   late_of : IsGiven w h ss gs (drop 20 stream) → 1 ≤ w.late_height
@@ -122,7 +118,7 @@ module _ {stream : List ℕ} {w : PartWalk} {h : Fields} {ss : List Stripe} {gs 
           let w' : PartWalk = walk_behind taken.Comment w len in
           let bytes : List ℕ = segment_bytes (Comment text) in
           told taken.Comment w' (Behind h ss (gs ++ Comment text ∷ [])) bytes s.1 (text, (s.0, refl, refl))
-          (stands_segment p w' bytes left s.1 (at_more taken.Comment bytes s.1) (Comment text) refl s.0 refl (omega arith) (few_moves w.moved)
+          (stands_segment p w' bytes left s.1 (at_more taken.Comment bytes s.1) (Comment text) refl s.0 refl (omega arith) (few_byte w.moved)
           (height_segment w' (Comment text) refl refl refl))
       takes_in_stripe given taken.Move is (first, row, offset, s) =
           let w' : PartWalk = walk_behind taken.Move w len in
@@ -137,7 +133,7 @@ module _ {stream : List ℕ} {w : PartWalk} {h : Fields} {ss : List Stripe} {gs 
           let u = ungiven_of (zero_of w.late_height (sym is ∙ first)) in
           let fits : is_valid_length h (length ss) n ≡ true = subst (λ k. is_valid_length h k n ≡ true) p.entities_are valid in
           told (taken.NewHeight n) w' (Behind h ss (gs ++ NewLength n ∷ [])) bytes s.1 (n, (s.0, refl, refl))
-          (stands_segment p w' bytes left s.1 (at_more (taken.NewHeight n) bytes s.1) (NewLength n) refl s.0 refl (omega arith) (few_moves w.moved)
+          (stands_segment p w' bytes left s.1 (at_more (taken.NewHeight n) bytes s.1) (NewLength n) refl s.0 refl (omega arith) (few_byte w.moved)
           (inr (given_now w' u n p.header_of.accepted.stripe_from refl refl fits
           (gives_there p n left u.none u.within (λ all. absurd (let less = few_ungiven u in omega (arith, all, less))) s.0 fits s.1))))
       takes_in_stripe given taken.DataEntity is (code, reset, small, there) =
@@ -205,7 +201,7 @@ module _ {stream : List ℕ} {w : PartWalk} {h : Fields} {ss : List Stripe} {gs 
       let u = ungiven_of zero in
       let all = all_of u most in
       told left len len_is taken.Comment w' (Behind h ss (gs ++ Comment text ∷ [])) bytes s.1 (text, (s.0, refl, refl))
-      (stands_segment p w' bytes left s.1 (at_more left len len_is taken.Comment bytes s.1) (Comment text) refl s.0 refl (omega arith) (few_moves w.moved)
+      (stands_segment p w' bytes left s.1 (at_more left len len_is taken.Comment bytes s.1) (Comment text) refl s.0 refl (omega arith) (few_byte w.moved)
       (inl (ungiven_comment w' u text refl refl all (comments_of u all) n g)))
   takes_before left len len_is zero most n g taken.Move is (first, row, offset, s) = absurd (true≢false first)
   takes_before left len len_is zero most n g (taken.NewHeight m) is (first, valid, s) =
@@ -215,7 +211,7 @@ module _ {stream : List ℕ} {w : PartWalk} {h : Fields} {ss : List Stripe} {gs 
       let all = all_of u most in
       let fits : is_valid_length h (length ss) m ≡ true = subst (λ k. is_valid_length h k m ≡ true) p.entities_are valid in
       told left len len_is (taken.NewHeight m) w' (Behind h ss (gs ++ NewLength m ∷ [])) bytes s.1 (m, (s.0, refl, refl))
-      (stands_segment p w' bytes left s.1 (at_more left len len_is (taken.NewHeight m) bytes s.1) (NewLength m) refl s.0 refl (omega arith) (few_moves w.moved)
+      (stands_segment p w' bytes left s.1 (at_more left len len_is (taken.NewHeight m) bytes s.1) (NewLength m) refl s.0 refl (omega arith) (few_byte w.moved)
       (inr (given_now w' u m p.header_of.accepted.stripe_from refl refl fits (gives_there p m left u.none u.within (λ _. comments_of u all) s.0 fits s.1))))
   takes_before left len len_is zero most n g taken.DataEntity is more = absurd is
 
@@ -293,10 +289,6 @@ module _ {stream : List ℕ} {w : PartWalk} {h : Fields} {ss : List Stripe} {gs 
     -- none is behind the last stripe
     pub ends_looked : w.at_height ≡ false → LookEnds h w.entities (drop w.offset stream) → IsDone stream w h ss gs
     ends_looked quiet l = never_whole quiet (never_before zero_there most_there l)
-
-    -- one comes
-    pub comes_known : w.at_height ≡ true → (n : ℕ) × GivesHeight h (drop 20 stream) n
-    comes_known e = ((ungiven_of zero_there).comes e).2
 
   -- with what belongs to it behind its parts
   pub whole_there : (n : ℕ) → IsDone stream w h ss gs → TailIs w stream n → IsWholeStream stream (w.offset + n) h ss gs
@@ -425,9 +417,7 @@ tells_taken {stream} {w} {w'} {v} {from} {told} {part} e k t = subst (λ r. Tell
 -- whatever the numbers are
 offset_behind : (t : Taken) (w : PartWalk) (len : ℕ) → (walk_behind t w len).offset ≡ w.offset + len
 offset_behind taken.Comment w len = refl
-offset_behind taken.Move w len = refl
-offset_behind (taken.NewHeight n) w len = refl
-offset_behind taken.DataEntity w len = refl
+offset_behind t w len = refl
 
 pub any_taken : {w' : PartWalk} {told : Found} {len : ℕ} (stream : List ℕ) (w v : PartWalk) (t : Taken) (left : List ℕ) → told ≡ found.Part (part_told t v len) → w' ≡ walk_behind t v len → v.offset ≡ w.offset →
     len ≡ length (drop w.offset stream) - length left → length left < length (drop w.offset stream) → TellsOfAny stream w w' told
@@ -451,20 +441,6 @@ before_of h stream w w' found sees before most ss gs p =
     let seen = sees most ss gs p in
     let none : is_given w ≡ false = ap (λ n. not (nat_eq n 0)) seen.0 in
     before seen.0 (most_there p none most) seen.1.0 seen.1.1 ss gs p
-
--- where a data entity can be counted each part can
-pub can_pass : (t : Taken) (w : PartWalk) → w.entities < 2 ^ 32 - 1 → CanPass t w
-can_pass taken.DataEntity w few = few
-can_pass taken.Comment w few = tt
-can_pass taken.Move w few = tt
-can_pass (taken.NewHeight n) w few = tt
-
--- and a segment always
-pub can_pass_segment : (t : Taken) (w : PartWalk) → IsSegment t → CanPass t w
-can_pass_segment taken.DataEntity w is = absurd is
-can_pass_segment taken.Comment w is = tt
-can_pass_segment taken.Move w is = tt
-can_pass_segment (taken.NewHeight n) w is = tt
 
 -- what is told of each header, is told of the one that the stream has
 pub tells_behind : (stream : List ℕ) (h : Fields) (w w' : PartWalk) (found : Found) → HeaderOf stream h → w.offset ≢ 0 → TellsThere h stream w w' found → (from : Passed) → IsBehind stream w from → TellsNext stream w w' from found

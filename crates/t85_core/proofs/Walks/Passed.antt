@@ -30,7 +30,7 @@ pub Consumes-none : (a : Option (List ℕ)) → Consumes a a []
 Consumes-none None = tt
 Consumes-none (Some xs) = refl
 
-few_byte : (t : Bool) → cond t 1 0 ≤ 1
+pub few_byte : (t : Bool) → cond t 1 0 ≤ 1
 few_byte true = omega arith
 few_byte false = omega arith
 

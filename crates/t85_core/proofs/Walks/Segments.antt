@@ -1,5 +1,5 @@
 -- What stands after FF 06 and after FF 07.
-use Rattle.std.proofs.Common.{cond, not, ◌&&◌, ◌≡◌, ◌≢◌, ◌<◌, ◌≤◌, ◌+◌, ◌^◌, ◌⊎◌, ℕ, true, false, List, [], ◌∷◌, ◌++◌, length, Some, None, nat_lt, nat_le, nat_eq, ap, ◌∙◌, length-append, arith, inl, inr}
+use Rattle.std.proofs.Common.{cond, not, ◌&&◌, ◌≡◌, ◌≢◌, ◌<◌, ◌≤◌, ◌+◌, ◌^◌, ◌⊎◌, ℕ, true, false, List, [], ◌∷◌, ◌++◌, length, Some, None, nat_lt, nat_le, nat_eq, ap, ◌∙◌, length-append, arith}
 use Rattle.std.proofs.lemmas.Bool.Decides.{nat_tests}
 use Rattle.byteorder.specs.Endian.{big_bytes, big_number}
 use Rattle.byteorder.specs.Numbers.{big_number-reads_back}
@@ -16,9 +16,7 @@ pub is_legal_move-parts : (h : Fields) (row offset last : ℕ) (more : List ℕ)
 is_legal_move-parts h row offset last more small = ap (λ r. nat_lt r h.l0 && nat_le offset h.mx && nat_eq last 0) (row_of row (offset ∷ last ∷ more) small)
 
 illegal : (h : Fields) (row offset last : ℕ) → (h.l0 ≤ row) ⊎ (h.mx < offset) ⊎ (last ≢ 0) → (nat_lt row h.l0 && nat_le offset h.mx && nat_eq last 0) ≡ false
-illegal h row offset last (inl a) = grind (arith, nat_tests)
-illegal h row offset last (inr (inl a)) = grind (arith, nat_tests)
-illegal h row offset last (inr (inr a)) = grind (arith, nat_tests)
+illegal h row offset last a = grind (arith, nat_tests)
 
 pub move_refused : (h : Fields) (row offset last : ℕ) → row < 2 ^ 32 → (h.l0 ≤ row) ⊎ (h.mx < offset) ⊎ (last ≢ 0) → move_fault h 0 (big_bytes 4 row ++ offset ∷ last ∷ []) ≡ Some MoveRefused
 move_refused h row offset last small a =

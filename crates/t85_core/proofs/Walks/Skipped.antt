@@ -25,7 +25,7 @@ use Rattle.t85_core.proofs.Bytes.Lengths.{legal_give_none, lengths_append}
 use Rattle.t85_core.proofs.Walks.Passed.{Consumes-none, sum_push, segments_push}
 use Rattle.t85_core.proofs.Bytes.Stuffing.{stuffed_append}
 
-byte_of : (t : Bool) → bool_byte t ≡ cond t 1 0
+pub byte_of : (t : Bool) → bool_byte t ≡ cond t 1 0
 byte_of true = refl
 byte_of false = refl
 

@@ -1,12 +1,9 @@
 -- The numbers of a body whose height was found, or why it has none.
-use Rattle.std.proofs.Common.{cond, ◌≡◌, ◌≢◌, ◌⊎◌, inl, inr, ◌<◌, ◌≤◌, ◌+◌, ◌-◌, ◌*◌, ◌^◌, ◌&&◌, ℕ, zero, suc, Bool, true, false, List, [], ◌∷◌, ◌++◌, Option, None, Some, IfSome, count_by, length, sum_by, min, nat_lt, nat_le, refl, sym, ap, ◌∙◌, subst, append_assoc, arith, true≢false}
+use Rattle.std.proofs.Common.{cond, ◌≡◌, ◌≢◌, inl, ◌<◌, ◌≤◌, ◌+◌, ◌-◌, ◌*◌, ◌^◌, ℕ, zero, suc, Bool, true, List, [], ◌∷◌, ◌++◌, Option, None, Some, IfSome, count_by, length, sum_by, min, nat_lt, refl, sym, ap, ◌∙◌, subst, append_assoc, arith}
 use Rattle.std.specs.Prelude.{flat_map}
 use Rattle.std.specs.List.{AllByRecursion}
 use Rattle.std.specs.Io.KnownBytes.{Consumes}
 use Rattle.std.proofs.lemmas.Bool.Decides.{nat_tests}
-use Rattle.std.proofs.lemmas.Bool.{cases_lt}
-use Rattle.std.proofs.lemmas.Grind.{div_ceil_times}
-use Rattle.std.proofs.Math.Nat.{mul-le-mul_right}
 use Rattle.t85_core.specs.declared.fault.Fault.{Fault}
 use Rattle.t85_core.specs.declared.fault.Fault.TheVariants.{Truncated, Read}
 use Rattle.t85_core.specs.Header.{Fields, IsAccepted}
@@ -15,9 +12,9 @@ use Rattle.t85_core.specs.Height.{GivesHeight, IsHeight}
 use Rattle.t85_core.specs.Failures.{Ends, counted_as}
 use Rattle.t85_core.specs.Steps.HeightWalk.{IsAlone, SkipsStripes, SkipsFault, FindsGiven, FindsNone, BodyNumbers, BodyRefused, BodyUnfinished, search_place, search_end, segment_counts}
 use Rattle.t85_core.specs.Steps.Buffers.{reading}
-use Rattle.t85_core.proofs.Bytes.Streams.{Consumes-more}
+use Rattle.t85_core.proofs.Bytes.Streams.{Consumes-more, known_behind, known_all}
 use Rattle.t85_core.proofs.Bytes.Lists.{All-push, count_push, flat_map_push}
-use Rattle.t85_core.proofs.Bytes.Lengths.{lengths_append, gives_none, valid_in_use}
+use Rattle.t85_core.proofs.Bytes.Lengths.{lengths_append, gives_none, valid_in_use, valid_over, more_stripes}
 use Rattle.t85_core.proofs.Walks.Found.{joined_to, broken_behind, parts_behind, joined_sum}
 use Rattle.t85_core.proofs.Walks.HeightFound.{skipped_whole}
 
@@ -49,34 +46,19 @@ none_numbers h old new entities moves comments numbers f is = went old f.mid f.b
     numbers_are = is ∙ same_numbers h h.yd entities moves comments (length f.before.stripes) (sum_by moves_in f.before.stripes) (min (sum_by comments_in f.before.stripes) (2 ^ 64 - 1)) (sym f.before.count_is) f.before.moves_are f.before.comments_are;
   }
 
--- the last data entity before a valid height has a row of the image
-last_within : (h : Fields) (k n : ℕ) → is_valid_length h k n ≡ true → (k - 1) * h.l0 < n
-last_within h k n e = went (nat_le 1 n) (nat_le n h.yd) (nat_lt ((k - 1) * h.l0) n) refl e where
-  went : (a b c : Bool) → nat_lt ((k - 1) * h.l0) n ≡ c → (a && b && c) ≡ true → (k - 1) * h.l0 < n
-  went true true true r e = grind (arith, nat_tests)
-  went true true false r e = absurd (true≢false (sym e))
-  went true false c r e = absurd (true≢false (sym e))
-  went false b c r e = absurd (true≢false (sym e))
-
 fits : (l n k : ℕ) → 0 < l → (k - 1) * l < n → k ≤ stripe_count n l
 fits l n zero some low = omega arith
-fits l n (suc j) some low = went (cases_lt (stripe_count n l) (suc j)) where
-  went : (stripe_count n l < suc j) ⊎ (suc j ≤ stripe_count n l) → suc j ≤ stripe_count n l
-  went (inr fits) = fits
-  went (inl more) =
-      let t = div_ceil_times n l some in
-      let up : stripe_count n l * l ≤ j * l = mul-le-mul_right l (let f : stripe_count n l ≤ j = omega (arith, more) in f) in
-      let same : suc j - 1 ≡ j = omega arith in
-      let c : (suc j - 1) * l ≡ j * l = ap (λ z. z * l) same in
-      absurd (omega (arith, t.0, up, low, c))
+fits l n (suc j) some low =
+    let same : suc j - 1 ≡ j = omega arith in
+    more_stripes n l j some (subst (λ z. z * l < n) same low)
 
 pub entities_fit : (h : Fields) (k n : ℕ) → 0 < h.l0 → is_valid_length h k n ≡ true → k ≤ stripe_count n h.l0
-entities_fit h k n some e = fits h.l0 n k some (last_within h k n e)
+entities_fit h k n some e = fits h.l0 n k some (valid_over h k n e)
 
 -- a lower height makes no more stripes
 fewer_stripes : (h : Fields) (n : ℕ) → 0 < h.l0 → 1 ≤ n → n ≤ h.yd → stripe_count n h.l0 ≤ stripe_count h.yd h.l0
 fewer_stripes h n some one most =
-    let low = last_within h (stripe_count n h.l0) n (valid_in_use h n (stripe_count n h.l0) some one most (omega arith)) in
+    let low = valid_over h (stripe_count n h.l0) n (valid_in_use h n (stripe_count n h.l0) some one most (omega arith)) in
     fits h.l0 h.yd (stripe_count n h.l0) some (omega (arith, low, most))
 
 one_or_none : (m : ℕ) → m ≤ 1 → cond {A = ℕ} (nat_lt 0 m) 1 0 ≡ m
@@ -110,28 +92,22 @@ module _ (h : Fields) (ok : IsAccepted h) (old mid : Option (List ℕ)) (entitie
   }
 
   pub given_height : IfSome old (λ body. IsHeight h body n)
-  given_height = went old mid taken where
-    went : (old mid : Option (List ℕ)) → Consumes old mid (flat_map stripe_bytes f.before.stripes ++ flat_map segment_bytes (f.segments ++ NewLength n ∷ [])) → IfSome old (λ body. IsHeight h body n)
-    went None mid taken = tt
-    went (Some body) None taken = absurd taken
-    went (Some body) (Some rest) taken = inl (subst (λ z. GivesHeight h z n) (sym (taken ∙ behind_front rest)) (gives_height rest))
+  given_height = known_all (λ body. IsHeight h body n) old mid _ taken (λ rest. inl (subst (λ z. GivesHeight h z n) (sym (behind_front rest)) (gives_height rest)))
 
   -- all its stripes were skipped before it
   pub whole_numbers : (count : ℕ) (numbers : List ℕ) → count ≡ stripe_count n h.l0 → count ≤ entities → numbers ≡ (h.xd ∷ h.yd ∷ h.l0 ∷ h.mx ∷ h.options ∷ n ∷ count ∷ moves ∷ comments ∷ []) → IfSome old (BodyNumbers h numbers)
-  whole_numbers count numbers is few numbers_told = went old mid taken where
+  whole_numbers count numbers is few numbers_told = known_all (BodyNumbers h numbers) old mid _ taken told where
     same : count ≡ length f.before.stripes
     same = let fit = entities_fit h entities n ok.stripe_from f.valid in let e = f.before.count_is in omega (arith, fit, is, few, e)
 
-    went : (old mid : Option (List ℕ)) → Consumes old mid (flat_map stripe_bytes f.before.stripes ++ flat_map segment_bytes (f.segments ++ NewLength n ∷ [])) → IfSome old (BodyNumbers h numbers)
-    went None mid taken = tt
-    went (Some body) None taken = absurd taken
-    went (Some body) (Some rest) taken = record {
+    told : (rest : List ℕ) → BodyNumbers h numbers ((flat_map stripe_bytes f.before.stripes ++ flat_map segment_bytes (f.segments ++ NewLength n ∷ [])) ++ rest)
+    told rest = record {
       height = n;
-      height_is = inl (subst (λ z. GivesHeight h z n) (sym (taken ∙ behind_front rest)) (gives_height rest));
+      height_is = inl (subst (λ z. GivesHeight h z n) (sym (behind_front rest)) (gives_height rest));
       parts = record {
         stripes = f.before.stripes;
         rest = flat_map segment_bytes (f.segments ++ NewLength n ∷ []) ++ rest;
-        body_is = taken ∙ behind_front rest;
+        body_is = behind_front rest;
         count = sym same ∙ is;
         each = f.before.each;
         gives = gives_none n 0 (all_segments f.before.stripes) (omega arith) f.before.none;
@@ -221,11 +197,9 @@ module _ (h : Fields) (ok : IsAccepted h) (old mid : Option (List ℕ)) (entitie
     }
 
     pub joined_refused : (count : ℕ) (fault : Fault) → count ≡ stripe_count n h.l0 → Ends Truncated mid new (SkipsFault h (search_place entities true (nat_lt 0 part_moves)) count) fault → fault ≢ Read → IfSome old (BodyRefused h fault)
-    joined_refused count fault is e other = went old mid taken (skipped_whole h entities count true (nat_lt 0 part_moves) mid new fault e other) where
-      went : (old mid : Option (List ℕ)) → Consumes old mid (flat_map stripe_bytes f.before.stripes ++ flat_map segment_bytes (f.segments ++ NewLength n ∷ [])) → IfSome mid (λ body. SkipsFault h (search_place entities true (nat_lt 0 part_moves)) count body fault) → IfSome old (BodyRefused h fault)
-      went None mid a q = tt
-      went (Some body) None a q = absurd a
-      went (Some body) (Some rest) a q = subst (BodyRefused h fault) (sym (a ∙ behind_front rest)) (broken count rest fault is q)
+    joined_refused count fault is e other =
+        known_behind (BodyRefused h fault) (λ body. SkipsFault h (search_place entities true (nat_lt 0 part_moves)) count body fault) old mid _ taken (skipped_whole h entities count true (nat_lt 0 part_moves) mid new fault e other)
+        (λ rest q. subst (BodyRefused h fault) (sym (behind_front rest)) (broken count rest fault is q))
 
     pub joined_unread : (count : ℕ) (fault : Fault) → count ≡ stripe_count n h.l0 → Ends Truncated mid new (SkipsFault h (search_place entities true (nat_lt 0 part_moves)) count) fault → fault ≡ Read → (given : List ℕ) × Consumes old new given × BodyUnfinished h given
     joined_unread count fault is e read = (

@@ -46,16 +46,16 @@ abbrev pub KeepsRows : RowEncoder → RowEncoder → Type 0
 KeepsRows e e' = KeepsPlan e e' × (e'.rows ≡ e.rows)
 
 -- nor was anything coded
-abbrev pub KeepsAll : RowEncoder → RowEncoder → Type 0
-KeepsAll e e' = KeepsRows e e' × (e'.in_stripe ≡ e.in_stripe) × (e'.encoder ≡ e.encoder)
+abbrev pub CodesNothing : RowEncoder → RowEncoder → Type 0
+CodesNothing e e' = KeepsRows e e' × (e'.in_stripe ≡ e.in_stripe) × (e'.encoder ≡ e.encoder)
 
 -- a row was taken
 abbrev pub AddsRow : RowEncoder → RowEncoder → Type 0
 AddsRow e e' = KeepsPlan e e' × (e'.rows ≡ e.rows + 1) × (e'.in_stripe ≡ e.in_stripe + 1)
 
 -- An encoder has taken a row and may go on; or a write failed, and it is closed.
-abbrev pub LeavesOpen : {T : Type 0} → RowEncoder → RowEncoder → Result T Fault → Type 0
-LeavesOpen e e' result = (e'.is_closed ≡ is_err result) × OnOk result (MayGoOn e') × OnOk result (e'.rows ≡ e.rows + 1) × (e'.size ≡ e.size) × IfErr result (λ f. f ≡ Write)
+abbrev pub TakesRow : {T : Type 0} → RowEncoder → RowEncoder → Result T Fault → Type 0
+TakesRow e e' result = (e'.is_closed ≡ is_err result) × OnOk result (MayGoOn e') × OnOk result (e'.rows ≡ e.rows + 1) × (e'.size ≡ e.size) × IfErr result (λ f. f ≡ Write)
 
 -- It has ended its stream, or a write failed.
 abbrev pub LeavesClosed : {T : Type 0} → RowEncoder → RowEncoder → Result T Fault → Type 0

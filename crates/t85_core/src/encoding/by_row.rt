@@ -136,7 +136,7 @@ impl RowEncoder {
     ghost use Rattle.t85_core.specs.Steps.RowSteps.{IsGoing, TakesBelow, CutsBelow, given_row};
     ghost use Rattle.t85_core.specs.Steps.Sent.{here};
     ghost use Rattle.t85_core.specs.Steps.Views.{text_taken, WritesBehind};
-    ghost use Rattle.t85_core.specs.Steps.RowCalls.{HasNoRows, LeavesClosed, HasRows, LeavesOpen, MayEnd, MayTakeRow};
+    ghost use Rattle.t85_core.specs.Steps.RowCalls.{HasNoRows, LeavesClosed, HasRows, TakesRow, MayEnd, MayTakeRow};
     ghost use Rattle.t85_core.specs.declared.fault.Fault.TheVariants.{Write, AnnouncedLow};
     ghost use Rattle.t85_core.specs.Steps.ByRow.{view_of, MayGoOn, Stands, TakesNextRow, CutsRow, EndsImage, CutsImage, lent_to};
     ghost use Rattle.t85_core.specs.RowImage.{image_for};
@@ -194,7 +194,7 @@ impl RowEncoder {
             (learning.new ≡ learning.old) × (output.new ≡ output.old) }
         ensures few { AppendsRow self.old (W.view output.old).contents
             (W.view output.new).contents }
-        ensures goes_on { LeavesOpen self.old self.new result }
+        ensures goes_on { TakesRow self.old self.new result }
         ensures window { KeepsWindow window.old window.new }
         ensures place { OnOk result (current_place window.new ≡
             next_place (next_place (current_place window.old))) }
@@ -226,7 +226,7 @@ impl RowEncoder {
         ensures cut { OnErr result (CutsBelow (view_of self.old learning.old) (held window.old)
             (text_taken buffer.old) (text_taken buffer.new)) }
         ensures few { AppendsRow self.old (text_taken buffer.old) (text_taken buffer.new) }
-        ensures goes_on { LeavesOpen self.old self.new result }
+        ensures goes_on { TakesRow self.old self.new result }
         ensures window { StaysWindow window.old window.new }
         ensures writes { WritesBehind buffer.old buffer.new result }
     {

@@ -1,4 +1,4 @@
-use Rattle.std.proofs.Common.{rules, arith, refl, sym, subst, ◌≡◌, ◌<◌, ◌+◌, ◌*◌, ◌∷◌, ◌++◌, [], length, take, get_or}
+use Rattle.std.proofs.Common.{rules, arith, refl, sym, subst, ◌≡◌, ◌+◌, ◌*◌, ◌∷◌, ◌++◌, [], length, take, get_or}
 use Rattle.std.proofs.lemmas.List.{length_push, take_more}
 use Rattle.pbm_core.specs.Pbm.{IsWhite}
 use Rattle.pbm_core.specs.Image.{ArePixels}
@@ -12,14 +12,12 @@ bytes-init c = record { pixels = []; within = omega arith; some = c.requires.som
 pub overflow_mul-made : goal.overflow_mul-made
 overflow_mul-made c =
     let v = c.bytes.invariant in
-    let few : length v.pixels < c.args.count = omega (arith, v.many, v.some) in
-    omega (arith, v.made, push_small v.pixels c.args.count few c.requires.few)
+    omega (arith, v.made, push_small v.pixels c.args.count (omega (arith, v.many, v.some)) c.requires.few)
 
 pub overflow_add-made : goal.overflow_add-made
 overflow_add-made c =
     let v = c.bytes.invariant in
-    let few : length v.pixels < c.args.count = omega (arith, v.many, v.some) in
-    omega (arith, v.made, push_small v.pixels c.args.count few c.requires.few, c.from.ensures, bool_weight c.in-Some.black, weight_small c.in-Some.black)
+    omega (arith, v.made, push_small v.pixels c.args.count (omega (arith, v.many, v.some)) c.requires.few, c.from.ensures, bool_weight c.in-Some.black, weight_small c.in-Some.black)
 
 pub returns-then-left-eq0 : goal.returns-then-left-eq0
 returns-then-left-eq0 c =

@@ -1,4 +1,4 @@
-use Rattle.std.proofs.Common.{arith, refl, ◌<◌, ◌∷◌, ◌++◌, [], length}
+use Rattle.std.proofs.Common.{arith, refl, ◌∷◌, ◌++◌, []}
 use Rattle.std.proofs.lemmas.List.{length_push}
 use Rattle.pbm_core.proofs.Reading.{passes-none, passes-more, passed, reads, fails-after}
 use Rattle.pbm_core.proofs.Pixels.{pixels-append, pixels_then}
@@ -16,14 +16,12 @@ returns-in_err-black g c =
 pub overflow_mul-byte : goal.overflow_mul-byte
 overflow_mul-byte g c =
     let v = c.pixels.invariant in
-    let few : length v.pixels < c.args.count = omega (arith, v.many) in
-    omega (arith, v.byte_is, push_small v.pixels c.args.count few c.requires.few)
+    omega (arith, v.byte_is, push_small v.pixels c.args.count (omega (arith, v.many)) c.requires.few)
 
 pub overflow_add-byte : goal.overflow_add-byte
 overflow_add-byte g c =
     let v = c.pixels.invariant in
-    let few : length v.pixels < c.args.count = omega (arith, v.many) in
-    omega (arith, v.byte_is, push_small v.pixels c.args.count few c.requires.few, c.from.ensures, bool_weight c.in_ok-black.black, weight_small c.in_ok-black.black)
+    omega (arith, v.byte_is, push_small v.pixels c.args.count (omega (arith, v.many)) c.requires.few, c.from.ensures, bool_weight c.in_ok-black.black, weight_small c.in_ok-black.black)
 
 pub pixels-preserved : goal.pixels-preserved
 pixels-preserved g c =

@@ -1,12 +1,8 @@
 use Rattle.std.proofs.Common.{◌≡◌, ◌*◌, ◌-◌, arith, ap}
 use Rattle.qm_core.specs.Table.{row_at}
 use Rattle.qm_core.specs.Machine.{estimate}
-use Rattle.qm_core.proofs.FavouredRuns.{scaled, other_pixel, no_room, room}
+use Rattle.qm_core.proofs.FavouredRuns.{scaled, no_room, room}
 use Rattle.qm_core.proofs.skipping.left_of.Goals as goal
-
-pub returns-then-pixel-cell-clause-none : goal.returns-then-pixel-cell-clause-none
-returns-then-pixel-cell-clause-none c p e _ =
-    other_pixel (record { place = p; learned = c.args.learned.now }) c.args.cx.number c.args.count c.args.pixel (estimate c.cell-cell.result) c.cell-cell.ensures c.if-pixel-cell.true
 
 pub returns-then-span-upper-clause-none : goal.returns-then-span-upper-clause-none
 returns-then-span-upper-clause-none c p e _ =

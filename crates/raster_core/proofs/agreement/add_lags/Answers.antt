@@ -2,8 +2,7 @@ use Rattle.std.proofs.Common.{◌≡◌, ℕ, ◌+◌, ◌-◌, ◌*◌, ◌/◌
 use Rattle.std.specs.Prelude.{bit_or}
 use Rattle.raster_core.specs.Machine.Words.{word, agreed_from, pixels_from}
 use Rattle.raster_core.proofs.Choosing.{le_cases}
-use Rattle.raster_core.proofs.Parts.{order}
-use Rattle.raster_core.proofs.Shifts.{begun, far_next, near_next}
+use Rattle.raster_core.proofs.Shifts.{second_part, far_next, near_next}
 use Rattle.raster_core.proofs.agreement.add_lags.Goals as goal
 
 first_shift : (s f : ℕ) → s ≡ s + (f - f)
@@ -17,7 +16,7 @@ loop-lag-init c = record {
   none = λ h. omega arith;
   long = omega arith;
   near = λ p place e f. c.joined-near.ensures p place e f ∙ ap (λ s. word p (place + 64 - s) 64) (first_shift c.args.shift c.args.from);
-  far = λ p place e. ap (λ x. x / 2 ^ c.args.shift) e ∙ begun p place c.args.shift c.requires.shift ∙ ap (λ s. word p place (64 - s)) (first_shift c.args.shift c.args.from);
+  far = λ p place e. ap (λ x. x / 2 ^ c.args.shift) e ∙ second_part p place c.args.shift (omega (arith, c.requires.shift)) ∙ ap (λ s. word p place (64 - s)) (first_shift c.args.shift c.args.from);
   done = λ p m place a d e f g h j from below. absurd (omega (arith, from, below));
   below = λ j lt. refl;
   above = λ j le. refl;
@@ -81,17 +80,3 @@ loop-lag-preserved c =
 
     eq_cases : (i k : ℕ) → (i ≡ k) ⊎ (i ≢ k)
     eq_cases i k = grind arith
-
-pub returns-clause-above : goal.returns-clause-above
-returns-clause-above c lag le =
-    elim (order lag c.args.from) [
-      | inl lt ↦ c.loop-lag.invariant.below lag lt
-      | inr high ↦ c.loop-lag.invariant.above lag (reached high)
-    ]
-  where
-    reached : c.args.from ≤ lag → c.loop-lag.lag ≤ lag
-    reached high =
-        elim (order c.args.end c.args.from) [
-          | inl lt ↦ let stays : c.loop-lag.lag ≤ c.args.from = c.loop-lag.invariant.none lt in omega (arith, stays, high)
-          | inr ge ↦ omega (arith, le, ge, c.loop-lag.auto)
-        ]

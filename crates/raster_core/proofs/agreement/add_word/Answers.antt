@@ -1,8 +1,8 @@
-use Rattle.std.proofs.Common.{◌≡◌, ℕ, ◌+◌, ◌-◌, ◌∙◌, ap, arith, get_or, inl, inr}
+use Rattle.std.proofs.Common.{◌≡◌, ℕ, ◌+◌, ◌-◌, ◌∙◌, ap, arith, get_or, inl, inr, lit≤}
 use Rattle.raster_core.specs.Machine.Words.{word, agreed_from, pixels_from}
 use Rattle.std.specs.Prelude.{count_ones}
 use Rattle.raster_core.proofs.Shifts.{even_agreed}
-use Rattle.raster_core.proofs.Parts.{order}
+use Rattle.std.proofs.lemmas.Bool.{cases_lt}
 use Rattle.raster_core.proofs.agreement.add_word.Goals as goal
 
 beside : (x : ℕ) → x + 128 ≡ (x + 64) + 64
@@ -25,7 +25,7 @@ returns-then-end-le64-clause-counts d p m place c second before one mask lag fro
 
 pub returns-else-end-le64-clause-counts : goal.returns-else-end-le64-clause-counts
 returns-else-end-le64-clause-counts d p m place c second before one mask lag from to =
-    none_more _ _ (elim (order lag 64) [
+    none_more _ _ (elim (cases_lt lag 64) [
       | inl lt ↦
           d.add_lags-else-end-le64-2.ensures.below lag lt
           ∙ d.add_lags-else-end-le64.ensures.counts p m (place + 64) (place + 128) c before (one ∙ ap (λ x. word p x 64) (beside place)) one mask lag from lt
@@ -40,4 +40,4 @@ pub returns-then-is_even-clause-counts : goal.returns-then-is_even-clause-counts
 returns-then-is_even-clause-counts d p m place c second before one mask lag from to =
     ap (λ x. get_or d.args.counts.now lag 0 + x) d.from.ensures
     ∙ ap (λ x. get_or d.args.counts.now lag 0 + count_ones x) mask
-    ∙ ap (λ x. get_or d.args.counts.now lag 0 + x) (even_agreed p m place c lag (d.is_even.ensures p place second before one d.if-is_even.true) (omega (arith, to, d.requires.most)))
+    ∙ ap (λ x. get_or d.args.counts.now lag 0 + x) (even_agreed p m place c lag 64 (d.is_even.ensures p place second before one d.if-is_even.true) (omega (arith, to, d.requires.most)) (lit≤ tt))

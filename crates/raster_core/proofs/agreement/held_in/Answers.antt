@@ -6,15 +6,13 @@ use Rattle.raster_core.proofs.agreement.held_in.Goals as goal
 pub returns-then-offset-eq0-clause-agreed : goal.returns-then-offset-eq0-clause-agreed
 returns-then-offset-eq0-clause-agreed c lines width e second before one mask =
     let k : ℕ = c.args.k in
+    let next : 64 * (k + 3) ≡ 64 * (k + 2) + 64 = omega arith in
     c.agreed_word.ensures.agreed (led lines.row) (led lines.above) (is_within width) (64 * k + 128) (64 * (k + 2) + 64 - 62) (64 * k) one
     (c.joined.ensures (led lines.above) (64 * (k + 2)) (c.word_at.ensures lines.above e)
-    (c.word_at-then-offset-eq0.ensures lines.above e ∙ ap (λ x. word (led lines.above) x 64) (next k)))
+    (c.word_at-then-offset-eq0.ensures lines.above e ∙ ap (λ x. word (led lines.above) x 64) next))
     mask
     ∙ nominal_part lines width k 64
     ∙ ap (λ o. part_agreement lines width o (64 * k) 64) (sym c.if-offset-eq0.true)
-  where
-    next : (k : ℕ) → 64 * (k + 3) ≡ 64 * (k + 2) + 64
-    next k = omega arith
 
 pub returns-else-offset-eq0-clause-agreed : goal.returns-else-offset-eq0-clause-agreed
 returns-else-offset-eq0-clause-agreed c lines width e second before one mask =

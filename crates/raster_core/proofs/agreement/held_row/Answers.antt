@@ -1,7 +1,7 @@
-use Rattle.std.proofs.Common.{◌≡◌, ℕ, ◌+◌, ◌*◌, ◌∙◌, sym, ap, arith, refl}
+use Rattle.std.proofs.Common.{ℕ, ◌+◌, ◌*◌, ◌∙◌, sym, ap, arith, refl}
 use Rattle.raster_core.specs.Machine.Words.{word, led}
 use Rattle.raster_core.proofs.Packs.{led_white}
-use Rattle.raster_core.proofs.Parts.{part_none, part_next}
+use Rattle.raster_core.proofs.Parts.{part_none, part_next, first_place, second_place, third_place}
 use Rattle.raster_core.proofs.agreement.held_row.Goals as goal
 
 pub loop-k-init : goal.loop-k-init
@@ -11,15 +11,6 @@ loop-k-init c = record {
   held = λ lines e f. sym (part_none lines c.args.width c.args.offset 0);
   room = omega arith;
 }
-
-first_place : (k : ℕ) → 64 * (k + 1) ≡ 64 * k + 64
-first_place k = omega arith
-
-second_place : (k : ℕ) → 64 * (k + 2) ≡ 64 * k + 128
-second_place k = omega arith
-
-third_place : (k : ℕ) → k + 2 ≡ k + 1 + 1
-third_place k = omega arith
 
 pub loop-k-preserved : goal.loop-k-preserved
 loop-k-preserved c =

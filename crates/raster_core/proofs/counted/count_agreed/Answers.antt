@@ -2,7 +2,7 @@ use Rattle.std.proofs.Common.{◌≡◌, ℕ, ◌+◌, ◌*◌, ◌≤◌, ◌�
 use Rattle.raster_core.specs.Machine.Words.{word, led, is_within}
 use Rattle.raster_core.proofs.Choosing.{zeros}
 use Rattle.raster_core.proofs.Packs.{led_white}
-use Rattle.raster_core.proofs.Parts.{row_part, part_none, part_next}
+use Rattle.raster_core.proofs.Parts.{row_part, part_none, part_next, first_place, second_place, third_place}
 use Rattle.raster_core.proofs.counted.count_agreed.Goals as goal
 
 pub loop-k-init : goal.loop-k-init
@@ -15,15 +15,6 @@ loop-k-init c = record {
 
 beside_alike : (new result old alike part : ℕ) → new + result ≡ old + part → new + (alike + result) ≡ (old + alike) + part
 beside_alike new result old alike part e = omega (arith, e)
-
-first_place : (k : ℕ) → 64 * (k + 1) ≡ 64 * k + 64
-first_place k = omega arith
-
-second_place : (k : ℕ) → 64 * (k + 2) ≡ 64 * k + 128
-second_place k = omega arith
-
-third_place : (k : ℕ) → k + 2 ≡ k + 1 + 1
-third_place k = omega arith
 
 pub loop-k-preserved : goal.loop-k-preserved
 loop-k-preserved c =

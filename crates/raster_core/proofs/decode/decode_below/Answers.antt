@@ -18,7 +18,7 @@ returns-in-Err-clause-row g c = λ s answers lines h.
     stop_pixels c.answers.ensures.answers_lie c.apart.ensures (Pulls g.S.CodeBytes.gives g.S.CodeBytes.failed) c.args.source.now c.decode_pixels.new.source c.args.shape c.args.kept.now c.args.kept.now s c.decode_pixels.new.learned answers lines
     (record { width = c.args.shape.width; current = c.decode_pixels.new.current; above = c.args.above.now; second = c.args.second.now }) c.in-Err.at c.decode_pixels.new.decoder (Err _) refl
     (record { above_is = h.above.above_is; second_is = h.above.second_is; above_wide = h.above.above_wide; second_wide = h.above.second_wide })
-    (c.in-Err.ensures.err c.args.source.now (first_events (shape_mode c.args.shape) c.args.kept.now.previous_typical false) s answers lines b.0 b.1 b.2 h.above.above_is h.above.second_is)
+    (c.in-Err.ensures.leaves.1 c.args.source.now (first_events (shape_mode c.args.shape) c.args.kept.now.previous_typical false) s answers lines b.0 b.1 b.2 h.above.above_is h.above.second_is)
 
 pub returns-clause-row : goal.returns-clause-row
 returns-clause-row g c = λ s answers lines h.
@@ -41,5 +41,5 @@ returns-clause-row g c = λ s answers lines h.
           (done_plain c.answers.ensures.answers_lie (Pulls g.S.CodeBytes.gives g.S.CodeBytes.failed) c.args.source.now v.decode_pixels.new.source c.args.shape c.args.kept.now _ s v.decode_pixels.new.learned answers lines
           v.decode_pixels.new.current (record { width = c.args.shape.width; current = v.decode_pixels.new.current; above = c.args.above.now; second = c.args.second.now }) v.decode_pixels.new.decoder (omega (arith, c.requires.goes_on.1)) refl v.if-flag.false
           (λ row wide packed. record { row_is = packed; above_is = h.above.above_is; second_is = h.above.second_is; row_wide = wide; above_wide = h.above.above_wide; second_wide = h.above.second_wide })
-          (v.in-Ok.ensures.ok c.args.source.now (first_events (shape_mode c.args.shape) c.args.kept.now.previous_typical false) s answers lines b.0 b.1 b.2 h.above.above_is h.above.second_is)))
+          (v.in-Ok.ensures.leaves.0 c.args.source.now (first_events (shape_mode c.args.shape) c.args.kept.now.previous_typical false) s answers lines b.0 b.1 b.2 h.above.above_is h.above.second_is)))
     ]

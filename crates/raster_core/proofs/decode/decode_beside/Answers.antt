@@ -3,18 +3,6 @@ use Rattle.raster_core.proofs.Places.{three, rows_cut}
 use Rattle.raster_core.proofs.RowsDone.{same_goes}
 use Rattle.raster_core.proofs.decode.decode_beside.Goals as goal
 
-pub returns-clause-above : goal.returns-clause-above
-returns-clause-above g c =
-    let up = c.rows_above.ensures in
-    let n = c.div_ceil-long.ensures in
-    let before = rows_cut c.args.at _ c.args.shape.width _ c.args.head.now c.args.row.now c.args.tail.now _ _ n refl (c.requires.head ∙ ap (λ m. c.args.at * m) (sym n)) (c.requires.row ∙ sym n) up.above up.second in
-    let after = rows_cut c.args.at _ c.args.shape.width _ c.args.head.now c.decode_below.new.current c.args.tail.now _ _ n refl (c.requires.head ∙ ap (λ m. c.args.at * m) (sym n)) (c.decode_below.auto.current ∙ (c.requires.row ∙ sym n)) up.above up.second in
-    record {
-      width_is = refl;
-      above_is = ap (λ w. w.above) after ∙ sym (ap (λ w. w.above) before);
-      second_is = ap (λ w. w.second) after ∙ sym (ap (λ w. w.second) before);
-    }
-
 pub returns-clause-row : goal.returns-clause-row
 returns-clause-row g c = λ s answers lines h.
     let up = c.rows_above.ensures in

@@ -1,11 +1,8 @@
-use Rattle.std.proofs.Common.{refl, ap, sym, subst}
+use Rattle.std.proofs.Common.{refl, ap}
 use Rattle.qm_core.specs.Source.{Pulls}
-use Rattle.raster_core.specs.Packed.{SameAbove, rows_at}
+use Rattle.raster_core.specs.Packed.{rows_at}
 use Rattle.raster_core.proofs.RowsDone.{same_goes, passes}
 use Rattle.raster_core.proofs.decode.go_on_row.Goals as goal
-
-pub returns-else-is_ok-clause-window : goal.returns-else-is_ok-clause-window
-returns-else-is_ok-clause-window g c = ((subst (λ n. SameAbove (rows_at c.args.window.now.place n c.args.window.now.rows.now) (rows_at c.args.window.now.place n c.decode_at-outcome.new.rows)) (sym c.requires.row.1) c.decode_at-outcome.ensures.above), refl, refl)
 
 pub returns-else-is_ok-clause-row : goal.returns-else-is_ok-clause-row
 returns-else-is_ok-clause-row g c = λ s answers lines h.

@@ -3,6 +3,3 @@ use Rattle.raster_core.proofs.lanes.far_lanes.Goals as goal
 
 pub returns-clause-lanes : goal.returns-clause-lanes
 returns-clause-lanes c = (far_says c.args.window c.requires).lanes
-
-pub returns-clause-small : goal.returns-clause-small
-returns-clause-small c = (far_says c.args.window c.requires).small

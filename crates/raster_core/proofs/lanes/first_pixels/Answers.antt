@@ -1,15 +1,12 @@
-use Rattle.std.proofs.Common.{◌≡◌, ◌+◌, ◌*◌, refl, sym, ◌∙◌, subst}
-use Rattle.raster_core.specs.Machine.Lanes.{lane, near, own}
+use Rattle.std.proofs.Common.{refl, ◌∙◌}
 use Rattle.raster_core.proofs.LaneTables.{first_pixels_are, first_moved_are}
 use Rattle.raster_core.proofs.Moved.{set_is, clear_is}
 use Rattle.raster_core.proofs.lanes.first_pixels.Goals as goal
 
 pub returns-then-this-ne0 : goal.returns-then-this-ne0
 returns-then-this-ne0 g c = λ j few.
-    subst (λ m. lane c.moved_pixel_lanes.result j ≡ 2 * near m c.args.second_bytes c.args.above_bytes c.args.far (0 + j) + own c.args.row (0 + j)) (sym (set_is g.row.MOVED _ c.if-this-ne0.true refl))
-    (c.moved_pixel_lanes.ensures j few ∙ first_moved_are c.args.second_bytes c.args.above_bytes c.args.far c.args.row j few)
+    rw (set_is g.row.MOVED _ c.if-this-ne0.true refl) (c.moved_pixel_lanes.ensures j few ∙ first_moved_are c.args.second_bytes c.args.above_bytes c.args.far c.args.row j few)
 
 pub returns : goal.returns
 returns g c = λ j few.
-    subst (λ m. lane c.pixel_lanes.result j ≡ 2 * near m c.args.second_bytes c.args.above_bytes c.args.far (0 + j) + own c.args.row (0 + j)) (sym (clear_is g.row.MOVED _ c.if-this-ne0.false refl))
-    (c.pixel_lanes.ensures j few ∙ first_pixels_are c.args.second_bytes c.args.above_bytes c.args.row j few)
+    rw (clear_is g.row.MOVED _ c.if-this-ne0.false refl) (c.pixel_lanes.ensures j few ∙ first_pixels_are c.args.second_bytes c.args.above_bytes c.args.row j few)

@@ -1,13 +1,7 @@
 use Rattle.std.proofs.Common.{ℕ, ◌≡◌, ◌+◌, ◌*◌, ◌-◌, ◌/◌, ◌%◌, ◌^◌, arith, ◌∙◌, ap, slice_index}
-use Rattle.std.proofs.Math.Nat.{div-le_self}
 use Rattle.raster_core.specs.Machine.Registers.{before}
 use Rattle.raster_core.proofs.Packed.{packed_byte, moves_on}
 use Rattle.raster_core.proofs.place.around_at.Goals as goal
-
-pub overflow_add-result : goal.overflow_add-result
-overflow_add-result c =
-    let small = div-le_self c.byte_at-next.result (2 ^ (8 - c.args.x % 8)) in
-    omega (arith, small, c.byte_at-next.ensures.small)
 
 wrapped : (a b : ℕ) → (a % 4294967296 % 16777216 + b) % 16777216 ≡ (a + b) % 16777216
 wrapped a b = omega arith

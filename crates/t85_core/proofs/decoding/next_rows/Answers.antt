@@ -1,13 +1,9 @@
-use Rattle.std.proofs.Common.{cond, ◌≡◌, ◌∙◌, Bool, true, false, Err, refl, arith}
-use mir.Val.{bool_byte}
+use Rattle.std.proofs.Common.{◌≡◌, ◌∙◌, Err, refl, arith}
 use Rattle.t85_core.specs.Options.{fields_of}
 use Rattle.t85_core.specs.Lent.{walk_over}
 use Rattle.t85_core.proofs.Decodings.WalkRead.{reads_no_rows, rows_same, rows_one, rows_off}
+use Rattle.t85_core.proofs.Walks.Skipped.{byte_of}
 use Rattle.t85_core.proofs.decoding.next_rows.Goals as goal
-
-byte_of : (b : Bool) → bool_byte b ≡ cond b 1 0
-byte_of true = refl
-byte_of false = refl
 
 pub returns-then-count-gt0 : goal.returns-then-count-gt0
 returns-then-count-gt0 g c = record {

@@ -20,7 +20,7 @@ impl RowEncoder {
     ghost use Rattle.t85_core.specs.declared.fault.Fault.TheVariants.{Write};
     ghost use Rattle.t85_core.specs.declared.encoding.learning.Learning.{Learning};
     ghost use Rattle.t85_core.specs.Steps.ByRow.{view_of, counted_of, IsAble, MayGoOn, IsLined, CutsRow, EndsImage, CutsImage};
-    ghost use Rattle.t85_core.specs.Steps.RowCalls.{AddsRow, LeavesClosed, HasRows, LeavesOpen, KeepsAll, KeepsRows, MayEnd, MayTakeRow};
+    ghost use Rattle.t85_core.specs.Steps.RowCalls.{AddsRow, LeavesClosed, HasRows, TakesRow, CodesNothing, KeepsRows, MayEnd, MayTakeRow};
     ghost use Rattle.t85_core.specs.Steps.RowSteps.{IsGoing, TakesBelow, CutsBelow, StandsToRun, WaitsToRun, CutsMove, CodesRow, CutsCode, RunsToStand, CutsRunning, EndsStripe, CutsStripe, EndsStripes};
 
     /// Takes the row that the window has. After a failed write, and after the end, nothing is done.
@@ -41,7 +41,7 @@ impl RowEncoder {
         ensures closed { self.old.is_closed ≡ true → (result ≡ Err Write) × (self.new ≡ self.old) ×
             (learning.new ≡ learning.old) × (target.new ≡ target.old) }
         ensures few { AppendsRow self.old (P.view target.old).text (P.view target.new).text }
-        ensures goes_on { LeavesOpen self.old self.new result }
+        ensures goes_on { TakesRow self.old self.new result }
         ensures lined { OnOk result (IsLined (held window.new)) }
         ensures window { StaysWindow window.old window.new }
         ensures writes { IsGoing self.old → WritesOn (P.view target.old) (P.view target.new)
@@ -72,7 +72,7 @@ impl RowEncoder {
             self.old learning.old) before (P.view target.old).text (P.view target.new).text) }
         ensures few { AppendsAtMost 8 (P.view target.old).text (P.view target.new).text }
         ensures able { OnOk result (IsAble self.new) }
-        ensures keeps { KeepsAll self.old self.new }
+        ensures keeps { CodesNothing self.old self.new }
         ensures fails { WritesOrFails (P.view target.old) (P.view target.new) result }
     {
         if self.in_stripe == 0 {
@@ -96,7 +96,7 @@ impl RowEncoder {
             (P.view target.old).text (P.view target.new).text) }
         ensures few { AppendsAtMost 8 (P.view target.old).text (P.view target.new).text }
         ensures able { OnOk result (IsAble self.new) }
-        ensures keeps { KeepsAll self.old self.new }
+        ensures keeps { CodesNothing self.old self.new }
         ensures fails { WritesOrFails (P.view target.old) (P.view target.new) result }
     {
         move_pixel(&mut self.kept, &learning.tally, target)?;

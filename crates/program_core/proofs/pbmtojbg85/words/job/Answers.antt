@@ -1,5 +1,5 @@
 use Rattle.program_core.proofs.Numbers.{number_of_rows}
-use Rattle.program_core.proofs.Defaults.{default_given, lone_move, lone_options, lone_stripe, named_move, named_options, named_stripe, own_move, own_options, own_stripe}
+use Rattle.program_core.proofs.Defaults.{default_given, lone_at}
 use Rattle.std.proofs.Common.{arith, codes, inl, inr, is_some, refl, sym, ap, map, subst, ◌≡◌, ◌∙◌, List}
 use Rattle.std.proofs.lemmas.Result.{IfErr-weaker, err_from_is_err_and}
 use Rattle.clap.specs.Words.{App, Row, found_of, app_of, fault_of, is_simple, is_simple_and_free, matches_of, rows_of}
@@ -18,15 +18,16 @@ returns-in_err-matches-clause-fault g c =
     rw (p.1, p.2) (inl (subst (λ (a : App). IsRefusal (fault_of a words) c.in_err-matches.field-0.0) is told))
 
 pub job_of-requires : goal.job_of-requires
+unfolding lone_at
 job_of-requires g c =
     let is : app_of c.in_ok-command.command ≡ encode_command = c.in_ok-command.ensures in
     let m = c.in_ok-matches.matches in
     let given = default_given c.in_ok-command.command m c.in_ok-matches.ensures.parsed is in
     let f = found_of m in
     record {
-      p = ap is_some (sym (number_of_rows f (codes "options"))) ∙ given 0 (codes "options") 112 (codes "8") (omega arith) (λ d. refl) lone_options named_options own_options;
-      s = ap is_some (sym (number_of_rows f (codes "stripe"))) ∙ given 1 (codes "stripe") 115 (codes "128") (omega arith) (λ d. refl) lone_stripe named_stripe own_stripe;
-      m = ap is_some (sym (number_of_rows f (codes "move"))) ∙ given 2 (codes "move") 109 (codes "0") (omega arith) (λ d. refl) lone_move named_move own_move;
+      p = ap is_some (sym (number_of_rows f (codes "options"))) ∙ given 0 (codes "options") 112 (codes "8") (omega arith) (λ d. refl) refl refl refl refl;
+      s = ap is_some (sym (number_of_rows f (codes "stripe"))) ∙ given 1 (codes "stripe") 115 (codes "128") (omega arith) (λ d. refl) refl refl refl refl;
+      m = ap is_some (sym (number_of_rows f (codes "move"))) ∙ given 2 (codes "move") 109 (codes "0") (omega arith) (λ d. refl) refl refl refl refl;
     }
 
 pub returns-clause-values : goal.returns-clause-values

@@ -4,9 +4,6 @@ use Rattle.qm_core.proofs.FavouredRuns.{is_run, after_run}
 use Rattle.qm_core.proofs.Putting.{codes_lower}
 use Rattle.qm_core.proofs.encoder.Encoder.skip.Goals as goal
 
-pub invariant_of-self-clause-whole : goal.invariant_of-self-clause-whole
-invariant_of-self-clause-whole c = let l = c.in-Some.ensures.left _ refl in omega (arith, l, c.args.self.now.whole)
-
 pub returns-in-Some-clause-skipped : goal.returns-in-Some-clause-skipped
 returns-in-Some-clause-skipped c p pushed s _ =
     let room = c.in-Some.ensures.some p _ s.digits.size refl in
@@ -16,6 +13,3 @@ returns-in-Some-clause-skipped c p pushed s _ =
 
 pub returns-in-Some-clause-exact : goal.returns-in-Some-clause-exact
 returns-in-Some-clause-exact c p pushed _ s = sym (c.in-Some.ensures.some p _ s.digits.size refl)
-
-pub returns-in-Some-clause-skips : goal.returns-in-Some-clause-skips
-returns-in-Some-clause-skips c = (refl, (λ t. let going = c.if-self.false in absurd (let bot : ⊥ = cc in bot)), (λ e. absurd (let bot : ⊥ = cc in bot)), (λ _. refl))

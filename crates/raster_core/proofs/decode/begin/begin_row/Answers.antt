@@ -3,9 +3,9 @@ use Rattle.qm_core.specs.Source.{Pulls, source_at}
 use Rattle.qm_core.specs.Decoder.{decoder_state}
 use Rattle.qm_core.specs.Place.{state_of}
 use Rattle.raster_core.specs.Window.{shape_mode}
-use Rattle.raster_core.specs.Row.{FirstDecoded, FirstStopped}
+use Rattle.raster_core.specs.Row.{FirstDecoded}
 use Rattle.raster_core.proofs.Firsts.{first_none}
-use Rattle.raster_core.proofs.LaneTables.{if_ok, on_err}
+use Rattle.raster_core.proofs.LaneTables.{if_ok}
 use Rattle.raster_core.proofs.RowsDone.{begin_pixels, begun_pixels, by_begun, not_true, not_false}
 use Rattle.raster_core.proofs.decode.begin.begin_row.Goals as goal
 use Rattle.raster_core.proofs.decode.begin.begin_row.Goals.{else-shape-via-then-shape+else-not-place, else-shape-via-else-shape}
@@ -17,13 +17,6 @@ returns-then-not-place-clause-ok g c =
     begin_pixels (Pulls g.S.CodeBytes.gives g.S.CodeBytes.failed) c.args.source.now c.decode_flag.new.source c.args.shape c.args.kept c.args.place s c.decode_flag.new.learned answers lines window c.decode_flag.new.decoder flag b.start (λ _. c.if-shape.true)
     (subst (λ l. FirstDecoded (source_at (Pulls g.S.CodeBytes.gives g.S.CodeBytes.failed) c.args.source.now answers) (shape_mode c.args.shape) c.args.kept.previous_typical flag (state_of s.place l) (decoder_state c.decode_flag.new.source c.decode_flag.new.decoder c.decode_flag.new.learned)) b.taught (decoded s.place answers b.stands)))
     c.decode_flag.ensures.ok
-
-pub returns-then-not-place-clause-err : goal.returns-then-not-place-clause-err
-returns-then-not-place-clause-err g c =
-    on_err c.decode_flag.result (λ stopped s answers lines window h.
-    let b = h.before_it (not_true c.args.place.is_begun c.if-not-place.true) in
-    (b.start, subst (λ l. FirstStopped (source_at (Pulls g.S.CodeBytes.gives g.S.CodeBytes.failed) c.args.source.now answers) (shape_mode c.args.shape) (state_of s.place l) (decoder_state c.decode_flag.new.source c.decode_flag.new.decoder c.decode_flag.new.learned)) b.taught (stopped s.place answers b.stands)))
-    c.decode_flag.ensures.err
 
 pub returns-else-shape-clause-ok : goal.returns-else-shape-clause-ok
 returns-else-shape-clause-ok g c = λ s answers lines window h.

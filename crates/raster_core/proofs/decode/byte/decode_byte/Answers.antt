@@ -1,13 +1,13 @@
-use Rattle.std.proofs.Common.{◌≡◌, arith, refl, sym, ◌∙◌, subst, false, Ok, Err, ◌*◌, ◌/◌, ◌^◌, ◌<◌}
+use Rattle.std.proofs.Common.{◌≡◌, arith, refl, sym, ◌∙◌, subst, false, Ok, Err, ◌*◌, ◌/◌, ◌^◌}
 use Rattle.qm_core.specs.Source.{Pulls}
 use Rattle.qm_core.specs.Decoder.{has_stopped}
 use Rattle.qm_core.specs.declared.decoder.Stop.{Stop}
 use Rattle.raster_core.specs.Lines.{context_at}
 use Rattle.raster_core.specs.Window.{shape_mode}
 use Rattle.raster_core.specs.Machine.Registers.{AreAt}
-use Rattle.raster_core.proofs.Before.{shift_fits, begins, goes_on, grows}
+use Rattle.raster_core.proofs.Before.{begins, goes_on, grows}
 use Rattle.raster_core.proofs.Alongs.{along_none, along_next, along_stop}
-use Rattle.raster_core.proofs.Joins.{had_not_stopped, has_not_failed, not_both}
+use Rattle.raster_core.proofs.Joins.{had_not_stopped, not_both}
 use Rattle.raster_core.proofs.decode.byte.decode_byte.Goals as goal
 
 pub loop-j-init : goal.loop-j-init
@@ -36,7 +36,7 @@ loop-j-preserved g c =
     let was : has_stopped c.args.decoder.now ≡ false = sym c.loop-j.invariant.going ∙ going in
     record {
       same = c.in-Ok.ensures.stop.2 ∙ c.loop-j.invariant.same;
-      going = has_not_failed {E = Stop} (has_stopped c.next.new.self) (Ok c.in-Ok.pixel) c.in-Ok.pixel c.in-Ok.ensures.stop.1 refl ∙ sym was;
+      going = had_not_stopped {E = Stop} (has_stopped c.next.new.self) (Ok c.in-Ok.pixel) c.in-Ok.pixel c.in-Ok.ensures.stop.1.0 refl ∙ sym was;
       stuck = λ t. absurd (not_both (has_stopped c.args.decoder.now) t was);
       second = goes_on _ _ _ c.loop-j.invariant.second;
       above = goes_on _ _ _ c.loop-j.invariant.above;
@@ -52,9 +52,3 @@ pub returns-clause-pixels : goal.returns-clause-pixels
 returns-clause-pixels g c =
     let e : c.loop-j.j ≡ c.args.n = omega arith in
     (rw (← e) c.loop-j.invariant.along, tt)
-
-pub overflow_mul-second : goal.overflow_mul-second
-overflow_mul-second g c = let h : c.loop-j.second * 2 < 2 ^ 32 = shift_fits _ _ _ c.loop-j.invariant.second_small (omega arith) in omega arith
-
-pub overflow_mul-above : goal.overflow_mul-above
-overflow_mul-above g c = let h : c.loop-j.above * 2 < 2 ^ 32 = shift_fits _ _ _ c.loop-j.invariant.above_small (omega arith) in omega arith

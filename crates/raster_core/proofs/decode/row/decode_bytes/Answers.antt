@@ -1,40 +1,29 @@
-use Rattle.std.proofs.Common.{◌≡◌, ◌+◌, ◌-◌, ◌*◌, ◌%◌, ◌^◌, ◌<◌, length, arith, refl, sym, ◌∙◌, subst, false, slice_index, length-set, Ok}
+use Rattle.std.proofs.Common.{◌≡◌, ◌+◌, ◌-◌, ◌*◌, ◌%◌, ◌^◌, ◌<◌, length, arith, refl, sym, ◌∙◌, false, length-set, Ok}
 use Rattle.std.specs.Prelude.{slice_set}
 use Rattle.std.specs.Int.{div_ceil}
 use Rattle.qm_core.specs.Source.{Pulls}
-use Rattle.qm_core.specs.Decoder.{has_stopped, decoder_state}
+use Rattle.qm_core.specs.Decoder.{has_stopped}
 use Rattle.raster_core.specs.Window.{shape_mode}
-use Rattle.raster_core.specs.Machine.Decoded.{Along, StopsAlong, byte_around}
 use Rattle.raster_core.specs.Machine.Uniform.{colour_of}
 use Rattle.raster_core.specs.declared.place.Pause.{Pause}
-use Rattle.raster_core.proofs.Joins.{had_not_stopped, has_not_failed, not_both}
-use Rattle.raster_core.proofs.RowBytes.{bytes_none, bytes_next, bytes_stop, bytes_all, wrap, whole}
+use Rattle.raster_core.proofs.Joins.{had_not_stopped, not_both}
+use Rattle.raster_core.proofs.RowBytes.{bytes_next, bytes_stop, bytes_all, wrap, whole}
 use Rattle.raster_core.proofs.FilledAlong.{bytes_skipped, kept_along}
 use Rattle.raster_core.proofs.decode.row.decode_bytes.Goals as goal
 
-pub bytes-init : goal.bytes-init
-bytes-init g c = record {
-  same = refl;
-  going = refl;
-  stuck = λ _. (omega (arith, c.requires.whole), refl, refl);
-  left = omega (arith, c.requires.whole, c.requires.part.0);
-  along = bytes_none (Pulls g.S.CodeBytes.gives g.S.CodeBytes.failed) c.args.source.now (shape_mode c.args.shape) c.args.offset c.args.above.now c.args.second.now c.args.place c.args.decoder.now c.args.learned.now
-      c.args.shape.width _ _ _ _ c.args.current.now (omega (arith, c.requires.whole)) (omega (arith, c.requires.part.0)) c.register_at-second_bytes.ensures.is c.register_at-above_bytes.ensures.is;
-}
-
-pub returns-in-Err-clause-err : goal.returns-in-Err-clause-err
-returns-in-Err-clause-err g c =
+pub returns-in-Err-clause-leaves : goal.returns-in-Err-clause-leaves
+returns-in-Err-clause-leaves g c =
     let inside : 8 * c.bytes.i < c.args.shape.width = omega arith in
     let same : c.skip_filled-words.new.decoder ≡ c.bytes.decoder = c.skip_filled-words.ensures.skips.2 (omega (arith, c.if-words-gt0.false)) in
     let along = kept_along (Pulls g.S.CodeBytes.gives g.S.CodeBytes.failed) c.args.source.now c.bytes.source (shape_mode c.args.shape) c.args.offset c.args.above.now c.args.second.now c.args.place c.args.current.now c.args.decoder.now c.args.learned.now
     c.args.shape.width c.bytes.left c.bytes.i c.bytes.second_bytes c.bytes.above_bytes c.bytes.past c.bytes.current c.skip_filled-words.new.current c.bytes.decoder c.skip_filled-words.new.decoder c.bytes.learned
-    same c.skip_filled-words.ensures.kept c.bytes.invariant.along in
-    bytes_stop (Pulls g.S.CodeBytes.gives g.S.CodeBytes.failed) c.args.source.now c.bytes.source c.decode_step.new.source (shape_mode c.args.shape) c.args.offset c.args.above.now c.args.second.now c.args.place c.args.current.now c.args.decoder.now c.args.learned.now
-    c.args.shape.width c.bytes.left c.bytes.i c.bytes.second_bytes c.bytes.above_bytes c.bytes.past 8 c.skip_filled-words.new.current c.skip_filled-words.new.decoder c.decode_step.new.decoder c.bytes.learned c.decode_step.new.learned c.in-Err.pause c.within.result
-    c.bytes.invariant.left inside (omega arith) c.within.ensures.begun c.within.ensures.done c.within.ensures.past along
-    (subst (λ z. StopsAlong (Pulls g.S.CodeBytes.gives g.S.CodeBytes.failed) (byte_around (shape_mode c.args.shape) c.args.offset (c.bytes.second_bytes % 65536 * 256 + z) (c.bytes.above_bytes % 65536 * 256 + slice_index c.args.above.now (c.bytes.i + 1)) c.bytes.past) (decoder_state c.bytes.source c.skip_filled-words.new.decoder c.bytes.learned) 8 c.in-Err.pause (decoder_state c.decode_step.new.source c.decode_step.new.decoder c.decode_step.new.learned)) c.byte_at-in-bytes.ensures.byte
-    (subst (λ z. StopsAlong (Pulls g.S.CodeBytes.gives g.S.CodeBytes.failed) (byte_around (shape_mode c.args.shape) c.args.offset (c.bytes.second_bytes % 65536 * 256 + c.byte_at-in-bytes.result) (c.bytes.above_bytes % 65536 * 256 + z) c.bytes.past) (decoder_state c.bytes.source c.skip_filled-words.new.decoder c.bytes.learned) 8 c.in-Err.pause (decoder_state c.decode_step.new.source c.decode_step.new.decoder c.decode_step.new.learned)) c.byte_at.ensures.byte
-    c.in-Err.ensures.pixels.1))
+    same c.skip_filled-words.ensures.kept c.bytes.invariant.along in (
+      tt,
+      bytes_stop (Pulls g.S.CodeBytes.gives g.S.CodeBytes.failed) c.args.source.now c.bytes.source c.decode_step.new.source (shape_mode c.args.shape) c.args.offset c.args.above.now c.args.second.now c.args.place c.args.current.now c.args.decoder.now c.args.learned.now
+          c.args.shape.width c.bytes.left c.bytes.i c.bytes.second_bytes c.bytes.above_bytes c.bytes.past 8 c.skip_filled-words.new.current c.skip_filled-words.new.decoder c.decode_step.new.decoder c.bytes.learned c.decode_step.new.learned c.in-Err.pause c.within.result
+          c.bytes.invariant.left inside (omega arith) c.within.ensures.begun c.within.ensures.done c.within.ensures.past along
+          (rw (← c.byte_at-in-bytes.ensures.byte, ← c.byte_at.ensures.byte) c.in-Err.ensures.pixels.1),
+    )
 
 pub bytes-preserved-then-words-gt0 : goal.bytes-preserved-then-words-gt0
 bytes-preserved-then-words-gt0 g c =
@@ -64,47 +53,47 @@ bytes-preserved g c =
     let was : has_stopped c.args.decoder.now ≡ false = sym c.bytes.invariant.going ∙ (sym c.skip_filled-words.ensures.skips.0 ∙ going) in
     record {
       same = c.in-Ok.ensures.stop.2 ∙ c.bytes.invariant.same;
-      going = has_not_failed {E = Pause} (has_stopped c.decode_step.new.decoder) (Ok c.in-Ok.past) c.in-Ok.past c.in-Ok.ensures.stop.1 (refl) ∙ sym was;
+      going = had_not_stopped {E = Pause} (has_stopped c.decode_step.new.decoder) (Ok c.in-Ok.past) c.in-Ok.past c.in-Ok.ensures.stop.1.0 (refl) ∙ sym was;
       stuck = λ t. absurd (not_both (has_stopped c.args.decoder.now) t was);
       left = omega arith;
       along = rw (c.byte_at.ensures.byte, c.byte_at-in-bytes.ensures.byte)
           (bytes_next (Pulls g.S.CodeBytes.gives g.S.CodeBytes.failed) c.args.source.now c.bytes.source c.decode_step.new.source (shape_mode c.args.shape) c.args.offset c.args.above.now c.args.second.now c.args.place c.args.current.now c.args.decoder.now c.args.learned.now
           c.args.shape.width c.bytes.left c.bytes.i c.bytes.second_bytes c.bytes.above_bytes c.bytes.past c.in-Ok.past 8 (c.in-Ok.past % 256) c.skip_filled-words.new.current c.skip_filled-words.new.decoder c.decode_step.new.decoder c.bytes.learned c.decode_step.new.learned
           c.bytes.invariant.left inside (omega arith) (omega arith) (whole c.in-Ok.past) along
-          (subst (λ z. Along (Pulls g.S.CodeBytes.gives g.S.CodeBytes.failed) (byte_around (shape_mode c.args.shape) c.args.offset (c.bytes.second_bytes % 65536 * 256 + z) (c.bytes.above_bytes % 65536 * 256 + slice_index c.args.above.now (c.bytes.i + 1)) c.bytes.past) (decoder_state c.bytes.source c.skip_filled-words.new.decoder c.bytes.learned) 8 c.in-Ok.past (decoder_state c.decode_step.new.source c.decode_step.new.decoder c.decode_step.new.learned)) c.byte_at-in-bytes.ensures.byte
-          (subst (λ z. Along (Pulls g.S.CodeBytes.gives g.S.CodeBytes.failed) (byte_around (shape_mode c.args.shape) c.args.offset (c.bytes.second_bytes % 65536 * 256 + c.byte_at-in-bytes.result) (c.bytes.above_bytes % 65536 * 256 + z) c.bytes.past) (decoder_state c.bytes.source c.skip_filled-words.new.decoder c.bytes.learned) 8 c.in-Ok.past (decoder_state c.decode_step.new.source c.decode_step.new.decoder c.decode_step.new.learned)) c.byte_at.ensures.byte
-          c.in-Ok.ensures.pixels.0)));
+          (rw (← c.byte_at-in-bytes.ensures.byte, ← c.byte_at.ensures.byte) c.in-Ok.ensures.pixels.0));
     }
 
-pub returns-then-left-eq0-clause-ok : goal.returns-then-left-eq0-clause-ok
-returns-then-left-eq0-clause-ok g c =
-    let long : length c.bytes.current ≡ div_ceil c.args.shape.width 8 = c.bytes.auto.current ∙ c.requires.part.1 in
-    bytes_all (Pulls g.S.CodeBytes.gives g.S.CodeBytes.failed) c.args.source.now c.bytes.source (shape_mode c.args.shape) c.args.offset c.args.above.now c.args.second.now c.args.place c.args.current.now c.args.decoder.now c.args.learned.now
-    c.args.shape.width c.bytes.left c.bytes.i c.bytes.second_bytes c.bytes.above_bytes c.bytes.past c.bytes.current c.bytes.decoder c.bytes.learned
-    c.bytes.invariant.left long (omega (arith, long, c.bytes.invariant.left, c.if-left-eq0.true)) c.bytes.invariant.along
+pub returns-then-left-eq0-clause-leaves : goal.returns-then-left-eq0-clause-leaves
+returns-then-left-eq0-clause-leaves g c =
+    let long : length c.bytes.current ≡ div_ceil c.args.shape.width 8 = c.bytes.auto.current ∙ c.requires.part.1 in (
+      bytes_all (Pulls g.S.CodeBytes.gives g.S.CodeBytes.failed) c.args.source.now c.bytes.source (shape_mode c.args.shape) c.args.offset c.args.above.now c.args.second.now c.args.place c.args.current.now c.args.decoder.now c.args.learned.now
+          c.args.shape.width c.bytes.left c.bytes.i c.bytes.second_bytes c.bytes.above_bytes c.bytes.past c.bytes.current c.bytes.decoder c.bytes.learned
+          c.bytes.invariant.left long (omega (arith, long, c.bytes.invariant.left, c.if-left-eq0.true)) c.bytes.invariant.along,
+      tt,
+    )
 
-pub returns-in-Err-decode_byte-clause-err : goal.returns-in-Err-decode_byte-clause-err
-returns-in-Err-decode_byte-clause-err g c =
-    let inside : 8 * c.bytes.i < c.args.shape.width = omega (arith, c.bytes.invariant.left, c.if-left-eq0.false) in
-    bytes_stop (Pulls g.S.CodeBytes.gives g.S.CodeBytes.failed) c.args.source.now c.bytes.source c.decode_byte.new.source (shape_mode c.args.shape) c.args.offset c.args.above.now c.args.second.now c.args.place c.args.current.now c.args.decoder.now c.args.learned.now
-    c.args.shape.width c.bytes.left c.bytes.i c.bytes.second_bytes c.bytes.above_bytes c.bytes.past c.bytes.left c.bytes.current c.bytes.decoder c.decode_byte.new.decoder c.bytes.learned c.decode_byte.new.learned c.in-Err-decode_byte.pause c.within-in-Err-decode_byte.result
-    c.bytes.invariant.left inside (omega arith) c.within-in-Err-decode_byte.ensures.begun c.within-in-Err-decode_byte.ensures.done c.within-in-Err-decode_byte.ensures.past c.bytes.invariant.along
-    (subst (λ z. StopsAlong (Pulls g.S.CodeBytes.gives g.S.CodeBytes.failed) (byte_around (shape_mode c.args.shape) c.args.offset (c.bytes.second_bytes % 65536 * 256 + z) (c.bytes.above_bytes % 65536 * 256 + slice_index c.args.above.now (c.bytes.i + 1)) c.bytes.past) (decoder_state c.bytes.source c.bytes.decoder c.bytes.learned) c.bytes.left c.in-Err-decode_byte.pause (decoder_state c.decode_byte.new.source c.decode_byte.new.decoder c.decode_byte.new.learned)) c.byte_at-3.ensures.byte
-    (subst (λ z. StopsAlong (Pulls g.S.CodeBytes.gives g.S.CodeBytes.failed) (byte_around (shape_mode c.args.shape) c.args.offset (c.bytes.second_bytes % 65536 * 256 + c.byte_at-3.result) (c.bytes.above_bytes % 65536 * 256 + z) c.bytes.past) (decoder_state c.bytes.source c.bytes.decoder c.bytes.learned) c.bytes.left c.in-Err-decode_byte.pause (decoder_state c.decode_byte.new.source c.decode_byte.new.decoder c.decode_byte.new.learned)) c.byte_at-2.ensures.byte
-    c.in-Err-decode_byte.ensures.pixels.1))
+pub returns-in-Err-decode_byte-clause-leaves : goal.returns-in-Err-decode_byte-clause-leaves
+returns-in-Err-decode_byte-clause-leaves g c =
+    let inside : 8 * c.bytes.i < c.args.shape.width = omega (arith, c.bytes.invariant.left, c.if-left-eq0.false) in (
+      tt,
+      bytes_stop (Pulls g.S.CodeBytes.gives g.S.CodeBytes.failed) c.args.source.now c.bytes.source c.decode_byte.new.source (shape_mode c.args.shape) c.args.offset c.args.above.now c.args.second.now c.args.place c.args.current.now c.args.decoder.now c.args.learned.now
+          c.args.shape.width c.bytes.left c.bytes.i c.bytes.second_bytes c.bytes.above_bytes c.bytes.past c.bytes.left c.bytes.current c.bytes.decoder c.decode_byte.new.decoder c.bytes.learned c.decode_byte.new.learned c.in-Err-decode_byte.pause c.within-in-Err-decode_byte.result
+          c.bytes.invariant.left inside (omega arith) c.within-in-Err-decode_byte.ensures.begun c.within-in-Err-decode_byte.ensures.done c.within-in-Err-decode_byte.ensures.past c.bytes.invariant.along
+          (rw (← c.byte_at-3.ensures.byte, ← c.byte_at-2.ensures.byte) c.in-Err-decode_byte.ensures.pixels.1),
+    )
 
-pub returns-clause-ok : goal.returns-clause-ok
-returns-clause-ok g c =
+pub returns-clause-leaves : goal.returns-clause-leaves
+returns-clause-leaves g c =
     let inside : 8 * c.bytes.i < c.args.shape.width = omega (arith, c.bytes.invariant.left, c.if-left-eq0.false) in
     let wide : length c.bytes.current ≡ div_ceil c.args.shape.width 8 = c.bytes.auto.current ∙ c.requires.part.1 in
     let byte = c.in-Ok-decode_byte.last % 256 * 2 ^ (8 - c.bytes.left) % 4294967296 % 256 in
-    let long : length (slice_set c.bytes.current c.bytes.i byte) ≡ div_ceil c.args.shape.width 8 = length-set c.bytes.current c.bytes.i byte ∙ wide in
-    bytes_all (Pulls g.S.CodeBytes.gives g.S.CodeBytes.failed) c.args.source.now c.decode_byte.new.source (shape_mode c.args.shape) c.args.offset c.args.above.now c.args.second.now c.args.place c.args.current.now c.args.decoder.now c.args.learned.now
-    c.args.shape.width (c.bytes.left - c.bytes.left) (c.bytes.i + 1) _ _ c.in-Ok-decode_byte.last (slice_set c.bytes.current c.bytes.i byte) c.decode_byte.new.decoder c.decode_byte.new.learned
-    (omega (arith, c.bytes.invariant.left)) long (omega (arith, long, c.bytes.invariant.left, c.bytes-test.false))
-    (bytes_next (Pulls g.S.CodeBytes.gives g.S.CodeBytes.failed) c.args.source.now c.bytes.source c.decode_byte.new.source (shape_mode c.args.shape) c.args.offset c.args.above.now c.args.second.now c.args.place c.args.current.now c.args.decoder.now c.args.learned.now
-    c.args.shape.width c.bytes.left c.bytes.i c.bytes.second_bytes c.bytes.above_bytes c.bytes.past c.in-Ok-decode_byte.last c.bytes.left byte c.bytes.current c.bytes.decoder c.decode_byte.new.decoder c.bytes.learned c.decode_byte.new.learned
-    c.bytes.invariant.left inside (omega (arith, wide, inside)) (omega arith) (wrap (c.in-Ok-decode_byte.last % 256 * 2 ^ (8 - c.bytes.left))) c.bytes.invariant.along
-    (subst (λ z. Along (Pulls g.S.CodeBytes.gives g.S.CodeBytes.failed) (byte_around (shape_mode c.args.shape) c.args.offset (c.bytes.second_bytes % 65536 * 256 + z) (c.bytes.above_bytes % 65536 * 256 + slice_index c.args.above.now (c.bytes.i + 1)) c.bytes.past) (decoder_state c.bytes.source c.bytes.decoder c.bytes.learned) c.bytes.left c.in-Ok-decode_byte.last (decoder_state c.decode_byte.new.source c.decode_byte.new.decoder c.decode_byte.new.learned)) c.byte_at-3.ensures.byte
-    (subst (λ z. Along (Pulls g.S.CodeBytes.gives g.S.CodeBytes.failed) (byte_around (shape_mode c.args.shape) c.args.offset (c.bytes.second_bytes % 65536 * 256 + c.byte_at-3.result) (c.bytes.above_bytes % 65536 * 256 + z) c.bytes.past) (decoder_state c.bytes.source c.bytes.decoder c.bytes.learned) c.bytes.left c.in-Ok-decode_byte.last (decoder_state c.decode_byte.new.source c.decode_byte.new.decoder c.decode_byte.new.learned)) c.byte_at-2.ensures.byte
-    c.in-Ok-decode_byte.ensures.pixels.0)))
+    let long : length (slice_set c.bytes.current c.bytes.i byte) ≡ div_ceil c.args.shape.width 8 = length-set c.bytes.current c.bytes.i byte ∙ wide in (
+      bytes_all (Pulls g.S.CodeBytes.gives g.S.CodeBytes.failed) c.args.source.now c.decode_byte.new.source (shape_mode c.args.shape) c.args.offset c.args.above.now c.args.second.now c.args.place c.args.current.now c.args.decoder.now c.args.learned.now
+          c.args.shape.width (c.bytes.left - c.bytes.left) (c.bytes.i + 1) _ _ c.in-Ok-decode_byte.last (slice_set c.bytes.current c.bytes.i byte) c.decode_byte.new.decoder c.decode_byte.new.learned
+          (omega (arith, c.bytes.invariant.left)) long (omega (arith, long, c.bytes.invariant.left, c.bytes-test.false))
+          (bytes_next (Pulls g.S.CodeBytes.gives g.S.CodeBytes.failed) c.args.source.now c.bytes.source c.decode_byte.new.source (shape_mode c.args.shape) c.args.offset c.args.above.now c.args.second.now c.args.place c.args.current.now c.args.decoder.now c.args.learned.now
+          c.args.shape.width c.bytes.left c.bytes.i c.bytes.second_bytes c.bytes.above_bytes c.bytes.past c.in-Ok-decode_byte.last c.bytes.left byte c.bytes.current c.bytes.decoder c.decode_byte.new.decoder c.bytes.learned c.decode_byte.new.learned
+          c.bytes.invariant.left inside (omega (arith, wide, inside)) (omega arith) (wrap (c.in-Ok-decode_byte.last % 256 * 2 ^ (8 - c.bytes.left))) c.bytes.invariant.along
+          (rw (← c.byte_at-3.ensures.byte, ← c.byte_at-2.ensures.byte) c.in-Ok-decode_byte.ensures.pixels.0)),
+      tt,
+    )

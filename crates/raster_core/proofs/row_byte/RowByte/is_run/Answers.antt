@@ -1,4 +1,4 @@
-use Rattle.std.proofs.Common.{◌<◌, arith, nat_eq, refl, sym}
+use Rattle.std.proofs.Common.{◌<◌, arith, nat_eq, sym}
 use Rattle.raster_core.proofs.HeldRuns.{byte_run}
 use Rattle.raster_core.proofs.row_byte.RowByte.is_run.Goals as goal
 
@@ -6,6 +6,3 @@ pub returns-clause-run : goal.returns-clause-run
 returns-clause-run g c = λ is.
     let small : c.args.self.byte < 256 = omega arith in
     sym (byte_run c.args.self (nat_eq c.args.self.byte 255) small (c.is_run.ensures.byte is) (c.is_run.ensures.uniform is))
-
-pub returns-clause-all : goal.returns-clause-all
-returns-clause-all g c = λ is. c.is_run.ensures.all refl is.byte_is is.around_is

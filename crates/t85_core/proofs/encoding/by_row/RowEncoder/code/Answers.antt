@@ -1,5 +1,5 @@
 use Rattle.std.specs.Prelude.{OnErr, List, Bool, ◌++◌, ◌∷◌, []}
-use Rattle.std.proofs.Common.{refl, sym, subst, arith}
+use Rattle.std.proofs.Common.{refl, sym, subst, arith, ◌∙◌}
 use Rattle.raster_core.specs.Packed.{Held}
 use Rattle.raster_core.specs.Window.{held}
 use Rattle.t85_core.specs.Steps.EncodeRows.{IsCountedTo}
@@ -12,7 +12,6 @@ use Rattle.t85_core.proofs.Walks.InfoEnds.{exit_all}
 use Rattle.t85_core.proofs.Encodings.RowSteps.{events_more, row_coded, row_cut, lines_are}
 use Rattle.t85_core.specs.Steps.MostBytes.{CodesFew}
 use Rattle.t85_core.proofs.Encodings.FewAppended.{row_put_few, row_cut_few}
-use Rattle.std.proofs.Common.{◌∙◌}
 use Rattle.t85_core.proofs.encoding.by_row.RowEncoder.code.Goals as goal
 
 pub returns-in_err-code_row-clause-cut : goal.returns-in_err-code_row-clause-cut

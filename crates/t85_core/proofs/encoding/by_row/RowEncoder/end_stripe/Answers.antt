@@ -1,7 +1,7 @@
-use Rattle.std.specs.Prelude.{OnErr, List, Bool, None, []}
+use Rattle.std.specs.Prelude.{OnErr, List, Bool, None, [], ◌+◌, ◌*◌}
 use Rattle.std.proofs.Common.{refl, sym, subst}
 use Rattle.qm_core.specs.Place.{start}
-use Rattle.qm_core.specs.Encoder.{EncoderIsAt}
+use Rattle.qm_core.specs.Encoder.{EncoderIsAt, waiting_bytes}
 use Rattle.raster_core.specs.Window.{held}
 use Rattle.t85_core.specs.Steps.State.{first_row_start, next_stripe_start}
 use Rattle.t85_core.specs.Steps.Written.{row_start_in}
@@ -13,9 +13,7 @@ use Rattle.t85_core.proofs.Walks.InfoEnds.{exit_all}
 use Rattle.t85_core.proofs.Bytes.Ends.{always, always_err}
 use Rattle.t85_core.proofs.Bytes.Streams.{Appends-keeps, beginning_all}
 use Rattle.t85_core.proofs.Encodings.RowSteps.{stripe_ended, stripe_cut}
-use Rattle.qm_core.specs.Encoder.{waiting_bytes}
 use Rattle.t85_core.proofs.Encodings.FewAppended.{code_ended_few, kept_few}
-use Rattle.std.specs.Prelude.{◌+◌, ◌*◌}
 use Rattle.t85_core.proofs.encoding.by_row.RowEncoder.end_stripe.Goals as goal
 
 pub returns-in_err-end_entity-clause-cut : goal.returns-in_err-end_entity-clause-cut

@@ -5,7 +5,7 @@ use Rattle.t85_core.specs.Options.{fields_of}
 use Rattle.t85_core.specs.Lent.{walk_view}
 use Rattle.t85_core.proofs.Decodings.ImagePut.{in_use}
 use Rattle.t85_core.proofs.Decodings.PieceHead.{head_enters, head_cut, length_breaks, counted_of}
-use Rattle.t85_core.proofs.Decodings.PieceSteps.{on_same, stays, at_stage}
+use Rattle.t85_core.proofs.Decodings.PieceSteps.{on_same, walk_at, stays, at_stage, step_ok}
 use Rattle.t85_core.proofs.Decodings.PieceFew.{comment_few}
 use Rattle.t85_core.proofs.pieces.walk.Walk.enter_comment.Goals as goal
 
@@ -13,20 +13,7 @@ pub returns-in-Ok-clause-step : goal.returns-in-Ok-clause-step
 returns-in-Ok-clause-step c =
     let rest : c.split_at.result.1.now ≡ c.requires.comment.0 = c.split_at.ensures.back ∙ ap (drop 2) c.requires.comment.1 in
     let taken : c.args.piece.now.rest.now ≡ (255 ∷ 7 ∷ big_bytes 4 c.in-Ok.len) ++ c.number.new.stream.rest.now = c.requires.comment.1 ∙ ap (λ (z : List ℕ). 255 ∷ 7 ∷ z) (sym rest ∙ c.in-Ok.ensures.ok) in
-    λ rows learned. record {
-      ok = λ text out s. on_same (fields_of c.args.header.now) c.args.height _ text out c.args.piece.now.rest.now c.number.new.stream.rest.now (255 ∷ 7 ∷ big_bytes 4 c.in-Ok.len) taken (record {
-        left_is = s.left_is;
-        width_is = s.width_is;
-        offset_is = s.offset_is;
-        at_is = s.at_is;
-        code_is = s.code_is;
-        behind = s.behind;
-        within = s.within;
-        stands = head_enters (at_stage c.requires.stage s) c.in-Ok.len (omega arith);
-      });
-      err = tt;
-      more = λ e. absurd (let bot : ⊥ = cc in bot);
-    }
+    λ rows learned. step_ok (λ text out s. on_same (fields_of c.args.header.now) c.args.height _ text out c.args.piece.now.rest.now c.number.new.stream.rest.now (255 ∷ 7 ∷ big_bytes 4 c.in-Ok.len) taken (walk_at s s.at_is s.code_is s.behind (head_enters (at_stage c.requires.stage s) c.in-Ok.len (omega arith))))
 
 pub returns-in-Err-clause-step : goal.returns-in-Err-clause-step
 returns-in-Err-clause-step c =

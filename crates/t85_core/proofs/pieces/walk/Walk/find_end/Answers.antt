@@ -1,9 +1,9 @@
-use Rattle.std.proofs.Common.{◌≡◌, ◌++◌, None, Some, Err, inr, refl, sym, ap, subst, arith}
+use Rattle.std.proofs.Common.{◌≡◌, None, Some, Err, inr, refl, sym, ap, subst, arith}
 use Rattle.std.specs.Prelude.{IfSome}
 use Rattle.t85_core.specs.Options.{fields_of}
 use Rattle.t85_core.specs.Lent.{walk_view}
 use Rattle.t85_core.proofs.Decodings.ImagePut.{in_use}
-use Rattle.t85_core.proofs.Decodings.PieceSteps.{on_same, at_stage, put_stage, step_exit, other_exit}
+use Rattle.t85_core.proofs.Decodings.PieceSteps.{on_same, walk_at, at_stage, put_stage, step_exit, other_exit, step_ok}
 use Rattle.t85_core.proofs.Decodings.PieceWalk.{ahead_is, behind_is, marker_off, code_kept, code_marked}
 use Rattle.t85_core.specs.declared.segments.Code.TheVariants as code
 use Rattle.t85_core.specs.Steps.Segments.{RestFault}
@@ -21,16 +21,7 @@ returns-in_err-reset-clause-step c =
       (λ text out s.
           let k = at_stage c.requires.rows.0 s in
           let m = c.in_err-reset.ensures.more (ap Err e) k.read.answers k.extra k.code k.code_is in
-          on_same (fields_of c.args.header.now) c.args.height _ text out c.args.piece.now.rest.now c.find_marker.new.piece.rest.now m.given m.taken (record {
-            left_is = s.left_is;
-            width_is = s.width_is;
-            offset_is = s.offset_is;
-            at_is = s.at_is;
-            code_is = ahead_is c.find_marker.new.first c.args.self.now.marker k.read.answers m.extra _ m.code_is;
-            behind = behind_is c.find_marker.new.first c.args.self.now.marker k.read.answers m.extra _ m.code_is;
-            within = s.within;
-            stands = put_stage (fields_of c.args.header.now) c.args.height (walk_view (record c.args.self.now { first = c.find_marker.new.first }) rows learned) (text ++ m.given) out _ c.requires.rows.0 (code_kept k (rows_all c.requires.rows.0 s c.requires.rows.1) c.args.piece.now.rest.now c.find_marker.new.piece.rest.now m);
-          })),
+          on_same (fields_of c.args.header.now) c.args.height _ text out c.args.piece.now.rest.now c.find_marker.new.piece.rest.now m.given m.taken (walk_at s s.at_is (ahead_is c.find_marker.new.first c.args.self.now.marker k.read.answers m.extra _ m.code_is) (behind_is c.find_marker.new.first c.args.self.now.marker k.read.answers m.extra _ m.code_is) (put_stage _ _ _ _ _ _ c.requires.rows.0 (code_kept k (rows_all c.requires.rows.0 s c.requires.rows.1) c.args.piece.now.rest.now c.find_marker.new.piece.rest.now m)))),
       (let few = c.in_err-reset.ensures.few (ap Err e) in omega (arith, few)),
     ))
 
@@ -42,23 +33,10 @@ returns-in_err-reset-clause-other c = λ rows learned some. other_exit c.from_re
     never_changed (fields_of c.args.header.now) before_all m.breaks.rest (subst (RestFault m.breaks.rest) e m.breaks.broken))
 
 pub returns-clause-step : goal.returns-clause-step
-returns-clause-step c = λ rows learned. record {
-  ok = λ text out s.
-      let k = at_stage c.requires.rows.0 s in
-      let m = c.in_ok-reset.ensures.ok k.read.answers k.extra k.code k.code_is in
-      on_same (fields_of c.args.header.now) c.args.height _ text out c.args.piece.now.rest.now c.find_marker.new.piece.rest.now m.given m.taken (record {
-        left_is = s.left_is;
-        width_is = s.width_is;
-        offset_is = s.offset_is;
-        at_is = s.at_is;
-        code_is = tt;
-        behind = subst (λ z. IfSome z (λ _. Some (code.Marker c.in_ok-reset.reset) ≡ None)) (sym c.requires.unmarked) tt;
-        within = s.within;
-        stands = put_stage (fields_of c.args.header.now) c.args.height (walk_view (record c.args.self.now { first = Some (code.Marker c.in_ok-reset.reset) }) rows learned) (text ++ m.given) out _ c.requires.rows.0 (code_marked k (rows_all c.requires.rows.0 s c.requires.rows.1) c.requires.unmarked c.args.piece.now.rest.now c.find_marker.new.piece.rest.now c.in_ok-reset.reset m);
-      });
-  err = tt;
-  more = λ e. absurd (let bot : ⊥ = cc in bot);
-}
+returns-clause-step c = λ rows learned. step_ok (λ text out s.
+    let k = at_stage c.requires.rows.0 s in
+    let m = c.in_ok-reset.ensures.ok k.read.answers k.extra k.code k.code_is in
+    on_same (fields_of c.args.header.now) c.args.height _ text out c.args.piece.now.rest.now c.find_marker.new.piece.rest.now m.given m.taken (walk_at s s.at_is tt (subst (λ z. IfSome z (λ _. Some (code.Marker c.in_ok-reset.reset) ≡ None)) (sym c.requires.unmarked) tt) (put_stage _ _ _ _ _ _ c.requires.rows.0 (code_marked k (rows_all c.requires.rows.0 s c.requires.rows.1) c.requires.unmarked c.args.piece.now.rest.now c.find_marker.new.piece.rest.now c.in_ok-reset.reset m))))
 
 pub returns-clause-marked : goal.returns-clause-marked
 returns-clause-marked c = (c.in_ok-reset.reset, inr refl)

@@ -7,8 +7,7 @@ use Rattle.t85_core.proofs.Decodings.PieceFits.{rows_all}
 use Rattle.raster_core.specs.Window.{held}
 use Rattle.t85_core.specs.Options.{fields_of}
 use Rattle.t85_core.proofs.Decodings.ImagePut.{in_use}
-use Rattle.t85_core.proofs.Decodings.PieceSteps.{kept_wide}
-use Rattle.t85_core.proofs.Decodings.PieceSteps.{on_same, at_stage, put_stage, step_exit, last_stripe, next_stripe, offset_low, walk_few}
+use Rattle.t85_core.proofs.Decodings.PieceSteps.{kept_wide, on_same, walk_at, at_stage, put_stage, step_exit, last_stripe, next_stripe, offset_low, walk_few, step_ok}
 use Rattle.t85_core.proofs.Decodings.PieceWalk.{ahead_is, behind_is, marker_off, code_kept, whole, stripe_last, stripe_on}
 use Rattle.t85_core.proofs.pieces.walk.Walk.finish_stripe.Goals as goal
 
@@ -22,72 +21,55 @@ returns-in_err-reset-clause-step c =
       (λ text out s.
           let k = at_stage c.requires.rows.0 s in
           let m = c.in_err-reset.ensures.more (ap Err e) k.read.answers k.extra k.code k.code_is in
-          on_same (fields_of c.args.header.now) c.args.height _ text out c.args.piece.now.rest.now c.find_marker.new.piece.rest.now m.given m.taken (record {
-            left_is = s.left_is;
-            width_is = s.width_is;
-            offset_is = s.offset_is;
-            at_is = s.at_is;
-            code_is = ahead_is c.find_marker.new.first c.args.self.now.marker k.read.answers m.extra _ m.code_is;
-            behind = behind_is c.find_marker.new.first c.args.self.now.marker k.read.answers m.extra _ m.code_is;
-            within = s.within;
-            stands = put_stage (fields_of c.args.header.now) c.args.height (walk_over (record c.args.self.now { first = c.find_marker.new.first }) c.args.window.now c.args.learned.now) (text ++ m.given) out _ c.requires.rows.0 (code_kept k (rows_all c.requires.rows.0 s c.requires.rows.1) c.args.piece.now.rest.now c.find_marker.new.piece.rest.now m);
-          })),
+          on_same (fields_of c.args.header.now) c.args.height _ text out c.args.piece.now.rest.now c.find_marker.new.piece.rest.now m.given m.taken (walk_at s s.at_is (ahead_is c.find_marker.new.first c.args.self.now.marker k.read.answers m.extra _ m.code_is) (behind_is c.find_marker.new.first c.args.self.now.marker k.read.answers m.extra _ m.code_is) (put_stage _ _ _ _ _ _ c.requires.rows.0 (code_kept k (rows_all c.requires.rows.0 s c.requires.rows.1) c.args.piece.now.rest.now c.find_marker.new.piece.rest.now m)))),
       (let few = c.in_err-reset.ensures.few (ap Err e) in omega (arith, few)),
     ))
 
 pub returns-then-self-eq0-clause-step : goal.returns-then-self-eq0-clause-step
-returns-then-self-eq0-clause-step c = record {
-  ok = λ text out s.
-      let k = at_stage c.requires.rows.0 s in
-      let m = c.in_ok-reset.ensures.ok k.read.answers k.extra k.code k.code_is in
-      let next = kept_wide (held c.args.window.now).width (fields_of c.args.header.now).xd c.in_ok-reset.reset (carried_by c.args.window.now c.args.self.now.kept c.args.learned.now) (carried_by c.next_stripe.new.window c.next_stripe.new.kept c.next_stripe.new.learned) s.width_is c.next_stripe.ensures.next k.read.last k.read.is_carried in
-      let left : c.args.self.now.left ≡ c.args.height - c.args.self.now.entities * c.args.header.now.l0 = s.left_is in
-      let times : (c.args.self.now.entities + 1) * c.args.header.now.l0 ≡ c.args.self.now.entities * c.args.header.now.l0 + c.args.header.now.l0 = omega arith in
-      let none : c.args.self.now.left - c.min.result ≡ 0 = c.if-self-eq0.true in
-      let min_is = c.min.ensures in
-      let last = last_stripe c.args.height c.args.header.now.l0 c.args.self.now.entities c.args.header.now.some_rows k.head.fewer (omega (arith, left, times, none, min_is)) in
-      let few = walk_few (fields_of c.args.header.now) c.args.height (walk_over c.args.self.now c.args.window.now c.args.learned.now) text out c.args.header.now.some_rows (inl c.requires.rows.0) s in
-      let one : c.saturating_add-self.result ≡ c.args.self.now.entities + 1 = (let most = c.ranges.height.fits in let sum = c.saturating_add-self.ensures in omega (arith, few, most, sum)) in
-      on_same (fields_of c.args.header.now) c.args.height _ text out c.args.piece.now.rest.now c.find_marker.new.piece.rest.now m.given m.taken (subst (λ z. WalkStands (sized (fields_of c.args.header.now) c.args.height) (walk_over (record c.args.self.now { kept = c.next_stripe.new.kept; entities = z; left = c.args.self.now.left - c.min.result; at = None; first = None; marker = None; stage = stage.Done }) c.next_stripe.new.window c.next_stripe.new.learned) (text ++ m.given) out) (sym one) (record {
-        left_is = omega (arith, left, times, min_is);
-        width_is = c.next_stripe.ensures.window.0 ∙ s.width_is;
-        offset_is = offset_low c.in_ok-reset.reset _ _ s.offset_is c.next_stripe.ensures.offset;
-        at_is = tt;
-        code_is = tt;
-        behind = tt;
-        within = s.within;
-        stands = stripe_last k c.coder_laws.ensures (in_use c.args.header.now c.args.height c.requires.height.0 c.requires.height.1) (rows_all c.requires.rows.0 s c.requires.rows.1) c.args.piece.now.rest.now c.find_marker.new.piece.rest.now c.in_ok-reset.reset m (carried_by c.next_stripe.new.window c.next_stripe.new.kept c.next_stripe.new.learned) next last;
-      }));
-  err = tt;
-  more = λ e. absurd (let bot : ⊥ = cc in bot);
-}
+returns-then-self-eq0-clause-step c = step_ok (λ text out s.
+    let k = at_stage c.requires.rows.0 s in
+    let m = c.in_ok-reset.ensures.ok k.read.answers k.extra k.code k.code_is in
+    let next = kept_wide (held c.args.window.now).width (fields_of c.args.header.now).xd c.in_ok-reset.reset (carried_by c.args.window.now c.args.self.now.kept c.args.learned.now) (carried_by c.next_stripe.new.window c.next_stripe.new.kept c.next_stripe.new.learned) s.width_is c.next_stripe.ensures.next k.read.last k.read.is_carried in
+    let left : c.args.self.now.left ≡ c.args.height - c.args.self.now.entities * c.args.header.now.l0 = s.left_is in
+    let times : (c.args.self.now.entities + 1) * c.args.header.now.l0 ≡ c.args.self.now.entities * c.args.header.now.l0 + c.args.header.now.l0 = omega arith in
+    let none : c.args.self.now.left - c.min.result ≡ 0 = c.if-self-eq0.true in
+    let min_is = c.min.ensures in
+    let last = last_stripe c.args.height c.args.header.now.l0 c.args.self.now.entities c.args.header.now.some_rows k.head.fewer (omega (arith, left, times, none, min_is)) in
+    let few = walk_few (fields_of c.args.header.now) c.args.height (walk_over c.args.self.now c.args.window.now c.args.learned.now) text out c.args.header.now.some_rows (inl c.requires.rows.0) s in
+    let one : c.saturating_add-self.result ≡ c.args.self.now.entities + 1 = (let most = c.ranges.height.fits in let sum = c.saturating_add-self.ensures in omega (arith, few, most, sum)) in
+    on_same (fields_of c.args.header.now) c.args.height _ text out c.args.piece.now.rest.now c.find_marker.new.piece.rest.now m.given m.taken (subst (λ z. WalkStands (sized (fields_of c.args.header.now) c.args.height) (walk_over (record c.args.self.now { kept = c.next_stripe.new.kept; entities = z; left = c.args.self.now.left - c.min.result; at = None; first = None; marker = None; stage = stage.Done }) c.next_stripe.new.window c.next_stripe.new.learned) (text ++ m.given) out) (sym one) (record {
+      left_is = omega (arith, left, times, min_is);
+      width_is = c.next_stripe.ensures.window.0 ∙ s.width_is;
+      offset_is = offset_low c.in_ok-reset.reset _ _ s.offset_is c.next_stripe.ensures.offset;
+      at_is = tt;
+      code_is = tt;
+      behind = tt;
+      within = s.within;
+      stands = stripe_last k c.coder_laws.ensures (in_use c.args.header.now c.args.height c.requires.height.0 c.requires.height.1) (rows_all c.requires.rows.0 s c.requires.rows.1) c.args.piece.now.rest.now c.find_marker.new.piece.rest.now c.in_ok-reset.reset m (carried_by c.next_stripe.new.window c.next_stripe.new.kept c.next_stripe.new.learned) next last;
+    })))
 
 pub returns-clause-step : goal.returns-clause-step
-returns-clause-step c = record {
-  ok = λ text out s.
-      let k = at_stage c.requires.rows.0 s in
-      let m = c.in_ok-reset.ensures.ok k.read.answers k.extra k.code k.code_is in
-      let next = kept_wide (held c.args.window.now).width (fields_of c.args.header.now).xd c.in_ok-reset.reset (carried_by c.args.window.now c.args.self.now.kept c.args.learned.now) (carried_by c.next_stripe.new.window c.next_stripe.new.kept c.next_stripe.new.learned) s.width_is c.next_stripe.ensures.next k.read.last k.read.is_carried in
-      let left : c.args.self.now.left ≡ c.args.height - c.args.self.now.entities * c.args.header.now.l0 = s.left_is in
-      let times : (c.args.self.now.entities + 1) * c.args.header.now.l0 ≡ c.args.self.now.entities * c.args.header.now.l0 + c.args.header.now.l0 = omega arith in
-      let min_is = c.min.ensures in
-      let some = c.if-self-eq0.false in
-      let on = next_stripe c.args.height c.args.header.now.l0 c.args.self.now.entities c.args.header.now.some_rows (omega (arith, left, times, some, min_is)) in
-      let few = walk_few (fields_of c.args.header.now) c.args.height (walk_over c.args.self.now c.args.window.now c.args.learned.now) text out c.args.header.now.some_rows (inl c.requires.rows.0) s in
-      let one : c.saturating_add-self.result ≡ c.args.self.now.entities + 1 = (let most = c.ranges.height.fits in let sum = c.saturating_add-self.ensures in omega (arith, few, most, sum)) in
-      on_same (fields_of c.args.header.now) c.args.height _ text out c.args.piece.now.rest.now c.find_marker.new.piece.rest.now m.given m.taken (subst (λ z. WalkStands (sized (fields_of c.args.header.now) c.args.height) (walk_over (record c.args.self.now { kept = c.next_stripe.new.kept; entities = z; left = c.args.self.now.left - c.min.result; at = None; first = None; marker = None; stage = stage.Head }) c.next_stripe.new.window c.next_stripe.new.learned) (text ++ m.given) out) (sym one) (record {
-        left_is = omega (arith, left, times, min_is);
-        width_is = c.next_stripe.ensures.window.0 ∙ s.width_is;
-        offset_is = offset_low c.in_ok-reset.reset _ _ s.offset_is c.next_stripe.ensures.offset;
-        at_is = tt;
-        code_is = tt;
-        behind = tt;
-        within = s.within;
-        stands = stripe_on k c.coder_laws.ensures (in_use c.args.header.now c.args.height c.requires.height.0 c.requires.height.1) (rows_all c.requires.rows.0 s c.requires.rows.1) c.args.piece.now.rest.now c.find_marker.new.piece.rest.now c.in_ok-reset.reset m (carried_by c.next_stripe.new.window c.next_stripe.new.kept c.next_stripe.new.learned) next on;
-      }));
-  err = tt;
-  more = λ e. absurd (let bot : ⊥ = cc in bot);
-}
+returns-clause-step c = step_ok (λ text out s.
+    let k = at_stage c.requires.rows.0 s in
+    let m = c.in_ok-reset.ensures.ok k.read.answers k.extra k.code k.code_is in
+    let next = kept_wide (held c.args.window.now).width (fields_of c.args.header.now).xd c.in_ok-reset.reset (carried_by c.args.window.now c.args.self.now.kept c.args.learned.now) (carried_by c.next_stripe.new.window c.next_stripe.new.kept c.next_stripe.new.learned) s.width_is c.next_stripe.ensures.next k.read.last k.read.is_carried in
+    let left : c.args.self.now.left ≡ c.args.height - c.args.self.now.entities * c.args.header.now.l0 = s.left_is in
+    let times : (c.args.self.now.entities + 1) * c.args.header.now.l0 ≡ c.args.self.now.entities * c.args.header.now.l0 + c.args.header.now.l0 = omega arith in
+    let min_is = c.min.ensures in
+    let some = c.if-self-eq0.false in
+    let on = next_stripe c.args.height c.args.header.now.l0 c.args.self.now.entities c.args.header.now.some_rows (omega (arith, left, times, some, min_is)) in
+    let few = walk_few (fields_of c.args.header.now) c.args.height (walk_over c.args.self.now c.args.window.now c.args.learned.now) text out c.args.header.now.some_rows (inl c.requires.rows.0) s in
+    let one : c.saturating_add-self.result ≡ c.args.self.now.entities + 1 = (let most = c.ranges.height.fits in let sum = c.saturating_add-self.ensures in omega (arith, few, most, sum)) in
+    on_same (fields_of c.args.header.now) c.args.height _ text out c.args.piece.now.rest.now c.find_marker.new.piece.rest.now m.given m.taken (subst (λ z. WalkStands (sized (fields_of c.args.header.now) c.args.height) (walk_over (record c.args.self.now { kept = c.next_stripe.new.kept; entities = z; left = c.args.self.now.left - c.min.result; at = None; first = None; marker = None; stage = stage.Head }) c.next_stripe.new.window c.next_stripe.new.learned) (text ++ m.given) out) (sym one) (record {
+      left_is = omega (arith, left, times, min_is);
+      width_is = c.next_stripe.ensures.window.0 ∙ s.width_is;
+      offset_is = offset_low c.in_ok-reset.reset _ _ s.offset_is c.next_stripe.ensures.offset;
+      at_is = tt;
+      code_is = tt;
+      behind = tt;
+      within = s.within;
+      stands = stripe_on k c.coder_laws.ensures (in_use c.args.header.now c.args.height c.requires.height.0 c.requires.height.1) (rows_all c.requires.rows.0 s c.requires.rows.1) c.args.piece.now.rest.now c.find_marker.new.piece.rest.now c.in_ok-reset.reset m (carried_by c.next_stripe.new.window c.next_stripe.new.kept c.next_stripe.new.learned) next on;
+    })))
 
 pub returns-in_err-reset-clause-marked : goal.returns-in_err-reset-clause-marked
 returns-in_err-reset-clause-marked c = λ m. absurd (let bad = c.in_err-reset.ensures.whole m.0 m.1 in let bot : ⊥ = cc in bot)

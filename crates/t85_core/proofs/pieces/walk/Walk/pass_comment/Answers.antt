@@ -1,10 +1,9 @@
 use Rattle.std.proofs.Common.{◌≡◌, ◌<◌, ◌≤◌, ◌-◌, ◌++◌, List, ℕ, length, take, append-nil, sym, ap, ◌∙◌, arith}
 use Rattle.std.proofs.lemmas.List.{length-take-le, take-append-drop}
 use Rattle.t85_core.specs.Options.{fields_of}
-use Rattle.t85_core.specs.Lent.{walk_view}
 use Rattle.t85_core.proofs.Decodings.ImagePut.{in_use}
 use Rattle.t85_core.proofs.Decodings.PieceHead.{comment_more, comment_ends, comment_off}
-use Rattle.t85_core.proofs.Decodings.PieceSteps.{on_same, at_stage, put_stage, nil_of}
+use Rattle.t85_core.proofs.Decodings.PieceSteps.{on_same, walk_at, at_stage, put_stage, nil_of, step_ok}
 use Rattle.t85_core.proofs.pieces.walk.Walk.pass_comment.Goals as goal
 
 pub returns-then-self-gt0-clause-step : goal.returns-then-self-gt0-clause-step
@@ -18,16 +17,7 @@ returns-then-self-gt0-clause-step c =
       ok = tt;
       err = λ text out s. comment_off (at_stage c.requires.stage s) c.coder_laws.ensures (in_use c.args.header.now c.args.height c.requires.height.0 c.requires.height.1) c.args.piece.now.rest.now few;
       more = λ _. (
-        (λ text out s. on_same (fields_of c.args.header.now) c.args.height _ text out c.args.piece.now.rest.now c.split_at.result.1.now c.args.piece.now.rest.now taken (record {
-          left_is = s.left_is;
-          width_is = s.width_is;
-          offset_is = s.offset_is;
-          at_is = s.at_is;
-          code_is = s.code_is;
-          behind = s.behind;
-          within = s.within;
-          stands = put_stage (fields_of c.args.header.now) c.args.height (walk_view (record c.args.self.now { comment = c.args.self.now.comment - c.min-len.result }) rows learned) (text ++ c.args.piece.now.rest.now) out _ c.requires.stage (comment_more (at_stage c.requires.stage s) c.args.piece.now.rest.now (c.args.self.now.comment - c.min-len.result) (omega (arith, all, few)));
-        })),
+        (λ text out s. on_same (fields_of c.args.header.now) c.args.height _ text out c.args.piece.now.rest.now c.split_at.result.1.now c.args.piece.now.rest.now taken (walk_at s s.at_is s.code_is s.behind (put_stage _ _ _ _ _ _ c.requires.stage (comment_more (at_stage c.requires.stage s) c.args.piece.now.rest.now (c.args.self.now.comment - c.min-len.result) (omega (arith, all, few)))))),
         omega (arith, c.split_at.ensures.back_len, all),
       );
     }
@@ -39,17 +29,4 @@ returns-clause-step c =
     let all : c.min-len.result ≡ c.args.self.now.comment = omega (arith, c.min-len.ensures, c.if-self-gt0.false) in
     let taken : c.args.piece.now.rest.now ≡ take c.min-len.result c.args.piece.now.rest.now ++ c.split_at.result.1.now =
     sym (take-append-drop c.min-len.result c.args.piece.now.rest.now) ∙ ap (λ (z : List ℕ). take c.min-len.result c.args.piece.now.rest.now ++ z) (sym c.split_at.ensures.back) in
-    λ rows learned. record {
-      ok = λ text out s. on_same (fields_of c.args.header.now) c.args.height _ text out c.args.piece.now.rest.now c.split_at.result.1.now (take c.min-len.result c.args.piece.now.rest.now) taken (record {
-        left_is = s.left_is;
-        width_is = s.width_is;
-        offset_is = s.offset_is;
-        at_is = s.at_is;
-        code_is = s.code_is;
-        behind = s.behind;
-        within = s.within;
-        stands = comment_ends (at_stage c.requires.stage s) (take c.min-len.result c.args.piece.now.rest.now) (length-take-le c.min-len.result c.args.piece.now.rest.now within ∙ all);
-      });
-      err = tt;
-      more = λ e. absurd (let bot : ⊥ = cc in bot);
-    }
+    λ rows learned. step_ok (λ text out s. on_same (fields_of c.args.header.now) c.args.height _ text out c.args.piece.now.rest.now c.split_at.result.1.now (take c.min-len.result c.args.piece.now.rest.now) taken (walk_at s s.at_is s.code_is s.behind (comment_ends (at_stage c.requires.stage s) (take c.min-len.result c.args.piece.now.rest.now) (length-take-le c.min-len.result c.args.piece.now.rest.now within ∙ all))))

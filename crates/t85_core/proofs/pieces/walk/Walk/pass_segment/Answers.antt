@@ -1,4 +1,4 @@
-use Rattle.std.proofs.Common.{◌≡◌, ◌++◌, Some, sym, ◌∙◌, subst, arith, true}
+use Rattle.std.proofs.Common.{◌≡◌, Some, sym, ◌∙◌, subst, arith}
 use Rattle.t85_core.specs.declared.fault.Fault.TheVariants.{Truncated}
 use Rattle.t85_core.specs.Options.{fields_of}
 use Rattle.t85_core.specs.Failures.{Ends}
@@ -7,7 +7,7 @@ use Rattle.t85_core.specs.Steps.Segments.{PieceFault, code_bytes}
 use Rattle.t85_core.specs.Lent.{walk_view}
 use Rattle.t85_core.proofs.Decodings.ImagePut.{in_use}
 use Rattle.t85_core.proofs.Decodings.PieceHead.{head_length, head_move, head_comment, head_code, head_cut, head_other, counted_of}
-use Rattle.t85_core.proofs.Decodings.PieceSteps.{on_same, stays, at_stage, put_stage}
+use Rattle.t85_core.proofs.Decodings.PieceSteps.{on_same, walk_at, stays, at_stage, put_stage, step_ok}
 use Rattle.t85_core.proofs.Decodings.PieceFew.{piece_few}
 use Rattle.t85_core.proofs.pieces.walk.Walk.pass_segment.Goals as goal
 
@@ -23,74 +23,22 @@ returns-in-Err-clause-step c = λ rows learned. record {
 pub returns-then-other-height-clause-step : goal.returns-then-other-height-clause-step
 returns-then-other-height-clause-step c =
     let h = rw c.in-NewLength.is at c.in-Ok.ensures.ok in
-    λ rows learned. record {
-      ok = λ text out s. on_same (fields_of c.args.header.now) c.args.height _ text out c.args.piece.now.rest.now c.next_piece.new.stream.rest.now (segment_bytes (NewLength c.in-NewLength.other)) h.2.taken (record {
-        left_is = s.left_is;
-        width_is = s.width_is;
-        offset_is = s.offset_is;
-        at_is = s.at_is;
-        code_is = s.code_is;
-        behind = s.behind;
-        within = s.within;
-        stands = put_stage (fields_of c.args.header.now) c.args.height (walk_view (record c.args.self.now { given = true }) rows learned) (text ++ segment_bytes (NewLength c.in-NewLength.other)) out _ c.requires.stage (head_length (at_stage c.requires.stage s) c.in-NewLength.other h.0 c.if-other-height.true h.2.legal);
-      });
-      err = tt;
-      more = λ e. absurd (let bot : ⊥ = cc in bot);
-    }
+    λ rows learned. step_ok (λ text out s. on_same (fields_of c.args.header.now) c.args.height _ text out c.args.piece.now.rest.now c.next_piece.new.stream.rest.now (segment_bytes (NewLength c.in-NewLength.other)) h.2.taken (walk_at s s.at_is s.code_is s.behind (put_stage _ _ _ _ _ _ c.requires.stage (head_length (at_stage c.requires.stage s) c.in-NewLength.other h.0 c.if-other-height.true h.2.legal))))
 
 pub returns-in-Move-clause-step : goal.returns-in-Move-clause-step
 returns-in-Move-clause-step c =
     let h = rw c.in-Move.is at c.in-Ok.ensures.ok in
-    λ rows learned. record {
-      ok = λ text out s. on_same (fields_of c.args.header.now) c.args.height _ text out c.args.piece.now.rest.now c.next_piece.new.stream.rest.now (segment_bytes (Move c.in-Move.to.row c.in-Move.to.offset)) h.1.taken (record {
-        left_is = s.left_is;
-        width_is = s.width_is;
-        offset_is = s.offset_is;
-        at_is = (let low = h.1.legal.1 in let most = c.args.header.now.in_range in omega (arith, low, most));
-        code_is = s.code_is;
-        behind = s.behind;
-        within = s.within;
-        stands = put_stage (fields_of c.args.header.now) c.args.height (walk_view (record c.args.self.now { at = Some c.in-Move.to }) rows learned) (text ++ segment_bytes (Move c.in-Move.to.row c.in-Move.to.offset)) out _ c.requires.stage (head_move (at_stage c.requires.stage s) c.in-Move.to (sym c.is_some.ensures ∙ h.0) h.1.legal);
-      });
-      err = tt;
-      more = λ e. absurd (let bot : ⊥ = cc in bot);
-    }
+    λ rows learned. step_ok (λ text out s. on_same (fields_of c.args.header.now) c.args.height _ text out c.args.piece.now.rest.now c.next_piece.new.stream.rest.now (segment_bytes (Move c.in-Move.to.row c.in-Move.to.offset)) h.1.taken (walk_at s (let low = h.1.legal.1 in let most = c.args.header.now.in_range in omega (arith, low, most)) s.code_is s.behind (put_stage _ _ _ _ _ _ c.requires.stage (head_move (at_stage c.requires.stage s) c.in-Move.to (sym c.is_some.ensures ∙ h.0) h.1.legal))))
 
 pub returns-in-Comment-clause-step : goal.returns-in-Comment-clause-step
 returns-in-Comment-clause-step c =
     let h = rw c.in-Comment.is at c.in-Ok.ensures.ok in
-    λ rows learned. record {
-      ok = λ text out s. on_same (fields_of c.args.header.now) c.args.height _ text out c.args.piece.now.rest.now c.next_piece.new.stream.rest.now (segment_bytes (Comment h.0)) h.1.taken (record {
-        left_is = s.left_is;
-        width_is = s.width_is;
-        offset_is = s.offset_is;
-        at_is = s.at_is;
-        code_is = s.code_is;
-        behind = s.behind;
-        within = s.within;
-        stands = put_stage (fields_of c.args.header.now) c.args.height (walk_view c.args.self.now rows learned) (text ++ segment_bytes (Comment h.0)) out _ c.requires.stage (head_comment (at_stage c.requires.stage s) h.0 h.1.legal);
-      });
-      err = tt;
-      more = λ e. absurd (let bot : ⊥ = cc in bot);
-    }
+    λ rows learned. step_ok (λ text out s. on_same (fields_of c.args.header.now) c.args.height _ text out c.args.piece.now.rest.now c.next_piece.new.stream.rest.now (segment_bytes (Comment h.0)) h.1.taken (walk_at s s.at_is s.code_is s.behind (put_stage _ _ _ _ _ _ c.requires.stage (head_comment (at_stage c.requires.stage s) h.0 h.1.legal))))
 
 pub returns-in-Code-clause-step : goal.returns-in-Code-clause-step
 returns-in-Code-clause-step c =
     let h = rw c.in-Code.is at c.in-Ok.ensures.ok in
-    λ rows learned. record {
-      ok = λ text out s. on_same (fields_of c.args.header.now) c.args.height _ text out c.args.piece.now.rest.now c.next_piece.new.stream.rest.now (code_bytes c.in-Code.code) h.1 (record {
-        left_is = s.left_is;
-        width_is = s.width_is;
-        offset_is = s.offset_is;
-        at_is = s.at_is;
-        code_is = h.0;
-        behind = tt;
-        within = s.within;
-        stands = head_code (at_stage c.requires.stage s) c.in-Code.code h.0 c.start-self.result c.start-self.ensures.stands;
-      });
-      err = tt;
-      more = λ e. absurd (let bot : ⊥ = cc in bot);
-    }
+    λ rows learned. step_ok (λ text out s. on_same (fields_of c.args.header.now) c.args.height _ text out c.args.piece.now.rest.now c.next_piece.new.stream.rest.now (code_bytes c.in-Code.code) h.1 (walk_at s s.at_is h.0 tt (head_code (at_stage c.requires.stage s) c.in-Code.code h.0 c.start-self.result c.start-self.ensures.stands)))
 
 pub returns-else-other-height-clause-step : goal.returns-else-other-height-clause-step
 returns-else-other-height-clause-step c =

@@ -5,7 +5,7 @@ use Rattle.t85_core.specs.Lent.{walk_view}
 use Rattle.t85_core.specs.Steps.Pieces.{StepsOn}
 use Rattle.t85_core.specs.Steps.SizedImage.{sized}
 use Rattle.t85_core.specs.Options.{fields_of}
-use Rattle.t85_core.proofs.Decodings.PieceSteps.{on_then, off_then, step_exit}
+use Rattle.t85_core.proofs.Decodings.PieceSteps.{on_then, off_then, step_exit, step_ok}
 use Rattle.t85_core.proofs.pieces.walk.Walk.read_head.Goals as goal
 
 pub returns-in_err-leave_comment-clause-step : goal.returns-in_err-leave_comment-clause-step
@@ -24,11 +24,7 @@ returns-in_err-read_segment-clause-step c =
 pub returns-then-not-is_in_head-clause-step : goal.returns-then-not-is_in_head-clause-step
 returns-then-not-is_in_head-clause-step c =
     λ rows learned. let on = on_then (fields_of c.args.header.now) c.args.height (walk_view c.args.self.now rows learned) (walk_view c.segments.self rows learned) c.args.piece.now.rest.now c.segments.piece.rest.now (c.segments.invariant.so_far rows learned) (walk_view c.leave_comment.new.self rows learned) c.leave_comment.new.piece.rest.now [] (c.in_ok-leave_comment.ensures.step rows learned).ok in
-    record {
-      ok = on_then (fields_of c.args.header.now) c.args.height (walk_view c.args.self.now rows learned) (walk_view c.leave_comment.new.self rows learned) c.args.piece.now.rest.now c.leave_comment.new.piece.rest.now on (walk_view c.read_segment.new.self rows learned) c.read_segment.new.piece.rest.now [] (c.in_ok-read_segment.ensures.step rows learned).ok;
-      err = tt;
-      more = λ e. absurd (let bot : ⊥ = cc in bot);
-    }
+    step_ok (on_then (fields_of c.args.header.now) c.args.height (walk_view c.args.self.now rows learned) (walk_view c.leave_comment.new.self rows learned) c.args.piece.now.rest.now c.leave_comment.new.piece.rest.now on (walk_view c.read_segment.new.self rows learned) c.read_segment.new.piece.rest.now [] (c.in_ok-read_segment.ensures.step rows learned).ok)
 
 pub segments-preserved : goal.segments-preserved
 segments-preserved c =
