@@ -1,6 +1,6 @@
 //! The rows of a stripe beside their code.
 
-ghost use Rattle.std.specs.Prelude.{◌≡◌, ◌≤◌, ◌<◌, ℕ, List, IsTrue, IfSome, option_map};
+ghost use Rattle.std.specs.Prelude.{◌≡◌, ◌≤◌, ◌<◌, ◌↔◌, ℕ, List, IsTrue, IfSome, option_map};
 ghost use Rattle.qm_core.specs.Place.{Place, state_of};
 ghost use Rattle.qm_core.specs.Decoder.{DecoderIsAt};
 ghost use Rattle.qm_core.specs.declared.source.Pulled.{Pulled};
@@ -70,7 +70,7 @@ fn skip_few(shape: Shape, kept: Kept, learned: &Learned, decoder: &mut Decoder, 
 
 /// Whether no move is made from this row of a stripe on.
 pub fn is_settled(at: Option<Move>, row: u32) -> bool
-    ensures { IsTrue result → (k o : ℕ) → row ≤ k → offset_at (option_map pair_of at) k o ≡ o }
+    ensures { IsTrue result ↔ ((k o : ℕ) → row ≤ k → offset_at (option_map pair_of at) k o ≡ o) }
 {
     match at {
         Some(to) => to.row < row,

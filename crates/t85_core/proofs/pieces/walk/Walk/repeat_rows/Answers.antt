@@ -26,7 +26,7 @@ returns-clause-on c = λ text out s.
     let row_is = ap (λ w. w.current) c.repeat.ensures.repeated in
     let after = carried_by c.repeat.new.self c.args.self.now.kept c.args.learned.now in
     let repeats = repeats_rows c.shape.result (option_map pair_of c.args.self.now.at) c.args.self.now.row count (carried_by c.args.window.now c.args.self.now.kept c.args.learned.now) after c.args.self.now.decoder c.skip_many-count.new.decoder some (s.width_is ∙ sym c.shape.ensures.width)
-    (λ p answers stands. c.skip_many-count.ensures.skipped p answers stands some) (c.is_settled.ensures c.if-not-is_settled.false) refl refl c.repeat.ensures.repeated in
+    (λ p answers stands. c.skip_many-count.ensures.skipped p answers stands some) (c.is_settled.ensures.0 c.if-not-is_settled.false) refl refl c.repeat.ensures.repeated in
     record {
       left_is = s.left_is;
       width_is = ap (λ w. w.width) c.repeat.ensures.repeated ∙ s.width_is;
