@@ -148,8 +148,8 @@ documents:
 	tools/recipes
 	tools/links
 
-# `rt ci` proves from nothing, and leaves the libraries that it proved. What is built after it stands on them, so that no
-# crate is proved twice but `t85`, which `rt ci` proves and does not make an archive of.
+# `rt ci` proves from nothing, and leaves of a library the statements alone. What is built after it stands on libraries with
+# their proofs, so that the crates below the programs are proved once more where no run before has left them.
 #
 # One job a processor: left to itself `rt ci` reckons with far more memory than `t85_core` takes, and lets all other
 # processors wait for its proof. A job takes less than 3 GB.
