@@ -1,29 +1,29 @@
-# make               builds both programs into bin/, and shows them on a real page
-# make static        both programs again in bin/static/, linked with the C library, and their stored runs
+# make               builds both programs into bin/, and runs them on a real page
+# make static        builds both programs again in bin/static/, statically linked with the C library, and tests them
 # make library       builds bin/libt85.a and bin/libt85.so.1.0.0
-# make test          the gate: the documents, then `rt ci`, which has every proof, every edit that must fail and every test
-#                    of the crates, then this file and runs of the built programs and of the library
-# make proofs        `rt ci` alone
-# make turns         makes each allocation of the programs fail in turn
-# make library-test  the library beside the programs, as C and Python call it, and installed; the wheel
-# make wheel         the Python module with the library inside, for `pip install`, into dist/
+# make test          the gate: checks the documents; runs `rt ci`, which covers every proof, every edit that must fail and
+#                    every test of the crates; then tests this file, the built programs and the library
+# make proofs        only `rt ci`
+# make turns         makes each memory allocation of the programs fail in turn
+# make library-test  compares the library, as called from C and Python, with the programs; tests it installed; tests the wheel
+# make wheel         builds a wheel of the Python module with the library inside, for `pip install`, in dist/
 # make manuals       checks the manual pages
-# make debian        builds the packages of packaging/debian, and has lintian look at them
-# make jbig85        builds bin/libjbig85.a: the library with JBIG-KIT's calls over it
-# make interop       exchanges streams with JBIG-KIT's programs and library, and compares the images; has JBIG-KIT's own
-#                    programs run over the library, for which `apt-get` fetches its source
-# make charts        has programs and library code the test charts of the CCITT, beside JBIG-KIT's programs; `apt-get`
-#                    fetches them
-# make libtiff       builds Debian's libtiff with the library in the place of JBIG-KIT's, and exchanges TIFFs with Debian's
-#                    tools; `apt-get` fetches its source
-# make fuzz          calls the library with random streams for FUZZ_SECONDS, beside JBIG-KIT's library
-# make bench         measures beside JBIG-KIT and netpbm; no test is timed
-# make pictures      draws the pictures of README.md and docs/ that come from streams
-# make against       compares with another build of both programs, in the folder OTHER
-# make install       installs the programs and the library, with what belongs to them; docs/PACKAGING.md has the rest
+# make debian        builds the packages of packaging/debian, and runs lintian on them
+# make jbig85        builds bin/libjbig85.a: the library with JBIG-KIT's functions on top
+# make interop       exchanges streams with JBIG-KIT's programs and library, and compares the images; runs JBIG-KIT's own
+#                    programs on the library (fetches JBIG-KIT's source with `apt-get`)
+# make charts        encodes and decodes the CCITT test charts with programs and library, and compares with JBIG-KIT's
+#                    programs (fetches the charts with `apt-get`)
+# make libtiff       builds Debian's libtiff with the library instead of JBIG-KIT's, and exchanges TIFF files with Debian's
+#                    tools (fetches libtiff's source with `apt-get`)
+# make fuzz          calls the library with random streams for FUZZ_SECONDS, alongside JBIG-KIT's library
+# make bench         measures, and compares with JBIG-KIT and netpbm; no test depends on time
+# make pictures      draws the pictures of README.md and docs/ that are made from streams
+# make against       compares both programs with another build, in the folder OTHER
+# make install       installs the programs and the library with their files; see docs/PACKAGING.md
 # make uninstall     removes what `make install` with the same variables installed
 #
-# What each target needs beside `rt` is in README.md.
+# CONTRIBUTING.md says what each target needs besides `rt`.
 
 PREFIX ?= /usr/local
 BINDIR ?= $(PREFIX)/bin
@@ -34,15 +34,15 @@ MANDIR ?= $(DATADIR)/man
 BASHDIR ?= $(DATADIR)/bash-completion/completions
 ZSHDIR ?= $(DATADIR)/zsh/site-functions
 FISHDIR ?= $(DATADIR)/fish/vendor_completions.d
-# The Python module is installed where a folder is named.
+# The Python module is installed only if this names a folder.
 PYTHONDIR ?=
-# The interpreter that the module is tested with.
+# The interpreter with which the module is tested.
 PYTHON ?= python3
 export PYTHON
-# What stands in front of the names of the programs, and of what belongs to them.
+# The prefix of the names of the programs, and of their files.
 PROGRAM_PREFIX ?=
 FUZZ_SECONDS ?= 600
-# What says which instructions the processor has.
+# The file that lists the processor's instruction sets.
 CPUINFO ?= /proc/cpuinfo
 
 PROGRAMS = pbmtojbg85 jbgtopbm85
@@ -54,13 +54,13 @@ MODULE = $(patsubst bindings/python/%,%,$(wildcard bindings/python/t85/*.py bind
 
 BUILT = $(PROGRAMS:%=bin/%)
 LIBRARY = bin/libt85.a bin/$(SHARED) bin/$(SONAME) bin/libt85.so
-# The targets that build the programs first, and those that build the library first.
+# The targets that first build the programs, and those that first build the library.
 OF_PROGRAMS = show static turns library-test interop charts libtiff against bench pictures
 OF_LIBRARY = library-test interop charts libtiff fuzz bench wheel pictures jbig85
 
-# quoted TEXT: one word of a shell, with its blanks
+# quoted TEXT: TEXT as one shell word, with its spaces
 quoted = '$(subst ','\'',$(1))'
-# at FOLDER: where it is put, one word of a shell
+# at FOLDER: its destination, as one shell word
 at = $(call quoted,$(DESTDIR)$(1))
 
 show:
@@ -76,7 +76,7 @@ library: $(LIBRARY)
 $(OF_PROGRAMS): build
 $(OF_LIBRARY): library
 
-# An installation alone takes what is in bin/ as it is. The other targets ask `rt`, which knows what has changed.
+# `make install` by itself uses bin/ as it is. The other targets run `rt`, which knows what has changed.
 ifneq ($(filter build test $(OF_PROGRAMS),$(or $(MAKECMDGOALS),show)),)
 .PHONY: $(BUILT)
 endif
@@ -84,18 +84,18 @@ ifneq ($(filter library test $(OF_LIBRARY),$(MAKECMDGOALS)),)
 .PHONY: bin/libt85.a
 endif
 
-# The order of the command line is kept where files are removed, where `rt ci` sets aside what was built, and where the
-# machine is measured. A dependency can't say that: these targets need nothing of those that are named beside them.
+# The order of the command line is kept if files are removed, if `rt ci` sets aside what was built, and for benchmarks.
+# Dependencies cannot express this: these targets need nothing from the other targets on the command line.
 ifneq ($(filter clean uninstall test proofs bench,$(MAKECMDGOALS)),)
 .NOTPARALLEL:
 endif
 
-# One `rt` at a time, whichever `make` calls it: two would write the same files below crates/, and one takes the memory
-# of the whole machine.
+# One `rt` at a time, whichever `make` runs it: two would write the same files below crates/, and one uses the memory of
+# the whole machine.
 locked = mkdir -p bin && exec 9> bin/lock && flock 9
 
-# proved CRATE,COMMAND,LOG: a program is proved before it is built, and so is the library. What is made goes into bin/
-# under another name, and gets its own there: who reads that file sees the one before or this one, and never a half.
+# proved CRATE,COMMAND,LOG: proves and builds a program or the library. The result is copied to bin/ under a temporary
+# name and then renamed, so that nobody sees a partial file.
 proved = $(locked) && echo "proving and building $(@F)" && \
 	{ (cd crates/$(1) && $(2)) > bin/$(3).log 2>&1 9>&- || { cat bin/$(3).log; exit 1; }; } && \
 	cp crates/$(1)/out/$(@F) $@.$$$$ && mv -f $@.$$$$ $@
@@ -106,7 +106,7 @@ $(BUILT): bin/%: | processor
 bin/libt85.a: | processor
 	@$(call proved,t85,rt lib,libt85)
 
-# Copies stand under the names that are links once it is installed: `rt ci` takes no links.
+# Here these are copies, where the installation has links: `rt ci` does not accept links.
 bin/$(SHARED): bin/libt85.a t85.map
 	$(CC) $(LDFLAGS) -shared -Wl,-soname,$(SONAME) -Wl,--version-script=t85.map -Wl,--no-undefined-version -Wl,-z,defs \
 		-Wl,-z,relro -Wl,-z,now -Wl,--whole-archive bin/libt85.a -Wl,--no-whole-archive -o $@.$$$$ && mv -f $@.$$$$ $@
@@ -114,7 +114,7 @@ bin/$(SHARED): bin/libt85.a t85.map
 bin/$(SONAME) bin/libt85.so: bin/$(SHARED)
 	cp $< $@.$$$$ && mv -f $@.$$$$ $@
 
-# JBIG-KIT's calls, in C, and what they call: a program that is linked with it wants nothing else.
+# JBIG-KIT's functions, in C, together with the library: a program linked with it needs nothing else.
 jbig85: bin/libjbig85.a
 
 bin/libjbig85.a: bin/libt85.a $(wildcard bindings/jbig85/jbig85.*) include/t85.h
@@ -122,7 +122,7 @@ bin/libjbig85.a: bin/libt85.a $(wildcard bindings/jbig85/jbig85.*) include/t85.h
 		$(CC) -std=c99 -O2 -fPIC -Wall -Wextra -Wpedantic $(CFLAGS) -I include -c bindings/jbig85/jbig85.c -o $$made/jbig85.o && \
 		cp bin/libt85.a $$made && $(AR) rs $$made/libt85.a $$made/jbig85.o && mv -f $$made/libt85.a $@ && rm -r $$made
 
-# What was proved and compiled is linked again, so that no loader is asked: a start takes half the instructions.
+# Links the proved and compiled objects statically, so that no loader runs: starting takes half the instructions.
 static:
 	@mkdir -p bin/static
 	@kit=$$(dirname "$$(rt doc)"); for program in $(PROGRAMS); do \
@@ -132,11 +132,11 @@ static:
 	done
 	tests/stored bin/static
 
-# Says so where programs and library can't run on this machine.
+# Warns if programs and library cannot run on this processor.
 processor:
 	@tools/processor $(call quoted,$(CPUINFO))
 
-# The documents speak of what is there, and clauses can be read.
+# Checks that the documents match the tree, and that clauses are readable.
 documents:
 	tools/references
 	tools/model --check
@@ -148,10 +148,10 @@ documents:
 	tools/recipes
 	tools/links
 
-# `rt ci` proves from nothing, and leaves of a library the statements alone. What is built after it stands on libraries with
-# their proofs, so that the crates below the programs are proved once more where no run before has left them.
+# `rt ci` proves from nothing, and keeps only the statements of a library. The builds after it use libraries with their
+# proofs, so the crates below the programs are proved once more unless an earlier run has stored them.
 #
-# One job a processor: left to itself `rt ci` reckons with far more memory than `t85_core` takes, and lets all other
+# One job per processor: by default `rt ci` assumes that `t85_core` needs far more memory than it does, and lets all other
 # processors wait for its proof. A job takes less than 3 GB.
 proofs:
 	@$(locked) && echo "rt ci" && { RT_JOBS=$${RT_JOBS:-$$(nproc)} rt ci 9>&-; echo $$? > bin/ci.status; } | tee bin/ci.log && \
@@ -205,7 +205,7 @@ interop: bin/libjbig85.a
 	tests/interop bin
 	tests/jbig85 bin
 
-# The charts are fetched, since they may not be kept.
+# The charts are fetched, since they may not be redistributed.
 bin/charts:
 	bench/charts $@
 
@@ -225,7 +225,7 @@ fuzz:
 against:
 	tests/against bin $(OTHER)
 
-# Without the charts where they can't be fetched.
+# If the charts cannot be fetched, they are left out.
 bench:
 	@[ -d bin/charts ] || bench/charts bin/charts || echo "the test charts of the CCITT are left out"
 	bench/times --picture bench/times.svg bin $$(find bin/charts -name '*.pbm' 2> /dev/null | sort)
@@ -240,10 +240,10 @@ bench:
 	bench/broken bin
 	bench/many bin
 
-# What is in bin/ is installed; what is not there is built first.
+# Installs what is in bin/, and first builds what is missing there.
 install: install-programs install-library
 
-# named FROM,TO: installs a file in which the programs are named, with their prefix
+# named FROM,TO: installs a file, adding the prefix to the names of the programs in it
 upper = $(shell printf %s $(call quoted,$(1)) | tr a-z A-Z)
 named = new=$$(mktemp) && sed -e 's/pbmtojbg85/$(PROGRAM_PREFIX)&/g; s/jbgtopbm85/$(PROGRAM_PREFIX)&/g' \
 	-e 's/PBMTOJBG85/$(call upper,$(PROGRAM_PREFIX))&/g; s/JBGTOPBM85/$(call upper,$(PROGRAM_PREFIX))&/g' \
@@ -259,7 +259,7 @@ install-programs: $(BUILT)
 		$(call named,completions/fish/$$program.fish,$(call at,$(FISHDIR))/"$$as".fish) || exit 1; \
 	done
 
-# written TEXT: a folder as it is written in t85.pc, where a backslash stands before a blank, and as sed takes it
+# written TEXT: a folder as written in t85.pc, where a backslash precedes a space, quoted for sed
 written = "$$(printf %s $(call quoted,$(1)) | sed -e 's/ /\\ /g' -e 's/[\\&|]/\\&/g')"
 
 install-library: $(LIBRARY)

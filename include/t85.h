@@ -1,21 +1,27 @@
-/* JBIG1 (ITU-T T.82) in the fax profile T.85: whole images, and streams in pieces, between buffers
-   that the caller lends.
+/* libt85: JBIG1 (ITU-T T.82) in the fax profile T.85.
 
-   The manual page t85(3) says the same at length, and docs/FORMAT.md has the bytes of a stream.
+   Encodes and decodes whole images, images row by row, and streams in pieces. All data is in
+   buffers that the caller supplies: no function allocates memory or keeps a pointer after it
+   returns. State between calls is in structs that the caller owns, so calls on different structs
+   and buffers may run in several threads at once.
 
-   What the caller owes, at each call:
-   - A pointer may be null where it has a length and that is 0; no other pointer is. The macros at
-     the end of this header see to that, and say what is owed where they are not used.
-   - Each pointer points to as many bytes as its length says, PTRDIFF_MAX at most; a struct is
-     aligned as its type has to be.
-   - No two buffers of a call overlap, and what is written to overlaps nothing: not a struct, not
-     `written`.
-   - A `bool` is 0 or 1. (One that was copied from elsewhere by memcpy may be neither.)
-   - Nobody else writes to what is lent while a call runs, or reads what it writes. Where this is
-     kept, no call reads or writes outside of what it was lent, whatever the bytes are.
+   The manual page t85(3) covers the same in more detail. docs/FORMAT.md describes the stream
+   format.
 
-   No call takes memory or keeps a pointer. What goes on from call to call is in a struct that the
-   caller holds. So calls may run in several threads at once. */
+   Requirements on every call:
+   - A pointer that has a length may be null if that length is 0. No other pointer may be null. The
+     macros at the end of this header handle null pointers; they also say what to do if you bypass
+     them.
+   - Each pointer points to at least as many bytes as its length says. No length exceeds
+     PTRDIFF_MAX. Structs are aligned as their type requires.
+   - Buffers passed to the same call do not overlap. Memory that a call writes, including structs
+     and `written`, overlaps nothing else that is passed to it.
+   - A `bool` is 0 or 1. (One filled by memcpy from elsewhere may be neither.)
+   - During a call, no other thread writes to the memory passed to it, or reads the memory that it
+     writes.
+
+   If these are met, no call reads or writes outside the memory passed to it, whatever bytes that
+   memory contains. */
 #ifndef T85_H
 #define T85_H
 
@@ -27,28 +33,29 @@
 extern "C" {
 #endif
 
-/* The places of the parameters that are never null, counted from 1. */
+/* Marks the parameters that must not be null, by position, counted from 1. */
 #if defined(__GNUC__)
 #define T85_NO_NULL(places) __attribute__((nonnull places))
 #else
 #define T85_NO_NULL(places)
 #endif
 
-/* This header's version: 65536 times the major, 256 times the minor number, and the patch. */
+/* The version of this header: 65536 * major + 256 * minor + patch. */
 #define T85_VERSION 0x010000
 
-/* The bytes of a row of an image: eight pixels a byte, the leftmost in the highest bit, 1 for
-   black. Bits after the last pixel are ignored when read, and written as 0. */
+/* The number of bytes in a row of an image. A byte holds eight pixels, the leftmost in its most
+   significant bit; 1 is black. Bits after the last pixel are ignored on input and 0 on output. */
 static inline size_t t85_row_bytes(uint32_t width)
 {
     return (size_t)(width / 8) + (width % 8 != 0);
 }
 
-/* A pointer for a length of 0. Nothing is read from it or written to it. */
+/* A non-null pointer to pass with a length of 0. Nothing is read from it or written to it. */
 #define T85_NOTHING ((uint8_t *)1)
 
-/* The pointer, or T85_NOTHING where it is null: for a length that is 0 then. The second takes no
-   pointer of another type, and the third is for what is written. */
+/* Return the given pointer, or T85_NOTHING if it is null, for use with a length of 0. The first
+   takes any pointer to data that is read, the second only a pointer to bytes that are read, the
+   third a pointer to bytes that are written. */
 static inline const uint8_t *t85_or_nothing(const void *bytes)
 {
     return bytes ? (const uint8_t *)bytes : (const uint8_t *)T85_NOTHING;
@@ -64,11 +71,12 @@ static inline uint8_t *t85_room_or_nothing(uint8_t *room)
     return room ? room : T85_NOTHING;
 }
 
-/* A status is 0, or the number of a fault. Of a stream the first from the front is reported. */
+/* Status codes. 0 is success; the others are errors, except T85_NO_MORE_PARTS and those from 60 on.
+   If a stream has several errors, the one nearest to its beginning is reported. */
 enum {
     T85_OK = 0,
 
-    /* The header of a stream. */
+    /* Errors in the header of a stream. */
     T85_SHORT_HEADER = 1,   /* header is shorter than 20 bytes */
     T85_RESERVED_BITS = 2,  /* reserved bits of the header are set */
     T85_LAYERS = 3,         /* differential layers are not supported */
@@ -78,8 +86,8 @@ enum {
     T85_MOVE_RANGE = 7,     /* adaptive pixel range is above T85_MOST_OFFSET */
     T85_PRIVATE_TABLE = 8,  /* private prediction table is not supported */
 
-    /* What comes after it. */
-    T85_TRUNCATED = 9,      /* the stream ends too early */
+    /* Errors after the header. */
+    T85_TRUNCATED = 9,      /* stream ends too early */
     T85_BAD_ESCAPE = 10,    /* unexpected escape code */
     T85_ABORTED = 11,       /* image was aborted */
     T85_MOVE_REFUSED = 12,  /* adaptive pixel move is not allowed */
@@ -87,108 +95,108 @@ enum {
     T85_LENGTH_REFUSED = 14, /* new height is not allowed */
     T85_SECOND_LENGTH = 15, /* second new height */
 
-    /* What was lent, and the most rows. */
-    T85_NO_ROOM = 18,       /* the output is longer than its room */
-    T85_SHORT_WINDOW = 19,  /* the window is shorter than t85_window_bytes(width) */
+    /* Buffers and limits. */
+    T85_NO_ROOM = 18,       /* output is longer than its buffer */
+    T85_SHORT_WINDOW = 19,  /* window is shorter than t85_window_bytes(width) */
     T85_TOO_MANY_ROWS = 24, /* image has more rows than max_rows */
-    T85_SHORT_STRIDE = 51,  /* the stride is shorter than a row */
+    T85_SHORT_STRIDE = 51,  /* stride is shorter than a row */
 
-    /* What the encoder was asked for. */
-    T85_OPTION_BITS = 20,   /* options have a bit outside the three below */
+    /* Invalid arguments of the encoder. */
+    T85_OPTION_BITS = 20,   /* options has a bit outside the three below */
     T85_STRIPE_ZERO = 21,   /* stripe_rows is 0 */
     T85_OFFSET_LARGE = 22,  /* most_offset is above T85_MOST_OFFSET */
     T85_ANNOUNCED_LOW = 23, /* announced_height is below the image's height */
-    T85_COMMENT_LONG = 26,  /* the comment has 2^32 bytes or more */
+    T85_COMMENT_LONG = 26,  /* comment has 2^32 bytes or more */
     T85_NO_PIXELS = 33,     /* width or height is 0 */
     T85_IMAGE_WIDE = 34,    /* wider than T85_MOST_WIDTH */
-    T85_ROWS_MISSING = 36,  /* rows_len is too little for the image */
-    T85_OTHER_VERSION = 50, /* the struct is of another version, or of another size */
+    T85_ROWS_MISSING = 36,  /* rows_len is too short for the image */
+    T85_OTHER_VERSION = 50, /* struct has another version or size */
 
-    /* The parts of a stream. */
-    T85_NO_MORE_PARTS = 52, /* all parts of the stream were told */
+    /* Parts of a stream. */
+    T85_NO_MORE_PARTS = 52, /* there are no more parts */
 
-    /* A stream in pieces. The last three are no faults. */
-    T85_NOT_BEGUN = 53,     /* the decoder or encoder was not begun */
-    T85_HEADER_READ = 60,   /* the header was read */
-    T85_ROW = 61,           /* a row was decoded */
-    T85_MORE = 62,          /* more bytes are wanted */
+    /* Streams in pieces. The last three are not errors. */
+    T85_NOT_BEGUN = 53,     /* decoder or encoder is not initialized */
+    T85_HEADER_READ = 60,   /* the header has been read */
+    T85_ROW = 61,           /* a row has been decoded */
+    T85_MORE = 62,          /* more input is needed */
 
-    /* An image whose rows come one by one. */
-    T85_NO_MORE_ROWS = 54,  /* all rows came, or the stream was ended */
-    T85_SHORT_ROW = 55      /* the row is shorter than t85_row_bytes(width) */
+    /* Images row by row. */
+    T85_NO_MORE_ROWS = 54,  /* all rows were passed, or the stream was ended */
+    T85_SHORT_ROW = 55      /* row is shorter than t85_row_bytes(width) */
 };
 
 #define T85_MOST_WIDTH 1048576
 #define T85_MOST_OFFSET 127
 
-/* Bits of `options`, of t85_options and of a stream's header. */
-#define T85_TWO_LINES 0x40u       /* LRLTWO: the template of two lines */
-#define T85_VARIABLE_HEIGHT 0x20u /* VLENGTH: the height may be given after the header */
+/* Bits of the `options` fields and of the options byte in a stream's header. */
+#define T85_TWO_LINES 0x40u       /* LRLTWO: two-line template */
+#define T85_VARIABLE_HEIGHT 0x20u /* VLENGTH: the height may follow later in the stream */
 #define T85_TYPICAL 0x08u         /* TPBON: typical prediction */
 
 #define T85_OPTIONS_VERSION 1
 
-/* What the caller chooses for a stream. Begin with T85_OPTIONS, so that a field you don't set has
-   its default. */
+/* Encoding options. Initialize with T85_OPTIONS, so that fields that you do not set have their
+   defaults. */
 typedef struct {
     uint32_t version;          /* T85_OPTIONS_VERSION */
-    uint32_t options;          /* T85_TWO_LINES, T85_VARIABLE_HEIGHT and T85_TYPICAL, summed */
-    uint32_t stripe_rows;      /* rows of a stripe, 1 at least */
+    uint32_t options;          /* sum of T85_TWO_LINES, T85_VARIABLE_HEIGHT, T85_TYPICAL */
+    uint32_t stripe_rows;      /* rows per stripe, at least 1 */
     uint32_t most_offset;      /* of the adaptive template pixel, 0 to T85_MOST_OFFSET */
-    uint32_t announced_height; /* the header's height, read where announces_height */
+    uint32_t announced_height; /* height in the header, used if announces_height is set */
     bool announces_height;
-    bool reset;                /* each stripe begins afresh, ends in SDRST */
-    bool has_comment;          /* the stream gets the comment of the call, an empty one too */
+    bool reset;                /* code stripes independently of each other, ending in SDRST */
+    bool has_comment;          /* write the comment passed to the call, even if it is empty */
 } t85_options;
 
-/* What the command pbmtojbg85 takes without options. */
+/* The defaults of the command pbmtojbg85. */
 #define T85_OPTIONS {T85_OPTIONS_VERSION, T85_TYPICAL, 128, 0, 0, false, false, false}
 
-/* What the header of a stream says. Where T85_VARIABLE_HEIGHT is among the options, `height` is the
-   most that it may come to. */
+/* The fields of a stream's header. If `options` includes T85_VARIABLE_HEIGHT, `height` is the
+   greatest height that the image may have. */
 typedef struct {
     uint32_t width, height, stripe_rows, most_offset, options;
 } t85_header_fields;
 
-/* The same, and what was found after it. */
+/* The header's fields, and facts about the rest of the stream. */
 typedef struct {
     uint32_t width, height, stripe_rows, most_offset, options;
-    uint32_t image_height; /* the height in use */
-    uint32_t entities;     /* data entities, which are the stripes */
-    uint64_t moves;        /* moves of the adaptive template pixel */
-    uint64_t comments;     /* counted up to UINT64_MAX */
+    uint32_t image_height; /* the actual height */
+    uint32_t entities;     /* number of stripe data entities, one per stripe */
+    uint64_t moves;        /* moves of the adaptive template pixel (ATMOVE) */
+    uint64_t comments;     /* number of comments, at most UINT64_MAX */
 } t85_summary;
 
 #define T85_FACTS_VERSION 1
 
-/* The same with the length of the stream in bytes, so that streams which follow one another can be
-   told apart. Begin with T85_FACTS. */
+/* The same, and the length of the stream in bytes, so that concatenated streams can be split.
+   Initialize with T85_FACTS. */
 typedef struct {
     uint32_t version; /* T85_FACTS_VERSION */
     uint32_t width, height, stripe_rows, most_offset, options;
     uint32_t image_height, entities;
     uint64_t moves, comments;
-    size_t stream_len; /* up to where its parts end, an empty data entity of a late height included */
+    size_t stream_len; /* to the end of its last part, the empty entity of a late height included */
 } t85_facts;
 
 #define T85_FACTS {T85_FACTS_VERSION, 0, 0, 0, 0, 0, 0, 0, 0, 0, 0}
 
-/* What a part of a stream is. */
+/* Kinds of parts. */
 #define T85_PART_HEADER 0
 #define T85_PART_COMMENT 1
-#define T85_PART_MOVE 2       /* a move of the adaptive template pixel */
+#define T85_PART_MOVE 2       /* a move of the adaptive template pixel (ATMOVE) */
 #define T85_PART_NEW_HEIGHT 3
 #define T85_PART_DATA_ENTITY 4 /* the code of a stripe and its end marker */
 
 #define T85_PART_VERSION 1
 
-/* A part of a stream, and how far the walk has come that told it. Begin with T85_PART. */
+/* A part of a stream, and the state of the walk through the stream. Initialize with T85_PART. */
 typedef struct {
     uint32_t version;    /* T85_PART_VERSION */
-    uint32_t kind;       /* T85_PART_HEADER or another of the five */
-    size_t offset, len;  /* where it begins in the stream, and how many bytes it has */
-    uint32_t stripe;     /* data entities before it */
-    /* These are the walk's; you only keep them. */
+    uint32_t kind;       /* T85_PART_HEADER or another of the five kinds */
+    size_t offset, len;  /* first byte in the stream, and number of bytes */
+    uint32_t stripe;     /* number of stripe data entities before it */
+    /* State of the walk. Do not change these. */
     uint32_t entities, late_height, has_move, is_at_height, reserved;
     size_t passed;
 } t85_part;
@@ -197,212 +205,232 @@ typedef struct {
 
 #define T85_DECODER_BYTES 1280
 
-/* A decoder that is given a stream in pieces. It may be on the stack or on the heap, and may be
-   moved from call to call. Whatever its bytes are, a call is safe; a decoder of zeros is told as
-   T85_NOT_BEGUN. */
+/* The state of a decoder for a stream in pieces. It may be on the stack or on the heap, and may be
+   moved between calls. Calls are memory-safe whatever bytes it contains; for a decoder of all zeros
+   they return T85_NOT_BEGUN. */
 typedef struct {
     uint64_t opaque[T85_DECODER_BYTES / 8];
 } t85_decoder;
 
 #define T85_ENCODER_BYTES 5360
 
-/* An encoder of an image whose rows come one by one. It may be where a decoder may be, and whatever its
-   bytes are, a call is safe; an encoder of zeros is told as T85_NOT_BEGUN. */
+/* The state of an encoder for an image row by row. It may be on the stack or on the heap, and may
+   be moved between calls. Calls are memory-safe whatever bytes it contains; for an encoder of all
+   zeros they return T85_NOT_BEGUN. */
 typedef struct {
     uint64_t opaque[T85_ENCODER_BYTES / 8];
 } t85_encoder;
 
-/* The library's version, as T85_VERSION has it for the header. */
+/* Returns the version of the library, in the format of T85_VERSION. */
 uint32_t t85_version(void);
 
-/* Bytes of the window that images of this width want: three rows. A window's contents mean nothing
-   before a call and after it. */
+/* Returns the size in bytes of the window for images of this width: three rows. The functions for
+   whole images neither use nor preserve the contents of the window. */
 size_t t85_window_bytes(uint32_t width);
 
-/* Reads a stream's header. 0, and `fields` has what it says; or 1 to 8, and it is as it was. */
+/* Parses the header of a stream. Returns 0 and sets `fields`, or returns 1 to 8 and leaves `fields`
+   unchanged. */
 T85_NO_NULL((3))
 uint8_t t85_header(const uint8_t *stream, size_t len, t85_header_fields *fields);
 
-/* Reads a stream without decoding it. 0, and `summary` has what was found; or 1 to 15, and it is as
-   it was. */
+/* Parses a stream without decoding its pixels. Returns 0 and sets `summary`, or returns 1 to 15 and
+   leaves `summary` unchanged. */
 T85_NO_NULL((3))
 uint8_t t85_info(const uint8_t *stream, size_t len, t85_summary *summary);
 
-/* The same with the stream's own length: what comes after it in `stream` is another's. 0, and `facts`
-   has what was found; or 1 to 15 or 50, and it is as it was. */
+/* Does the same, and determines the length of the stream: bytes of `stream` after that belong to
+   something else. Returns 0 and sets `facts`, or returns 1 to 15 or 50 and leaves `facts`
+   unchanged. */
 T85_NO_NULL((3))
 uint8_t t85_stream_facts(const uint8_t *stream, size_t len, t85_facts *facts);
 
-/* Tells the next part of a stream that is in memory as a whole, and goes behind it: call it with the
-   same stream and the same `part` until it answers something else than 0.
+/* Reads the next part of a stream that is complete in memory. Call it repeatedly, with the same
+   stream and the same `part`, until it returns something other than 0.
 
-   0: a part was told.
-   T85_NO_MORE_PARTS: all were told, and part->offset is the length of the stream.
-   1 to 15: the next part has this fault; part->offset and part->stripe say where it begins.
-   50: `part` is as it was. */
+   0: `part` describes the next part.
+   T85_NO_MORE_PARTS: there are no more parts; part->offset is the length of the stream.
+   1 to 15: the next part has this error; part->offset and part->stripe say where it begins.
+   50: `part` has another version, and is unchanged. */
 T85_NO_NULL((3))
 uint8_t t85_next_part(const uint8_t *stream, size_t len, t85_part *part);
 
-/* Writes the stream of an image.
+/* Encodes an image.
 
-   Row y of the image begins at rows + y * stride, and has t85_row_bytes(width) bytes. `comment` is
-   read where has_comment says so.
+   Row y begins at rows + y * stride and has t85_row_bytes(width) bytes, so `rows` needs
+   (height - 1) * stride + t85_row_bytes(width) bytes. `comment` is read only if
+   options->has_comment is set. After the call, the contents of `stream` beyond *written are
+   unspecified.
 
-   (height - 1) * stride + t85_row_bytes(width) bytes of rows are enough. The room after *written
-   may hold anything after the call.
-
+   Returns one of:
    0: the first *written bytes of `stream` are the whole stream.
-   T85_NO_ROOM: the room is full, *written is stream_room, and it holds a beginning of the stream.
-   T85_ROWS_MISSING: *written bytes hold the header, each stripe whose rows are all there, and a
-   beginning of the next.
-   Others, with nothing written, *written being 0, by the first that applies: 50; 20, 21, 22, 26;
-   33, 34; 51; 23; 19. */
+   T85_NO_ROOM: the output does not fit. `stream` is filled with a prefix of the output, and
+     *written is stream_room.
+   T85_ROWS_MISSING: `rows` is too short. The *written bytes hold the header, each stripe whose rows
+     are all present, and a prefix of the next stripe.
+   Any other error: nothing is written, and *written is 0. The checks are made in this order: 50;
+     20, 21, 22, 26; 33, 34; 51; 23; 19. */
 T85_NO_NULL((6, 13))
 uint8_t t85_encode(uint32_t width, uint32_t height, const uint8_t *rows, size_t rows_len,
                    size_t stride, const t85_options *options, const uint8_t *comment,
                    size_t comment_len, uint8_t *window, size_t window_len, uint8_t *stream,
                    size_t stream_room, size_t *written);
 
-/* Bytes that are enough for the stream of any image of this size, with these options and a comment of
-   this length; 0 where t85_encode refuses the width, the rows of a stripe or the comment.
+/* Returns a size in bytes that is enough for the stream of any image of this width and height, with
+   these options and a comment of this length. Returns 0 if t85_encode would reject the size, the
+   rows per stripe or the length of the comment.
 
-   That is about four bytes a pixel, and far more than images take: begin with a room that is likely
-   to do, and double it after T85_NO_ROOM. */
+   The bound is about four bytes per pixel, far more than real images need: start with a buffer of a
+   likely size, and double it after T85_NO_ROOM. */
 T85_NO_NULL((3))
 uint64_t t85_encode_bound(uint32_t width, uint32_t height, const t85_options *options,
                           size_t comment_len);
 
-/* Writes the image of a stream as a raw PBM: "P4", LF, width, a space, height, LF, and the rows
-   without gaps. An image of more than max_rows rows is refused; UINT32_MAX refuses none.
+/* Decodes a stream to a raw PBM file: "P4", a line feed, the width, a space, the height, a line
+   feed, and the rows without gaps. Rejects an image of more than max_rows rows; pass UINT32_MAX for
+   no limit.
 
-   22 bytes and the height times t85_row_bytes(width) are always room enough, whether the height is
-   the header's or less. The room after *written may hold anything after the call.
+   A buffer of 22 + height * t85_row_bytes(width) bytes is always large enough, with the height of
+   the header or the actual height. After the call, the contents of `image` beyond *written are
+   unspecified.
 
+   Returns one of:
    0: the first *written bytes of `image` are the whole file.
-   9 to 15: *written bytes hold the header with the full height, and each row that the bytes before
-   the fault determine.
-   T85_NO_ROOM: that has no room. It is full, *written is image_room, and it holds a beginning of
-   what would be written, at 0 or at a fault.
-   Others, with nothing written, *written being 0, by the first that applies: 1 to 8; 24; 19. */
+   9 to 15: the stream is damaged. The *written bytes hold the PBM header with the full height, and
+     each row that the bytes before the error determine.
+   T85_NO_ROOM: that output (of status 0 or 9 to 15) does not fit. `image` is filled with a prefix
+     of it, and *written is image_room.
+   Any other error: nothing is written, and *written is 0. The checks are made in this order:
+     1 to 8; 24; 19. */
 T85_NO_NULL((8))
 uint8_t t85_decode(const uint8_t *stream, size_t len, uint32_t max_rows, uint8_t *window,
                    size_t window_len, uint8_t *image, size_t image_room, size_t *written);
 
-/* The same, with the rows alone: row y begins at rows + y * stride. Bytes between two rows stay as
-   they were.
+/* Does the same, but writes only the rows: row y begins at rows + y * stride. Bytes between rows
+   are unchanged.
 
-   *rows_written is the number of whole rows that were written, at each status; at T85_NO_ROOM as
-   many as fit. A stride below t85_row_bytes(width) is refused with T85_SHORT_STRIDE, which comes
+   With every status, *rows_written is the number of whole rows written; with T85_NO_ROOM, as many
+   as fit. If stride is less than t85_row_bytes(width), returns T85_SHORT_STRIDE; this is checked
    after 24 and before 19. */
 T85_NO_NULL((9))
 uint8_t t85_decode_rows(const uint8_t *stream, size_t len, uint32_t max_rows, size_t stride,
                         uint8_t *window, size_t window_len, uint8_t *rows, size_t rows_room,
                         uint32_t *rows_written);
 
-/* Begins to decode a stream that comes in pieces. `size` is sizeof(t85_decoder). A header that
-   announces more than max_rows rows is refused; UINT32_MAX refuses none. 0, or 50 where the size is
-   another one, and then `decoder` is as it was. */
+/* Initializes a decoder for a stream in pieces. `size` must be sizeof(t85_decoder). The decoder
+   will reject a header that announces more than max_rows rows; pass UINT32_MAX for no limit.
+   Returns 0; or 50 if `size` is wrong, and then `decoder` is unchanged. */
 T85_NO_NULL((1))
 uint8_t t85_decode_start(t85_decoder *decoder, size_t size, uint32_t max_rows);
 
-/* Takes bytes of the stream, as many as you have: up to the end of the header, up to the end of a row,
-   or all. *taken is how many it took; call it again with the others, which may be none.
+/* Consumes bytes of the stream: up to the end of the header, to the end of a row, or all. Sets
+   *taken to the number of bytes consumed. Then call it again with the remaining bytes, even if
+   there are none.
 
-   The window may be empty (null, with length 0) up to T85_HEADER_READ. Then it has
-   t85_window_bytes(width) bytes or more, which are the same ones at each call, wherever they lie, and
-   which you don't write to between two calls.
+   Up to T85_HEADER_READ the window may be empty (null, with length 0). From then on, each call
+   needs the same window of at least t85_window_bytes(width) bytes. It may be moved between calls,
+   but its contents must be preserved.
 
-   T85_HEADER_READ: all 20 bytes of the header came; t85_header reads them.
-   T85_ROW: the next row begins at window[*row]. It has t85_row_bytes(width) bytes.
-   T85_MORE: all bytes were taken.
-   0: the image is whole: it is the first t85_decode_height rows of those that were given.
-   A new height behind the last stripe, and the empty data entity behind that, may be among the
-   bytes that were not taken: t85_stream_facts tells where a stream ends.
-   1 to 15: the stream is broken, and all rows were given that the bytes before the fault determine.
+   Returns one of:
+   T85_HEADER_READ: the 20 bytes of the header have been consumed; parse them with t85_header.
+   T85_ROW: the next row is the t85_row_bytes(width) bytes at window + *row.
+   T85_MORE: all bytes have been consumed, and more are needed.
+   0: the image is complete: it is the first t85_decode_height rows of those returned. A NEWLEN
+     after the last stripe, and the empty data entity after that, may be among the bytes not
+     consumed; use t85_stream_facts to find the end of a stream.
+   1 to 15: the stream is broken. All rows that the bytes before the error determine have been
+     returned.
    24: the header announces more than max_rows rows.
-   19: the window is too short, and nothing was taken or changed.
-   53: nothing was taken or changed.
-   After 0, 1 to 15 and 24 each further call answers the same, and takes nothing. */
+   19: the window is too short. Nothing was consumed or changed.
+   53: the decoder is not initialized. Nothing was consumed or changed.
+   After 0, 1 to 15 or 24, further calls return the same status and consume nothing. */
 T85_NO_NULL((1, 6, 7))
 uint8_t t85_decode_bytes(t85_decoder *decoder, const uint8_t *bytes, size_t len, uint8_t *window,
                          size_t window_len, size_t *taken, size_t *row);
 
-/* Tells that no bytes come any more, after all were taken. Answers as t85_decode_bytes, but never
-   T85_MORE: as long as it answers T85_ROW, call it again. */
+/* Signals the end of the input; call it when all bytes have been consumed. Returns the same
+   statuses as t85_decode_bytes, except T85_MORE. Call it again as long as it returns T85_ROW. */
 T85_NO_NULL((1, 4))
 uint8_t t85_decode_end(t85_decoder *decoder, uint8_t *window, size_t window_len, size_t *row);
 
-/* How many of the first rows are the image's, whatever bytes come: 0 until rows are asked for, and the
-   height after the end. Where the header has T85_VARIABLE_HEIGHT a later height may cut off the
-   others. */
+/* Returns how many of the first rows belong to the image whatever bytes follow: 0 until rows are
+   asked for, and the height after the end. If the header has T85_VARIABLE_HEIGHT, a height that
+   arrives later may cut off further rows. */
 T85_NO_NULL((1))
 uint32_t t85_decode_certain(const t85_decoder *decoder);
 
-/* The height in use: the header's until another one has come, and 0 before the header was read. Where
-   the header has T85_VARIABLE_HEIGHT it may become less up to the end. */
+/* Returns the current height: that of the header until another has arrived, and 0 before the header
+   has been read. If the header has T85_VARIABLE_HEIGHT, it may decrease until the end. */
 T85_NO_NULL((1))
 uint32_t t85_decode_height(const t85_decoder *decoder);
 
-/* Begins a stream of an image whose rows come one by one, and writes its header and its comment: 20
-   bytes, and with a comment its length and 6 more. `size` is sizeof(t85_encoder). `height` is the
-   number of rows, or, where options->announces_height, the most that may come.
+/* Starts the stream of an image whose rows are passed one by one, and writes its header and
+   comment: 20 bytes, and with a comment 6 more and its length. `size` must be sizeof(t85_encoder).
+   `height` is the number of rows or, if options->announces_height is set, the greatest number of
+   rows.
 
-   From here to the end the window has t85_window_bytes(width) bytes or more, which are the same ones
-   at each call, wherever they lie, and which you don't write to between two calls.
+   From this call to the end, each call needs the same window of at least t85_window_bytes(width)
+   bytes. It may be moved between calls, but its contents must be preserved, or rebuilt as
+   t85_encode_row explains.
 
-   0: *written bytes of `stream` are the beginning of the stream.
-   Others, with nothing written or changed, *written being 0, by the first that applies: 50; 20, 21,
-   22, 26; 33, 34; 23; 19; T85_NO_ROOM. */
+   Returns one of:
+   0: `stream` holds the first *written bytes of the stream.
+   Any other status: nothing is written or changed, and *written is 0. The checks are made in this
+     order: 50; 20, 21, 22, 26; 33, 34; 23; 19; T85_NO_ROOM. */
 T85_NO_NULL((1, 5, 12))
 uint8_t t85_encode_start(t85_encoder *encoder, size_t size, uint32_t width, uint32_t height,
                          const t85_options *options, const uint8_t *comment, size_t comment_len,
                          uint8_t *window, size_t window_len, uint8_t *stream, size_t stream_room,
                          size_t *written);
 
-/* Takes the next row, whose first t85_row_bytes(width) bytes are read, and writes what of the stream is
-   certain with it, which may be nothing.
+/* Encodes the next row, the first t85_row_bytes(width) bytes at `row`, and writes the bytes of the
+   stream that have become certain, if any.
 
-   Row n, counted from 1, is at place 2 * n % 3 of the window then, each of the three places having
-   t85_row_bytes(width) bytes, with the bits after its last pixel 0. Nothing of the window is read but
-   the two rows above the one that comes, at their places; above the first row, and with `reset` above
-   each stripe, they are white. So who has these rows may make the window anew for each call.
+   The encoder stores row n, counted from 1, at place 2 * n % 3 of the window (each of the three
+   places has t85_row_bytes(width) bytes), with the bits after its last pixel set to 0. It reads
+   only the two rows above the new one, at their places; above the first row, and with `reset` above
+   each stripe, these are white. So a caller that has these rows may rebuild the window for each
+   call.
 
-   0: the row was taken, and *written bytes of `stream` are the next of the stream.
-   Others, with nothing written or changed, *written being 0, by the first that applies: 53; 54; 55;
-   19; T85_NO_ROOM, where the room is less than t85_encode_room tells. */
+   Returns one of:
+   0: the row was encoded; `stream` holds the next *written bytes of the stream.
+   Any other status: nothing is written or changed, and *written is 0. The checks are made in this
+     order: 53; 54; 55; 19; T85_NO_ROOM if stream_room is less than t85_encode_room. */
 T85_NO_NULL((1, 8))
 uint8_t t85_encode_row(t85_encoder *encoder, const uint8_t *row, size_t row_len, uint8_t *window,
                        size_t window_len, uint8_t *stream, size_t stream_room, size_t *written);
 
-/* Ends the stream, with a new height where fewer rows came than were announced.
+/* Ends the stream, with a new height if fewer rows were passed than announced.
 
-   0: *written bytes of `stream` are the last of the stream.
-   Others, with nothing written or changed, *written being 0, by the first that applies: 53; 54, where
-   it was ended before; T85_ROWS_MISSING, where no row came or a height is not announced and rows are
-   missing; 19; T85_NO_ROOM, where the room is less than t85_encode_room tells. */
+   Returns one of:
+   0: `stream` holds the last *written bytes of the stream.
+   Any other status: nothing is written or changed, and *written is 0. The checks are made in this
+     order: 53; 54 if the stream has been ended already; T85_ROWS_MISSING if no row was passed, or
+     if rows are missing and no height was announced; 19; T85_NO_ROOM if stream_room is less than
+     t85_encode_room. */
 T85_NO_NULL((1, 6))
 uint8_t t85_encode_end(t85_encoder *encoder, uint8_t *window, size_t window_len, uint8_t *stream,
                        size_t stream_room, size_t *written);
 
-/* How many rows may still come: 0 of an encoder that was not begun, and of one that was ended. */
+/* Returns how many more rows are accepted: 0 if the encoder is not initialized or was ended. */
 T85_NO_NULL((1))
 uint32_t t85_encode_rows_left(const t85_encoder *encoder);
 
-/* Bytes of room that are enough for the next call, be it for a row or for the end: about four bytes a
-   pixel, and 0 of an encoder that was not begun or was ended. Most rows write far less. */
+/* Returns a buffer size that is enough for the next call, whether for a row or for the end: about
+   four bytes per pixel. Returns 0 if the encoder is not initialized or was ended. Most rows write
+   far less. */
 T85_NO_NULL((1))
 uint64_t t85_encode_room(const t85_encoder *encoder);
 
-/* Writes what a status means in English, without a line feed and without a zero byte: as much of it
-   as there is room for. Gives the length of the whole text. */
+/* Writes an English description of a status, without a line feed and without a terminating zero,
+   cut off at `room` bytes. Returns the length of the whole text. */
 size_t t85_message(uint8_t status, uint8_t *text, size_t room);
 
-/* For null pointers with a length of 0, each call that takes such pointers is a macro as well. It
-   puts T85_NOTHING in the place of a null pointer, and evaluates each argument once. Parentheses go
-   around an argument that has a comma outside of any, as a compound literal may have.
+/* Null pointers. Each function above that takes a pointer with a length is also a macro, which
+   replaces a null pointer by T85_NOTHING and evaluates each argument once. Put an argument in
+   parentheses if it contains a comma outside of parentheses, as a compound literal may.
 
-   The functions take no null pointer. Where one is called as (t85_info)(..), by its address, or
-   from a language that does not read this header, T85_NOTHING is passed. */
+   The functions themselves do not accept null pointers. If you call one as (t85_info)(..), through
+   its address, or from a language that does not read this header, pass T85_NOTHING. */
 #define t85_header(stream, len, fields) t85_header(t85_bytes_or_nothing(stream), len, fields)
 
 #define t85_info(stream, len, summary) t85_info(t85_bytes_or_nothing(stream), len, summary)

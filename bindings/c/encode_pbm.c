@@ -19,7 +19,7 @@ int main(int count, char **names)
     t85_options options = T85_OPTIONS;
     options.most_offset = T85_MOST_OFFSET;
     uint8_t status;
-    do { /* a stream is rarely longer than its image, but may be: ask for more until it fits */
+    do { /* a stream may be longer than its image, though rarely: double the buffer until it fits */
         stream = realloc(stream, room *= 2);
         if (!stream)
             return 1;

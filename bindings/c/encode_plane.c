@@ -1,5 +1,5 @@
-/* Encodes a page that lies in memory as one plane, and hands the stream to a function, as programs
-   do that call jbg_enc_init, jbg_enc_options and jbg_enc_out of JBIG-KIT: fax servers, for one.
+/* Encodes a page that is in memory as one plane, and passes the stream to a function, like programs
+   that call jbg_enc_init, jbg_enc_options and jbg_enc_out of JBIG-KIT, such as fax servers.
 
      encode_plane PAGE.pbm STREAM.jbg */
 #include <stdio.h>
@@ -8,12 +8,12 @@
 
 typedef void writer(unsigned char *start, size_t len, void *file);
 
-/* In the place of
+/* Replaces
      jbg_enc_init(&s, width, height, 1, &plane, write, file);
      jbg_enc_options(&s, 0, JBG_TPBON, 128, 127, 0);
      jbg_enc_out(&s);
      jbg_enc_free(&s);
-   0, or a status; or -1 where memory is out. `write` is called where the whole stream is there. */
+   Returns 0, or a status; or -1 if memory runs out. `write` is called with the whole stream. */
 static int encode_plane(uint32_t width, uint32_t height, const unsigned char *plane, writer *write,
                         void *file)
 {

@@ -1,6 +1,6 @@
-/* Writes the rows of a stream, packed, into a file as its bytes come: gateway ROWS < STREAM.jbg
-   At the end it prints the width and the height. Whenever it is killed, the file has the rows that
-   the bytes so far decide. */
+/* Writes the packed rows of a stream into a file as the stream arrives: gateway ROWS < STREAM.jbg
+   At the end it prints the width and the height. If it is killed, the file contains the rows that
+   the bytes so far determine. */
 #define _POSIX_C_SOURCE 200809L
 #include <fcntl.h>
 #include <stdio.h>
@@ -52,7 +52,7 @@ int main(int count, char **names)
         fprintf(stderr, "%.*s\n", (int)(length < sizeof text ? length : sizeof text), text);
         return 1;
     }
-    /* A height that came late cuts off rows that were given before. */
+    /* A late height cuts off rows that were returned before. */
     if (ftruncate(out, (off_t)row_len * t85_decode_height(&decoder)) || close(out))
         return 1;
     printf("%u %u\n", fields.width, t85_decode_height(&decoder));

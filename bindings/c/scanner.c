@@ -1,16 +1,16 @@
-/* Writes the stream of rows, packed, as they come: scanner WIDTH [HEIGHT] < ROWS > STREAM.jbg
-   Without HEIGHT rows are taken until the input ends, and their number follows them. Whatever of the
-   stream is certain has gone out before the next row is read. */
+/* Encodes packed rows as they arrive: scanner WIDTH [HEIGHT] < ROWS > STREAM.jbg
+   Without HEIGHT, it encodes rows until the input ends, and writes their number after them. It
+   writes all bytes of the stream that are certain before it reads the next row. */
 #define _POSIX_C_SOURCE 200809L
 #include <stdio.h>
 #include <stdlib.h>
 #include <t85.h>
 #include <unistd.h>
 
-/* What is announced where the height is not known: receivers refuse pages that may be too high. */
+/* The height announced if it is unknown. Receivers reject pages that may be too high. */
 enum { MOST_ROWS = 20000 };
 
-/* The bytes of the next row that came, up to the end of the input; or -1. */
+/* Reads the next row, and returns how many bytes arrived before the end of the input; or -1. */
 static ssize_t read_row(uint8_t *row, size_t len)
 {
     size_t have = 0;
@@ -54,7 +54,7 @@ int main(int count, char **words)
             free(row);
             return 0;
         }
-        /* Room that is enough for the next call. It hardly changes from row to row. */
+        /* A buffer that is enough for the next call. Its size hardly changes from row to row. */
         if (room < t85_encode_room(&encoder)) {
             room = (size_t)t85_encode_room(&encoder) * 2;
             free(stream);

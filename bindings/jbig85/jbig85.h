@@ -1,5 +1,5 @@
-/* The half for T.85 of JBIG-KIT's library, over libt85: the names, the fields and the numbers are those of its header, so that
-   a program is compiled again and not changed. README.md says how, and what differs. It is C of 1989, as such programs are. */
+/* JBIG-KIT's T.85 functions on top of libt85. Names, fields and numbers are those of JBIG-KIT's header, so that a program only
+   needs to be recompiled. README.md explains how, and what differs. The header is C89, like the programs that use it. */
 #ifndef JBG85_H
 #define JBG85_H
 
@@ -9,74 +9,74 @@
 extern "C" {
 #endif
 
-/* The version of JBIG-KIT whose calls these are. */
+/* The version of JBIG-KIT with this interface. */
 #define JBG85_VERSION "2.1"
 #define JBG85_VERSION_MAJOR 2
 #define JBG85_VERSION_MINOR 1
 
-/* Moves of the adaptive template pixel in a stripe. */
+/* The greatest number of moves of the adaptive template pixel in a stripe. */
 #define JBG85_ATMOVES_MAX 1
 
-/* The header of JBIG-KIT's other half has these, too. */
+/* JBIG-KIT's jbig.h also defines these. */
 #ifndef JBG_LRLTWO
 
-/* Options, summed. */
-#define JBG_LRLTWO 0x40  /* the template of two lines */
-#define JBG_VLENGTH 0x20 /* the height may be given after the header */
+/* Options, to be added. */
+#define JBG_LRLTWO 0x40  /* two-line template */
+#define JBG_VLENGTH 0x20 /* the height may follow later in the stream */
 #define JBG_TPBON 0x08   /* typical prediction */
 
-/* What calls return. The four lowest bits may say more. */
-#define JBG_EOK 0x00      /* the image is whole */
-#define JBG_EOK_INTR 0x10 /* line_out wanted an interrupt */
-#define JBG_EAGAIN 0x20   /* more bytes are wanted */
-#define JBG_ENOMEM 0x30   /* the buffer is too short for the rows */
-#define JBG_EABORT 0x40   /* the stream says that it was aborted */
-#define JBG_EMARKER 0x50  /* an escape code that has no place there */
+/* Return values. The four lowest bits may contain details. */
+#define JBG_EOK 0x00      /* the image is complete */
+#define JBG_EOK_INTR 0x10 /* line_out requested an interruption */
+#define JBG_EAGAIN 0x20   /* more input is needed */
+#define JBG_ENOMEM 0x30   /* the buffer is too small for the rows */
+#define JBG_EABORT 0x40   /* the stream was aborted by its writer */
+#define JBG_EMARKER 0x50  /* unexpected escape code */
 #define JBG_EINVAL 0x60   /* the stream is broken */
-#define JBG_EIMPL 0x70    /* the stream has what T.85 has not */
+#define JBG_EIMPL 0x70    /* the stream uses features outside T.85 */
 
 #endif
 
-/* Longs that a struct of libt85 takes. */
+/* The sizes of libt85's structs, in longs. */
 #define JBG85_ENCODER_LONGS (5360 / sizeof(unsigned long))
 #define JBG85_DECODER_LONGS (1280 / sizeof(unsigned long))
 
 struct jbg85_enc_state {
-    unsigned long x0, y0; /* the width, and the height or the most that it may come to */
-    unsigned long l0;     /* rows of a stripe */
+    unsigned long x0, y0; /* the width, and the height or greatest possible height */
+    unsigned long l0;     /* rows per stripe */
     int options;
-    int newlen;      /* 1 once a lower height was told, 2 once the stream has it */
+    int newlen;      /* 1 once a lower height was set, 2 once it has been written */
     unsigned mx;     /* greatest offset of the adaptive template pixel */
-    unsigned long y; /* rows that came */
+    unsigned long y; /* number of rows encoded */
     void (*data_out)(unsigned char *start, size_t len, void *file);
     void *file;
-    unsigned char *comment; /* to be set before the first row; NULL once the stream has it */
+    unsigned char *comment; /* set before the first row; NULL once it has been written */
     unsigned long comment_len;
-    /* What libjbig does not have: */
-    int stage;  /* 0 before the first row, 1 behind it, 2 where nothing more is written */
-    int status; /* 0, or the status of t85.h for which nothing more is written */
+    /* Fields that libjbig does not have: */
+    int stage;  /* 0 before the first row, 1 after it, 2 if nothing more is written */
+    int status; /* 0, or the status of t85.h because of which nothing more is written */
     unsigned long encoder[JBG85_ENCODER_LONGS];
 };
 
 struct jbg85_dec_state {
-    unsigned long x0, y0; /* the width, and the height in use */
-    unsigned long l0;     /* rows of a stripe */
-    int options;          /* the header's, without JBG_VLENGTH once a new height has come */
+    unsigned long x0, y0; /* the width, and the current height */
+    unsigned long l0;     /* rows per stripe */
+    int options;          /* the header's, without JBG_VLENGTH once a new height has arrived */
     int mx;               /* greatest offset of the adaptive template pixel */
     unsigned char *linebuf;
     size_t linebuf_len;
-    size_t bpl;               /* bytes of a row */
-    unsigned long bie_len;    /* bytes of the header that came, 20 at most */
-    unsigned char buffer[20]; /* they */
-    unsigned long y;          /* rows that were given */
+    size_t bpl;               /* bytes per row */
+    unsigned long bie_len;    /* number of header bytes received, at most 20 */
+    unsigned char buffer[20]; /* the header bytes received */
+    unsigned long y;          /* number of rows returned */
     int (*line_out)(const struct jbg85_dec_state *s, unsigned char *start, size_t len,
                     unsigned long y, void *file);
     void *file;
-    int intr; /* line_out wanted an interrupt */
-    int end_of_bie; /* no more bytes come */
-    /* What libjbig does not have: */
-    unsigned char last[5]; /* the last bytes that were taken */
-    int ending; /* behind a height that comes last: 1, with a byte of the empty data entity 2, then 3 */
+    int intr; /* line_out requested an interruption */
+    int end_of_bie; /* the end of the input was signalled */
+    /* Fields that libjbig does not have: */
+    unsigned char last[5]; /* the last bytes consumed */
+    int ending; /* after a height that comes last: 1; after a byte of the empty data entity 2, then 3 */
     unsigned long decoder[JBG85_DECODER_LONGS];
 };
 

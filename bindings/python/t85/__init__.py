@@ -1,4 +1,4 @@
-"""JBIG1 (ITU-T T.82) in the fax profile T.85, by the C library libt85.
+"""JBIG1 (ITU-T T.82) in the fax profile T.85, with the C library libt85.
 
     >>> stream = encode(rows, 1728, 2200, most_offset=127)
     >>> decode(stream)[:13]
@@ -6,34 +6,33 @@
     >>> header(stream).width
     1728
 
-Rows are packed eight pixels a byte, the leftmost in the highest bit, 1 for black, as in a raw PBM. What is read may be any
-object with a buffer: bytes, bytearray, memoryview, mmap. What comes back is bytes.
+Rows are packed with eight pixels per byte, the leftmost in the most significant bit; 1 is black, as in a raw PBM. Input may
+be any object with a buffer: bytes, bytearray, memoryview, mmap. Output is bytes.
 
-Other packages have pixels in other ways, and nothing is turned unless it is asked for:
+Other packages represent pixels differently, and nothing is converted unless you ask for it:
 
-    >>> page = pack(array, black=True)            # a 2-D array of NumPy, in which True or 1 is black
-    >>> page = from_image(image)                  # an image of Pillow in mode 1, in which 1 is white
+    >>> page = pack(array, black=True)            # a 2-D NumPy array in which True or 1 is black
+    >>> page = from_image(image)                  # a Pillow image in mode 1, in which 1 is white
     >>> stream = encode(page.data, page.width, page.count)
     >>> image = to_image(decode_rows(stream))
     >>> array = unpack(decode_rows(stream), black=True)
-    >>> packed = to_array(decode_rows(stream))    # the packed rows, which are not copied again
+    >>> packed = to_array(decode_rows(stream))    # the packed rows, without another copy
 
-Packed arrays are encoded in place, and decode_into has the rows written into one.
+Packed arrays are encoded in place, and decode_into decodes into an existing one.
 
-Beside these calls are t85.pillow, with which Pillow opens and saves streams, and t85.many for many files; python3 -m t85 is
-the command for these.
+t85.pillow makes Pillow open and save streams. t85.many, and the command python3 -m t85, process many files.
 
-A stream that comes in pieces is given to a Decoder, which has the rows as soon as their bytes are there; an image whose rows
-come one by one is given to an Encoder, which has the stream as far as it is certain. encode_file and decode_file go from
-file to file in this way, in memory that does not grow with the image. parts tells what a stream is made of.
+For a stream that arrives in pieces, use a Decoder, which returns rows as soon as their bytes have arrived. For an image row
+by row, use an Encoder, which returns the stream as far as it is certain. encode_file and decode_file convert files in this
+way, in memory that does not grow with the height of the image. parts lists the parts of a stream.
 
-A stream of a few bytes may have an image of terabytes. So decode and decode_rows refuse images whose rows take more than
-MAX_BYTES, 1 GiB, where max_bytes says nothing else. For a moment a call has twice what the rows take, and where a stream
-is broken up to three times as much and 8 MiB.
+A stream of a few bytes may denote an image of terabytes. So decode and decode_rows reject images whose rows take more than
+MAX_BYTES, 1 GiB, unless max_bytes says otherwise. A call temporarily needs twice the size of the rows, and for a broken
+stream up to three times that size plus 8 MiB.
 
-The library is looked for as T85_LIBRARY names it, else beside this file, where a wheel has it, else as libt85.so.1 by the
-system. Calls may run in several threads at
-once, and let other threads run meanwhile.
+The library is loaded from the file that T85_LIBRARY names; otherwise from the directory of this file, where a wheel has it;
+otherwise as libt85.so.1 from the system's directories. Functions may be called from several threads at once, and let other
+threads run during a call.
 """
 from __future__ import annotations
 
@@ -100,7 +99,7 @@ _FIRST_ROOM = 1 << 23
 
 
 class _Option(enum.IntFlag):
-    """The options that a stream has in its header."""
+    """The bits of the options byte in the header of a stream."""
 
     TWO_LINES = 0x40
     VARIABLE_HEIGHT = 0x20
@@ -164,7 +163,7 @@ class _Encoder(ctypes.Structure):
 
 
 def _named() -> str:
-    """The library's name, as the loader takes it."""
+    """The library's name, for the loader."""
     beside = os.path.join(os.path.dirname(os.path.abspath(__file__)), _SONAME)
     return os.environ.get("T85_LIBRARY") or (beside if os.path.exists(beside) else _SONAME)
 
@@ -208,7 +207,7 @@ _LIBRARY = _load()
 
 @dataclass(frozen=True)
 class Header:
-    """What the header of a stream says. Where bit 0x20 is among the options, the height is the most that it may come to."""
+    """The fields of a stream's header. If the options include bit 0x20, the height is the greatest possible height."""
 
     width: int
     height: int
@@ -219,7 +218,7 @@ class Header:
 
 @dataclass(frozen=True)
 class Summary(Header):
-    """The header's fields, and what was found after it; the line of `jbgtopbm85 --info`."""
+    """The fields of the header, and facts about the rest of the stream: the line of `jbgtopbm85 --info`."""
 
     image_height: int
     entities: int
@@ -228,7 +227,7 @@ class Summary(Header):
 
 
 class Error(ValueError):
-    """A fault: its number, its text, and what was written before it: of a stream the image as far as it can be had."""
+    """An error: its number, its text, and in partial what was written before it: for a stream, the recoverable image."""
 
     def __init__(self, number: int, partial: Union[bytes, Rows] = b"", text: Optional[str] = None) -> None:
         self.number = number
@@ -241,7 +240,7 @@ class Error(ValueError):
 
 
 class BrokenPart(Error):
-    """The fault of a part of a stream, where that begins, and how many data entities come before it."""
+    """The error of a part of a stream, the offset of the part, and the number of stripe data entities before it."""
 
     def __init__(self, number: int, offset: int, stripe: int) -> None:
         self.offset, self.stripe = offset, stripe
@@ -250,8 +249,8 @@ class BrokenPart(Error):
 
 @dataclass(frozen=True)
 class Part:
-    """A part of a stream: "header", "comment", "move", "new height" or "data entity"; where it begins, its length in bytes,
-    and how many data entities come before it."""
+    """A part of a stream: its kind ("header", "comment", "move", "new height" or "data entity"), its offset and length in
+    bytes, and the number of stripe data entities before it."""
 
     kind: str
     offset: int
@@ -269,7 +268,7 @@ def _message(number: int) -> str:
 
 
 def _bytes(data: Buffer) -> Union[bytes, int, _Memory]:
-    """What ctypes can lend: the bytes themselves, a writable buffer or an array in place; of other buffers a copy."""
+    """A value that ctypes can pass: the bytes themselves, a writable buffer or an array in place, otherwise a copy."""
     if isinstance(data, bytes):
         return data
     view = memoryview(data)
@@ -326,7 +325,7 @@ def _window(width: int) -> _Memory:
 
 
 def _with_room(write: _Writer, first: int, most: int) -> tuple[int, _Memory]:
-    """The status of a call that writes, and the memory that it wrote to: the room is doubled while it is too little."""
+    """The status of a call that writes, and the buffer that it wrote to, which is doubled while it is too small."""
     room = min(first, most)
     while True:
         output = ctypes.create_string_buffer(max(room, 1))
@@ -338,9 +337,9 @@ def _with_room(write: _Writer, first: int, most: int) -> tuple[int, _Memory]:
 
 
 def _likely_room(row: int, step: int, height: int, stripe_rows: int, given: int, said: int) -> int:
-    """Room that a stream is likely to fit into: noise takes a twentieth more than its rows, and each stripe has its end.
+    """A buffer size that is likely to suffice: noise takes a twentieth more than its rows, and each stripe has an end marker.
 
-    Only the rows that are there count: `given` is the bytes of all of them, `said` those of the comment.
+    Only the rows that are present count: `given` is the number of their bytes, `said` that of the comment.
     """
     there = min(height, given // max(step, 1) + 1)
     rows = min(there * row, given)
@@ -349,7 +348,7 @@ def _likely_room(row: int, step: int, height: int, stripe_rows: int, given: int,
 
 @dataclass(frozen=True)
 class _Extent:
-    """How far the rows of a stream's image reach: `height` of them where the stream is whole, else no more than that."""
+    """The extent of the rows of a stream's image: `height` rows if the stream is whole, otherwise at most that many."""
 
     height: int
     whole: bool
@@ -358,12 +357,12 @@ class _Extent:
 
     @property
     def length(self) -> int:
-        """Bytes from the first of the rows to the last."""
+        """The number of bytes from the first of the rows to the last."""
         return (self.height - 1) * self.step + self.row if self.height else 0
 
 
 def _extent(stream: Buffer, fields: Header, step: int) -> _Extent:
-    """What the header of a stream and its parts tell of the rows, which are `step` bytes apart, without decoding them."""
+    """The extent of rows `step` bytes apart, from the header and the parts of a stream, without decoding."""
     summary = _Summary()
     status = _LIBRARY.t85_info(_bytes(stream), _size(stream), byref(summary))
     height = fields.height if status else summary.image_height
@@ -371,7 +370,7 @@ def _extent(stream: Buffer, fields: Header, step: int) -> _Extent:
 
 
 def _height_in_use(stream: Buffer, max_rows: int) -> int:
-    """The height of a stream's image as its PBM has it, also of a broken stream: without decoding more than that wants."""
+    """The height of a stream's image as in its PBM, also for a broken stream, with as little decoding as possible."""
     fields, written = header(stream), c_size_t()
     window, image = _window(fields.width), ctypes.create_string_buffer(_HEAD_BYTES)
     lent = _bytes(stream), _size(stream), max_rows, window, len(window), image, len(image), byref(written)
@@ -384,9 +383,9 @@ def _height_in_use(stream: Buffer, max_rows: int) -> int:
 
 
 def _decoded(write: _Writer, extent: _Extent, before: int, max_bytes: Optional[int]) -> tuple[int, _Memory]:
-    """The status of a call that decodes, and the memory that it wrote to: `before` bytes, and rows of max_bytes at most.
+    """The status of a call that decodes, and the buffer that it wrote to: `before` bytes, and at most max_bytes of rows.
 
-    Of a whole stream all rows are decoded, else those that can be had, which may be far fewer: the room grows with them.
+    For a whole stream, all rows are decoded; otherwise the recoverable ones, which may be far fewer, so the buffer grows.
     """
     limit = extent.length if max_bytes is None else _length("max_bytes", max_bytes)
     fits = extent.length <= limit
@@ -410,7 +409,7 @@ def version() -> tuple[int, int, int]:
 
 
 def header(stream: Buffer) -> Header:
-    """What the first 20 bytes of a stream say."""
+    """Parses the header of a stream, its first 20 bytes."""
     fields = _Header()
     status = _LIBRARY.t85_header(_bytes(stream), _size(stream), byref(fields))
     if status:
@@ -419,7 +418,7 @@ def header(stream: Buffer) -> Header:
 
 
 def info(stream: Buffer) -> Summary:
-    """What a stream has, without decoding it."""
+    """Parses a stream without decoding its pixels."""
     fields = _Summary()
     status = _LIBRARY.t85_info(_bytes(stream), _size(stream), byref(fields))
     if status:
@@ -428,7 +427,7 @@ def info(stream: Buffer) -> Summary:
 
 
 def stream_length(data: Buffer) -> int:
-    """How many bytes the stream has with which the data begin, so that streams after one another can be told apart."""
+    """The length of the stream at the beginning of the data, so that concatenated streams can be split."""
     facts = _Facts(version=1)
     status = _LIBRARY.t85_stream_facts(_bytes(data), _size(data), byref(facts))
     if status:
@@ -437,7 +436,7 @@ def stream_length(data: Buffer) -> int:
 
 
 def parts(stream: Buffer) -> Iterator[Part]:
-    """The parts of a stream, one after another. Where one is broken or ends too early, BrokenPart is raised in its place."""
+    """Yields the parts of a stream in order. If one is broken or incomplete, BrokenPart is raised instead of it."""
     data, size, part = _bytes(stream), _size(stream), _Part(version=1)
     while True:
         status = _LIBRARY.t85_next_part(data, size, byref(part))
@@ -449,24 +448,24 @@ def parts(stream: Buffer) -> Iterator[Part]:
 
 
 class Decoder:
-    """Decodes a stream whose bytes come in pieces.
+    """Decodes a stream that arrives in pieces.
 
         >>> decoder = Decoder()
         >>> for piece in pieces:
         ...     show(decoder.feed(piece))
         >>> show(decoder.end())
 
-    feed gives each row, packed, as soon as its bytes are there. Where the stream may still give another height, rows that it
-    could cut off may be given all the same: the image is the first `height` rows. Where the stream is broken an Error is
-    raised, and its partial has the rows that the call gave before.
+    feed returns each row, packed, as soon as its bytes have arrived. While the stream may still give another height, this
+    may include rows that the height cuts off: the image is the first `height` rows. If the stream is broken, an Error is
+    raised, and its partial contains the rows that the call had decoded.
 
-    header   what the header says, or None before it came
-    height   the height in use: the header's, until another has come
-    certain  how many first rows are the image's, whatever comes
-    is_done  whether the image is whole
-    unused   the bytes of the last piece that came after the image
+    header   the fields of the header, or None before it has arrived
+    height   the current height: the header's, until another has arrived
+    certain  how many of the first rows belong to the image, whatever follows
+    is_done  whether the image is complete
+    unused   the bytes of the last piece that follow the image
 
-    max_rows  a header that announces more rows is refused; without one, or with None, none is
+    max_rows  reject a header that announces more rows; None, the default, means no limit
     """
 
     def __init__(self, *, max_rows: Optional[int] = None) -> None:
@@ -495,15 +494,15 @@ class Decoder:
         return int(_LIBRARY.t85_decode_certain(byref(self._state)))
 
     def feed(self, data: Buffer) -> list[bytes]:
-        """The rows that these bytes complete."""
+        """Returns the rows that these bytes complete."""
         return self._told(list(self._fed(bytes(memoryview(data)))))
 
     def end(self) -> list[bytes]:
-        """The rows that are still to be given, where no bytes come any more."""
+        """Signals the end of the stream, and returns the remaining rows."""
         return self._told(list(self._ended()))
 
     def _fed(self, piece: bytes) -> Iterator[bytes]:
-        """The rows that a piece completes, one after another. Once they are taken, the status is that of the last call."""
+        """Yields the rows that a piece completes. At the end, the status is that of the last call."""
         taken, row = c_size_t(), c_size_t()
         while True:
             lent = piece, len(piece), self._window, len(self._window), byref(taken), byref(row)
@@ -522,7 +521,7 @@ class Decoder:
                 return
 
     def _ended(self) -> Iterator[bytes]:
-        """The same where no bytes come any more."""
+        """The same at the end of the stream."""
         row = c_size_t()
         while True:
             lent = self._window, len(self._window), byref(row)
@@ -544,23 +543,23 @@ class Decoder:
 
 
 class Encoder:
-    """Encodes an image whose rows come one by one.
+    """Encodes an image row by row.
 
         >>> encoder = Encoder(1728, 2200, most_offset=127)
         >>> for row in rows:
         ...     send(encoder.row(row))
         >>> send(encoder.end())
 
-    row and end give the bytes of the stream that are certain with them, which may be none; all that they give, one after
-    another, is the stream that encode gives of the whole image. The header and the comment come with the first row. The
-    options are those of encode. With announced_height the height is the most rows that may come, and end gives the number
-    of those that came.
+    row and end return the bytes of the stream that have become certain, which may be none. Their concatenated results are
+    the stream that encode returns for the whole image. The first row's result includes the header and the comment. The
+    options are those of encode. With announced_height, the height is the greatest number of rows, and end writes the
+    actual number.
 
-    An Error is raised, and the encoder is as it was, where a row comes after the last one or after the end (number 54),
-    where a row is too short (55), and where the end comes before all rows, or before the first (36).
+    An Error is raised, and the encoder is unchanged, if a row follows the last one or the end (number 54), if a row is too
+    short (55), or if end is called before all rows or, with announced_height, before the first row (36).
 
-    rows_left  how many rows may still come
-    is_done    whether the stream is whole
+    rows_left  how many more rows are accepted
+    is_done    whether the stream is complete
     """
 
     def __init__(
@@ -604,18 +603,18 @@ class Encoder:
         return int(_LIBRARY.t85_encode_rows_left(byref(self._state)))
 
     def row(self, data: Buffer) -> bytes:
-        """Takes the next row, packed, and gives what of the stream is certain with it. Bytes after the row are ignored."""
+        """Encodes the next packed row, and returns bytes that became certain. Bytes after the row are ignored."""
         _refuse_pixels(data, self.width, 1, None)
         return self._taken(_LIBRARY.t85_encode_row, _bytes(data), _size(data))
 
     def end(self) -> bytes:
-        """The last bytes of the stream. Where fewer rows came than were announced, they give the height."""
+        """Returns the last bytes of the stream, with the height if fewer rows were passed than announced."""
         last = self._taken(_LIBRARY.t85_encode_end)
         self.is_done = True
         return last
 
     def _taken(self, call: Callable[..., int], *words: Any) -> bytes:
-        """What a call writes, behind what is still to be given."""
+        """The bytes not returned yet, followed by those that a call writes."""
         room = int(_LIBRARY.t85_encode_room(byref(self._state)))
         if len(self._output) < room:
             self._output = ctypes.create_string_buffer(2 * room)
@@ -643,19 +642,19 @@ def encode(
     reset: bool = False,
     comment: Optional[Buffer] = None,
 ) -> bytes:
-    """The stream of an image, whose rows are packed bytes. An array with an item a pixel is refused: see pack.
+    """Encodes an image of packed rows. An array with one item per pixel is rejected: see pack.
 
-    stride            bytes from a row to the next; without one the rows are close together
-    stripe_rows       rows of a stripe
+    stride            bytes from one row to the next; by default, rows have no gaps
+    stripe_rows       rows per stripe
     most_offset       greatest offset of the adaptive template pixel, 0 to 127
-    two_lines         the template of two lines
-    typical           typical prediction
-    variable_height   the option VLENGTH, which an announced height sets by itself
-    announced_height  the height of the header; the image's own, if less, is given after its last row
-    reset             each stripe begins anew
+    two_lines         use the two-line template
+    typical           use typical prediction
+    variable_height   the option VLENGTH, which announced_height also sets
+    announced_height  height in the header; a lower actual height is written after the last row
+    reset             code each stripe independently of the ones before it
     comment           the bytes of a comment
 
-    Where rows are missing the Error has the stream of the stripes that are whole, and a beginning of the next.
+    If rows are missing, the Error contains the stream of the complete stripes, and a prefix of the next one.
     """
     _refuse_pixels(rows, width, height, stride)
     chosen = _chosen(
@@ -681,12 +680,12 @@ def encode(
 
 
 def decode(stream: Buffer, *, max_rows: Optional[int] = None, max_bytes: Optional[int] = MAX_BYTES) -> bytes:
-    """The image of a stream, as a raw PBM.
+    """Decodes a stream to a raw PBM.
 
-    max_rows   an image of more rows is refused; without one, or with None, none is
-    max_bytes  an image whose rows take more bytes is refused; with None none is
+    max_rows   reject an image of more rows; None, the default, means no limit
+    max_bytes  reject an image whose rows take more bytes; None means no limit
 
-    Where the stream is broken the Error has the PBM's header with the full height, and each row that can be had.
+    If the stream is broken, the Error contains the PBM header with the full height, and each recoverable row.
     """
     fields = header(stream)
     window = _window(fields.width)
@@ -713,13 +712,13 @@ def decode_rows(
     max_rows: Optional[int] = None,
     max_bytes: Optional[int] = MAX_BYTES,
 ) -> Rows:
-    """The rows of a stream's image.
+    """Decodes a stream to rows.
 
-    stride     bytes from a row to the next; without one the rows are close together. Bytes between two rows are 0.
-    max_rows   an image of more rows is refused; without one, or with None, none is
-    max_bytes  an image whose rows, with the bytes between them, take more bytes is refused; with None none is
+    stride     bytes from one row to the next; by default, rows have no gaps. Bytes between rows are 0.
+    max_rows   reject an image of more rows; None, the default, means no limit
+    max_bytes  reject an image whose rows, with the bytes between them, take more bytes; None means no limit
 
-    Where the stream is broken the Error has each row that can be had.
+    If the stream is broken, the Error contains each recoverable row.
     """
     fields = header(stream)
     window = _window(fields.width)
@@ -748,13 +747,13 @@ def decode_into(
     stride: Optional[int] = None,
     max_rows: Optional[int] = None,
 ) -> int:
-    """Writes the rows of a stream's image into memory of the caller, and gives their number.
+    """Decodes a stream to rows in a caller's buffer, and returns their number.
 
-    rows      a writable buffer without gaps, such as a bytearray or a packed array of NumPy; not the stream's own memory
-    stride    bytes from a row to the next; without one the rows are close together. Bytes between two rows stay
-    max_rows  an image of more rows is refused; without one, or with None, none is
+    rows      a writable contiguous buffer, such as a bytearray or a packed NumPy array; not the stream's own memory
+    stride    bytes from one row to the next; by default, rows have no gaps. Bytes between rows are unchanged
+    max_rows  reject an image of more rows; None, the default, means no limit
 
-    Where the stream is broken, or the buffer too short, the rows that can be had are written; the Error has their number.
+    If the stream is broken or the buffer is too short, the recoverable rows are written; the Error has their number.
     """
     fields = header(stream)
     _refuse_pixels(rows, fields.width, fields.height, stride)

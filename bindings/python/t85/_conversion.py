@@ -1,4 +1,4 @@
-"""From file to file, piece by piece, in memory that does not grow with the image."""
+"""Converts files piece by piece, in memory that does not grow with the height of the image."""
 from __future__ import annotations
 
 import contextlib
@@ -48,14 +48,14 @@ def encode_file(
     reset: bool = False,
     comment: Optional[Buffer] = None,
 ) -> int:
-    """Writes the stream of a PBM image, raw or plain, and gives its length in bytes.
+    """Encodes a PBM image, raw or plain, from source to target, and returns the length of the stream in bytes.
 
-    source  the name of a file, or a file object of bytes, of which more than the image may be read
-    target  the same; a file with a name is there when it is whole, and not before
+    source  a file name, or a binary file object, which may be read beyond the image
+    target  the same; a file given by name appears only when it is complete
 
-    The options are those of encode. The image is read row by row, and the stream is written as it is made: pipes will do on
-    both sides, and what of it is certain is written before more is read. Where rows are missing an Error is raised; a file
-    object has the stream of the stripes that are whole, then, and a beginning of the next.
+    The options are those of encode. The image is read row by row, and the stream is written as it is produced, before more
+    is read, so both may be pipes. If rows are missing, an Error is raised; a file object then has the stream of the complete
+    stripes, and a prefix of the next one.
     """
     with _reading(source) as file, _writing(target) as output:
         page = PageReader(_more_of(file, output))
@@ -86,19 +86,19 @@ def decode_file(
     max_rows: Optional[int] = None,
     max_bytes: Optional[int] = MAX_BYTES,
 ) -> int:
-    """Writes the image of a stream as a raw PBM, and gives its height.
+    """Decodes a stream from source to a raw PBM in target, and returns the height.
 
-    source     the name of a file, or a file object of bytes, of which more than the stream may be read
-    target     the same; a file with a name is there when it is whole, and not before
-    max_rows   an image of more rows is refused; without one, or with None, none is
-    max_bytes  an image whose rows take more bytes is refused; with None none is
+    source     a file name, or a binary file object, which may be read beyond the stream
+    target     the same; a file given by name appears only when it is complete
+    max_rows   reject an image of more rows; None, the default, means no limit
+    max_bytes  reject an image whose rows take more bytes; None means no limit
 
-    The rows are written as they are decoded, and before more is read: pipes will do on both sides. A PBM begins with the
-    height. So a stream that may give its height late is read to its end before anything is written. It is kept meanwhile,
-    from 1 MiB on in a temporary file.
+    Rows are written as they are decoded, before more is read, so both may be pipes. A PBM begins with its height, so a
+    stream that may give its height late is read to its end before anything is written. It is stored meanwhile, beyond
+    1 MiB in a temporary file.
 
-    Where the stream is broken an Error is raised, whose partial has the number of the rows that can be had. A file object
-    has the header with the full height, then, and these rows.
+    If the stream is broken, an Error is raised, whose partial has the number of recoverable rows. A file object then has
+    the header with the full height, and these rows.
     """
     most = _NO_LIMIT if max_rows is None else _word("max_rows", max_rows)
     limit = None if max_bytes is None else _length("max_bytes", max_bytes)

@@ -1,6 +1,6 @@
-"""The rows of an image, and how they are made of arrays and images of other packages.
+"""The rows of an image, and conversion from and to the arrays and images of other packages.
 
-NumPy and Pillow are imported by the functions that need them, and not before.
+NumPy and Pillow are imported only by the functions that need them.
 """
 from __future__ import annotations
 
@@ -11,7 +11,7 @@ from typing import Any, Optional, Protocol
 
 @dataclass(frozen=True)
 class Rows:
-    """The rows of an image: `count` of them, each `stride` bytes after the one before."""
+    """The rows of an image: `count` rows, each `stride` bytes after the one before."""
 
     width: int
     count: int
@@ -32,14 +32,14 @@ class PillowImage(Protocol):
 
 
 def row_bytes(width: int) -> int:
-    """The bytes of a row, eight pixels each."""
+    """The number of bytes in a row, with eight pixels per byte."""
     return (width + 7) // 8
 
 
 def pack(array: Any, *, black: bool) -> Rows:
-    """The rows of a 2-D array with an item a pixel: NumPy's array, or what NumPy makes one of. It needs NumPy.
+    """Packs the rows of a 2-D array with one item per pixel: a NumPy array, or whatever NumPy can convert to one.
 
-    black  whether True and 1 are black, and False and 0 white; with black=False it is the other way round
+    black  whether True and 1 are black, and False and 0 white; black=False means the reverse
     """
     numpy = importlib.import_module("numpy")
     pixels = numpy.asarray(array)
@@ -53,23 +53,23 @@ def pack(array: Any, *, black: bool) -> Rows:
 
 
 def to_array(rows: Rows) -> Any:
-    """The packed rows as a 2-D array of NumPy, with eight pixels an item: nothing is copied, and it can't be written to."""
+    """The packed rows as a 2-D NumPy array with eight pixels per item, read-only and without a copy."""
     numpy = importlib.import_module("numpy")
     shape, strides = (rows.count, row_bytes(rows.width)), (rows.stride, 1)
     return numpy.ndarray(shape, "uint8", rows.data, strides=strides)
 
 
 def unpack(rows: Rows, *, black: bool) -> Any:
-    """A 2-D array of NumPy with an item a pixel, of bool: black says what a black pixel is, as for pack."""
+    """Unpacks rows to a 2-D NumPy array of bool, with one item per pixel; black is the value of a black pixel."""
     numpy = importlib.import_module("numpy")
     bits = numpy.unpackbits(to_array(rows), axis=1, count=rows.width)
     return bits == bool(black)
 
 
 def from_image(image: PillowImage) -> Rows:
-    """The rows of an image of Pillow in mode 1. There 1 is white: each bit is turned.
+    """The rows of a Pillow image in mode 1. In Pillow, 1 is white, so each bit is inverted.
 
-    An image of another mode is refused, since there are many ways to make one of black and white of it.
+    An image of another mode is rejected, since there are many ways to convert it to black and white.
     """
     if image.mode != "1":
         raise ValueError(f"image has the mode {image.mode}, and not 1: image.convert('1') makes one")
@@ -79,7 +79,7 @@ def from_image(image: PillowImage) -> Rows:
 
 
 def to_image(rows: Rows) -> Any:
-    """An image of Pillow in mode 1. There 1 is white: each bit is turned. It needs Pillow."""
+    """The rows as a Pillow image in mode 1. In Pillow, 1 is white, so each bit is inverted."""
     pillow = importlib.import_module("PIL.Image")
     size, row = (rows.width, rows.count), row_bytes(rows.width)
     if not rows.width or not rows.count:

@@ -1,4 +1,4 @@
-"""Many files over the workers of Dask's `distributed`, which has to be installed on each of them, and this module beside it.
+"""Processes many files on the workers of Dask's `distributed`. It and this module must be installed on each worker.
 
     >>> from distributed import Client
     >>> from t85.dask import run
@@ -7,8 +7,9 @@
     ...     for outcome in run(client, Job("encode", folder="s3://store/streams"), names):
     ...         print(outcome.name, outcome.state, outcome.text)
 
-Each name is one task. Where a worker is lost, its tasks go to others: an output that is whole is skipped there, any other is
-made again. A file with which workers are lost again and again fails, and the others go on. All workers have to see the same files: those of a shared folder, or of a store that fsspec reads.
+Each name is one task. If a worker is lost, its tasks go to others, which skip complete outputs and repeat the rest. A file
+with which workers are lost repeatedly fails, and the others continue. All workers must see the same files, in a shared folder
+or in a store that fsspec can access.
 """
 from __future__ import annotations
 
@@ -19,7 +20,7 @@ from .many import FAILED, Job, Outcome
 
 
 def run(client: Any, job: Job, names: Iterable[str]) -> Iterator[Outcome]:
-    """What became of each file, in the order in which they are ready. The client is one of `distributed`."""
+    """Yields the outcome for each file, in the order of completion. The client is one of `distributed`."""
     distributed = importlib.import_module("distributed")
     listed = list(names)
     tasks = client.map(job, listed, key=f"t85-{job.command}", pure=False, retries=3)

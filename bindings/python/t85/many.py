@@ -1,4 +1,4 @@
-"""Many files in one process: each is encoded, decoded, told about or checked, and an error of one stops none of the others.
+"""Processes many files in one process: encodes, decodes, describes or checks each. An error in one stops no other.
 
     >>> job = Job("encode", folder="streams", options={"most_offset": 127})
     >>> for outcome in run(job, ["a.pbm", "b.pbm"], workers=4):
@@ -6,13 +6,13 @@
     a.pbm done
     b.pbm done
 
-The calls of the library run in threads, which do not wait for each other there. An output is written under another name in
-its own folder, `.NAME.HEX.part`, and renamed when it is whole. One that is there, is whole and is no older than its input
-is skipped: who begins again after a stop does only what is left. A name with `://` is read and written by fsspec, where that
-is installed.
+The library's functions run in threads in parallel. An output is written under another name in its own folder,
+`.NAME.HEX.part`, and renamed when it is complete. An output that exists, is complete and is no older than its input is
+skipped, so a run that was interrupted can be repeated and does only the rest. A name with `://` is read and written through
+fsspec, if that is installed.
 
-A job is a function of one name that can be pickled, so anything that maps functions over lists may run it: t85.dask has the
-workers of Dask do so.
+A job is a function of one name that can be pickled, so anything that maps functions over lists can run it: t85.dask runs it
+on the workers of Dask.
 """
 from __future__ import annotations
 
@@ -37,7 +37,7 @@ _BATCH = 8
 
 @dataclass(frozen=True)
 class Outcome:
-    """What became of one file: its bytes, what it is, or the number and the text of its fault. An error of the system has 0."""
+    """The result for one file: its bytes, its facts, or the number and the text of its error (0 for a system error)."""
 
     name: str
     state: str
@@ -50,7 +50,7 @@ class Outcome:
 
 @dataclass(frozen=True)
 class Job:
-    """What is done with each file: the command, the folder of the outputs, and options of the encoder by encode's names."""
+    """What to do with each file: the command, the output folder, and encoder options under the names of encode."""
 
     command: str
     folder: Optional[str] = None
@@ -69,7 +69,7 @@ class Job:
             return Outcome(name, FAILED, text=f"{type(error).__name__}: {error}")
 
     def output(self, name: str) -> Optional[str]:
-        """The name of what is made of a file: its own with another ending, in the folder of the outputs where there is one."""
+        """The name of a file's output: its own with another suffix, in the output folder if there is one."""
         ending = _ENDING.get(self.command)
         if ending is None:
             return None
@@ -129,7 +129,7 @@ def _target(job: Job, name: str) -> str:
 
 
 def _is_stream(stream: bytes, width: int, height: int) -> bool:
-    """Whether this is a stream that has all its parts, of an image of this size."""
+    """Whether this is a complete stream of an image of this size."""
     try:
         summary = info(stream)
     except Error:
@@ -145,7 +145,7 @@ def _is_image(output: str, summary: Summary) -> bool:
 
 
 def run(job: Job, names: Sequence[str], workers: int = 1) -> Iterator[Outcome]:
-    """What became of each file, in the order of their names, by so many threads."""
+    """Yields the outcome for each file, in the order of the names, using this many threads."""
 
     def several(first: int) -> List[Outcome]:
         return [job(name) for name in names[first : first + _BATCH]]
@@ -162,7 +162,7 @@ def run(job: Job, names: Sequence[str], workers: int = 1) -> Iterator[Outcome]:
 
 @dataclass
 class Total:
-    """What became of all files of a job."""
+    """The totals over all files of a job."""
 
     command: str
     seconds: float = 0.0

@@ -1,12 +1,12 @@
-"""Pillow opens and saves streams once this module is imported: .jbg and .jbig, images in mode 1.
+"""Importing this module makes Pillow open and save .jbg and .jbig files, as images in mode 1.
 
     >>> import t85.pillow
     >>> from PIL import Image
     >>> Image.open("page.jbg").save("page.png")
     >>> Image.open("page.png").convert("1").save("page.jbg", most_offset=127)
 
-save takes the options of t85.encode by their names, but for stride. A broken stream raises OSError where its pixels are
-loaded; with ImageFile.LOAD_TRUNCATED_IMAGES its rows are had as far as the stream decides them, and the others are white.
+save accepts the options of t85.encode under the same names, except stride. A broken stream raises OSError when its pixels
+are loaded. With ImageFile.LOAD_TRUNCATED_IMAGES, it yields the rows that the stream determines, followed by white rows.
 """
 from __future__ import annotations
 
@@ -35,12 +35,12 @@ _OPTIONS = (
 
 
 def _accept(prefix: bytes) -> bool:
-    """Whether a file may be a stream. Icons begin with the same four bytes, and then have a width that no stream has."""
+    """Whether a file may be a stream. Icons begin with the same four bytes, but then have a width that no stream has."""
     return prefix[:4] == b"\0\0\1\0" and 0 < int.from_bytes(prefix[4:8], "big") <= 1 << 20
 
 
 class JbigFile(_FILE.ImageFile):  # type: ignore[misc]
-    """A stream as Pillow sees it. The height of one that may give it late is looked for when it is opened."""
+    """A stream as a Pillow image file. If the height may come late, it is determined when the file is opened."""
 
     format = FORMAT
     format_description = "JBIG1 (ITU-T T.82) in the fax profile T.85"
@@ -65,7 +65,7 @@ class JbigFile(_FILE.ImageFile):  # type: ignore[misc]
 
 
 class JbigDecoder(_FILE.PyDecoder):  # type: ignore[misc]
-    """Decodes a whole stream, where Pillow loads the pixels of its one tile."""
+    """Decodes a whole stream, when Pillow loads the pixels of its one tile."""
 
     _pulls_fd = True
 
@@ -83,7 +83,7 @@ class JbigDecoder(_FILE.PyDecoder):  # type: ignore[misc]
 
 
 def _save(image: Any, file: Any, filename: str) -> None:
-    """Writes an image in mode 1; of another mode there are many ways to make black and white, and none is taken."""
+    """Writes an image in mode 1. Other modes are rejected: there are many ways to convert them to black and white."""
     if image.mode != "1":
         raise OSError(f"cannot write mode {image.mode} as {FORMAT}")
     options = {name: image.encoderinfo[name] for name in _OPTIONS if name in image.encoderinfo}

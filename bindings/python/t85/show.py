@@ -1,9 +1,9 @@
-"""A picture of a stream, by Pillow: its page, the bounds of its stripes, where the adaptive pixel moved, the bytes of each
-stripe as bars, and hatched what can't be had of a broken stream.
+"""Draws a stream, with Pillow: its page, the boundaries of its stripes, the moves of the adaptive pixel, the bytes of each
+stripe as bars, and hatching where a broken stream cannot be recovered.
 
     >>> show("page.jbg", "page.png")
 
-The page is decoded by the library, which also tells where the parts of the stream lie.
+The library decodes the page, and also locates the parts of the stream.
 """
 from __future__ import annotations
 
@@ -31,7 +31,7 @@ def show(name: str, picture: str) -> None:
 
 
 def _rows(stream: bytes) -> Tuple[Rows, str]:
-    """The rows that can be had of a stream, and its fault."""
+    """The recoverable rows of a stream, and its error."""
     try:
         return decode_rows(stream, max_bytes=_MOST_BYTES), ""
     except Error as error:

@@ -1,4 +1,4 @@
-//! An input that reads ahead of another.
+//! An input that reads ahead of another input.
 
 ghost use Rattle.std.specs.Prelude.{◌≡◌, ◌≤◌, ◌<◌, ◌+◌, ◌-◌, ◌^◌};
 
@@ -6,7 +6,8 @@ use crate::device::{DeviceFailed, Input};
 
 const SIZE: usize = 4096;
 
-/// A device with a fixed array in front. It is asked only where a byte is wanted and none is held.
+/// A device with a buffer of fixed size in front of it. The device is read only when a byte is needed and none is
+/// buffered.
 #[derive(Drop)]
 pub struct Buffered<'a, R: Input> {
     input: &'a mut R,
@@ -23,7 +24,7 @@ impl<'a, R: Input> Buffered<'a, R> {
         ensures empty { result.at ≡ result.end }
         ensures lent { result.input ≡ input.entry }
     {
-        // The proof reads from this call that the number fits.
+        // The proof uses this call to bound the number of remaining bytes.
         let _ = input.left();
         Buffered {
             input,

@@ -1,4 +1,4 @@
-//! Pixels of the plain form among bytes that are at hand.
+//! Finds the pixels of the plain form among buffered bytes.
 
 ghost use Rattle.std.specs.Prelude.{◌≤◌, IfSome};
 ghost use Rattle.pbm_core.specs.Steps.{MakeByte, FindsPixels};
@@ -6,21 +6,21 @@ ghost use Rattle.pbm_core.specs.Steps.{MakeByte, FindsPixels};
 use crate::header::is_white;
 use crate::rows::pixel_of;
 
-/// A word of eight bytes 0.
+/// A word of eight digits 0.
 const ZEROS: u64 = 0x3030_3030_3030_3030;
-/// The bits in which no digit differs from another.
+/// The bits that are the same in both digits.
 const SAME_BITS: u64 = 0xfefe_fefe_fefe_fefe;
-/// A word of eight bytes 0 or 1 times this has these bits in its highest byte.
+/// Multiplying a word of eight bytes 0 or 1 by this gathers their bits in the highest byte.
 const GATHER: u64 = 0x0102_0408_1020_4080;
 
-/// Where pixels end among bytes, and the byte that they make.
+/// Where pixels end among bytes, and the byte into which they are packed.
 #[derive(Clone, Copy)]
 pub(crate) struct Found {
     pub(crate) end: usize,
     pub(crate) byte: u8,
 }
 
-/// Finds the next pixels, up to eight of them, where all are among these bytes.
+/// Finds the next pixels, up to eight, if all of them are among these bytes.
 #[inline(always)]
 pub(crate) fn find_pixels(bytes: &[u8], count: u32) -> Option<Found>
     requires some { 1 ≤ count }
@@ -33,7 +33,7 @@ pub(crate) fn find_pixels(bytes: &[u8], count: u32) -> Option<Found>
     find_each(bytes, count)
 }
 
-/// The byte of eight pixels, where their digits stand close together.
+/// The byte of eight pixels, if their digits are adjacent.
 #[inline(always)]
 fn eight_digits(bytes: &[u8], count: u32) -> Option<u8>
     requires { count ≤ 8 }
@@ -49,7 +49,7 @@ fn eight_digits(bytes: &[u8], count: u32) -> Option<u8>
     gathered(digits)
 }
 
-/// The byte that eight digits make.
+/// The byte into which eight digits are packed.
 #[inline(always)]
 fn gathered(digits: &[u8; 8]) -> Option<u8>
     ensures { IfSome result (MakeByte 8 digits.now) }
@@ -61,7 +61,7 @@ fn gathered(digits: &[u8; 8]) -> Option<u8>
     Some(((word - ZEROS).wrapping_mul(GATHER) >> 56) as u8)
 }
 
-/// Finds pixels one by one, with white space before each.
+/// Finds pixels one by one, each preceded by any white space.
 fn find_each(bytes: &[u8], count: u32) -> Option<Found>
     requires some { 1 ≤ count }
     requires few { count ≤ 8 }

@@ -1,7 +1,7 @@
-//! Arguments as clap takes them: options of one letter, and names of files.
+//! The arguments that clap parses: options with one letter, and file names.
 //!
-//! An argument takes 600 bytes of stack, and several times that while it is made. So each is given to its command by a
-//! call that is not made in line, and the next one is made where it was.
+//! An argument takes 600 bytes of stack, and several times that while it is created. So each is added to its command by
+//! a function that is not inlined, and the next one reuses the stack.
 
 ghost use Rattle.std.specs.Prelude.{◌≡◌, ◌∷◌, [], false, IfOk, Some};
 ghost use Rattle.clap.specs.Words.{new_rule, rule_of};
@@ -10,10 +10,10 @@ ghost use Rattle.program_core.specs.Options.{HasAlso, number_rule, flag_rule, te
 use clap::{Arg, ArgAction, Command, value_parser};
 use std::alloc::{AllocError, Global};
 
-/// The version of both commands, which is also the library's.
+/// The version of both commands, and of the library.
 pub(crate) const VERSION: &str = "1.0.0";
 
-/// The name of a file.
+/// A file name.
 fn file_arg<'a>(alloc: Global, name: &'a str, help: &'a str) -> Arg<'a>
     ensures rule { rule_of result ≡ new_rule name.entry.now }
     ensures local { result.global ≡ false }
@@ -22,7 +22,7 @@ fn file_arg<'a>(alloc: Global, name: &'a str, help: &'a str) -> Arg<'a>
     Arg::new(alloc, name).help(help)
 }
 
-/// An option of one letter with a number below 2^32.
+/// An option with one letter, whose value is a number below 2^32.
 fn number_arg<'a>(alloc: Global, id: &'a str, letter: char, help: &'a str) -> Arg<'a>
     ensures rule { rule_of result ≡ number_rule id.entry.now letter [] }
     ensures local { result.global ≡ false }
@@ -36,7 +36,7 @@ fn number_arg<'a>(alloc: Global, id: &'a str, letter: char, help: &'a str) -> Ar
         .help(help)
 }
 
-/// The same, and the number that it has where it is not given.
+/// The same, with a default value.
 fn default_arg<'a>(
     alloc: Global,
     id: &'a str,
@@ -51,7 +51,7 @@ fn default_arg<'a>(
     number_arg(alloc, id, letter, help).default_value(value)
 }
 
-/// An option of one letter with a text.
+/// An option with one letter, whose value is a text.
 fn text_arg<'a>(alloc: Global, id: &'a str, letter: char, help: &'a str) -> Arg<'a>
     ensures rule { rule_of result ≡ text_rule id.entry.now letter }
     ensures local { result.global ≡ false }
@@ -63,7 +63,7 @@ fn text_arg<'a>(alloc: Global, id: &'a str, letter: char, help: &'a str) -> Arg<
         .help(help)
 }
 
-/// An option of one letter alone.
+/// An option with one letter and no value.
 fn flag_arg<'a>(alloc: Global, id: &'a str, letter: char, help: &'a str) -> Arg<'a>
     ensures rule { rule_of result ≡ flag_rule id.entry.now letter }
     ensures local { result.global ≡ false }
@@ -75,7 +75,7 @@ fn flag_arg<'a>(alloc: Global, id: &'a str, letter: char, help: &'a str) -> Arg<
         .help(help)
 }
 
-/// The command with the name of a file.
+/// The command with a file name added.
 #[inline(never)]
 pub(crate) fn with_file<'a>(
     command: Command<'a>,
@@ -88,7 +88,7 @@ pub(crate) fn with_file<'a>(
     command.arg(file_arg(alloc, name, help))
 }
 
-/// The command with an option that has a number.
+/// The command with an option added that has a number.
 #[inline(never)]
 pub(crate) fn with_number<'a>(
     command: Command<'a>,
@@ -102,7 +102,7 @@ pub(crate) fn with_number<'a>(
     command.arg(number_arg(alloc, id, letter, help))
 }
 
-/// The command with an option that has a number, also where it is not given.
+/// The command with an option added that has a number with a default.
 #[inline(never)]
 pub(crate) fn with_default<'a>(
     command: Command<'a>,
@@ -118,7 +118,7 @@ pub(crate) fn with_default<'a>(
     command.arg(default_arg(alloc, id, letter, value, help))
 }
 
-/// The command with an option that has a text.
+/// The command with an option added that has a text.
 #[inline(never)]
 pub(crate) fn with_text<'a>(
     command: Command<'a>,
@@ -132,7 +132,7 @@ pub(crate) fn with_text<'a>(
     command.arg(text_arg(alloc, id, letter, help))
 }
 
-/// The command with an option alone.
+/// The command with an option added that has no value.
 #[inline(never)]
 pub(crate) fn with_flag<'a>(
     command: Command<'a>,

@@ -1,4 +1,4 @@
-//! What is read and written: a named file, or a standard stream.
+//! The files that are read and written: a named file, or a standard stream.
 
 ghost use Rattle.std.specs.Prelude.{◌≡◌, ◌↔◌, IfOk, IsTrue, OnErr, option_map, string_bytes, true};
 ghost use Rattle.program_core.specs.Run.{IsRegular, names_file, reads_file, writes_file};
@@ -7,18 +7,18 @@ use std::fs::{self, File, FileType};
 use std::io::{self, Read, Stdin, Stdout, Write};
 use std::os::fd::{AsRawFd, RawFd};
 
-/// The name that stands for a standard stream.
+/// The file name that stands for a standard stream.
 const STREAM: &str = "-";
 
 #[derive(Drop)]
 pub enum Readable {
     Stream(Stdin),
-    /// A named file, and its type, where it was asked for and the system tells it.
+    /// A named file, and its type, if that was requested and the system reports it.
     File(File, Option<FileType>),
 }
 
 impl Readable {
-    /// The standard input where there is no name or `-`, else the file of that name.
+    /// Opens standard input if there is no name or the name is `-`, and otherwise the file with that name.
     pub(crate) fn open(rt: &HostRuntime, name: &Option<String>) -> io::Result<Readable>
         ensures chosen { IfOk result (λ input. reads_file input ≡ names_file
             (option_map string_bytes name.now)) }
@@ -35,7 +35,7 @@ impl Readable {
 }
 
 impl Readable {
-    /// The same, with the type of a file, where that is wanted: to ask for it takes as long as to open the file.
+    /// The same file with its type, if that is wanted: determining the type takes as long as opening the file.
     pub(crate) fn with_type(self, is_wanted: bool) -> Readable
         ensures { reads_file result ≡ reads_file self }
     {
@@ -51,8 +51,8 @@ impl Readable {
         }
     }
 
-    /// Whether its bytes can be read again, from the first one on: it is a regular file that has a name. A pipe, also one
-    /// that has a name, gives its bytes once.
+    /// Whether its bytes can be read again from the first one on: it is a regular file given by name. A pipe returns
+    /// its bytes only once, even if it has a name.
     pub(crate) fn is_regular(&self) -> bool
         ensures { IsTrue result ↔ IsRegular self.now }
     {
@@ -87,7 +87,8 @@ pub enum Writable {
 }
 
 impl Writable {
-    /// The standard output where there is no name or `-`, else the file of that name, emptied.
+    /// Opens standard output if there is no name or the name is `-`, and otherwise creates or truncates the file with
+    /// that name.
     pub(crate) fn create(rt: &HostRuntime, name: &Option<String>) -> io::Result<Writable>
         ensures chosen { IfOk result (λ output. writes_file output ≡ names_file
             (option_map string_bytes name.now)) }
@@ -119,11 +120,11 @@ impl Write for Writable {
     }
 }
 
-/// The last place of a standard stream among the open files.
+/// The greatest file descriptor of a standard stream.
 const LAST_STREAM: RawFd = 2;
 
-/// Files in the places of those standard streams that are closed. While they are kept, no file that is opened gets such a
-/// place, so no message goes into it.
+/// Files in place of those standard streams that are closed. While they are open, no other file gets the descriptor of
+/// a standard stream, so no message is written into it.
 #[derive(Drop)]
 pub struct Places {
     first: Option<File>,
@@ -132,7 +133,7 @@ pub struct Places {
 }
 
 impl Places {
-    /// Takes the places that are free.
+    /// Opens files in the free places.
     pub fn take(rt: &HostRuntime) -> Places {
         let first = take_place(rt);
         if first.is_none() {
@@ -150,7 +151,7 @@ impl Places {
     }
 }
 
-/// A file in the first free place, where that is one of a standard stream. Reading gives nothing there, and writing fails.
+/// A file at the lowest free descriptor, if that is a standard stream's. Reading it returns nothing, and writing fails.
 fn take_place(rt: &HostRuntime) -> Option<File> {
     let file = match fs::open(rt, "/dev/null") {
         Ok(file) => file,

@@ -1,4 +1,4 @@
-//! The work of `jbgtopbm85`: its command line, and its run over lent devices.
+//! The work of `jbgtopbm85`: its command line, and its run on borrowed devices.
 
 ghost use Rattle.std.specs.Prelude.{◌≡◌, ◌↔◌, false, true, IfErr, IfOk, IfSome, IsSome, option_map, string_bytes};
 ghost use Rattle.std.specs.Process.{exit_status};
@@ -21,23 +21,23 @@ use t85_core::{Fault, info, to_pbm};
 pub use words::job;
 pub use work::Job;
 
-/// The program's name.
+/// The name of the program.
 pub const NAME: &str = "jbgtopbm85";
 
-/// What a job is done on.
+/// The files of a job.
 #[derive(Drop)]
 pub struct Files<R, Second, W> {
     pub input: R,
-    /// The input once more, where its image is asked for and it can be read again.
+    /// The input opened a second time, if its image is requested and it can be read again.
     pub again: Option<Second>,
     pub output: W,
 }
 
-/// The files of a job, as they are opened.
+/// The files of a job, as `open` opens them.
 pub type Opened = Files<FromRead<Readable>, FromRead<Readable>, ToWrite<Writable>>;
 
-/// Opens the job's input, and then creates or empties its output; where one can't be, that was reported, and the program
-/// ends. A pipe is opened once, also where it has a name.
+/// Opens the job's input, and then creates or truncates its output. If that fails, it reports the error and returns the
+/// exit code with which the program must end. A pipe is opened once, even if it has a name.
 pub fn open(rt: &HostRuntime, job: &Job) -> Result<Opened, ExitCode>
     ensures input { IfOk result (λ files. reads_file files.input.reader ≡ names_file
         (option_map string_bytes job.now.input)) }
@@ -80,8 +80,8 @@ pub fn run_on<R: Input, Second: Input, W: Output, M: Output>(
     run(alloc, job, input, &mut files.again, output, messages)
 }
 
-/// Does the job, reports a fault to `messages`, and gives the exit status: 0, or 1 after a fault. `again` has the same
-/// bytes as the input, from their beginning: it is wanted where the height of the image may change in the stream.
+/// Does the job, reports an error to `messages`, and returns the exit status: 0, or 1 after an error. `again` contains
+/// the same bytes as the input, from the beginning. It is needed if the header allows the height to change.
 pub fn run<R: Input, Second: Input, W: Output, M: Output>(
     alloc: Global,
     job: &Job,
@@ -98,7 +98,7 @@ pub fn run<R: Input, Second: Input, W: Output, M: Output>(
     report(NAME, outcome, messages)
 }
 
-/// Has the engine do what the job asks for.
+/// Calls the engine to do what the job asks for.
 fn work_on<R: Input, Second: Input, W: Output>(
     alloc: Global,
     job: &Job,

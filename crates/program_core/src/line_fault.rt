@@ -1,4 +1,4 @@
-//! Why the arguments of a command line ask for nothing.
+//! Why the arguments of a command line give no job.
 
 ghost use Rattle.std.specs.Prelude.{◌≡◌};
 ghost use Rattle.clap.specs.Words.{kind_of};
@@ -15,13 +15,13 @@ use t85_core::Fault;
 pub enum LineFault {
     /// The text of the help, or of the version.
     Help(String),
-    /// The text on a mistake in the arguments.
+    /// The text about a mistake in the arguments.
     Usage(String),
     Fault(Fault),
 }
 
 impl LineFault {
-    /// The exit status: 0 for the help and the version, 1 for lack of memory, 2 for a mistake.
+    /// The exit status: 0 for help and version, 1 for lack of memory, 2 for a mistake.
     pub fn status(&self) -> u8
         ensures { result ≡ status_of self.now }
     {
@@ -42,7 +42,7 @@ impl From<AllocError> for LineFault {
     }
 }
 
-/// What is answered for an error of clap.
+/// The `LineFault` for an error of clap.
 pub(crate) fn fault_of(alloc: Global, error: clap::Error) -> LineFault
     ensures { Tells (kind_of error) result }
 {

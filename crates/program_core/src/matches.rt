@@ -1,4 +1,4 @@
-//! What the matches of clap say.
+//! Reads values from clap's matches.
 
 ghost use Rattle.std.specs.Prelude.{◌≡◌, IfErr, IfOk, map, option_map, string_bytes, true};
 ghost use Rattle.clap.specs.Words.{IsParsedFrom, app_of, fault_of as refusals_of, first_of, found_of, is_simple, is_simple_and_free, matches_of as rows_matched, rows_of};
@@ -11,7 +11,7 @@ use std::alloc::{AllocError, Global};
 use std::convert::AsStr;
 use std::str::FromStr;
 
-/// The matches of the arguments, of which the first is the program's name.
+/// The matches of the arguments. The first argument is the name of the program.
 pub(crate) fn matches_of<'a, S: AsStr>(
     alloc: Global,
     command: Command<'a>,
@@ -46,7 +46,7 @@ pub(crate) fn text(
     }
 }
 
-/// The number that the arguments give an option, if they give one.
+/// The number that the arguments give for an option, if any.
 pub(crate) fn number(matches: &ArgMatches<'_>, id: &str) -> Option<u32>
     ensures { result ≡ number_in id.now (rows_of (found_of matches.now)) }
 {

@@ -1,4 +1,4 @@
-//! A line for standard error.
+//! Writes a line to standard error.
 
 ghost use Rattle.std.specs.Prelude.{◌≡◌, ◌≤◌, ℕ, List, length};
 ghost use Rattle.std.specs.Fmt.InlineText.{inline_text};
@@ -9,14 +9,14 @@ use pbm_core::{Output, write_bytes};
 use std::fmt::InlineText;
 use t85_core::Fault;
 
-/// The most bytes of a line, and in it of a program's name and of a fault's text.
+/// The greatest number of bytes in a line, including the program's name and the error's text.
 const LINE_ROOM: usize = 128;
 
 const NAME_ROOM: usize = 24;
 
 const TEXT_ROOM: usize = 96;
 
-/// Reports a fault to `messages`, and gives the exit status: 0, or 1 after a fault.
+/// Reports an error to `messages`, and returns the exit status: 0, or 1 after an error.
 pub(crate) fn report<M: Output>(program: &str, outcome: Result<(), Fault>, messages: &mut M) -> u8
     ensures status { result ≡ exit_status outcome }
     ensures reports { length program.now ≤ 24 →
@@ -31,7 +31,7 @@ pub(crate) fn report<M: Output>(program: &str, outcome: Result<(), Fault>, messa
     }
 }
 
-/// Writes a program's line about a fault, in one write where the output takes it.
+/// Writes a program's line about an error, in one write if the output accepts it.
 fn tell<M: Output>(program: &str, fault: Fault, messages: &mut M)
     ensures { length program.now ≤ 24 →
         TellsFault program.now (M.view messages.old) (M.view messages.new) }
@@ -40,7 +40,7 @@ fn tell<M: Output>(program: &str, fault: Fault, messages: &mut M)
     let _ = write_bytes(messages, line.as_str().as_bytes());
 }
 
-/// A program's line about a fault. Dots stand for what finds no room.
+/// A program's line about an error. Text that does not fit is replaced by dots.
 fn line_about(program: &str, fault: Fault) -> InlineText<128>
     ensures { length program.now ≤ 24 →
         (text : List ℕ) × (inline_text result ≡ fault_line program.now text) }

@@ -1,4 +1,4 @@
-//! The work of `pbmtojbg85`: its command line, and its run over lent devices.
+//! The work of `pbmtojbg85`: its command line, and its run on borrowed devices.
 
 ghost use Rattle.std.specs.Prelude.{◌≡◌, IfErr, IfOk, option_map, string_bytes};
 ghost use Rattle.std.specs.Process.{exit_status};
@@ -19,21 +19,21 @@ use t85_core::to_jbg;
 pub use words::job;
 pub use work::Job;
 
-/// The program's name.
+/// The name of the program.
 pub const NAME: &str = "pbmtojbg85";
 
-/// What a job is done on.
+/// The files of a job.
 #[derive(Drop)]
 pub struct Files<R, W> {
     pub input: R,
     pub output: W,
 }
 
-/// The files of a job, as they are opened.
+/// The files of a job, as `open` opens them.
 pub type Opened = Files<FromRead<Readable>, ToWrite<Writable>>;
 
-/// Opens the job's input, and then creates or empties its output; where one can't be, that was reported, and the program
-/// ends.
+/// Opens the job's input, and then creates or truncates its output. If that fails, it reports the error and returns the
+/// exit code with which the program must end.
 pub fn open(rt: &HostRuntime, job: &Job) -> Result<Opened, ExitCode>
     ensures input { IfOk result (λ files. reads_file files.input.reader ≡ names_file
         (option_map string_bytes job.now.input)) }
@@ -63,7 +63,7 @@ pub fn run_on<R: Input, W: Output, M: Output>(
     run(alloc, job, &mut files.input, &mut files.output, messages)
 }
 
-/// Does the job, reports a fault to `messages`, and gives the exit status: 0, or 1 after a fault.
+/// Does the job, reports an error to `messages`, and returns the exit status: 0, or 1 after an error.
 pub fn run<R: Input, W: Output, M: Output>(
     alloc: Global,
     job: &Job,

@@ -19,7 +19,7 @@ fn complain(rt: &HostRuntime, program: &str, text: &str, status: u8) -> ExitCode
     ExitCode::from(status)
 }
 
-/// Shows why the arguments give no job. Help goes to standard output; where that fails, it is a fault.
+/// Reports why the arguments give no job. Help is written to standard output; if that fails, it is an error.
 pub fn refuse(rt: &HostRuntime, program: &str, fault: LineFault) -> ExitCode
     ensures { (exit_status result ≡ status_of fault) ⊎ (IsHelp fault × (exit_status result ≡ 1)) }
 {
@@ -40,7 +40,8 @@ pub fn refuse(rt: &HostRuntime, program: &str, fault: LineFault) -> ExitCode
     ExitCode::from(status)
 }
 
-/// The arguments of the command line; where there are none to be had, that was reported, and the program ends.
+/// The arguments of the command line. If they cannot be read, it reports the error and returns the exit code with which
+/// the program must end.
 pub fn words_of(rt: &HostRuntime, program: &str) -> Result<Vec<String>, ExitCode>
     ensures { IfErr result (λ e. (exit_status e ≡ 1) ⊎ (exit_status e ≡ 2)) }
 {
@@ -60,14 +61,14 @@ pub fn words_of(rt: &HostRuntime, program: &str) -> Result<Vec<String>, ExitCode
     }
 }
 
-/// The code of an exit status.
+/// The exit code for an exit status.
 pub fn end(status: u8) -> ExitCode
     ensures { exit_status result ≡ status }
 {
     ExitCode::from(status)
 }
 
-/// Opens an input; where it can't be, that was reported, and the program ends.
+/// Opens an input. If that fails, it reports the error and returns the exit code with which the program must end.
 pub(crate) fn open_input(
     rt: &HostRuntime,
     program: &str,
@@ -83,7 +84,8 @@ pub(crate) fn open_input(
     }
 }
 
-/// Creates or empties an output; where it can't be, that was reported, and the program ends.
+/// Creates or truncates an output. If that fails, it reports the error and returns the exit code with which the program
+/// must end.
 pub(crate) fn create_output(
     rt: &HostRuntime,
     program: &str,

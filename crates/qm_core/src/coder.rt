@@ -1,4 +1,4 @@
-//! An encoder at work.
+//! An encoder with everything that it borrows.
 
 ghost use Rattle.std.specs.Prelude.{◌≤◌, ◌∷◌, []};
 
@@ -7,7 +7,7 @@ use crate::encoder::{CoderFault, Encoder};
 use crate::learned::Learned;
 use crate::sink::CodeSink;
 
-/// An encoder with the contexts that it learns and the sink of its bytes, lent for some events.
+/// An encoder, the contexts that it adapts, and the sink of its bytes, borrowed for some events.
 #[derive(Drop)]
 pub struct Coder<'a, W: CodeSink> {
     pub learned: &'a mut Learned,
@@ -18,7 +18,7 @@ pub struct Coder<'a, W: CodeSink> {
 impl<W: CodeSink> Coder<'_, W> {
     ghost use Rattle.qm_core.specs.Puts.{event_of, HasRoom, Puts, Skips};
 
-    /// Codes a pixel in a context.
+    /// Encodes a pixel in a context.
     #[inline(always)]
     pub fn put(&mut self, cx: Context, pixel: bool) -> Result<(), CoderFault>
         requires { HasRoom 1 self.old }
@@ -28,8 +28,8 @@ impl<W: CodeSink> Coder<'_, W> {
             .put(&mut *self.learned, cx, pixel, &mut *self.out)
     }
 
-    /// Codes `count` times a pixel in a context, in one step, where no byte of the code comes of it;
-    /// else it does nothing.
+    /// Encodes a pixel `count` times in a context in one step and returns true, if this involves no doubling and no
+    /// byte of the code; otherwise does nothing and returns false.
     #[inline(always)]
     pub fn skip(&mut self, cx: Context, pixel: bool, count: u32) -> bool
         requires few { count ≤ 64 }

@@ -1,4 +1,4 @@
-//! The decoder.
+//! The decoder (T.82, 6.8).
 
 ghost use Rattle.std.specs.Prelude.{◌≡◌, ◌≢◌, ◌+◌, ◌-◌, ◌*◌, ◌%◌, ◌^◌, ◌≤◌, ◌<◌, ◌↔◌, false, not, nat_eq, nat_lt, IsTrue, OnOk, OnErr};
 ghost use Rattle.qm_core.specs.Place.{same};
@@ -20,11 +20,11 @@ pub struct Stop;
 /// A decoder between two pixels.
 #[derive(Drop)]
 pub struct Decoder {
-    /// How far the code's value lies above the place, times 128.
+    /// The distance of the code's value from the low end of the coding interval, times 128.
     code: u32,
-    /// The size of the place, times 128.
+    /// The size of the coding interval, times 128.
     span: u32,
-    /// The bits that were pulled beyond the doublings.
+    /// The number of bits read beyond the doublings.
     bits: u32,
     heard: Heard,
     ghost large: { 0x40_0000 ≤ span },
@@ -36,7 +36,7 @@ pub struct Decoder {
     ghost stuck: { heard ≡ Stopped → bits < 16 },
 }
 
-/// The part of a place that the code lies in, and whether it is the other pixel's.
+/// The subinterval that contains the code, and whether it is that of the less probable symbol.
 #[derive(Drop)]
 struct Part {
     code: u32,
@@ -44,7 +44,7 @@ struct Part {
     is_other: bool,
 }
 
-/// The part that a code lies in, of a place that is cut into a lower and an upper one.
+/// The subinterval that contains the code, given the sizes of the lower and the upper one.
 #[inline(always)]
 fn part_of(code: u32, lower: u32, upper: u32) -> Part
     ensures lower { code < lower → (result.code ≡ code) × (result.span ≡ lower) ×
@@ -60,7 +60,7 @@ fn part_of(code: u32, lower: u32, upper: u32) -> Part
     }
 }
 
-/// The favoured pixel of a cell or the other one, 1 for black.
+/// The more probable symbol of a cell, or the other one; 1 for black.
 #[inline(always)]
 fn pixel_of(cell: u8, is_other: bool) -> u8
     ensures { nat_eq result 1 ≡ same (not is_other) (nat_eq (cell % 2) 1) }
@@ -80,7 +80,7 @@ impl Decoder {
     ghost use Rattle.qm_core.specs.declared.source.Heard.TheVariants.{More};
     ghost use Rattle.qm_core.specs.declared.source.Pulled.{Pulled};
 
-    /// A decoder at the beginning of a code, of which nothing was pulled.
+    /// A decoder at the beginning of a code, of which nothing has been read.
     pub fn start() -> Decoder
         ensures stands { DecoderIsAt result start [] }
         ensures going { has_stopped result ≡ false }
@@ -93,7 +93,7 @@ impl Decoder {
         }
     }
 
-    /// Goes on after `Stop`: the source is asked again for the byte that it did not give.
+    /// Allows the decoder to continue after `Stop`: it will request again the byte that the source did not provide.
     pub fn resume(&mut self)
         ensures going { has_stopped self.new ≡ false }
         ensures unchanged { has_stopped self.old ≡ false → self.new ≡ self.old }
@@ -107,9 +107,9 @@ impl Decoder {
         }
     }
 
-    /// The next pixel, in the context `cx`, and what that context learns of it.
+    /// Decodes the next pixel, in the context `cx`, and adapts that context.
     ///
-    /// Bytes are pulled first, as far as they decide the pixel and no further. After `End` zeros are taken for them.
+    /// First reads the bytes that determine the pixel, and no more. After `End`, zeros are substituted for them.
     #[inline(always)]
     pub fn next<S: CodeBytes>(
         &mut self,
@@ -117,7 +117,7 @@ impl Decoder {
         cx: Context,
         source: &mut S,
     ) -> Result<bool, Stop>
-        // A decoder that has stopped stays as it is, and pulls nothing.
+        // A decoder that has stopped remains unchanged, and reads nothing.
         ensures stop { StopsOnce S.failed self.old self.new source.old source.new result }
         ensures unchanged { OnErr result (learned.new ≡ learned.old) }
         ensures next { (p : Place) (answers : List Pulled) → DecoderIsAt self.old p answers →
@@ -130,8 +130,8 @@ impl Decoder {
         Ok(self.decide(learned, cx) == 1)
     }
 
-    /// Takes `count` times the favoured pixel of a context, where the bits that are there show that all
-    /// of them come next and none is followed by a doubling; else it does nothing.
+    /// Decodes `count` times the more probable symbol of a context and returns true, if the bits already read determine
+    /// all of these pixels and none involves a doubling; otherwise does nothing and returns false.
     #[inline(always)]
     pub fn skip(&mut self, learned: &Learned, cx: Context, pixel: bool, count: u32) -> bool
         requires few { count ≤ 64 }
@@ -161,7 +161,7 @@ impl Decoder {
         }
     }
 
-    /// Pulls until 16 bits are there, at most two bytes.
+    /// Reads until 16 bits are available; at most two bytes.
     fn fill<S: CodeBytes>(&mut self, source: &mut S) -> Result<(), Stop>
         requires few { self.old.bits < 16 }
         ensures bits { OnOk result (16 ≤ self.new.bits) }
@@ -176,7 +176,7 @@ impl Decoder {
         Ok(())
     }
 
-    /// Takes the next byte, or 0 after the end.
+    /// Reads the next byte, or substitutes 0 after the end.
     fn pull<S: CodeBytes>(&mut self, source: &mut S) -> Result<(), Stop>
         requires few { self.old.bits < 16 }
         ensures bits { OnOk result (self.new.bits ≡ self.old.bits + 8) }
@@ -208,7 +208,7 @@ impl Decoder {
         }
     }
 
-    /// Puts a byte after the bits that are there.
+    /// Appends a byte to the bits available.
     fn take(&mut self, byte: u8)
         requires few { self.old.bits < 16 }
         requires going { self.old.heard ≢ Stopped }
@@ -222,7 +222,8 @@ impl Decoder {
         self.bits += 8;
     }
 
-    /// The pixel, 1 for black, with at least 16 bits there. A number needs no masking where branches meet, as a bool does.
+    /// Decodes a pixel, 1 for black. At least 16 bits are available. The result is a number because, unlike a `bool`,
+    /// it needs no masking where branches meet.
     #[inline(always)]
     fn decide(&mut self, learned: &mut Learned, cx: Context) -> u8
         requires { 16 ≤ self.old.bits }
@@ -247,7 +248,7 @@ impl Decoder {
         pixel_of(cell, part.is_other)
     }
 
-    /// Goes to a part that is too small, doubled until it is large enough.
+    /// Selects a subinterval that is too small, and doubles it until it is large enough (renormalization).
     #[inline(always)]
     fn narrow(&mut self, code: u32, span: u32)
         requires bits { 16 ≤ self.old.bits }

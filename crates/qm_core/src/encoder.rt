@@ -1,4 +1,4 @@
-//! The encoder.
+//! The encoder (T.82, 6.8).
 
 ghost use Rattle.std.specs.Prelude.{◌≡◌, ◌+◌, ◌-◌, ◌*◌, ◌%◌, ◌^◌, ◌≤◌, ◌<◌, List, ℕ, ◌++◌, None, IsTrue, false, true, Err, Ok, [], IsErr, nat_lt, not, if◌then◌else◌};
 ghost use Rattle.qm_core.specs.Place.{Place, start};
@@ -18,33 +18,33 @@ use crate::picking::pick;
 use crate::sink::{CodeSink, SinkFault};
 use crate::skipping::left_of;
 
-/// Why an encoder did not do what it was asked.
+/// Why an encoder could not do what it was asked.
 #[derive(Clone, Copy, PartialEq, Eq, Debug)]
 pub enum CoderFault {
     /// The sink failed in this call.
     Write = 1,
-    /// The sink failed in an earlier call, and nothing was done.
+    /// The sink failed in an earlier call, and this call did nothing.
     Failed = 2,
 }
 
-/// The most pixels of one encoder.
+/// The greatest number of pixels for one encoder, 2^56.
 pub const MAX_EVENTS: u64 = 0x100_0000_0000_0000;
 
 /// An encoder between two pixels.
 #[derive(Drop)]
 pub struct Encoder {
-    /// The place's low end, less the bytes before, times 128.
+    /// The low end of the coding interval, minus the bytes before it, times 128.
     low: u64,
-    /// The size of the place, times 128.
+    /// The size of the coding interval, times 128.
     span: u32,
-    /// The bits of `low`, the last seven aside.
+    /// The number of bits of `low`, not counting the lowest seven.
     bits: u32,
-    /// The bytes before, as far as they are not written.
+    /// The bytes before `low` that have not been written.
     tail: Tail,
     events: u64,
     failed: bool,
-    /// A favoured pixel that leaves the size at least this, and so the larger part, changes nothing but the size. Greater
-    /// than any size after a fault.
+    /// If the more probable symbol leaves at least this size, which is then the larger subinterval, only the size
+    /// changes. After a failure it is greater than any size.
     floor: u32,
     ghost large: { 0x40_0000 ≤ span },
     ghost small: { span ≤ 0x80_0000 },
@@ -60,7 +60,7 @@ pub struct Encoder {
     ghost low_enough: { floor ≤ 0x8000_0000 },
 }
 
-/// What is left of `low` when its highest byte has gone to the tail, and what is then fixed.
+/// The rest of `low` after its highest byte has moved to the tail, and the bytes that are then final.
 #[derive(Drop)]
 struct Out {
     batch: Batch,
@@ -91,7 +91,7 @@ fn byte_out(tail: &mut Tail, low: u64, span: u32, bits: u32) -> Out
     }
 }
 
-/// Two batches, and what is then left.
+/// Two batches of final bytes, and the rest of `low`.
 #[derive(Drop)]
 struct Shifted {
     first: Batch,
@@ -100,7 +100,7 @@ struct Shifted {
     bits: u32,
 }
 
-/// Moves the bytes above the last 16 bits to the tail, two at most.
+/// Moves the bytes above the last 16 bits to the tail; at most two.
 #[inline(always)]
 fn bytes_out(tail: &mut Tail, low: u64, span: u32, bits: u32) -> Shifted
     requires bits { (24 ≤ bits) × (bits ≤ 54) }
@@ -158,7 +158,7 @@ fn write_both<W: CodeSink>(first: Batch, second: Batch, out: &mut W) -> Result<(
     }
 }
 
-/// Whether a pixel of this cost changes nothing but the size.
+/// Whether a pixel of this cost changes only the size.
 #[inline(always)]
 fn is_quiet(cost: u32, span: u32, floor: u32) -> bool
     requires cost { cost ≤ 0x80_0000 }
@@ -169,7 +169,7 @@ fn is_quiet(cost: u32, span: u32, floor: u32) -> bool
     floor + cost <= span
 }
 
-/// The floor of an encoder.
+/// The value of `floor` for an encoder.
 fn floor_of(failed: bool) -> u32
     ensures going { failed ≡ false → result ≡ 0x40_0000 }
     ensures stuck { failed ≡ true → 0x80_0000 < result }
@@ -178,7 +178,7 @@ fn floor_of(failed: bool) -> u32
     if failed { 0x8000_0000 } else { 0x40_0000 }
 }
 
-/// Whether a pixel takes the lower part.
+/// Whether a pixel takes the lower subinterval.
 #[inline(always)]
 fn is_lower(is_favoured: bool, lower: u32, upper: u32) -> bool
     ensures { result ≡ (if nat_lt lower upper then not is_favoured else is_favoured) }
@@ -193,7 +193,7 @@ impl Encoder {
     ghost use Rattle.qm_core.specs.Encoder.{event_count, has_failed, EncoderIsAt, FailsOnce, Put, SkipsEvents, encoder_state};
     ghost use Rattle.qm_core.specs.Skipping.{IsRun, has_room};
 
-    /// An encoder at the beginning of a code, of which nothing was pushed.
+    /// An encoder at the beginning of a code, of which nothing has been pushed.
     pub fn start() -> Encoder
         ensures codes { EncoderIsAt result start [] }
         ensures events { event_count result ≡ 0 }
@@ -214,9 +214,10 @@ impl Encoder {
         }
     }
 
-    /// Codes a pixel in the context `cx`, and pushes the bytes of the code that no later pixel can change.
+    /// Encodes a pixel in the context `cx`, adapts that context, and pushes bytes of the code that no later pixel can
+    /// change.
     ///
-    /// After `Write` the encoder has failed, and what the contexts have learned is of no use.
+    /// After `Write` the encoder has failed, and the context states are unspecified.
     #[inline(always)]
     pub fn put<W: CodeSink>(
         &mut self,
@@ -226,7 +227,7 @@ impl Encoder {
         out: &mut W,
     ) -> Result<(), CoderFault>
         requires events { event_count self.old < MAX_EVENTS }
-        // An encoder that has failed stays as it is, and pushes nothing.
+        // An encoder that has failed remains unchanged, and pushes nothing.
         ensures fails { FailsOnce W.failed self.old self.new out.old out.new result }
         ensures unlearned { IsTrue (has_failed self.old) → learned.new ≡ learned.old }
         ensures events { has_failed self.old ≡ false → event_count self.new ≡ event_count self.old +
@@ -257,8 +258,8 @@ impl Encoder {
         self.go(low, span, out)
     }
 
-    /// Codes `count` times the favoured pixel of a context, where the place has room for all of them
-    /// without a doubling; else it does nothing.
+    /// Encodes `count` times the more probable symbol of a context and returns true, if the interval has room for all
+    /// of these pixels without a doubling; otherwise does nothing and returns false.
     #[inline(always)]
     pub fn skip(&mut self, learned: &Learned, cx: Context, pixel: bool, count: u32) -> bool
         requires few { count ≤ 64 }

@@ -1,4 +1,4 @@
-//! Several favoured pixels of one context at once.
+//! Codes several more probable symbols of one context at once.
 
 ghost use Rattle.std.specs.Prelude.{◌≡◌, ◌+◌, ◌*◌, ◌≤◌, ℕ, None, Some, true, false};
 ghost use Rattle.qm_core.specs.Place.{Place, state_of};
@@ -9,8 +9,8 @@ use crate::context::Context;
 use crate::entries::entry_of;
 use crate::learned::Learned;
 
-/// What is left of the size of a place, times 128, after `count` times the favoured pixel of a context;
-/// `None` where the pixel is the other one, or the place would be doubled.
+/// The rest of the interval's size, times 128, after `count` more probable symbols of a context; `None` if the pixel is
+/// the less probable symbol, or the interval would be doubled.
 #[inline(always)]
 pub(crate) fn left_of(
     learned: &Learned,

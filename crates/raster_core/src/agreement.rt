@@ -1,4 +1,4 @@
-//! At how many pixels of a word a row agrees with its adaptive pixel.
+//! Counts at how many pixels of a word a row agrees with its adaptive pixel.
 
 ghost use Rattle.std.specs.Prelude.{ℕ, ◌+◌, ◌-◌, ◌*◌, ◌%◌, ◌^◌, ◌≡◌, ◌≤◌, ◌<◌, Bool, IsTrue, slice_index};
 ghost use Rattle.std.specs.Int.{div_ceil};
@@ -8,7 +8,7 @@ ghost use Rattle.raster_core.specs.Machine.Words.{word as pixels_word, led, is_w
 
 use crate::words::{agreed_word, joined, mask_at, word_at};
 
-/// The 64 pixels that are `lag` to the left of the last word of three.
+/// The 64 pixels that are `lag` to the left of the last of three words.
 fn left_by(lag: usize, second: u64, before: u64, word: u64) -> u64
     requires { lag ≤ 127 }
     ensures { (p : ℕ → Bool) (place : ℕ) → second ≡ pixels_word p place 64 →
@@ -22,8 +22,7 @@ fn left_by(lag: usize, second: u64, before: u64, word: u64) -> u64
     }
 }
 
-/// At how many of the mask's pixels in word `k` of a row the adaptive pixel at `offset` is the same
-/// one.
+/// The number of pixels of the mask, in word `k` of a row, that equal the adaptive pixel at `offset`.
 pub(crate) fn held_in(
     above: &[u8],
     k: usize,
@@ -68,9 +67,9 @@ fn is_even(second: u64, before: u64, word: u64) -> bool
     second & before & word == u64::MAX
 }
 
-/// Counts the pixels of a word at each lag from `least` to `most`; `second` and `before` are the
-/// words to its left. Where all three are white, or black, the pixels agree at each lag: their
-/// number is answered, and not counted.
+/// Counts, at each lag from `least` to `most`, the pixels of a word that equal the pixel `lag` to their left; `second`
+/// and `before` are the words to its left. If all three words are white, or all black, the pixels agree at every lag:
+/// their number is returned instead of counted.
 pub(crate) fn add_word(
     counts: &mut [u64; 128],
     least: usize,
@@ -106,7 +105,7 @@ pub(crate) fn add_word(
     0
 }
 
-/// Counts the pixels of a word at the lags from `from` up to `end`, which are the shifts from
+/// Counts the pixels of a word at the lags from `from` up to, but not including, `end`, which are the shifts from
 /// `shift` on of the words `first` and `next`.
 fn add_lags(
     counts: &mut [u64; 128],
@@ -142,7 +141,7 @@ fn add_lags(
     }
 }
 
-/// At how many pixels of a row the adaptive pixel at `offset` is the same one.
+/// The number of pixels of a row that equal the adaptive pixel at `offset`.
 pub(crate) fn held_row(row: &[u8], above: &[u8], width: u32, offset: u8) -> u64
     requires offset { offset ≤ 127 }
     ensures agreed { (lines : Lines) → row.now ≡ packed_row lines.row →
@@ -164,7 +163,7 @@ pub(crate) fn held_row(row: &[u8], above: &[u8], width: u32, offset: u8) -> u64
     held
 }
 
-/// Adds to the counts at the lags from `from` up to `end`, so many times, modulo 2^64.
+/// Adds to the counts at the lags from `from` up to `end`, the given number of times, modulo 2^64.
 pub(crate) fn add_each(
     counts: &mut [u64; 128],
     more: &[u64; 128],

@@ -1,8 +1,8 @@
-//! Bytes of a row.
+//! Access to the bytes of a row.
 
 ghost use Rattle.std.specs.Prelude.{◌≡◌, ◌<◌, slice_index};
 
-/// A byte of a row, and 0 after its last.
+/// A byte of a row, or 0 after its last byte.
 #[inline(always)]
 pub(crate) fn byte_at(row: &[u8], i: usize) -> u32
     ensures byte { result ≡ slice_index row.now i }

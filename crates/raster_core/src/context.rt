@@ -1,4 +1,4 @@
-//! Contexts from registers that go along the row.
+//! Computes contexts from registers that shift along the row.
 
 ghost use Rattle.std.specs.Prelude.{◌≡◌, ℕ, ◌+◌, ◌-◌, ◌*◌, ◌%◌, ◌^◌, ◌≤◌, Bool};
 ghost use Rattle.raster_core.specs.Lines.{Lines, context_at, pseudo_context};
@@ -6,8 +6,7 @@ ghost use Rattle.raster_core.specs.Machine.Registers.{AreAt, bit, is_moved, past
 
 use qm_core::Context;
 
-/// Calls a function at the const parameters that say the template, and whether the adaptive pixel
-/// is moved.
+/// Calls a function with the const parameters for the template, and for whether the adaptive pixel has moved.
 macro_rules! by_template {
     ($function:ident, $shape:expr, $offset:expr, ($($argument:expr),*)) => {
         match ($shape.two_line, $offset == 0) {
@@ -21,8 +20,7 @@ macro_rules! by_template {
 
 pub(crate) use by_template;
 
-/// The context of a pixel by the registers of `AreAt`, with the adaptive pixel in its nominal
-/// place.
+/// The context of a pixel, from registers as in `AreAt`, with the adaptive pixel in its nominal position.
 #[inline(always)]
 fn nominal_context<const TWO_LINE: bool>(second: u32, above: u32, past: u128) -> Context
     ensures { (typical : Bool) (lines : Lines) (x : ℕ) → AreAt lines 0 second above past x →
@@ -54,7 +52,8 @@ fn moved_context<const TWO_LINE: bool>(offset: u8, second: u32, above: u32, past
     Context::of(number as u16)
 }
 
-/// The context of the pixel before a row, which says whether the row is typical.
+/// The context of the SLNTP pseudo-pixel before a row, which signals whether the row is typical (0E5 or 195
+/// hexadecimal).
 #[inline(always)]
 pub(crate) fn flag_context(two_line: bool) -> Context
     ensures { result.number ≡ pseudo_context two_line }
@@ -62,7 +61,7 @@ pub(crate) fn flag_context(two_line: bool) -> Context
     Context::of(if two_line { 0x195 } else { 0x0e5 })
 }
 
-/// The context of a pixel, with the adaptive pixel wherever it is.
+/// The context of a pixel, with the adaptive pixel in either position.
 #[inline(always)]
 pub(crate) fn context_of<const TWO_LINE: bool, const MOVED: bool>(
     offset: u8,
@@ -83,8 +82,7 @@ pub(crate) fn context_of<const TWO_LINE: bool, const MOVED: bool>(
     }
 }
 
-/// The pixels before the next one. While the adaptive pixel is in its nominal place, 64 of them
-/// serve.
+/// The pixels before the next one. While the adaptive pixel is in its nominal position, 64 of them suffice.
 #[inline(always)]
 pub(crate) fn past_and<const MOVED: bool>(past: u128, pixel: bool) -> u128
     ensures { (offset : ℕ) → MOVED ≡ is_moved offset →

@@ -1,4 +1,4 @@
-//! The row that was counted last.
+//! The last row counted, with its counts.
 
 ghost use Rattle.std.specs.Prelude.{◌+◌, ◌*◌, ◌^◌, ◌≡◌, ◌≤◌, ◌<◌, IsTrue, take};
 ghost use Rattle.std.specs.Int.{div_ceil};
@@ -9,17 +9,17 @@ ghost use Rattle.raster_core.specs.Machine.Words.{AgreesAt};
 use crate::agreement::{add_all, add_word, held_row};
 use crate::words::{mask_at, word_at};
 
-/// For each lag, how many pixels of a row equal the one that is `lag` to their left. A row of at most
-/// 2,048 bytes is kept, so that the same row is not counted again. It may lie in memory that anything
-/// stands in: no number relies on another.
+/// For each lag, the number of pixels of a row that equal the pixel `lag` to their left. A row of at most 2,048 bytes
+/// is stored, so that the same row is not counted again. The struct may be in memory with arbitrary contents: no number
+/// relies on another.
 #[repr(C)]
 #[derive(Drop)]
 pub struct Counted {
-    /// How many equal the adaptive pixel in its nominal place, where the row above is the same row.
-    /// It is counted when it is first asked for, and more than 2^32 before.
+    /// The number of pixels that equal the adaptive pixel in its nominal position if the row above is the same row. It
+    /// is counted when it is first needed; until then, it is above 2^32.
     below_itself: u64,
     width: u32,
-    /// How many bytes the row has, or more than 2,048 where none is kept.
+    /// The length of the row in bytes, or more than 2,048 if none is stored.
     len: u16,
     least: u8,
     most: u8,
@@ -31,7 +31,7 @@ impl Counted {
     ghost use Rattle.raster_core.specs.Machine.Words.{AgreesBelowItself, part_agreement};
     ghost use Rattle.raster_core.specs.Tally.{CountsRow, KeepsCounts};
 
-    /// No row.
+    /// No row is stored.
     pub(crate) fn none() -> Counted
         ensures { KeepsCounts result }
     {
@@ -46,14 +46,14 @@ impl Counted {
         }
     }
 
-    /// Keeps no row any more.
+    /// Discards the stored row.
     pub(crate) fn forget(&mut self)
         ensures { KeepsCounts self.new }
     {
         self.len = 2049;
     }
 
-    /// Whether it is of this row and these lags.
+    /// Whether the counts are those of this row and these lags.
     pub(crate) fn is_of(&self, row: &[u8], width: u32, least: u8, most: u8) -> bool
         ensures counts { IsTrue result → KeepsCounts self.now → CountsRow self.now row.now }
         ensures row { IsTrue result → take self.now.len self.now.row ≡ row.now }
@@ -70,7 +70,7 @@ impl Counted {
         row == &self.row[..usize::from(self.len)]
     }
 
-    /// Counts a row at the lags from `least` to `most`.
+    /// Counts a row at the lags from `least` to `most`, and stores it.
     pub(crate) fn count(&mut self, row: &[u8], width: u32, least: u8, most: u8)
         requires least { 1 ≤ least }
         requires least_small { least < 64 }
@@ -96,8 +96,7 @@ impl Counted {
         self.below_itself = u64::MAX;
     }
 
-    /// At how many pixels of the row that was counted last the adaptive pixel at `offset` is the
-    /// same one.
+    /// The number of pixels of the last row counted that equal the adaptive pixel at `offset`.
     pub(crate) fn held(&mut self, row: &[u8], above: &[u8], offset: u8) -> u64
         requires offset { offset ≤ 127 }
         requires row { self.old.len ≤ 2048 → take self.old.len self.old.row ≡ row.now }
@@ -116,8 +115,8 @@ impl Counted {
         }
     }
 
-    /// At how many pixels of the row that was counted last the adaptive pixel in its nominal place
-    /// is the same one, where the row above is the same row.
+    /// The number of pixels of the last row counted that equal the adaptive pixel in its nominal position, if the row
+    /// above is the same row.
     fn held_below_itself(&mut self) -> u64
         requires { self.old.len ≤ 2048 }
         ensures agreed { KeepsCounts self.old →
@@ -135,7 +134,7 @@ impl Counted {
     }
 }
 
-/// Puts a row of at most 2,048 bytes at the front, and answers how many it has; of a longer one 2,049.
+/// Copies a row of at most 2,048 bytes to the front, and returns its length; for a longer row, returns 2,049.
 fn keep(kept: &mut [u8; 2048], row: &[u8]) -> u16
     ensures { result ≤ 2048 → take result kept.new ≡ row.now }
 {
@@ -147,8 +146,7 @@ fn keep(kept: &mut [u8; 2048], row: &[u8]) -> u16
     len as u16
 }
 
-/// Counts for each lag from `least` to `most` how many pixels of a row equal the one that is `lag` to
-/// their left.
+/// Counts, for each lag from `least` to `most`, how many pixels of a row equal the pixel `lag` to their left.
 fn count_agreed(counts: &mut [u64; 128], row: &[u8], width: u32, least: usize, most: usize)
     requires least { 1 ≤ least }
     requires least_small { least < 64 }

@@ -1,4 +1,4 @@
-//! Decoding a row.
+//! Decodes a row.
 
 ghost use Rattle.std.specs.Prelude.{◌≡◌, ◌+◌, ◌*◌, ◌<◌, ◌≤◌, ◌↔◌, ◌++◌, ℕ, length, List, IsTrue, OnOk, OnErr, false, true};
 ghost use Rattle.std.specs.Int.{div_ceil};
@@ -25,7 +25,7 @@ use crate::shape::{Kept, Shape};
 use crate::window::Window;
 use qm_core::{CodeBytes, Decoder, Learned, Stop, laws};
 
-/// Decodes the rest of a row below two others.
+/// Decodes the rest of a row, given the two rows above it.
 fn decode_below<S: CodeBytes>(
     shape: Shape,
     place: &mut RowPlace,
@@ -49,7 +49,7 @@ fn decode_below<S: CodeBytes>(
         (row_left kept.new (held_rows shape.width current.new above.now second.now)) place.new
         (decoder_state source.new decoder.new learned.new) result }
 {
-    // What the proof cites of the coder.
+    // The proof uses these laws of the coder.
     laws::answers();
     laws::apart();
     let flag = begin_row(shape, *place, *kept, learned, decoder, source)?;
@@ -78,7 +78,7 @@ fn decode_below<S: CodeBytes>(
     Ok(())
 }
 
-/// The two rows above the one at a place, of the rows in front of that and behind it.
+/// The two rows above the row at a place, given the rows before it and after it in memory.
 #[inline(always)]
 fn rows_above<'a>(front: &'a [u8], back: &'a [u8], long: usize, place: u8) -> (&'a [u8], &'a [u8])
     requires place { place < 3 }
@@ -98,7 +98,8 @@ fn rows_above<'a>(front: &'a [u8], back: &'a [u8], long: usize, place: u8) -> (&
     }
 }
 
-/// Decodes the rest of the row at a place, between the bytes ahead of it and behind it, which are the two rows above it.
+/// Decodes the rest of the row at a place, between the memory before it and after it, which contains the two rows above
+/// it.
 #[inline(always)]
 fn decode_beside<S: CodeBytes>(
     shape: Shape,
@@ -135,8 +136,8 @@ fn decode_beside<S: CodeBytes>(
     )
 }
 
-/// Decodes the rest of the row at a place of bytes that hold it and the two above it, which stay as
-/// they are.
+/// Decodes the rest of the row at a place, in memory that contains it and the two rows above it, which remain
+/// unchanged.
 fn decode_at<S: CodeBytes>(
     shape: Shape,
     place: &mut RowPlace,
@@ -169,10 +170,9 @@ fn decode_at<S: CodeBytes>(
     )
 }
 
-/// Decodes the current row of a window, below the two above it.
+/// Decodes the current row of a window, below the two rows above it.
 ///
-/// After `Stop` the current row, `kept` and what was learned are unspecified, and the decoder stays
-/// stopped.
+/// After `Stop` the current row, `kept` and the context states are unspecified, and the decoder remains stopped.
 pub fn decode_row<S: CodeBytes>(
     shape: Shape,
     kept: &mut Kept,
@@ -204,8 +204,9 @@ pub fn decode_row<S: CodeBytes>(
     )
 }
 
-/// Takes so many rows, each of which equals the one above, after another that does, where the bits that are there decide
-/// all of them; else it does nothing. The window and `kept` are those of the rows before.
+/// Decodes the given number of rows, each of which equals the one above, after another such row, and returns true, if
+/// the bits already read determine all of them; otherwise does nothing and returns false. The window and `kept` are
+/// those of the rows before.
 #[inline(always)]
 pub fn skip_rows(
     shape: Shape,
@@ -231,11 +232,11 @@ pub fn skip_rows(
     decoder.skip(learned, flag_context(shape.two_line), true, count)
 }
 
-/// Goes on with the current row of a window, below the two above it, from where `place` says it has
-/// come. At its beginning that is `RowPlace::start`, and after its end it is again.
+/// Continues decoding the current row of a window, below the two rows above it, from the position `place`. At the
+/// beginning of a row that is `RowPlace::start`, and after its end it is so again.
 ///
-/// After `Stop` the row has come as far as the code that came decides, and a call with a source of
-/// what follows goes on from there.
+/// After `Stop` the row is decoded as far as the code bytes determine it. A call with a source of the bytes that follow
+/// continues there.
 pub fn go_on_row<S: CodeBytes>(
     shape: Shape,
     place: &mut RowPlace,

@@ -1,4 +1,4 @@
-//! Encoding a row.
+//! Encodes a row.
 
 ghost use Rattle.std.specs.Prelude.{◌≡◌, ℕ, ◌+◌, ◌≤◌, List, IsTrue, OnOk, false};
 ghost use Rattle.qm_core.specs.Encoder.{EncoderIsAt, FailsOnce, event_count, has_failed, encoder_state};
@@ -24,7 +24,7 @@ use crate::shape::{Kept, Shape};
 use crate::window::Window;
 use qm_core::{CodeSink, Coder, CoderFault, Encoder, Learned, MAX_EVENTS};
 
-/// Whether a row may be typical: with typical prediction, where it equals the row above.
+/// Whether a row may be typical: typical prediction is on, and the row equals the row above.
 #[inline(always)]
 fn is_typical(shape: Shape, rows: Rows<'_>) -> bool
     ensures typical { IsTrue result → IsTrue shape.typical }
@@ -34,7 +34,7 @@ fn is_typical(shape: Shape, rows: Rows<'_>) -> bool
     shape.typical && rows.current == rows.above
 }
 
-/// Encodes the pixel before a row, which says whether the row is typical.
+/// Encodes the SLNTP pseudo-pixel before a row, which signals whether the row is typical.
 #[inline(always)]
 fn encode_flag<W: CodeSink>(
     shape: Shape,
@@ -52,7 +52,7 @@ fn encode_flag<W: CodeSink>(
     }
 }
 
-/// Encodes a row, typical or plain as the flag says.
+/// Encodes a row, as typical or pixel by pixel, as the flag says.
 #[inline(always)]
 fn encode_as<W: CodeSink>(
     shape: Shape,
@@ -73,9 +73,9 @@ fn encode_as<W: CodeSink>(
     encode_plain(template, rows, coder)
 }
 
-/// Encodes the current row of a window, as a typical one wherever it may be.
+/// Encodes the current row of a window. The row is typical whenever it may be.
 ///
-/// After a fault `kept` and what was learned are unspecified, and the encoder has failed.
+/// After an error, `kept` and the context states are unspecified, and the encoder has failed.
 pub fn encode_row<W: CodeSink>(
     shape: Shape,
     kept: &mut Kept,
@@ -98,7 +98,7 @@ pub fn encode_row<W: CodeSink>(
 {
     let rows = window.rows();
     let flag = is_typical(shape, rows);
-    // Below a typical row a typical one is always the same pixel. Nothing of the rest is prepared for it.
+    // A typical row below a typical row is always the same decision. Nothing else is prepared for it.
     if flag && kept.previous_typical {
         let mut coder = Coder {
             learned,

@@ -1,4 +1,4 @@
-//! Contexts of four pixels at once, with three lines.
+//! Computes the contexts of four pixels at once, for the three-line template.
 
 ghost use Rattle.std.specs.Prelude.{ℕ, ◌≡◌, ◌+◌, ◌*◌, ◌^◌, ◌<◌, ◌≤◌, false, true};
 ghost use Rattle.raster_core.specs.Machine.Registers.{is_moved};
@@ -7,31 +7,31 @@ ghost use Rattle.raster_core.specs.Machine.Lanes.{AreBeside};
 
 use crate::shape::Shape;
 
-/// A window times this is in four lanes of 16 bits, a bit further to the left in each.
+/// A window times this is in four lanes of 16 bits, shifted left by one more bit in each.
 const STEPS: u64 = 0x0008_0004_0002_0001;
 
-/// What six pixels of the row two above give to four contexts: three of them each.
+/// The contribution of six pixels of the row two above to four contexts: three pixels each.
 macro_rules! second_table {
     ($($window:literal)*) => { [$(($window * STEPS) << 4 & 0x0380_0380_0380_0380),*] };
 }
 
-/// What eight pixels of the row above give to four contexts: five of them each.
+/// The contribution of eight pixels of the row above to four contexts: five pixels each.
 macro_rules! above_table {
     ($($window:literal)*) => { [$(($window * STEPS) >> 1 & 0x007C_007C_007C_007C),*] };
 }
 
-/// What seven pixels of the row above give to four contexts, the adaptive pixel moved: four of them
+/// The contribution of seven pixels of the row above to four contexts, if the adaptive pixel has moved: four pixels
 /// each.
 macro_rules! moved_above_table {
     ($($window:literal)*) => { [$(($window * STEPS) & 0x0078_0078_0078_0078),*] };
 }
 
-/// Four adaptive pixels in four contexts.
+/// The contribution of four adaptive pixels to four contexts.
 macro_rules! far_table {
     ($($window:literal)*) => { [$(($window * STEPS) >> 1 & 0x0004_0004_0004_0004),*] };
 }
 
-/// Four of six pixels of a row, each after the two before it.
+/// Four of six pixels of a row, each with the two before it.
 macro_rules! row_table {
     ($($window:literal)*) => { [$(($window * STEPS) >> 3 & 0x0007_0007_0007_0007),*] };
 }
@@ -148,7 +148,7 @@ fn moved_lanes(second_window: u32, above_window: u32, far_window: u32) -> u64
     second_lanes(second_window) + moved_above_lanes(above_window) + far_lanes(far_window)
 }
 
-/// Those lanes twice, and the lanes of a window of the row.
+/// These lanes doubled, plus the lanes of a window of the row.
 #[inline(always)]
 fn moved_pixel_lanes(second_window: u32, above_window: u32, far_window: u32, row_window: u32) -> u64
     requires second { second_window < 64 }
@@ -163,7 +163,7 @@ fn moved_pixel_lanes(second_window: u32, above_window: u32, far_window: u32, row
     moved + moved + row_lanes(row_window)
 }
 
-/// The lanes of windows of both rows above twice, and the lanes of a window of the row.
+/// The lanes of windows of both rows above, doubled, plus the lanes of a window of the row.
 #[inline(always)]
 fn pixel_lanes(second_window: u32, above_window: u32, row_window: u32) -> u64
     requires second { second_window < 64 }
@@ -176,7 +176,7 @@ fn pixel_lanes(second_window: u32, above_window: u32, row_window: u32) -> u64
     both + both + row_lanes(row_window)
 }
 
-/// What the rows above give to the contexts of a byte's first four pixels.
+/// The contribution of the rows above to the contexts of a byte's first four pixels.
 #[inline(always)]
 pub(crate) fn first_around(second_bytes: u32, above_bytes: u32) -> u64
     ensures { HasAround result second_bytes above_bytes 0 4 }
@@ -184,7 +184,7 @@ pub(crate) fn first_around(second_bytes: u32, above_bytes: u32) -> u64
     both_lanes((second_bytes >> 11) % 64, (above_bytes >> 10) % 256)
 }
 
-/// The same for its last four.
+/// The same for its last four pixels.
 #[inline(always)]
 pub(crate) fn last_around(second_bytes: u32, above_bytes: u32) -> u64
     ensures { HasAround result second_bytes above_bytes 4 4 }
@@ -192,7 +192,7 @@ pub(crate) fn last_around(second_bytes: u32, above_bytes: u32) -> u64
     both_lanes((second_bytes >> 7) % 64, (above_bytes >> 6) % 256)
 }
 
-/// The moved adaptive pixels of a byte's eight pixels, the first highest.
+/// The moved adaptive pixels for a byte's eight pixels, the first in the most significant bit.
 #[inline(always)]
 fn far_pixels(offset: u8, past: u128, byte: u8) -> u32
     requires some { 1 ≤ offset }
@@ -206,7 +206,7 @@ fn far_pixels(offset: u8, past: u128, byte: u8) -> u32
     }
 }
 
-/// The same where the adaptive pixel is moved, and else nothing.
+/// The same if the adaptive pixel has moved, otherwise 0.
 #[inline(always)]
 pub(crate) fn far_of<const MOVED: bool>(offset: u8, past: u128, byte: u8) -> u32
     requires offset { offset ≤ 127 }
@@ -221,8 +221,8 @@ pub(crate) fn far_of<const MOVED: bool>(offset: u8, past: u128, byte: u8) -> u32
     }
 }
 
-/// Twice the contexts of a byte's first four pixels, and these, where `row` has the byte and the one
-/// before it, and `far` the adaptive pixels if they are moved.
+/// For each of a byte's first four pixels, twice its context plus the pixel. `row` contains the byte and the one before
+/// it, and `far` the adaptive pixels if they have moved.
 #[inline(always)]
 pub(crate) fn first_pixels<const MOVED: bool>(
     second_bytes: u32,
@@ -241,7 +241,7 @@ pub(crate) fn first_pixels<const MOVED: bool>(
     pixel_lanes(second_window, (above_bytes >> 10) % 256, row_window)
 }
 
-/// The same for its last four.
+/// The same for its last four pixels.
 #[inline(always)]
 pub(crate) fn last_pixels<const MOVED: bool>(
     second_bytes: u32,
@@ -259,8 +259,8 @@ pub(crate) fn last_pixels<const MOVED: bool>(
     pixel_lanes(second_window, (above_bytes >> 6) % 256, row % 64)
 }
 
-/// Whether n pixels are those of a byte, coded with three lines, and the adaptive pixel in its nominal
-/// place.
+/// Whether these n pixels are a whole byte, coded with the three-line template and the adaptive pixel in its nominal
+/// position.
 #[inline(always)]
 pub(crate) fn has_lanes<const TWO_LINE: bool, const MOVED: bool>(
     shape: Shape,

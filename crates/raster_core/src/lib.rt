@@ -1,6 +1,8 @@
-//! Rows of a raster, coded and decoded, and the offset that would have served a stripe best.
+//! Encodes and decodes the rows of a raster, and finds the offset of the adaptive pixel that would have served a stripe
+//! best.
 //!
-//! The image is the lowest-resolution layer of ITU-T T.82, within the limits of ITU-T T.85.
+//! The image is the lowest-resolution layer of ITU-T T.82, within the limits of ITU-T T.85. Every event is a pixel in
+//! one of 1,024 contexts of `qm_core`.
 #![tactic(auto)]
 
 mod agreement;

@@ -1,4 +1,4 @@
-//! Where a row has stopped for want of its code.
+//! The position in a row at which decoding stopped for lack of code bytes.
 
 ghost use Rattle.std.specs.Prelude.{◌≡◌, ◌+◌, ◌*◌, ◌/◌, ◌%◌, ◌^◌, ◌<◌, List, Bool, false, true};
 ghost use Rattle.raster_core.specs.Packed.{packed_row};
@@ -6,8 +6,7 @@ ghost use Rattle.raster_core.specs.Machine.Registers.{before};
 
 use crate::bytes::byte_at;
 
-/// The source of a code stopped after so many pixels of a byte; `past` has the last pixels before
-/// there.
+/// The source of a code stopped after `count` pixels of a byte; `past` contains the last pixels before that position.
 #[derive(Clone, Copy)]
 pub(crate) struct Pause {
     pub(crate) count: u32,
@@ -15,7 +14,7 @@ pub(crate) struct Pause {
 }
 
 impl Pause {
-    /// The same, counted from `count` pixels before.
+    /// The same, counted from `count` pixels earlier.
     #[inline(always)]
     pub(crate) fn after(self, count: u32) -> Pause
         requires { count + self.count < 2 ^ 32 }
@@ -29,25 +28,25 @@ impl Pause {
     }
 }
 
-/// How far a row is decoded, whose code may not have come as a whole.
+/// How far a row is decoded, if its code may not have arrived completely.
 #[derive(Clone, Copy)]
 pub struct RowPlace {
-    /// Whether its pixels have begun: what comes before them is decoded.
+    /// Whether its pixels have begun: the pseudo-pixel before them is decoded.
     pub(crate) is_begun: bool,
-    /// How many of them are decoded.
+    /// The number of pixels decoded.
     pub(crate) done: u32,
-    /// The last of those, the nearest lowest.
+    /// The last pixels decoded, the most recent in the least significant bit.
     pub(crate) past: u128,
 }
 
-/// How far a row is decoded, as numbers that anyone may keep.
+/// How far a row is decoded, as numbers that anyone may store.
 #[derive(Clone, Copy, PartialEq, Eq, Debug)]
 pub struct RowPlaceNumbers {
-    /// Whether its pixels have begun: what comes before them is decoded.
+    /// Whether its pixels have begun: the pseudo-pixel before them is decoded.
     pub is_begun: bool,
-    /// How many of them are decoded.
+    /// The number of pixels decoded.
     pub done: u32,
-    /// The last 128 of those, a bit each, the nearest lowest: the upper 64.
+    /// The last 128 pixels decoded, one bit each, the most recent in the least significant bit: the upper 64.
     pub past_high: u64,
     /// The lower 64.
     pub past_low: u64,
@@ -56,7 +55,7 @@ pub struct RowPlaceNumbers {
 impl RowPlace {
     ghost use Rattle.raster_core.specs.Row.{row_place_numbers};
 
-    /// Before a row.
+    /// The beginning of a row.
     pub fn start() -> RowPlace
         ensures none { result.is_begun ≡ false }
         ensures done { result.done ≡ 0 }
@@ -69,14 +68,14 @@ impl RowPlace {
         }
     }
 
-    /// How many pixels of the row are decoded.
+    /// The number of pixels of the row that are decoded.
     pub fn done(&self) -> u32
         ensures { result ≡ self.now.done }
     {
         self.done
     }
 
-    /// The place as numbers.
+    /// The position as numbers.
     pub fn numbers(&self) -> RowPlaceNumbers
         ensures { result ≡ row_place_numbers self.now }
     {
@@ -88,7 +87,7 @@ impl RowPlace {
         }
     }
 
-    /// The place that has these numbers. Any numbers are those of one place.
+    /// The position that has these numbers. Any numbers are those of exactly one position.
     pub fn from_numbers(numbers: RowPlaceNumbers) -> RowPlace
         ensures same { (place : RowPlace) → numbers ≡ row_place_numbers place → result ≡ place }
         ensures is { row_place_numbers result ≡ numbers }
@@ -101,7 +100,7 @@ impl RowPlace {
         }
     }
 
-    /// Behind so many pixels of a row, of which `past` has the last.
+    /// The position after `done` pixels of a row; `past` contains the last of them.
     pub(crate) fn behind(done: u32, past: u128) -> RowPlace
         ensures begun { result.is_begun ≡ true }
         ensures done { result.done ≡ done }
@@ -114,7 +113,7 @@ impl RowPlace {
         }
     }
 
-    /// In byte i of a row, where the source stopped.
+    /// The position within byte i of a row at which the source stopped.
     pub(crate) fn within(i: usize, pause: Pause) -> RowPlace
         requires { 8 * i + pause.count < 2 ^ 32 }
         ensures begun { result.is_begun ≡ true }
@@ -125,7 +124,7 @@ impl RowPlace {
     }
 }
 
-/// Byte i of a row and the two before it.
+/// Byte i of a row and the two bytes before it.
 pub(crate) fn register_at(bytes: &[u8], i: usize) -> u32
     ensures is { (row : List Bool) → bytes.now ≡ packed_row row →
         result ≡ before row (8 * i + 8) 24 }
@@ -143,7 +142,7 @@ pub(crate) fn register_at(bytes: &[u8], i: usize) -> u32
     far * 0x1_0000 + middle * 256 + near
 }
 
-/// The 24 pixels of a row of which the last is the fifteenth after the one at x.
+/// The 24 pixels of a row that end with the fifteenth after the one at x.
 pub(crate) fn around_at(bytes: &[u8], x: u32) -> u32
     ensures is { (row : List Bool) → bytes.now ≡ packed_row row → result ≡ before row (x + 16) 24 }
     ensures small { result < 2 ^ 24 }

@@ -1,4 +1,4 @@
-//! A byte of a row, and what the contexts of its pixels read.
+//! A byte of a row, and the pixels that its contexts contain.
 
 ghost use Rattle.std.specs.Prelude.{◌≡◌, ◌+◌, ◌<◌, ◌≤◌, ◌^◌};
 ghost use Rattle.raster_core.specs.Machine.Registers.{past_bits};
@@ -7,8 +7,8 @@ use crate::bytes::byte_at;
 use crate::rows::Rows;
 use crate::uniform::{is_run, past_eight};
 
-/// Which pixels are a context: those of two lines or of three, and the adaptive one, which is
-/// `offset` to the left in the row itself, or in its nominal place where `offset` is 0.
+/// Which pixels a context contains: those of the two-line or the three-line template, and the adaptive pixel, which is
+/// `offset` to the left in the row itself, or in its nominal position if `offset` is 0.
 #[derive(Clone, Copy)]
 pub(crate) struct Template {
     pub(crate) two_line: bool,
@@ -16,7 +16,7 @@ pub(crate) struct Template {
     ghost in_reach: { offset ≤ 127 },
 }
 
-/// What a coder remembers along a row.
+/// The registers that a coder carries along a row.
 #[derive(Clone, Copy)]
 pub(crate) struct Around {
     pub(crate) template: Template,
@@ -24,15 +24,14 @@ pub(crate) struct Around {
     pub(crate) second: u32,
     /// The last three bytes of the row above.
     pub(crate) above: u32,
-    /// The last pixels of the row itself: 64 of them, or 128 for a moved adaptive pixel.
+    /// The last pixels of the row itself: 64, or 128 for a moved adaptive pixel.
     pub(crate) past: u128,
     ghost second_fits: { second < 2 ^ 24 },
     ghost above_fits: { above < 2 ^ 24 },
     ghost past_fits: { past < 2 ^ past_bits template.offset },
 }
 
-/// A byte of a row, and the pixels around it: those before it, and the rows above up to the byte
-/// after it.
+/// A byte of a row, and the pixels around it: those before it, and the rows above up to the byte after it.
 #[derive(Clone, Copy)]
 pub(crate) struct RowByte {
     pub(crate) around: Around,
@@ -43,7 +42,7 @@ impl Around {
     ghost use Rattle.std.specs.Prelude.{length};
     ghost use Rattle.raster_core.specs.Machine.Rows.{lines_in, StandsAt, IsByte};
 
-    /// What is remembered before a row.
+    /// The registers at the beginning of a row.
     #[inline(always)]
     pub(crate) fn start(template: Template, rows: Rows<'_>) -> Around
         ensures { StandsAt result template (lines_in rows.entry) 0 }
@@ -56,7 +55,7 @@ impl Around {
         }
     }
 
-    /// Byte i of a row, and what is around it.
+    /// Byte i of a row, and the pixels around it.
     #[inline(always)]
     pub(crate) fn byte(self, rows: Rows<'_>, i: usize) -> RowByte
         requires inside { i < length rows.current.now }
@@ -83,7 +82,7 @@ impl RowByte {
     ghost use Rattle.raster_core.specs.Machine.Rows.{PassesByte};
     ghost use Rattle.raster_core.specs.Machine.Uniform.{run_of};
 
-    /// Whether the byte is of one colour, and so is all that its contexts read.
+    /// Whether the byte has one colour, and so do all pixels of its contexts.
     #[inline(always)]
     pub(crate) fn is_run<const MOVED: bool>(self) -> bool
         requires moved { MOVED ≡ is_moved self.around.template.offset }
@@ -99,7 +98,7 @@ impl RowByte {
         is_run::<MOVED>(template.offset, second, above, self.byte, past, 8)
     }
 
-    /// What is remembered after the byte.
+    /// The registers after the byte.
     #[inline(always)]
     pub(crate) fn after<const MOVED: bool>(self) -> Around
         requires moved { MOVED ≡ is_moved self.around.template.offset }

@@ -3,20 +3,20 @@
 /// How the rows of an image are coded.
 #[derive(Clone, Copy)]
 pub struct Shape {
-    /// How many pixels a row has.
+    /// The width in pixels.
     pub width: u32,
-    /// The template of two lines, in place of that of three.
+    /// Whether the two-line template is used (LRLTWO), instead of the three-line template.
     pub two_line: bool,
-    /// Typical prediction.
+    /// Whether typical prediction is used (TPBON).
     pub typical: bool,
 }
 
-/// What is kept from row to row. At the top of an image and after a reset the offset is 0 and the
-/// row before counts as plain.
+/// The state kept from row to row. At the top of an image and after a reset, the offset is 0 and the row before counts
+/// as not typical.
 #[derive(Clone, Copy)]
 pub struct Kept {
-    /// Where the adaptive pixel is: this far to the left in the row itself, or in its nominal
-    /// place where it is 0. At most 127.
+    /// The position of the adaptive pixel: this far to the left in the row itself, or the nominal position if it is 0.
+    /// At most 127.
     pub offset: u8,
     /// Whether the row before was typical.
     pub previous_typical: bool,

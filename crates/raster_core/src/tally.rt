@@ -1,24 +1,24 @@
-//! Which offset of the adaptive pixel would have served a stripe best.
+//! Finds the offset of the adaptive pixel that would have served a stripe best.
 
 use crate::agreement::add_each;
 use crate::counted::Counted;
 use crate::window::Window;
 
-/// For each lag that may be chosen, how many pixels of the rows so far equal the one that is `lag`
-/// to their left. It keeps counts, and one row. A caller may lend it from memory that anything stands
-/// in: the counts then say nothing, and each sum is one modulo 2^64.
+/// For each lag that may be chosen, the number of pixels in the rows so far that equal the pixel `lag` to their left.
+/// It consists of counts and one row. It may be in caller-supplied memory with arbitrary contents: the counts are then
+/// meaningless, and every sum is one modulo 2^64.
 #[repr(C)]
 #[derive(Drop)]
 pub struct Tally {
-    /// How many equal the adaptive pixel at the offset in use.
+    /// The number of pixels that equal the adaptive pixel at the current offset.
     held: u64,
-    /// How many rows that equal the last one are not in the counts yet.
+    /// The number of rows equal to the last one that are not yet in the counts.
     times: u64,
     width: u32,
     rows: u32,
-    /// 1 where the template has two lines.
+    /// 1 for the two-line template.
     two_line: u32,
-    /// The greatest lag that may be chosen; above 127 it is 127.
+    /// The greatest lag that may be chosen; a value above 127 counts as 127.
     most: u32,
     last: Counted,
     counts: [u64; 128],
@@ -32,8 +32,8 @@ impl Tally {
     ghost use Rattle.raster_core.specs.Packed.{HasLines};
     ghost use Rattle.raster_core.specs.Window.{held as rows_held, width_of};
 
-    /// A tally of no rows. The lags that may be chosen are those from 5 (two lines) or 3 (three
-    /// lines) to `most`.
+    /// A tally of no rows. The lags that may be chosen are those from 5 (two-line template) or 3 (three-line template)
+    /// to `most`.
     pub fn new(two_line: bool, most: u8) -> Tally
         requires { most ≤ 127 }
         ensures counts { (width current : ℕ) → CountsLines result width current [] }
@@ -53,7 +53,7 @@ impl Tally {
         }
     }
 
-    /// Takes all rows off again, whatever it was, and forgets the last one.
+    /// Resets all counts, whatever they were, and discards the last row.
     pub fn restart(&mut self)
         ensures counts { (width current : ℕ) → CountsLines self.new width current [] }
         ensures rows { row_count self.new ≡ 0 }
@@ -67,9 +67,8 @@ impl Tally {
         self.last.forget();
     }
 
-    /// Counts the current row of a window, typical or not, that was coded with the adaptive pixel
-    /// at this offset. Between two restarts width and offset stay the same, and fewer than 2^32 rows
-    /// come.
+    /// Counts the current row of a window, typical or not, which was coded with the adaptive pixel at this offset.
+    /// Between two restarts, width and offset must stay the same, and there must be fewer than 2^32 rows.
     #[inline(never)]
     pub fn add_row(&mut self, window: &Window, width: u32, offset: u8)
         requires width { width_of window.now ≡ width }
@@ -94,8 +93,8 @@ impl Tally {
         self.rows = self.rows.wrapping_add(1);
     }
 
-    /// Counts a row at the lags from `least` to `most`, unless it equals the last one, whose counts are
-    /// then added for another time later on.
+    /// Counts a row at the lags from `least` to `most`; if it equals the last row, only records that its counts must be
+    /// added once more.
     fn take(&mut self, row: &[u8], width: u32, least: u8, most: u8)
         requires lags { (1 ≤ least) × (least < 64) × (most ≤ 127) }
         ensures counts { KeepsCounts self.old.last → CountsRow self.new.last row.now }
@@ -120,7 +119,7 @@ impl Tally {
         self.last.count(row, width, least, most);
     }
 
-    /// What was counted at a lag, modulo 2^64.
+    /// The count at a lag, modulo 2^64.
     fn at(&self, lag: u8) -> u64
         requires { lag ≤ 127 }
         ensures { result ≡ counted_at self.now lag }
@@ -129,8 +128,8 @@ impl Tally {
         self.counts[lag].wrapping_add(self.times.wrapping_mul(self.last.agreed[lag]))
     }
 
-    /// The least lag with the greatest count, where it agrees at more than an eighth of the pixels
-    /// more than `offset` did.
+    /// The least lag with the greatest count, if that count exceeds the count at `offset` by more than an eighth of the
+    /// number of pixels.
     pub fn choose(&self, offset: u8) -> Option<u8>
         ensures chosen { (width : ℕ) (rows : List Lines) → CountsLines self.now width offset rows
             → result ≡ chosen_offset (is_two_line self.now) (most_of self.now) width rows offset }
@@ -152,7 +151,7 @@ impl Tally {
         (gain > eighth).then_some(best)
     }
 
-    /// The least lag by which the adaptive pixel moves: the pixels before it are in the template.
+    /// The least lag to which the adaptive pixel may move: the pixels at smaller lags are in the template.
     fn least_lag(&self) -> u8
         ensures lag { result ≡ least_lag (is_two_line self.now) }
         ensures some { 1 ≤ result }
@@ -161,8 +160,8 @@ impl Tally {
         if self.two_line == 1 { 5 } else { 3 }
     }
 
-    /// The last lag that is counted at this width. At each greater one all pixels are compared with
-    /// white, as they are at the width.
+    /// The last lag that is counted at this width. At each greater lag all pixels are compared with white, as they are
+    /// at the lag that equals the width.
     fn last_lag(&self, width: u32) -> u8
         ensures { result ≡ last_lag (is_two_line self.now) (most_of self.now) width }
     {

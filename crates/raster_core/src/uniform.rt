@@ -1,4 +1,4 @@
-//! Bytes whose pixels, and all that their contexts read, are of one colour.
+//! Recognizes bytes that have one colour together with all pixels of their contexts.
 
 ghost use Rattle.std.specs.Prelude.{◌≡◌, ℕ, ◌+◌, ◌-◌, ◌*◌, ◌/◌, ◌%◌, ◌^◌, ◌≤◌, ◌<◌, IsTrue, length, nat_eq, slice_index, true};
 ghost use Rattle.raster_core.specs.Lines.{Lines, Mode};
@@ -7,7 +7,7 @@ ghost use Rattle.raster_core.specs.Machine.Uniform.{filled, uniform_context, Are
 
 use qm_core::Context;
 
-/// The context whose ten pixels all are of a colour.
+/// The context whose ten pixels all have a colour.
 #[inline(always)]
 pub(crate) fn uniform_context(colour: bool) -> Context
     ensures { result.number ≡ uniform_context colour }
@@ -15,7 +15,7 @@ pub(crate) fn uniform_context(colour: bool) -> Context
     Context::of(if colour { 1023 } else { 0 })
 }
 
-/// Whether all that a byte's contexts read near it, the byte itself aside, is of a colour.
+/// Whether all pixels of a byte's contexts near it, except the byte itself, have a colour.
 #[inline(always)]
 fn surrounds(colour: bool, second_bytes: u32, above_bytes: u32, past: u128) -> bool
     ensures second { IsTrue result → second_bytes / 2 ^ 7 % 1024 ≡ bit colour * 1023 }
@@ -29,8 +29,7 @@ fn surrounds(colour: bool, second_bytes: u32, above_bytes: u32, past: u128) -> b
     read == if colour { 8191 + 1023 + 15 } else { 0 }
 }
 
-/// Whether the moved adaptive pixels of the next eight, as far as they lie before them, are of a
-/// colour.
+/// Whether the moved adaptive pixels for the next eight pixels, as far as they precede these, have a colour.
 #[inline(always)]
 fn surrounds_far(colour: bool, offset: u8, past: u128) -> bool
     requires { offset ≤ 127 }
@@ -40,8 +39,8 @@ fn surrounds_far(colour: bool, offset: u8, past: u128) -> bool
     (past >> offset.saturating_sub(8)) % 256 == if colour { 255 } else { 0 }
 }
 
-/// Whether the contexts of a byte's eight pixels are that of a colour, as long as the byte is of
-/// that colour. The registers are those of decoding.
+/// Whether the contexts of a byte's eight pixels are all that of a colour, provided that the byte has that colour. The
+/// registers are those of decoding.
 #[inline(always)]
 fn is_uniform<const MOVED: bool>(
     colour: bool,
@@ -65,8 +64,8 @@ fn is_uniform<const MOVED: bool>(
     }
 }
 
-/// Whether eight pixels, if they are those of `byte`, are of one colour, and each has the context of
-/// that colour.
+/// Whether eight pixels, provided that they are those of `byte`, have one colour, and each has the context of that
+/// colour.
 #[inline(always)]
 pub(crate) fn is_run<const MOVED: bool>(
     offset: u8,
@@ -93,7 +92,7 @@ pub(crate) fn is_run<const MOVED: bool>(
         && is_uniform::<MOVED>(byte == 255, offset, second_bytes, above_bytes, past)
 }
 
-/// The pixels before the next one, after eight of a colour.
+/// The pixels before the next one, after eight pixels of one colour.
 #[inline(always)]
 pub(crate) fn past_eight<const MOVED: bool>(past: u128, byte: u8) -> u128
     ensures { (offset : ℕ) → MOVED ≡ is_moved offset →
@@ -106,7 +105,7 @@ pub(crate) fn past_eight<const MOVED: bool>(past: u128, byte: u8) -> u128
     }
 }
 
-/// A byte of a colour.
+/// A byte of one colour.
 #[inline(always)]
 pub(crate) fn byte_of(colour: bool) -> u8
     ensures { result ≡ bit colour * 255 }
@@ -114,7 +113,7 @@ pub(crate) fn byte_of(colour: bool) -> u8
     if colour { 255 } else { 0 }
 }
 
-/// A register of a row above, all of a colour.
+/// A register of a row above, with all pixels of one colour.
 #[inline(always)]
 fn register_of(colour: bool) -> u32
     ensures { result ≡ filled colour 24 }
@@ -122,7 +121,7 @@ fn register_of(colour: bool) -> u32
     if colour { 0xFF_FFFF } else { 0 }
 }
 
-/// The register of the pixels before the next one, all of a colour.
+/// The register of the pixels before the next one, with all pixels of one colour.
 #[inline(always)]
 fn past_of<const MOVED: bool>(colour: bool) -> u128
     ensures { (offset : ℕ) → MOVED ≡ is_moved offset → result ≡ filled colour (past_bits offset) }
@@ -138,7 +137,7 @@ fn past_of<const MOVED: bool>(colour: bool) -> u128
     }
 }
 
-/// Whether the registers of a byte hold pixels of a colour alone.
+/// Whether the registers of a byte contain only pixels of a colour.
 #[inline(always)]
 pub(crate) fn is_filled<const MOVED: bool>(
     colour: bool,
@@ -157,7 +156,7 @@ pub(crate) fn is_filled<const MOVED: bool>(
     second_bytes == all && above_bytes == all && past == past_of::<MOVED>(colour)
 }
 
-/// Whether eight bytes of a row are of a colour and none of them lies after its last.
+/// Whether the next eight bytes of a row exist and have one colour.
 #[inline(always)]
 pub(crate) fn is_all(colour: bool, row: &[u8], i: usize) -> bool
     requires { i < 2 ^ 33 }
@@ -179,8 +178,8 @@ pub(crate) fn is_all(colour: bool, row: &[u8], i: usize) -> bool
     }
 }
 
-/// Whether more than eight bytes are left of a row, and what the contexts of the next eight read of
-/// the two rows above, from the next byte of those on, is of a colour.
+/// Whether more than eight bytes of a row remain, and the pixels of the two rows above in the contexts of the next
+/// eight bytes, beginning with the next byte of those rows, have a colour.
 #[inline(always)]
 pub(crate) fn is_all_above(colour: bool, above: &[u8], second: &[u8], i: usize, left: u32) -> bool
     requires { i < 2 ^ 32 }
@@ -194,7 +193,7 @@ pub(crate) fn is_all_above(colour: bool, above: &[u8], second: &[u8], i: usize, 
     left > 64 && is_all(colour, above, i + 1) && is_all(colour, second, i + 1)
 }
 
-/// Makes the bytes of a row from one place to another those of a colour.
+/// Sets the bytes of a row, from one position to another, to a colour.
 #[inline(always)]
 pub(crate) fn paint(row: &mut [u8], colour: bool, from: usize, to: usize)
     requires from { from ≤ to }

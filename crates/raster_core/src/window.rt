@@ -1,4 +1,4 @@
-//! Three rows of pixels in one lent slice.
+//! Three rows of pixels in one caller-supplied slice.
 
 ghost use Rattle.std.specs.Prelude.{◌≡◌, ℕ, ◌+◌, ◌*◌, ◌<◌, ◌≤◌, List, length, slice_range};
 ghost use Rattle.std.specs.Int.{div_ceil};
@@ -7,14 +7,14 @@ ghost use Rattle.raster_core.specs.Packed.{row_placed, row_bytes, with_part, row
 use crate::rows::Rows;
 use std::ops::Range;
 
-/// How many bytes the three rows of a window take.
+/// The number of bytes in the three rows of a window.
 pub fn window_bytes(width: u32) -> usize
     ensures { result ≡ 3 * div_ceil width 8 }
 {
     3 * width.div_ceil(8) as usize
 }
 
-/// Where the current row is in the bytes of a window, which has it at this place.
+/// The range of the current row in the bytes of a window, if it is at this place.
 #[inline(always)]
 pub fn current_row(width: u32, place: u8) -> Range<usize>
     requires { place < 3 }
@@ -33,13 +33,14 @@ pub fn current_row(width: u32, place: u8) -> Range<usize>
     start..start + long
 }
 
-/// A row and the two above it, a pixel a bit, the first highest, at three places of one lent slice.
+/// A row and the two rows above it, one bit per pixel, the first pixel in the most significant bit, at three places of
+/// one caller-supplied slice.
 #[derive(Drop)]
 pub struct Window<'a> {
-    /// The three rows. Who writes here leaves padding 0.
+    /// The three rows. Code that writes here must leave padding bits 0.
     pub rows: &'a mut [u8],
-    /// Where the current row is. The row above it is at the next place and the second above after
-    /// that, in a ring.
+    /// The place of the current row. The row above is at the next place, and the row two above at the place after that,
+    /// in a ring.
     pub(crate) place: u8,
     width: u32,
     ghost long: { length rows.now ≡ 3 * div_ceil width 8 },
@@ -68,7 +69,7 @@ impl<'a> Window<'a> {
     ghost use Rattle.raster_core.specs.Window.{held, width_of, current_place, memory_of, turned, repeated};
     ghost use Rattle.raster_core.specs.Machine.Rows.{held_in};
 
-    /// A window with all three rows white, over `window_bytes` of the width.
+    /// A window over `window_bytes` bytes, with all three rows white.
     pub fn over(bytes: &'a mut [u8], width: u32) -> Window<'a>
         requires { length bytes.old ≡ 3 * div_ceil width 8 }
         ensures width { width_of result ≡ width }
@@ -85,8 +86,7 @@ impl<'a> Window<'a> {
         window
     }
 
-    /// A window over rows that an earlier one of this width left, with the current one at this
-    /// place.
+    /// A window over the rows that an earlier window of this width left, with the current row at this place.
     pub fn resume(bytes: &'a mut [u8], width: u32, place: u8) -> Window<'a>
         requires long { length bytes.old ≡ 3 * div_ceil width 8 }
         requires place { place < 3 }
@@ -99,14 +99,14 @@ impl<'a> Window<'a> {
         Window { rows, place, width }
     }
 
-    /// How many pixels a row has.
+    /// The width in pixels.
     pub fn width(&self) -> u32
         ensures { result ≡ width_of self.now }
     {
         self.width
     }
 
-    /// At which of the three places the current row is.
+    /// The place of the current row: 0, 1 or 2.
     pub fn place(&self) -> u8
         ensures place { result ≡ current_place self.now }
         ensures within { result < 3 }
@@ -114,7 +114,7 @@ impl<'a> Window<'a> {
         self.place
     }
 
-    /// Row 0 is the current one, 1 the one above it, 2 the one above that.
+    /// Row 0 is the current row, row 1 the one above it, and row 2 the one above that.
     pub fn row(&self, k: u8) -> &[u8]
         requires { k ≤ 2 }
         ensures { result.now ≡ row_of (held self.now) k }
@@ -128,7 +128,7 @@ impl<'a> Window<'a> {
         row_placed(&*self.rows, self.width, place)
     }
 
-    /// The row that was written last, and the two above it.
+    /// The current row and the two above it.
     #[inline(always)]
     pub(crate) fn rows(&self) -> Rows<'_>
         ensures { held_in result ≡ held self.now }
@@ -143,8 +143,8 @@ impl<'a> Window<'a> {
         }
     }
 
-    /// Goes a row down: the new rows 0, 1, 2 are the old rows 2, 0, 1. So the current row has to be
-    /// written again.
+    /// Moves down one row: the new rows 0, 1 and 2 are the old rows 2, 0 and 1. The current row must then be
+    /// overwritten.
     pub fn turn(&mut self)
         ensures turned { held self.new ≡ turned (held self.old) }
         ensures place { current_place self.new ≡ next_place (next_place (current_place self.old)) }
@@ -153,7 +153,7 @@ impl<'a> Window<'a> {
         self.place = if self.place == 0 { 2 } else { self.place - 1 };
     }
 
-    /// Goes a row down to one that equals the current one.
+    /// Moves down one row, to a row that equals the current one.
     pub fn repeat(&mut self)
         ensures repeated { held self.new ≡ repeated (held self.old) }
         ensures place { current_place self.new ≡ next_place (next_place (current_place self.old)) }

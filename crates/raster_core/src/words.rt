@@ -1,4 +1,4 @@
-//! Rows of pixels in words of 64, the first pixel highest.
+//! Rows of pixels as words of 64, the first pixel in the most significant bit.
 
 ghost use Rattle.std.specs.Prelude.{ℕ, ◌+◌, ◌-◌, ◌*◌, ◌^◌, ◌≡◌, ◌≤◌, ◌<◌, Bool, List};
 ghost use Rattle.raster_core.specs.Packed.{packed_row};
@@ -6,8 +6,7 @@ ghost use Rattle.raster_core.specs.Machine.Words.{word, led, is_within, agreed_f
 
 use crate::bytes::byte_at;
 
-/// The word at `place` of a row that has two white words in front. After its bytes the row is
-/// white.
+/// The word at `place` of a row that is preceded by two white words. After its bytes, the row is white.
 pub(crate) fn word_at(row: &[u8], place: usize) -> u64
     requires { place < 2 ^ 32 }
     ensures { (line : List Bool) → row.now ≡ packed_row line →
@@ -30,7 +29,7 @@ pub(crate) fn word_at(row: &[u8], place: usize) -> u64
     word
 }
 
-/// Which pixels of the word at `place` lie left of `width`.
+/// Which pixels of the word at `place` are to the left of `width`.
 pub(crate) fn mask_at(width: u32, place: usize) -> u64
     requires { place < 2 ^ 32 }
     ensures { result ≡ word (is_within width) (64 * place) 64 }
@@ -46,7 +45,7 @@ pub(crate) fn mask_at(width: u32, place: usize) -> u64
     }
 }
 
-/// The 64 pixels that end `shift` before the end of two words.
+/// The 64 pixels that end `shift` pixels before the end of two words.
 #[inline(always)]
 pub(crate) fn joined(first: u64, second: u64, shift: u32) -> u64
     requires { shift < 64 }
@@ -56,7 +55,7 @@ pub(crate) fn joined(first: u64, second: u64, shift: u32) -> u64
     first << 1 << (63 - shift) | second >> shift
 }
 
-/// How many pixels of the mask the two words have in common.
+/// The number of pixels in the mask that are the same in both words.
 #[inline(always)]
 pub(crate) fn agreed_word(mask: u64, one: u64, other: u64) -> u64
     ensures agreed { (p q m : ℕ → Bool) (a b c : ℕ) → one ≡ word p a 64 → other ≡ word q b 64 →

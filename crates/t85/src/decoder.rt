@@ -1,4 +1,4 @@
-//! A decoder that a C caller holds, and hands a stream in pieces.
+//! A decoder for a stream in pieces, in a struct that a C caller owns.
 
 ghost use Rattle.std.specs.Prelude.{◌≡◌, ◌<◌, ◌*◌, ◌⊎◌, List, ℕ, length, [], false, true};
 ghost use Rattle.t85_core.specs.Lent.{decoder_over};
@@ -23,7 +23,7 @@ use t85_core::{
 const VERSION: u32 = 1;
 
 const SIZE: usize = 1280;
-/// The bytes of a header.
+/// The number of bytes in a header.
 const HEADER_LEN: usize = 20;
 /// What comes next: the header, the first row, another row, or nothing more.
 const HEADER: u32 = 0;
@@ -34,18 +34,18 @@ const ROWS: u32 = 2;
 
 const ENDED: u32 = 3;
 
-/// What a caller holds of a decoder. Whatever its bytes are, a call is safe.
+/// The state of a decoder, which the caller owns. A call is safe whatever bytes it contains.
 #[repr(C)]
 #[derive(Drop)]
 pub struct T85Decoder {
     pub version: u32,
-    /// What comes next.
+    /// What comes next: `HEADER`, `FIRST_ROW`, `ROWS` or `ENDED`.
     pub next: u32,
-    /// The most rows that a header may announce.
+    /// The greatest number of rows that a header may announce.
     pub max_rows: u32,
     pub spare: u32,
     pub header: [u8; 20],
-    // What `PieceNumbers` has. What is true is not 0.
+    // The fields of `PieceNumbers`. A flag is true if it is not 0.
     pub height: u32,
     pub move_behind_row: u32,
     pub comment_behind: u32,
@@ -59,11 +59,11 @@ pub struct T85Decoder {
     pub span: u32,
     pub bits: u32,
     pub ahead: u16,
-    /// How the stream has ended, where it has.
+    /// How the stream has ended, if it has.
     pub status: u8,
-    /// At which of the three places of the window the last row is.
+    /// The place of the last row in the window: 0, 1 or 2.
     pub place: u8,
-    /// How many bytes of the header came.
+    /// The number of header bytes received.
     pub header_len: u8,
     pub is_open: u8,
     pub waits: u8,
@@ -82,14 +82,14 @@ pub struct T85Decoder {
     pub spare_byte: u8,
     pub past_high: u64,
     pub past_low: u64,
-    // What `HeldBytes` has.
+    // The fields of `HeldBytes`.
     pub held: [u8; 7],
     pub held_len: u8,
     pub reserved: [u64; 16],
     pub learned: Learned,
 }
 
-/// What a call answers.
+/// The result of a call.
 #[derive(Clone, Copy)]
 pub enum Answer {
     /// The header was read.
@@ -101,13 +101,13 @@ pub enum Answer {
     TooManyRows,
     /// The window is shorter than three rows.
     ShortWindow,
-    /// The struct was not begun, or is of another version.
+    /// The struct was not initialized, or has another version.
     NotBegun,
-    /// The stream had ended, with this status.
+    /// The stream had already ended, with this status.
     Ended(u8),
 }
 
-/// What a call answers, how many bytes it has taken, and where the window has the row.
+/// The result of a call, the number of bytes consumed, and the offset of the row in the window.
 #[derive(Clone, Copy)]
 pub struct Told {
     pub answer: Answer,
@@ -115,8 +115,8 @@ pub struct Told {
     pub row: usize,
 }
 
-/// Begins. `size` is the size of the caller's struct. Answers 0, or 50 where that is another one, and then `decoder` stays
-/// as it was.
+/// Initializes a decoder. `size` is the size of the caller's struct. Returns 0; or 50 if the size is wrong, and then
+/// `decoder` is unchanged.
 #[unsafe(no_mangle)]
 pub extern "C" fn t85_decode_start(decoder: &mut T85Decoder, size: usize, max_rows: u32) -> u8
     ensures { IsDecoderBegun size max_rows decoder.old decoder.new result }
@@ -128,14 +128,14 @@ pub extern "C" fn t85_decode_start(decoder: &mut T85Decoder, size: usize, max_ro
     0
 }
 
-/// Takes bytes of the stream, up to the end of its header, to the end of the next row, or as far as they go.
+/// Consumes bytes of the stream, up to the end of its header, to the end of the next row, or all of them.
 ///
-/// Answers 60 where the header was read; 61 where a row was decoded, which begins `row` bytes after the first of the window;
-/// 62 where all bytes were taken; 0 where the image is whole; the number of the stream's fault; 24 where the header announces
-/// more rows than are taken. It is 19 where the window is shorter than `t85_window_bytes` of the width, and 53 where the struct
-/// was not begun: then nothing is taken or changed. After an end it answers the same again.
+/// Returns 60 if the header was read; 61 if a row was decoded, which begins at byte `row` of the window; 62 if all
+/// bytes were consumed; 0 if the image is complete; 1 to 15 for an error in the stream; 24 if the header announces more
+/// rows than the limit. Returns 19 if the window is shorter than `t85_window_bytes` of the width, and 53 if the struct
+/// was not initialized; then nothing is consumed or changed. After the end it returns the same status again.
 ///
-/// `taken` is how many of the bytes were taken. Before the header was read the window may be empty.
+/// `taken` is the number of bytes consumed. Before the header has been read, the window may be empty.
 #[unsafe(no_mangle)]
 pub extern "C" fn t85_decode_bytes(
     decoder: &mut T85Decoder,
@@ -153,8 +153,9 @@ pub extern "C" fn t85_decode_bytes(
     told.answer.status()
 }
 
-/// Tells that no bytes come any more, once all were taken that came. Goes on up to the end of the next row, or to the end of
-/// the stream, and answers as `t85_decode_bytes`, but never 62: call it again as long as it answers 61.
+/// Signals the end of the input, once all bytes have been consumed. Decodes up to the end of the next row, or to the
+/// end of the stream, and returns the same statuses as `t85_decode_bytes` except 62. Call it again as long as it
+/// returns 61.
 #[unsafe(no_mangle)]
 pub extern "C" fn t85_decode_end(decoder: &mut T85Decoder, window: &mut [u8], row: &mut usize) -> u8
     ensures { IsAnswered (hold_of decoder.old window.old) (hold_of decoder.new window.new)
@@ -165,7 +166,7 @@ pub extern "C" fn t85_decode_end(decoder: &mut T85Decoder, window: &mut [u8], ro
     told.answer.status()
 }
 
-/// The height in use: the header's until another has come, and 0 before the header was read.
+/// Returns the current height: the header's until another has arrived, and 0 before the header has been read.
 #[unsafe(no_mangle)]
 pub extern "C" fn t85_decode_height(decoder: &T85Decoder) -> u32
     ensures { result ≡ height_of_decoder decoder.now }
@@ -177,8 +178,8 @@ pub extern "C" fn t85_decode_height(decoder: &T85Decoder) -> u32
     }
 }
 
-/// How many first rows are the image's, whatever bytes come: a height that comes later is not below this. It is 0 before the
-/// first call for rows, and the height after the end.
+/// Returns how many of the first rows belong to the image, whatever bytes follow: no height that arrives later is below
+/// this. It is 0 before the first call for rows, and the height after the end.
 #[unsafe(no_mangle)]
 pub extern "C" fn t85_decode_certain(decoder: &T85Decoder) -> u32
     ensures among { TellsCertain decoder.now result }
@@ -212,7 +213,7 @@ impl Answer {
         }
     }
 
-    /// Nothing is taken.
+    /// This result, with nothing consumed.
     fn alone(self) -> Told
         ensures answer { result.answer ≡ self }
         ensures taken { result.taken ≡ 0 }
@@ -226,7 +227,7 @@ impl Answer {
 }
 
 impl T85Decoder {
-    /// Before the first byte.
+    /// A decoder before the first byte.
     pub(crate) fn first(max_rows: u32) -> T85Decoder
         ensures { BeginsDecoder max_rows result 0 }
     {
@@ -276,7 +277,7 @@ impl T85Decoder {
         }
     }
 
-    /// The engine's numbers.
+    /// The numbers of the engine's decoder.
     fn numbers(&self) -> PieceNumbers
         ensures { result ≡ numbers_of_decoder self.now }
     {
@@ -321,7 +322,7 @@ impl T85Decoder {
         }
     }
 
-    /// Notes the engine's numbers, and where the window has its row.
+    /// Stores the numbers of the engine's decoder, and the place of its row in the window.
     fn keep(&mut self, numbers: PieceNumbers, place: u8)
         ensures numbers { numbers_of_decoder self.new ≡ numbers }
         ensures place { self.new.place ≡ place }
@@ -359,11 +360,11 @@ impl T85Decoder {
         self.has_ended = u8::from(numbers.decoder.has_ended);
     }
 
-    /// How many first rows are certain, of a decoder among the rows.
+    /// The number of certain rows, for a decoder that is decoding rows.
     fn certain(&self) -> u32
         ensures { TellsCertain self.now result }
     {
-        // What the proof cites of headers.
+        // The proof uses these laws about headers.
         headers();
         match read_header(&self.header) {
             Ok(header) => PieceDecoder::resume(header, &self.numbers()).certain(),
@@ -371,7 +372,7 @@ impl T85Decoder {
         }
     }
 
-    /// What was taken and is not decoded yet.
+    /// The bytes that were consumed and are not decoded yet.
     fn held(&self) -> HeldBytes
         ensures { held_bytes result ≡ bytes_held_by self.now }
     {
@@ -382,7 +383,7 @@ impl T85Decoder {
         }
     }
 
-    /// Notes what was taken and is not decoded yet.
+    /// Stores the bytes that were consumed and are not decoded yet.
     fn hold(&mut self, held: HeldBytes)
         ensures held { bytes_held_by self.new ≡ held_bytes held }
         ensures numbers { numbers_of_decoder self.new ≡ numbers_of_decoder self.old }
@@ -394,7 +395,7 @@ impl T85Decoder {
         self.held_len = held.len;
     }
 
-    /// Notes how the stream has ended.
+    /// Stores how the stream has ended.
     fn end(&mut self, status: u8)
         ensures ended { HasEnded self.new status }
         ensures height { self.new.height ≡ self.old.height }
@@ -406,7 +407,7 @@ impl T85Decoder {
         self.status = status;
     }
 
-    /// Goes on with these bytes; whether they are the last is `is_all`.
+    /// Continues with these bytes; `is_all` says whether they are the last.
     fn go_on(&mut self, bytes: &[u8], window: &mut [u8], is_all: bool) -> Told
         ensures { Answers (HasRead (hold_of self.old window.old)) (hold_of self.old window.old)
             (hold_of self.new window.new) (bytes_call bytes.now is_all result.taken result.row)
@@ -424,7 +425,7 @@ impl T85Decoder {
         }
     }
 
-    /// Takes bytes of the header.
+    /// Consumes bytes of the header.
     fn take_header(&mut self, bytes: &[u8], is_all: bool) -> Told
         requires version { self.old.version ≡ 1 }
         requires next { self.old.next ≡ 0 }
@@ -432,7 +433,7 @@ impl T85Decoder {
             (hold_of self.old window) (hold_of self.new window)
             (bytes_call bytes.now is_all result.taken result.row) result.answer }
     {
-        // What the proof cites of headers.
+        // The proof uses these laws about headers.
         headers();
         if usize::from(self.header_len) >= HEADER_LEN {
             return Answer::NotBegun.alone();
@@ -450,7 +451,7 @@ impl T85Decoder {
         }
     }
 
-    /// Adds bytes to those of the header, as many as are missing there, and answers how many.
+    /// Appends bytes to the header, as many as are missing, and returns how many.
     fn fill_header(&mut self, bytes: &[u8]) -> usize
         requires few { self.old.header_len < 20 }
         ensures filled { IsFilled self.old self.new bytes.now result }
@@ -462,7 +463,7 @@ impl T85Decoder {
         taken
     }
 
-    /// The bytes of the header.
+    /// The bytes of the header received so far.
     fn header_bytes(&self) -> &[u8]
         ensures bytes { result.now ≡ self.now.header }
         ensures long { length result.now ≡ 20 }
@@ -470,7 +471,7 @@ impl T85Decoder {
         &self.header
     }
 
-    /// Judges the header, which is whole.
+    /// Checks the header, which is complete.
     fn judge_header(&mut self) -> Answer
         requires version { self.old.version ≡ 1 }
         ensures { IsJudged self.old self.new result }
@@ -492,7 +493,7 @@ impl T85Decoder {
         }
     }
 
-    /// Waits for the rest of the header, unless no bytes come.
+    /// Waits for the rest of the header, unless no more bytes follow.
     fn wait_for_header(&mut self, is_all: bool) -> Answer
         requires version { self.old.version ≡ 1 }
         ensures { IsAwaited self.old self.new is_all result }
@@ -506,7 +507,7 @@ impl T85Decoder {
         }
     }
 
-    /// Takes bytes behind the header.
+    /// Consumes bytes after the header.
     fn take_rows(&mut self, bytes: &[u8], window: &mut [u8], is_all: bool) -> Told
         requires version { self.old.version ≡ 1 }
         requires next { (self.old.next ≡ 1) ⊎ (self.old.next ≡ 2) }
@@ -514,7 +515,7 @@ impl T85Decoder {
             (hold_of self.new window.new) (bytes_call bytes.now is_all result.taken result.row)
             result.answer }
     {
-        // What the proof cites of headers.
+        // The proof uses these laws about headers.
         headers();
         let header = match read_header(&self.header) {
             Ok(header) => header,
@@ -530,7 +531,7 @@ impl T85Decoder {
         self.go_on_in_rows(&header, &mut window[..needed], bytes, is_all)
     }
 
-    /// Goes on with a window of just three rows.
+    /// Continues with a window of exactly three rows.
     fn go_on_in_rows(
         &mut self,
         header: &Header,
@@ -553,7 +554,7 @@ impl T85Decoder {
         self.take_row(header, memory, bytes, is_all)
     }
 
-    /// Begins to decode the rows: the window is made white, and the contexts forget.
+    /// Starts decoding rows: makes the window white, and resets the contexts.
     fn enter_rows(&mut self, header: &Header, memory: &mut [u8])
         requires long { length memory.old ≡ window_of header.now.xd }
         requires may { MayEnterRows header.now self.old }
@@ -570,7 +571,7 @@ impl T85Decoder {
         self.next = ROWS;
     }
 
-    /// Goes on up to the end of the next row, or as far as the bytes go.
+    /// Continues up to the end of the next row, or as far as the bytes allow.
     fn take_row(&mut self, header: &Header, memory: &mut [u8], bytes: &[u8], is_all: bool) -> Told
         requires long { length memory.old ≡ window_of header.now.xd }
         requires may { MayTakeRows header.now self.old }
@@ -580,7 +581,7 @@ impl T85Decoder {
         ensures engine { IsOfEngine result.answer }
         ensures same_header { self.new.header ≡ self.old.header }
     {
-        // What the proof cites of headers.
+        // The proof uses these laws about headers.
         headers();
         let _header = self.header_bytes();
         let mut window = Window::resume(memory, header.xd, self.place);
@@ -599,7 +600,7 @@ impl T85Decoder {
         self.tell(header, progress)
     }
 
-    /// Tells what the engine has answered.
+    /// Reports the engine's result.
     fn tell(&mut self, header: &Header, progress: Progress) -> Told
         requires version { self.old.version ≡ 1 }
         ensures taken { result.taken ≡ progress.taken }
@@ -626,7 +627,7 @@ impl T85Decoder {
     }
 }
 
-/// Goes on with a piece, which may be the last, after what is held.
+/// Passes a piece, which may be the last, to the engine's decoder, after the stored bytes.
 fn feed(
     decoder: &mut PieceDecoder,
     window: &mut Window<'_>,

@@ -1,4 +1,4 @@
-//! Decoding into lent memory.
+//! Decodes a stream in memory to an image in memory.
 
 ghost use Rattle.std.specs.Prelude.{◌≡◌, ◌≤◌, None, length};
 ghost use Rattle.t85_core.specs.Options.{fields_of};
@@ -12,7 +12,7 @@ use raster_core::{Window, window_bytes};
 use t85_core::laws::outcomes;
 use t85_core::{Fault, Header, decode_in_memory};
 
-/// The status of an answer of the engine.
+/// The status for a result of the engine.
 pub fn answer_status(answer: &Result<(), Fault>) -> u8
     ensures { result ≡ answer_status answer.now }
 {
@@ -22,14 +22,15 @@ pub fn answer_status(answer: &Result<(), Fault>) -> u8
     }
 }
 
-/// Writes the image of a stream, of at most `max_rows` rows, as a raw PBM. A stream may give its height late.
+/// Decodes a stream to a raw PBM of at most `max_rows` rows. The stream may give its height late.
 ///
-/// Answers 0, or the first of these: 1 to 8 where the header is refused; 24 where the image has more than `max_rows`
-/// rows; 19 where the window is shorter than `t85_window_bytes` of the width; 9 to 15 where the stream is broken, and
-/// then the header and the rows are written that what came before fixes. It is 18 where what is to be written is longer
-/// than `image`, which is then full of a beginning.
+/// Returns 0, or the first of these errors that applies: 1 to 8 if the header is rejected; 24 if the image has more
+/// than `max_rows` rows; 19 if the window is shorter than `t85_window_bytes` of the width; 9 to 15 if the stream is
+/// broken, and then the PBM header and the rows that the bytes before the error determine are written. Returns 18 if
+/// the output is longer than `image`, which is then filled with a prefix of it.
 ///
-/// `written` is how many bytes of `image` were written. What is after them, and in the window, may be anything.
+/// `written` is the number of bytes of `image` that were written. The contents of `image` after them, and of the
+/// window, are unspecified.
 #[unsafe(no_mangle)]
 pub extern "C" fn t85_decode(
     stream: &[u8],
@@ -63,7 +64,7 @@ pub extern "C" fn t85_decode(
     )
 }
 
-/// Writes the image of a body into lent memory, and answers the status.
+/// Decodes a body to a PBM in memory, and returns the status.
 fn fill_image(
     header: &Header,
     height: u32,
@@ -83,7 +84,7 @@ fn fill_image(
     status
 }
 
-/// Writes the image of a body into a room, and answers the status.
+/// Decodes a body to a PBM in a `Room`, and returns the status.
 fn write_image(
     header: &Header,
     height: u32,
@@ -101,7 +102,7 @@ fn write_image(
         room.new.len result }
     ensures same_reference { room.new.bytes.ghost_name ≡ room.old.bytes.ghost_name }
 {
-    // What the proof cites of streams.
+    // The proof uses these laws about streams.
     outcomes();
     let mut lines = Window::over(window, header.xd);
     let mut input = Whole { rest: body };

@@ -1,4 +1,4 @@
-//! Decoding into rows of lent memory.
+//! Decodes a stream in memory to rows in memory.
 
 ghost use Rattle.std.specs.Prelude.{◌≡◌, ◌≤◌, ◌<◌, ◌+◌, ◌*◌, length};
 ghost use Rattle.std.specs.Fmt.{decimal};
@@ -19,14 +19,14 @@ use raster_core::{Window, window_bytes};
 use t85_core::laws::outcomes;
 use t85_core::{Fault, Header, decode_in_memory};
 
-/// Writes the rows of a stream's image, at most `max_rows` of them. Row y begins `y * stride` bytes after the first; a row has
-/// a bit a pixel, the first highest, in whole bytes, padded by 0.
+/// Decodes the rows of a stream's image, at most `max_rows` of them. Row y begins at byte `y * stride`; a row has one
+/// bit per pixel, the first pixel in the most significant bit, in a whole number of bytes, and its padding is 0.
 ///
-/// Answers as `t85_decode`, with 51 between 24 and 19 where the stride is shorter than a row. It is 18 where more rows
-/// are to be written than have room, and then the first of them are.
+/// Returns what `t85_decode` returns; in addition, after 24 and before 19, returns 51 if the stride is shorter than a
+/// row. Returns 18 if there are more rows than fit, and then the first of them are written.
 ///
-/// `rows_written` is how many whole rows were written to `rows`. Rows after them that would have room, and the window, may
-/// hold anything. What is between rows, and after the last one that has room, stays.
+/// `rows_written` is the number of whole rows written. Later rows that would fit, and the window, may contain anything.
+/// Bytes between rows, and after the last row that fits, are unchanged.
 #[unsafe(no_mangle)]
 pub extern "C" fn t85_decode_rows(
     stream: &[u8],
@@ -66,7 +66,7 @@ pub extern "C" fn t85_decode_rows(
     )
 }
 
-/// Writes the rows of a body into lent memory, and answers the status.
+/// Decodes the rows of a body into memory, and returns the status.
 fn fill_rows(
     header: &Header,
     height: u32,
@@ -92,7 +92,7 @@ fn fill_rows(
     status
 }
 
-/// How many digits a number has.
+/// The number of decimal digits of a number.
 #[tactic(auto, using(crate::proofs::Digits::digits))]
 fn digits(n: u32) -> usize
     ensures is { result ≡ length (decimal n) }
@@ -101,7 +101,7 @@ fn digits(n: u32) -> usize
     if n >= 10 { digits(n / 10) + 1 } else { 1 }
 }
 
-/// How long the header of an image is.
+/// The length of an image's PBM header.
 fn head_length(width: u32, height: u32) -> usize
     ensures is { result ≡ length (header_text width height) }
     ensures few { result ≤ 32 }
@@ -109,7 +109,7 @@ fn head_length(width: u32, height: u32) -> usize
     5 + digits(width) + digits(height)
 }
 
-/// How many of these rows have room.
+/// The number of these rows that fit.
 fn rows_that_fit(wanted: u32, row: usize, stride: usize, room: usize) -> u32
     requires some { 1 ≤ row }
     requires apart { row ≤ stride }
@@ -126,7 +126,7 @@ fn rows_that_fit(wanted: u32, row: usize, stride: usize, room: usize) -> u32
     }
 }
 
-/// Writes the rows of a body into an output, and answers the status.
+/// Decodes the rows of a body into an output, and returns the status.
 fn write_rows(
     header: &Header,
     height: u32,
@@ -142,7 +142,7 @@ fn write_rows(
         (lending output.old.bytes.now output.new.bytes.now output.new.y result) }
     ensures same_reference { output.new.bytes.ghost_name ≡ output.old.bytes.ghost_name }
 {
-    // What the proof cites of streams.
+    // The proof uses these laws about streams.
     outcomes();
     let mut lines = Window::over(window, header.xd);
     let mut input = Whole { rest: body };

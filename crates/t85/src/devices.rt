@@ -1,10 +1,10 @@
-//! Lent memory as devices.
+//! Caller-supplied memory as devices.
 
 ghost use Rattle.std.specs.Prelude.{◌≡◌, ◌≤◌, ◌<◌, ◌-◌, ◌^◌, ◌++◌, [], Some, None, length, take, is_some, true, option_to_list};
 
 use pbm_core::{DeviceFailed, Input, Output};
 
-/// Bytes that are all there.
+/// An input over bytes that are all available.
 #[derive(Drop)]
 pub struct Whole<'a> {
     pub rest: &'a [u8],
@@ -36,18 +36,18 @@ impl Input for Whole<'_> {
     }
 }
 
-/// Room for bytes. Where it is full it takes one byte more, which is dropped at the end, and then fails: that tells a text
-/// which is longer than the room from one that just fits.
+/// An output into a buffer. When the buffer is full, it accepts one more byte, which is discarded, and then fails: that
+/// distinguishes a text that is longer than the buffer from one that just fits.
 #[derive(Drop)]
 pub struct Room<'a> {
     pub bytes: &'a mut [u8],
     pub len: usize,
-    /// The first byte that found no room.
+    /// The first byte that did not fit.
     pub spilled: Option<u8>,
     pub flushed: bool,
-    /// How often a flush was asked for, modulo 2^64.
+    /// The number of flushes requested, modulo 2^64.
     pub flushes: u64,
-    /// How often a write has failed, modulo 2^64.
+    /// The number of writes that failed, modulo 2^64.
     pub failures: u64,
     ghost within: { len ≤ length bytes.now },
     ghost spilled_last: { is_some spilled ≡ true → len ≡ length bytes.now },

@@ -1,4 +1,4 @@
-//! An encoder that a C caller holds, and hands the rows of an image one by one.
+//! An encoder for an image row by row, in a struct that a C caller owns.
 
 ghost use Rattle.std.specs.Prelude.{◌≡◌, ◌≢◌, ◌≤◌, ◌<◌, ◌⊎◌, length, take, false, true, Some, None, [], MatchOption, MatchResult, IfOk};
 ghost use Rattle.std.specs.Int.{div_ceil};
@@ -38,22 +38,22 @@ const ROWS: u32 = 1;
 
 const ENDED: u32 = 2;
 
-/// What a caller holds of an encoder. Whatever its bytes are, a call is safe.
+/// The state of an encoder, which the caller owns. A call is safe whatever bytes it contains.
 #[repr(C)]
 #[derive(Drop)]
 pub struct T85Encoder {
     pub version: u32,
-    /// What comes next.
+    /// What comes next: `ROWS` or `ENDED`.
     pub next: u32,
-    /// The image's size: its height is the most rows that may come.
+    /// The size of the image. Its height is the greatest number of rows.
     pub width: u32,
     pub height: u32,
-    // What was chosen, but for the comment. What is true is not 0.
+    // The options, except the comment. A flag is true if it is not 0.
     pub options: u32,
     pub stripe_rows: u32,
     pub most_offset: u32,
     pub announced_height: u32,
-    // What `RowNumbers` has.
+    // The fields of `RowNumbers`.
     pub rows: u32,
     pub in_stripe: u32,
     pub span: u32,
@@ -66,7 +66,7 @@ pub struct T85Encoder {
     pub has_held: u8,
     pub held: u8,
     pub has_failed: u8,
-    /// At which of the three places of the window the last row is.
+    /// The place of the last row in the window: 0, 1 or 2.
     pub place: u8,
     pub spare: [u8; 7],
     pub low: u64,
@@ -77,15 +77,15 @@ pub struct T85Encoder {
     pub learning: Learning,
 }
 
-/// Begins a stream: writes its header and its comment. `size` is the size of the caller's struct. The height is the number
-/// of rows or, where one is announced, the most that may come.
+/// Starts a stream: writes its header and its comment. `size` is the size of the caller's struct. The height is the
+/// number of rows or, if a height is announced, the greatest number of rows.
 ///
-/// Answers 0, or the first of these, and then nothing is written or changed: 50 where the struct is of another size or the
-/// options are of another version; 20, 21, 22 or 26 where they are refused; 33 where the width or the height is 0; 34 where
-/// the width is above 1048576; 23 where the announced height is below the image's; 19 where the window is shorter than
-/// `t85_window_bytes` of the width; 18 where the stream has less room than 20 bytes, and 6 and its length for a comment.
+/// Returns 0, or the first of these errors that applies, with nothing written or changed: 50 if the struct has another
+/// size, or the options another version; 20, 21, 22 or 26 if the options are invalid; 33 if the width or the height is
+/// 0; 34 if the width is above 1048576; 23 if the announced height is below the image's; 19 if the window is shorter
+/// than `t85_window_bytes` of the width; 18 if `stream` is shorter than 20 bytes plus, for a comment, its length and 6.
 ///
-/// `written` is how many bytes of `stream` were written.
+/// `written` is the number of bytes of `stream` that were written.
 #[unsafe(no_mangle)]
 pub extern "C" fn t85_encode_start(
     encoder: &mut T85Encoder,
@@ -116,13 +116,14 @@ pub extern "C" fn t85_encode_start(
     0
 }
 
-/// Takes the next row, of which the bytes of the width are read, and writes what of the stream is sure with it.
+/// Encodes the next row, the first bytes of `row` as the width requires, and writes the bytes of the stream that have
+/// become certain.
 ///
-/// Answers 0, or the first of these, and then nothing is written or changed: 53 where the encoder was not begun; 54 where
-/// all rows came, or the stream was ended; 55 where the row is shorter than its width; 19 where the window is shorter than
-/// `t85_window_bytes` of the width; 18 where the stream has less room than `t85_encode_room` tells.
+/// Returns 0, or the first of these errors that applies, with nothing written or changed: 53 if the encoder was not
+/// initialized; 54 if all rows were passed, or the stream was ended; 55 if the row is shorter than its width; 19 if the
+/// window is shorter than `t85_window_bytes` of the width; 18 if `stream` is shorter than `t85_encode_room` says.
 ///
-/// `written` is how many bytes of `stream` were written.
+/// `written` is the number of bytes of `stream` that were written.
 #[unsafe(no_mangle)]
 pub extern "C" fn t85_encode_row(
     encoder: &mut T85Encoder,
@@ -144,13 +145,14 @@ pub extern "C" fn t85_encode_row(
     0
 }
 
-/// Ends the stream, with a new height where fewer rows came than were announced.
+/// Ends the stream, with a new height if fewer rows were passed than announced.
 ///
-/// Answers 0, or the first of these, and then nothing is written or changed: 53 where the encoder was not begun; 54 where
-/// the stream was ended before; 36 where no row came, or where rows are missing and no height was announced; 19 where the
-/// window is shorter than `t85_window_bytes` of the width; 18 where the stream has less room than `t85_encode_room` tells.
+/// Returns 0, or the first of these errors that applies, with nothing written or changed: 53 if the encoder was not
+/// initialized; 54 if the stream has been ended already; 36 if no row was passed, or if rows are missing and no height
+/// was announced; 19 if the window is shorter than `t85_window_bytes` of the width; 18 if `stream` is shorter than
+/// `t85_encode_room` says.
 ///
-/// `written` is how many bytes of `stream` were written.
+/// `written` is the number of bytes of `stream` that were written.
 #[unsafe(no_mangle)]
 pub extern "C" fn t85_encode_end(
     encoder: &mut T85Encoder,
@@ -171,7 +173,7 @@ pub extern "C" fn t85_encode_end(
     0
 }
 
-/// How many rows may still come: none where the encoder was not begun, or the stream was ended.
+/// Returns how many more rows are accepted: 0 if the encoder was not initialized, or the stream was ended.
 #[unsafe(no_mangle)]
 pub extern "C" fn t85_encode_rows_left(encoder: &T85Encoder) -> u32
     ensures left { TellsLeft encoder.now result }
@@ -183,8 +185,8 @@ pub extern "C" fn t85_encode_rows_left(encoder: &T85Encoder) -> u32
     encoder.height.saturating_sub(encoder.rows)
 }
 
-/// How many bytes of room are enough for the next call, be it for a row or for the end: 0 where the encoder was not begun, or
-/// the stream was ended.
+/// Returns a buffer size in bytes that is enough for the next call, whether for a row or for the end: 0 if the encoder
+/// was not initialized, or the stream was ended.
 #[unsafe(no_mangle)]
 pub extern "C" fn t85_encode_room(encoder: &T85Encoder) -> u64
     ensures room { TellsRoom encoder.now result }
@@ -196,7 +198,7 @@ pub extern "C" fn t85_encode_room(encoder: &T85Encoder) -> u64
     }
 }
 
-/// The size and the choices of a stream that begins, or the status of the first refusal.
+/// The size and the options of a stream to be started, or the status of the first error.
 fn judge_start<'a>(
     width: u32,
     height: u32,
@@ -224,7 +226,7 @@ fn judge_start<'a>(
     Ok(job)
 }
 
-/// How many bytes come before the first stripe.
+/// The number of bytes before the first stripe.
 fn head_length(choice: &T85Options, comment: &[u8]) -> usize
     ensures { result ≡ head_length choice.now (length comment.now) }
 {
@@ -236,7 +238,7 @@ fn head_length(choice: &T85Options, comment: &[u8]) -> usize
 }
 
 impl T85Encoder {
-    /// The engine's numbers.
+    /// The numbers of the engine's encoder.
     fn numbers(&self) -> RowNumbers
         ensures { result ≡ numbers_of_encoder self.now }
     {
@@ -260,7 +262,7 @@ impl T85Encoder {
         }
     }
 
-    /// Notes the engine's numbers, and where the window has its row.
+    /// Stores the numbers of the engine's encoder, and the place of its row in the window.
     fn keep(&mut self, numbers: RowNumbers, place: u8)
         ensures numbers { numbers_of_encoder self.new ≡ numbers }
         ensures place { self.new.place ≡ place }
@@ -283,7 +285,7 @@ impl T85Encoder {
         self.has_failed = u8::from(numbers.encoder.has_failed);
     }
 
-    /// Notes the image's size, and what was chosen for its stream.
+    /// Stores the size of the image, and the options.
     fn choose(&mut self, size: Size, options: &Options<'_>)
         ensures version { self.new.version ≡ 1 }
         ensures next { self.new.next ≡ 1 }
@@ -306,7 +308,7 @@ impl T85Encoder {
         self.reserved = [0; 12];
     }
 
-    /// What was chosen for the stream, but for its comment, if it is accepted.
+    /// The options except the comment, if they are valid.
     fn options(&self) -> Result<Options<'static>, Fault>
         ensures judged { MatchResult result (λ o. settings_of o ≡ settings_kept self.now)
             (λ fault. refusal_of self.now.options self.now.stripe_rows self.now.most_offset None
@@ -324,7 +326,7 @@ impl T85Encoder {
         )
     }
 
-    /// The engine's encoder that has the numbers, if there is one.
+    /// The engine's encoder with the stored numbers, if there is one.
     fn resume(&self) -> Option<RowEncoder>
         ensures { MatchOption result (IsOfNone self.now) (λ e. GoesOnFrom self.now e) }
     {
@@ -341,7 +343,7 @@ impl T85Encoder {
         }
     }
 
-    /// The engine's encoder, or the status where nothing is taken.
+    /// The engine's encoder, or the status if nothing more is accepted.
     fn engine(&self) -> Result<RowEncoder, u8>
         ensures { MatchResult result (λ e. AwaitsCall self.now e)
             (λ status. IsIdle self.now status) }
@@ -361,7 +363,8 @@ impl T85Encoder {
         }
     }
 
-    /// The engine's encoder, or the status of the first refusal, of a row of so many bytes, for which so many bytes are lent.
+    /// The engine's encoder, or the status of the first error, for a row, a window and an output buffer of these
+    /// lengths.
     fn judge_row(&self, row: usize, window: usize, room: usize) -> Result<RowEncoder, u8>
         ensures ready { MatchResult result (λ e. AwaitsCall self.now e)
             (λ status. RefusesCall self.now (row_refusal self.now row window room) status) }
@@ -386,7 +389,7 @@ impl T85Encoder {
         Ok(engine)
     }
 
-    /// The same of the end.
+    /// The same for the end.
     fn judge_end(&self, window: usize, room: usize) -> Result<RowEncoder, u8>
         ensures ready { MatchResult result (λ e. AwaitsCall self.now e)
             (λ status. RefusesCall self.now (end_refusal self.now window room) status) }
@@ -408,7 +411,7 @@ impl T85Encoder {
         Ok(engine)
     }
 
-    /// Begins a stream for which there is room, with a window of just three rows, and answers how many bytes were written.
+    /// Starts a stream that fits, with a window of exactly three rows, and returns the number of bytes written.
     fn begin(
         &mut self,
         size: Size,
@@ -424,7 +427,7 @@ impl T85Encoder {
             (encoder_hold self.new memory.new) (take result stream.new) }
         ensures within { result ≤ length stream.new }
     {
-        // What the proof cites of streams in parts.
+        // The proof uses this law about streams written in parts.
         elsewhere();
         let mut window = Window::over(memory, size.width);
         let mut room = Room::new(stream);
@@ -432,7 +435,7 @@ impl T85Encoder {
         room.len
     }
 
-    /// Writes the head of a stream into room for it. So no write fails.
+    /// Writes the head of a stream into a buffer that is large enough, so that no write fails.
     fn start_in(
         &mut self,
         size: Size,
@@ -459,7 +462,7 @@ impl T85Encoder {
         }
     }
 
-    /// Takes a row for which there is room, with a window of just three rows, and answers how many bytes were written.
+    /// Encodes a row that fits, with a window of exactly three rows, and returns the number of bytes written.
     fn put(
         &mut self,
         mut engine: RowEncoder,
@@ -477,7 +480,7 @@ impl T85Encoder {
         ensures width { self.new.width ≡ self.old.width }
         ensures within { result ≤ length stream.new }
     {
-        // What the proof cites of streams in parts.
+        // The proof uses this law about streams written in parts.
         elsewhere();
         let mut window = Window::resume(memory, self.width, self.place);
         let mut room = Room::new(stream);
@@ -487,8 +490,7 @@ impl T85Encoder {
         room.len
     }
 
-    /// Ends the stream, where there is room for that, with a window of just three rows, and answers how many bytes were
-    /// written.
+    /// Ends a stream that fits, with a window of exactly three rows, and returns the number of bytes written.
     fn end(&mut self, mut engine: RowEncoder, memory: &mut [u8], stream: &mut [u8]) -> usize
         requires long { length memory.old ≡ window_of self.old.width }
         requires ready { AwaitsCall self.old engine }
@@ -498,7 +500,7 @@ impl T85Encoder {
         ensures ended { HasBeenEnded self.new }
         ensures within { result ≤ length stream.new }
     {
-        // What the proof cites of streams.
+        // The proof uses these laws about streams.
         code_denotes();
         let mut window = Window::resume(memory, self.width, self.place);
         let mut room = Room::new(stream);
@@ -509,7 +511,7 @@ impl T85Encoder {
     }
 }
 
-/// Puts a row into room for all that it may write. So no write fails.
+/// Encodes a row into a buffer that is large enough for everything that it may write, so that no write fails.
 fn put_in(
     engine: &mut RowEncoder,
     row: &[u8],
@@ -533,7 +535,7 @@ fn put_in(
     engine.put_row(row, window, learning, room).is_ok();
 }
 
-/// Ends a stream in room for all that this may write. So no write fails.
+/// Ends a stream in a buffer that is large enough for everything that this may write, so that no write fails.
 fn end_in(
     engine: &mut RowEncoder,
     window: &mut Window<'_>,

@@ -1,4 +1,4 @@
-//! Encoding into lent memory.
+//! Encodes an image in memory to a stream in memory.
 
 ghost use Rattle.std.specs.Prelude.{◌≡◌, ◌≤◌, ◌<◌, None, Some, length, false, MatchResult, IfOk};
 ghost use Rattle.std.specs.Int.{div_ceil};
@@ -21,20 +21,20 @@ use t85_core::{Fault, Options, encode_in_memory};
 
 /// The version of `T85Options`.
 const VERSION: u32 = 1;
-/// The widest image.
+/// The greatest width of an image.
 pub const MOST_WIDTH: u32 = 1_048_576;
 
-/// Writes the stream of an image. Row y begins `y * stride` bytes after the first; a row has a bit a pixel, the first
-/// highest, in whole bytes, and what is after its last pixel is not looked at.
+/// Encodes an image. Row y begins at byte `y * stride`; a row has one bit per pixel, the first pixel in the most
+/// significant bit, in a whole number of bytes. Bits after the last pixel are ignored.
 ///
-/// Answers 0, or the first of these: 50 where the options are of another version; 20, 21, 22 or 26 where they are
-/// refused; 33 where the width or the height is 0; 34 where the width is above 1048576; 51 where the stride is shorter
-/// than a row; 23 where the announced height is below the image's; 19 where the window is shorter than
-/// `t85_window_bytes` of the width; 36 where rows are missing, and then a beginning of the stream is written, with each
-/// stripe whose rows all came. It is 18 where what is to be written is longer than `stream`, which is then full of a
-/// beginning.
+/// Returns 0, or the first of these errors that applies: 50 if the options have another version; 20, 21, 22 or 26 if
+/// they are invalid; 33 if the width or the height is 0; 34 if the width is above 1048576; 51 if the stride is shorter
+/// than a row; 23 if the announced height is below the image's; 19 if the window is shorter than `t85_window_bytes` of
+/// the width; 36 if rows are missing, and then a prefix of the stream is written that includes each stripe whose rows
+/// are all present. Returns 18 if the output is longer than `stream`, which is then filled with a prefix of it.
 ///
-/// `written` is how many bytes of `stream` were written. What is after them, and in the window, may be anything.
+/// `written` is the number of bytes of `stream` that were written. The contents of `stream` after them, and of the
+/// window, are unspecified.
 #[unsafe(no_mangle)]
 pub extern "C" fn t85_encode(
     width: u32,
@@ -68,8 +68,8 @@ pub extern "C" fn t85_encode(
     )
 }
 
-/// How many bytes a stream of this size and these choices has at most, with a comment of this length. Where `t85_encode`
-/// would refuse the size, the rows of a stripe or the length of the comment, it is 0.
+/// Returns an upper bound on the length of a stream of this size with these options and a comment of this length; or 0
+/// if `t85_encode` would reject the size, the rows per stripe or the length of the comment.
 #[unsafe(no_mangle)]
 pub extern "C" fn t85_encode_bound(
     width: u32,
@@ -81,7 +81,7 @@ pub extern "C" fn t85_encode_bound(
         (comment_length choice.now comment_len) }
     ensures enough { IsBound choice.now width height comment_len result }
 {
-    // What the proof cites of streams.
+    // The proof uses these laws about streams.
     lengths();
     let comment = if choice.has_comment { comment_len } else { 0 };
     if width == 0
@@ -97,7 +97,7 @@ pub extern "C" fn t85_encode_bound(
     34 + comment as u64 + 14 * stripes + 4 * pixels
 }
 
-/// The size and the choices, or the status of the first refusal.
+/// The size and the options, or the status of the first error.
 pub fn judge<'a>(
     width: u32,
     height: u32,
@@ -141,7 +141,7 @@ pub fn judge<'a>(
     Ok((Size { width, height }, options))
 }
 
-/// Writes the stream of rows into lent memory, and answers the status.
+/// Encodes rows in memory to a stream in memory, and returns the status.
 fn fill_stream(
     size: Size,
     rows: &[u8],
@@ -163,7 +163,7 @@ fn fill_stream(
     status
 }
 
-/// Writes the stream of rows into a room, and answers the status.
+/// Encodes rows in memory to a stream in a `Room`, and returns the status.
 fn write_stream(
     size: Size,
     rows: &[u8],
@@ -181,7 +181,7 @@ fn write_stream(
         room.new.len result }
     ensures same_reference { room.new.bytes.ghost_name ≡ room.old.bytes.ghost_name }
 {
-    // What the proof cites of streams.
+    // The proof uses these laws about streams.
     code_denotes();
     let mut lines = Window::over(window, size.width);
     let mut input = LinedInput::new(rows, size.height, row_bytes(size.width), stride);

@@ -1,4 +1,4 @@
-//! What a stream says of itself, with its own length, for a C caller.
+//! The facts about a stream, with its own length, for a C caller.
 
 ghost use Rattle.std.specs.Prelude.{IfErr, IfOk};
 ghost use Rattle.t85_core.specs.Height.{StreamFault};
@@ -12,33 +12,33 @@ use t85_core::{Fault, Found, PartWalk};
 /// The version of `T85Facts`.
 const VERSION: u32 = 1;
 
-/// What `T85Summary` has of a stream, and its length.
+/// The fields of `T85Summary`, and the length of the stream.
 #[repr(C)]
 #[derive(Clone, Copy)]
 pub struct T85Facts {
     /// The version of this struct: 1.
     pub version: u32,
     pub width: u32,
-    /// The height that the header gives.
+    /// The height in the header.
     pub height: u32,
     pub stripe_rows: u32,
     pub most_offset: u32,
     pub options: u32,
-    /// The height in use: a later one where the stream gives it, else the header's.
+    /// The actual height: a later one if the stream gives it, or else the header's.
     pub image_height: u32,
-    /// The data entities, one a stripe.
+    /// The number of stripe data entities, one per stripe.
     pub entities: u32,
-    /// The moves of the adaptive pixel.
+    /// The number of moves of the adaptive template pixel.
     pub moves: u64,
-    /// The comments, counted up to 2^64 - 1.
+    /// The number of comments, counted up to 2^64 - 1.
     pub comments: u64,
-    /// How many bytes the stream has, which may be followed by others: up to where the look for its parts ends, a height behind
-    /// the last stripe and the empty data entity behind that included.
+    /// The number of bytes in the stream, which other data may follow: up to the end of its last part, including a
+    /// height after the last stripe and the empty stripe data entity after that.
     pub stream_len: usize,
 }
 
-/// Says what a stream has, and how long it is. It is walked and not decoded. Answers 0, the number of the stream's fault, or 50
-/// where the struct is of another version; unless it is 0 `facts` stays as it was.
+/// Returns the facts about a stream, and its length. The stream is parsed, and not decoded. Returns 0, the number of
+/// the stream's error, or 50 if the struct has another version; unless it returns 0, `facts` is unchanged.
 #[unsafe(no_mangle)]
 pub extern "C" fn t85_stream_facts(stream: &[u8], facts: &mut T85Facts) -> u8
     ensures { FactsTold stream.now facts.old facts.new result }
@@ -55,7 +55,7 @@ pub extern "C" fn t85_stream_facts(stream: &[u8], facts: &mut T85Facts) -> u8
     }
 }
 
-/// The facts of a stream in memory.
+/// The facts about a stream in memory.
 fn facts_of(stream: &[u8]) -> Result<T85Facts, Fault>
     ensures told { IfOk result (HasFacts stream.now) }
     ensures refused { IfErr result (StreamFault stream.now) }
@@ -77,7 +77,7 @@ fn facts_of(stream: &[u8]) -> Result<T85Facts, Fault>
     })
 }
 
-/// How many bytes the stream has that they begin with.
+/// The length of the stream at the beginning of these bytes.
 fn stream_len(bytes: &[u8]) -> Result<usize, Fault>
     ensures whole { IfOk result (λ len. (passed : Passed) × EndsAt bytes.now passed len) }
     ensures broken { IfErr result (StreamFault bytes.now) }

@@ -1,10 +1,10 @@
-//! What the header of a stream says, for a C caller.
+//! The fields of a stream's header, for a C caller.
 
 ghost use Rattle.t85.specs.Header.{HeaderTold};
 
 use crate::opened::read_header;
 
-/// What the header of a stream says.
+/// The fields of a stream's header.
 #[repr(C)]
 #[derive(Clone, Copy)]
 pub struct T85Header {
@@ -15,8 +15,8 @@ pub struct T85Header {
     pub options: u32,
 }
 
-/// Says what the header of a stream has. Answers 0, or the number of the fault for which it is refused, and then
-/// `header` stays as it was.
+/// Returns the fields of a stream's header. Returns 0, or the number of the error for which the header is rejected, and
+/// then `header` is unchanged.
 #[unsafe(no_mangle)]
 pub extern "C" fn t85_header(stream: &[u8], header: &mut T85Header) -> u8
     ensures { HeaderTold stream.now header.old header.new result }

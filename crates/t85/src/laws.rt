@@ -1,14 +1,14 @@
-//! What the answers of the calls mean.
+//! Laws about the results of the library's functions.
 
 ghost use Rattle.t85.specs.Laws.{DecodedAreRows, DecodedIsImage, EncodedIsStream, SentIsFront};
 
 use t85_core::laws::{fronts, rasters};
 
-/// What the answer 0 means.
+/// What status 0 means.
 pub fn answers()
     // `t85_decode` has written the image of the one raster that the stream denotes.
     ensures image { DecodedIsImage }
-    // `t85_decode_rows` has written its rows.
+    // `t85_decode_rows` has written the rows of that raster.
     ensures rows { DecodedAreRows }
     // `t85_encode` has written a stream that denotes one raster of this size.
     ensures stream { EncodedIsStream }
@@ -16,7 +16,7 @@ pub fn answers()
     rasters();
 }
 
-/// What has been written of an image whose rows come one by one.
+/// What has been written of an image that is encoded row by row.
 pub fn sent_rows()
     ensures { SentIsFront }
 {

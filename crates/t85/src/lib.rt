@@ -1,6 +1,6 @@
-//! The engine for a C caller: whole images between memory that the caller lends.
+//! The engine for C callers: whole images, images row by row, and streams in pieces, in caller-supplied memory.
 //!
-//! A call keeps nothing, takes no memory of its own, and leaves nothing behind but what it writes.
+//! No function keeps a pointer or allocates memory, and none has effects besides what it writes to its arguments.
 #![tactic(auto)]
 
 mod decoder;
@@ -44,7 +44,7 @@ pub use crate::options::T85Options;
 pub use crate::parts::{T85Part, t85_next_part};
 pub use crate::summary::{T85Summary, t85_info};
 
-/// The version of the library: a byte each for the first, second and third number.
+/// Returns the version of the library: one byte each for the major number, the minor number and the patch.
 #[unsafe(no_mangle)]
 pub extern "C" fn t85_version() -> u32
     ensures { result ≡ 0x01_00_00 }
@@ -52,7 +52,7 @@ pub extern "C" fn t85_version() -> u32
     0x01_00_00
 }
 
-/// How many bytes of window a call wants for images of this width.
+/// Returns the size in bytes of the window for images of this width.
 #[unsafe(no_mangle)]
 pub extern "C" fn t85_window_bytes(width: u32) -> usize
     ensures { result ≡ window_bytes width }

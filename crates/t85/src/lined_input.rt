@@ -5,18 +5,18 @@ ghost use Rattle.t85.specs.Delivered.{lined};
 
 use pbm_core::{DeviceFailed, Input};
 
-/// Rows of `row` bytes, each `stride` bytes after the one before, as far as they are there.
+/// Rows of `row` bytes, each `stride` bytes after the one before, as far as they are present.
 #[derive(Drop)]
 pub struct LinedInput<'a> {
-    /// What is left of a row.
+    /// The rest of the current row.
     pub current: &'a [u8],
-    /// From the next row on.
+    /// The memory from the next row on.
     pub rest: &'a [u8],
-    /// How many rows are still to come.
+    /// The number of rows still to come.
     pub rows: u32,
     pub row: usize,
     pub stride: usize,
-    /// How many bytes are still given, at most.
+    /// The greatest number of bytes that are still returned.
     pub left: u64,
     ghost some: { 1 ≤ row },
     ghost apart: { row ≤ stride },
@@ -40,7 +40,7 @@ impl<'a> LinedInput<'a> {
         }
     }
 
-    /// Goes on to the next row, where there is one.
+    /// Moves to the next row, if there is one.
     fn step(&mut self)
         requires { self.old.current.now ≡ [] }
         ensures same { self.new.current.now ++ lined self.new.rows self.new.row self.new.stride

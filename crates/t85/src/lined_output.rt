@@ -4,27 +4,27 @@ ghost use Rattle.std.specs.Prelude.{◌≡◌, ◌≤◌, ◌<◌, ◌+◌, ◌-
 
 use pbm_core::{DeviceFailed, Output};
 
-/// A head of some bytes, which is dropped at the end, and then room for `fit` rows of `row` bytes, each `stride` bytes after
-/// the one before. Where it is full it takes one byte more, and then fails.
+/// A head of some bytes, which is discarded, followed by space for `fit` rows of `row` bytes, each `stride` bytes after
+/// the one before. When it is full, it accepts one more byte, and then fails.
 #[derive(Drop)]
 pub struct LinedOutput<'a> {
     pub bytes: &'a mut [u8],
-    /// The header of a PBM has 25 bytes at most.
+    /// The header of a PBM has at most 25 bytes.
     pub head: [u8; 32],
-    /// How many bytes of the head have come, and how many it has.
+    /// The number of bytes of the head received, and its length.
     pub at: usize,
     pub skip: usize,
     pub row: usize,
     pub stride: usize,
-    /// How many rows have room.
+    /// The number of rows that fit.
     pub fit: u32,
-    /// How many rows are whole, and how many bytes of the next one have come.
+    /// The number of complete rows, and the number of bytes of the next row received.
     pub y: u32,
     pub x: usize,
-    /// The first byte that found no room.
+    /// The first byte that did not fit.
     pub spilled: Option<u8>,
     pub flushed: bool,
-    /// How often a flush was asked for, modulo 2^64.
+    /// The number of flushes requested, modulo 2^64.
     pub flushes: u64,
     pub failures: u64,
     ghost head_long: { length head ≡ 32 },
@@ -85,7 +85,7 @@ impl<'a> LinedOutput<'a> {
         }
     }
 
-    /// Takes bytes of the head.
+    /// Accepts bytes of the head.
     fn put_head(&mut self, buf: &[u8]) -> usize
         requires head { self.old.at < self.old.skip }
         requires some { 0 < length buf.now }
@@ -106,7 +106,7 @@ impl<'a> LinedOutput<'a> {
         count
     }
 
-    /// Takes bytes of a row.
+    /// Accepts bytes of a row.
     fn put_row(&mut self, buf: &[u8]) -> usize
         requires behind { self.old.at ≡ self.old.skip }
         requires room { self.old.y < self.old.fit }
@@ -132,7 +132,7 @@ impl<'a> LinedOutput<'a> {
         count
     }
 
-    /// Takes a byte for which there is no room.
+    /// Accepts a byte that does not fit.
     fn put_behind(&mut self, byte: u8)
         requires behind { self.old.at ≡ self.old.skip }
         requires full { self.old.y ≡ self.old.fit }

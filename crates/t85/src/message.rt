@@ -3,8 +3,8 @@
 ghost use Rattle.std.specs.Prelude.{◌≡◌, ◌++◌, length, take, drop};
 ghost use Rattle.t85.specs.Message.{message_of};
 
-/// Writes the text of a status, or as much of it as there is room for, and answers how long the whole text is. No byte 0
-/// is written after it.
+/// Writes the text of a status, or as much of it as fits, and returns the length of the whole text. It writes no
+/// terminating zero.
 #[unsafe(no_mangle)]
 pub extern "C" fn t85_message(status: u8, text: &mut [u8]) -> usize
     ensures whole { result ≡ length (message_of status) }

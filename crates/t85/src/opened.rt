@@ -1,4 +1,4 @@
-//! A stream whose header was read and whose height is known.
+//! A stream whose header has been read, and whose height is known.
 
 ghost use Rattle.std.specs.Prelude.{◌≡◌, ◌≤◌, drop, Some, IfOk, IfErr};
 ghost use Rattle.t85_core.specs.Options.{fields_of};
@@ -9,7 +9,7 @@ use crate::devices::Whole;
 use t85_core::laws::headers;
 use t85_core::{Fault, Header, find_height};
 
-/// The header, the height in use, and what comes after the header.
+/// The header, the actual height, and the bytes after the header.
 #[derive(Clone, Copy)]
 pub struct Opened<'a> {
     pub header: Header,
@@ -23,13 +23,13 @@ pub fn read_header(stream: &[u8]) -> Result<Header, Fault>
     ensures accepted { IfOk result (λ h. HeaderOf stream.now (fields_of h)) }
     ensures refused { IfErr result (λ f. header_fault stream.now ≡ Some f) }
 {
-    // What the proof cites of headers.
+    // The proof uses these laws about headers.
     headers();
     let mut input = Whole { rest: stream };
     Header::read(&mut input)
 }
 
-/// Reads the header, and finds the height where it may change.
+/// Reads the header, and finds the height if it may change.
 #[inline(always)]
 pub fn open(stream: &[u8]) -> Result<Opened<'_>, Fault>
     ensures accepted { IfOk result (λ o. HeaderOf stream.now (fields_of o.header)) }

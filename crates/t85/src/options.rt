@@ -1,4 +1,4 @@
-//! What a C caller chooses for a stream.
+//! The encoding options of a C caller.
 
 ghost use Rattle.std.specs.Prelude.{◌≡◌, IfOk, MatchResult, None, Some};
 ghost use Rattle.t85_core.specs.Options.{refusal_of, settings_of};
@@ -6,30 +6,30 @@ ghost use Rattle.t85.specs.Encoded.{comment_chosen, settings_chosen};
 
 use t85_core::{Fault, Options};
 
-/// What a C caller chooses for a stream.
+/// The encoding options of a C caller.
 #[repr(C)]
 #[derive(Clone, Copy)]
 pub struct T85Options {
     /// The version of this struct: 1.
     pub version: u32,
-    /// The options byte of the header: 64 for the template of two lines, 32 for a height that may change, 8 for typical
-    /// prediction, summed.
+    /// The options byte of the header, a sum of 64 for the two-line template, 32 for a variable height and 8 for
+    /// typical prediction.
     pub options: u32,
-    /// The rows of a stripe.
+    /// The rows per stripe.
     pub stripe_rows: u32,
     /// The greatest offset of the adaptive template pixel.
     pub most_offset: u32,
-    /// A height to announce, which the image may stay below.
+    /// A height to announce in the header. The image may be lower.
     pub announced_height: u32,
     /// Whether it is announced.
     pub announces_height: bool,
-    /// Whether each stripe begins again, and ends in a reset.
+    /// Whether each stripe is coded independently of the ones before it, and ends in SDRST.
     pub reset: bool,
-    /// Whether the stream has the comment.
+    /// Whether the stream contains the comment.
     pub has_comment: bool,
 }
 
-/// The choices, where they are accepted.
+/// The options, if they are accepted.
 pub fn accept<'a>(choice: &T85Options, comment: &'a [u8]) -> Result<Options<'a>, Fault>
     ensures judged { MatchResult result
         (λ _. refusal_of choice.now.options choice.now.stripe_rows choice.now.most_offset

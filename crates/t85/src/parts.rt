@@ -1,4 +1,4 @@
-//! What a stream is made of, part by part, for a C caller.
+//! Lists the parts of a stream for a C caller.
 
 ghost use Rattle.std.specs.Prelude.{◌≡◌};
 ghost use Rattle.t85.specs.Parts.{PartTold, IsTold, kind_number, walk_in};
@@ -9,39 +9,41 @@ use t85_core::{Fault, Found, PartKind, PartWalk};
 /// The version of `T85Part`.
 const VERSION: u32 = 1;
 
-/// A part of a stream, and how far the walk has come that told it.
+/// A part of a stream, and the state of the walk through the stream.
 #[repr(C)]
 #[derive(Clone, Copy)]
 pub struct T85Part {
     /// The version of this struct: 1.
     pub version: u32,
-    /// What the part is: 0 the header, 1 a comment, 2 a move of the adaptive template pixel, 3 a new height, 4 a data entity.
+    /// The kind of the part: 0 the header, 1 a comment, 2 a move of the adaptive template pixel, 3 a new height, 4 a
+    /// stripe data entity.
     pub kind: u32,
-    /// Where it begins, in bytes from the beginning of the stream.
+    /// The offset of its first byte from the beginning of the stream.
     pub offset: usize,
-    /// How many bytes it has.
+    /// Its length in bytes.
     pub len: usize,
-    /// How many data entities come before it.
+    /// The number of stripe data entities before it.
     pub stripe: u32,
-    /// The data entities that the walk has passed.
+    /// The number of stripe data entities that the walk has passed.
     pub entities: u32,
-    /// The height that a segment gave, or 0.
+    /// The height that a NEWLEN gave, or 0.
     pub late_height: u32,
-    /// 0, unless the stripe has had its move.
+    /// Not 0 if the stripe has had its move.
     pub has_move: u32,
-    /// 0, unless a height comes behind the last data entity, or came since.
+    /// Not 0 if a height follows the last stripe data entity, or has followed it.
     pub is_at_height: u32,
-    /// It has no meaning yet.
+    /// Reserved.
     pub reserved: u32,
-    /// How many bytes the walk has passed.
+    /// The number of bytes that the walk has passed.
     pub passed: usize,
 }
 
-/// Tells the next part of a stream, and goes behind it. Before the first, `part` is zeros but for its version.
+/// Describes the next part of a stream in `part`, and moves past it. Before the first call, `part` is all zeros except
+/// its version.
 ///
-/// Answers 0; 52 where all parts were told: `offset` is the length of the stream then, and an empty data entity behind a height
-/// that came last is part of that; the number of the fault where the next part breaks, and `offset` and `stripe` say where; or 50
-/// where the struct is of another version, and then it stays as it was.
+/// Returns 0; 52 if there are no more parts (then `offset` is the length of the stream, including an empty stripe data
+/// entity after a height that came last); the number of the error if the next part is broken, and then `offset` and
+/// `stripe` say where; or 50 if the struct has another version, and then it is unchanged.
 #[unsafe(no_mangle)]
 pub extern "C" fn t85_next_part(stream: &[u8], part: &mut T85Part) -> u8
     ensures { PartTold stream.now part.old part.new result }
@@ -68,7 +70,7 @@ fn number_of_kind(kind: PartKind) -> u32
 }
 
 impl T85Part {
-    /// The walk that has come so far.
+    /// The walk in this state.
     fn walk(&self) -> PartWalk
         ensures { result ≡ walk_in self.now }
     {
@@ -81,7 +83,7 @@ impl T85Part {
         }
     }
 
-    /// Notes how far the walk has come.
+    /// Stores the state of the walk.
     fn keep(&mut self, walk: PartWalk)
         ensures walk { walk_in self.new ≡ walk }
         ensures version { self.new.version ≡ self.old.version }
@@ -93,7 +95,7 @@ impl T85Part {
         self.is_at_height = u32::from(walk.at_height);
     }
 
-    /// Tells what was found, and answers the status.
+    /// Stores what was found, and returns the status.
     fn tell(&mut self, found: Found) -> u8
         ensures told { IsTold found self.new result }
         ensures walk { walk_in self.new ≡ walk_in self.old }

@@ -1,4 +1,4 @@
-//! What a stream says of itself, for a C caller.
+//! The facts about a stream, for a C caller.
 
 ghost use Rattle.std.specs.Prelude.{IfOk, IfErr};
 ghost use Rattle.t85_core.specs.Height.{StreamFault};
@@ -8,28 +8,28 @@ ghost use Rattle.t85.specs.Summary.{InfoTold};
 use crate::devices::Whole;
 use t85_core::{Fault, Summary, summarize};
 
-/// What a stream says of itself, as the line of `jbgtopbm85 --info` has it.
+/// The facts about a stream that `jbgtopbm85 --info` prints.
 #[repr(C)]
 #[derive(Clone, Copy)]
 pub struct T85Summary {
     pub width: u32,
-    /// The height that the header gives.
+    /// The height in the header.
     pub height: u32,
     pub stripe_rows: u32,
     pub most_offset: u32,
     pub options: u32,
-    /// The height in use: a later one where the stream gives it, else the header's.
+    /// The actual height: a later one if the stream gives it, or else the header's.
     pub image_height: u32,
-    /// The data entities, one a stripe.
+    /// The number of stripe data entities, one per stripe.
     pub entities: u32,
-    /// The moves of the adaptive pixel.
+    /// The number of moves of the adaptive template pixel.
     pub moves: u64,
-    /// The comments, counted up to 2^64 - 1.
+    /// The number of comments, counted up to 2^64 - 1.
     pub comments: u64,
 }
 
-/// Says what a stream has, which is walked and not decoded. Answers 0, or the number of the stream's fault,
-/// and then `summary` stays as it was.
+/// Returns the facts about a stream, which is parsed and not decoded. Returns 0, or the number of the stream's error,
+/// and then `summary` is unchanged.
 #[unsafe(no_mangle)]
 pub extern "C" fn t85_info(stream: &[u8], summary: &mut T85Summary) -> u8
     ensures { InfoTold stream.now summary.old summary.new result }
@@ -53,7 +53,7 @@ pub extern "C" fn t85_info(stream: &[u8], summary: &mut T85Summary) -> u8
     }
 }
 
-/// The numbers of a stream in memory.
+/// The facts about a stream in memory.
 pub fn numbers_of(stream: &[u8]) -> Result<Summary, Fault>
     ensures numbers { IfOk result (λ s. HasNumbers stream.now (numbers_in s)) }
     ensures refused { IfErr result (λ f. StreamFault stream.now f) }

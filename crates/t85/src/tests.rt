@@ -1,4 +1,4 @@
-//! The calls on worked examples.
+//! Tests of the library's functions on worked examples.
 
 mod pieces;
 mod rows;
@@ -13,16 +13,16 @@ use t85_core::Fault;
 /// Two black pixels, one above the other, in two stripes.
 const TWO_STRIPES: &[u8] =
     b"\0\0\x01\0\0\0\0\x01\0\0\0\x02\0\0\0\x01\0\0\0\x08\xe0\xff\x02\xe0\xff\x02";
-/// A row of eight black pixels and one that ends the stream.
+/// A row of eight black pixels, and one that ends the stream.
 const TWO_ROWS: &[u8] = b"\0\0\x01\0\0\0\0\x08\0\0\0\x02\0\0\0\x80\0\0\0\0\xf0\xff\x02";
-/// Nine rows are announced, and two come.
+/// Nine rows are announced, and two arrive.
 const LATE: &[u8] =
     b"\0\0\x01\0\0\0\0\x01\0\0\0\x09\0\0\0\x01\0\0\0\x20\xc0\xff\x02\xff\x05\0\0\0\x02\xc0\xff\x02";
 /// The height is given twice.
 const TWICE: &[u8] =
     b"\0\0\x01\0\0\0\0\x01\0\0\0\x09\0\0\0\x01\0\0\0\x20\xff\x05\0\0\0\x02\xc0\xff\x02\xff\x05";
 
-/// A stream, the status that is answered, and the image or the part of one that is written.
+/// A stream, the status that is returned, and the image or the part of one that is written.
 struct Decoded {
     stream: &'static [u8],
     status: u8,
@@ -112,7 +112,7 @@ static DECODED: [Decoded; 16] = [
     },
 ];
 
-/// What a decoding of at most `max_rows` rows answers, and how many bytes it says were written.
+/// The status of decoding at most `max_rows` rows, and the number of bytes reported as written.
 fn decode(stream: &[u8], max_rows: u32, window: usize, image: &mut [u8]) -> (u8, usize) {
     let mut rows = [0; 24];
     let mut written = 77;
@@ -121,7 +121,7 @@ fn decode(stream: &[u8], max_rows: u32, window: usize, image: &mut [u8]) -> (u8,
     (status, written)
 }
 
-/// Whether an example's image is written into rooms of all sizes, or a beginning of it, and nothing after that.
+/// Whether an example's image is written into buffers of all sizes, or a prefix of it, and nothing after that.
 fn is_decoded(example: &Decoded) -> bool {
     let whole = example.image.len();
     for size in 0..24 {
@@ -143,7 +143,7 @@ fn streams_are_decoded(rt: HostRuntime) {
     }
 }
 
-/// A stream that ends somewhere, the status that is answered, and how many bytes are written.
+/// A stream that is cut at some point, the status that is returned, and the number of bytes written.
 static CUTS: [(usize, u8, usize); 7] = [
     (0, 1, 0),
     (19, 1, 0),
@@ -173,7 +173,8 @@ fn limits_are_told_in_order(rt: HostRuntime) {
     assert!(rt; decode(TWO_ROWS, 2, 3, &mut room) == (0, 9));
 }
 
-/// A stream, where its rows are to go, what is answered, and what is then in memory that was full of AA.
+/// A stream, where its rows are to be written, the status, and the resulting contents of memory that was filled with
+/// AA.
 struct RowsAt {
     stream: &'static [u8],
     stride: usize,
@@ -258,7 +259,7 @@ static ROWS: [RowsAt; 9] = [
     },
 ];
 
-/// Whether an example's rows are written where they should be.
+/// Whether an example's rows are written to their places.
 fn has_rows(example: &RowsAt) -> bool {
     let mut window = [0; 24];
     let mut memory = [0xaa; 6];
@@ -282,7 +283,7 @@ fn rows_are_decoded(rt: HostRuntime) {
     }
 }
 
-/// Rows, what is asked for, and the answer with the stream that is written.
+/// Rows, options, and the status with the stream that is written.
 struct Coded {
     width: u32,
     height: u32,
@@ -293,7 +294,7 @@ struct Coded {
     stream: &'static [u8],
 }
 
-/// What is asked for where nothing else is said.
+/// The options unless stated otherwise.
 const PLAIN: T85Options = T85Options {
     version: 1,
     options: 0,
@@ -382,7 +383,7 @@ static CODED: [Coded; 16] = [
         status: 0,
         stream: b"\0\0\x01\0\0\0\0\x01\0\0\0\x09\0\0\0\x01\0\0\0\x20\xc0\xff\x02\xc0\xff\x02\xff\x05\0\0\0\x02\xff\x02",
     },
-    // The second row is missing: the first one's stripe is whole.
+    // The second row is missing: the first one's stripe is complete.
     Coded {
         width: 8,
         height: 2,
@@ -501,7 +502,7 @@ static CODED: [Coded; 16] = [
     },
 ];
 
-/// What an encoding answers, and how many bytes it says were written.
+/// The status of an encoding, and the number of bytes reported as written.
 fn encode(example: &Coded, stream: &mut [u8]) -> (u8, usize) {
     let mut window = [0; 24];
     let mut written = 77;
@@ -519,7 +520,7 @@ fn encode(example: &Coded, stream: &mut [u8]) -> (u8, usize) {
     (status, written)
 }
 
-/// Whether an example's stream is written into rooms of all sizes, or a beginning of it.
+/// Whether an example's stream is written into buffers of all sizes, or a prefix of it.
 fn is_encoded(example: &Coded) -> bool {
     let whole = example.stream.len();
     for size in 0..48 {
@@ -541,7 +542,7 @@ fn rows_are_encoded(rt: HostRuntime) {
     }
 }
 
-/// The bound of an example, with a comment of two bytes.
+/// The bound for an example, with a comment of two bytes.
 fn bound(example: &Coded) -> u64 {
     t85_encode_bound(example.width, example.height, &example.options, 2)
 }
@@ -614,7 +615,7 @@ static FAULTS: [Fault; 19] = [
     Fault::CommentLong,
 ];
 
-/// Whether the text of a fault's number is what the engine shows of it, also where there is room for a part of it.
+/// Whether the text for an error's number is what the engine displays, also if only a part of it fits.
 fn is_said(alloc: Global, fault: &Fault) -> bool {
     let Ok(text) = format!(in alloc; "{fault}") else {
         return false;

@@ -1,4 +1,4 @@
-//! Whole files: the image of a stream, and the stream of an image.
+//! Converts whole files: a stream to its image, and an image to its stream.
 
 ghost use Rattle.std.specs.Prelude.{◌≡◌, true, if◌then◌else◌};
 ghost use Rattle.t85_core.specs.Steps.HeightWalk.{MayBeHeight};
@@ -24,11 +24,10 @@ use pbm_core::{Buffered, DeviceFailed, Input, Output, read_header};
 use raster_core::{Window, window_bytes};
 use std::alloc::Global;
 
-/// Writes the image of a stream, of at most `max_rows` rows, in the PBM format. The one memory that it takes is for three
-/// rows.
+/// Decodes a stream to a raw PBM image of at most `max_rows` rows. The only memory that it allocates is for three rows.
 ///
-/// Where the header says that the height may change, the height is found in the first reading, and the image is decoded
-/// from the second, which holds the same bytes. Else the second isn't touched.
+/// If the header says that the height may change (VLENGTH), the height is found in the first input, and the image is
+/// decoded from the second, which must contain the same bytes. Otherwise the second input is not used.
 pub fn to_pbm<R: Input, Second: Input, W: Output>(
     alloc: Global,
     first: &mut R,
@@ -41,7 +40,7 @@ pub fn to_pbm<R: Input, Second: Input, W: Output>(
         (delivery_of W.view output.old output.new) result }
     ensures flushes { FlushesOutput (W.view output.old) (W.view output.new) result }
 {
-    // What the proof cites of the coder.
+    // The proof uses these laws of the coder.
     coder_laws();
     let header = Header::read(first)?;
     if !header.is_variable() {
@@ -53,7 +52,7 @@ pub fn to_pbm<R: Input, Second: Input, W: Output>(
     }
 }
 
-/// Writes the image of a stream whose height may change. The first reading is just after the header.
+/// Decodes a stream with variable height. The first input is positioned after the header.
 fn convert_again<R: Input, Second: Input, W: Output>(
     alloc: Global,
     header: &Header,
@@ -84,7 +83,7 @@ fn convert_again<R: Input, Second: Input, W: Output>(
     }
 }
 
-/// Whether two headers are the same, as their bytes then are.
+/// Whether two headers are equal, and therefore written with the same bytes.
 fn is_same(one: &Header, other: &Header) -> bool
     ensures { result ≡ is_same_header (fields_of one.now) (fields_of other.now) }
 {
@@ -95,7 +94,7 @@ fn is_same(one: &Header, other: &Header) -> bool
         && one.options == other.options
 }
 
-/// Writes the image of a body at a height. The input is just after the header.
+/// Decodes a body at a given height. The input is positioned after the header.
 fn convert<R: Input, W: Output>(
     alloc: Global,
     header: &Header,
@@ -123,10 +122,10 @@ fn convert<R: Input, W: Output>(
     }
 }
 
-/// Writes the stream of an image in the PBM format. The one memory that it takes is for three rows.
+/// Encodes a PBM image. The only memory that it allocates is for three rows.
 ///
-/// The input is asked only while what came ends within the header or the rows. What it gave then with the last of these
-/// is read ahead, and lost.
+/// The input is read only while the bytes so far end within the header or the rows. Bytes that the last such read
+/// returned beyond the rows are read ahead, and lost.
 pub fn to_jbg<R: Input, W: Output>(
     alloc: Global,
     input: &mut R,
@@ -141,7 +140,7 @@ pub fn to_jbg<R: Input, W: Output>(
     to_jbg_from(alloc, &mut source, output, options)
 }
 
-/// Writes the stream of an image in the PBM format, and takes nothing after its rows.
+/// Encodes a PBM image, and consumes nothing after its rows.
 fn to_jbg_from<R: Input, W: Output>(
     alloc: Global,
     input: &mut R,
@@ -153,7 +152,7 @@ fn to_jbg_from<R: Input, W: Output>(
     ensures same_input { SameInput (R.view input.old) (R.view input.new) }
     ensures flushes { FlushesOutput (W.view output.old) (W.view output.new) result }
 {
-    // What the proof cites of headers.
+    // The proof uses these laws about headers.
     headers();
     let (size, form) = match read_header(input) {
         Ok(header) => header,

@@ -33,9 +33,9 @@ use pbm_core::{Input, Output, Size, WriteFault, write_header};
 use qm_core::Learned;
 use raster_core::Window;
 
-/// Writes the image that a stream denotes. The input is just after the header.
+/// Decodes a stream and writes its image. The input is positioned after the header.
 ///
-/// After a fault of the stream the rows are written that what came before it fixes.
+/// If the stream is broken, it writes the rows that the bytes before the error determine, and returns the error.
 pub fn decode<R: Input, W: Output>(
     header: &Header,
     height: u32,
@@ -52,12 +52,12 @@ pub fn decode<R: Input, W: Output>(
     decode_by::<R, W, READ_AHEAD, IMAGE_HELD>(header, height, window, input, output)
 }
 
-/// How many bytes are read ahead, and held back, in memory. Each row goes straight there.
+/// The number of bytes that are read ahead and buffered for in-memory devices. Each row is written directly.
 const MEMORY_AHEAD: usize = 256;
 
 const MEMORY_HELD: usize = 1;
 
-/// As `decode`, between devices in memory, for which it holds little back: a read and a write cost no call of the system.
+/// Like `decode`, for in-memory devices. It buffers little, since reads and writes make no system calls.
 pub fn decode_in_memory<R: Input, W: Output>(
     header: &Header,
     height: u32,
@@ -74,7 +74,7 @@ pub fn decode_in_memory<R: Input, W: Output>(
     decode_by::<R, W, MEMORY_AHEAD, MEMORY_HELD>(header, height, window, input, output)
 }
 
-/// As `decode`, by arrays of so many bytes.
+/// Like `decode`, with buffers of the given sizes.
 fn decode_by<R: Input, W: Output, const AHEAD: usize, const HELD: usize>(
     header: &Header,
     height: u32,
@@ -92,7 +92,7 @@ fn decode_by<R: Input, W: Output, const AHEAD: usize, const HELD: usize>(
         (output_change W.view output.old output.new) result }
     ensures same_output { SameOutput (W.view output.old) (W.view output.new) }
 {
-    // What the proof cites of the coder.
+    // The proof uses these laws of the coder.
     coder_laws();
     let size = Size {
         width: header.xd,
@@ -117,7 +117,7 @@ fn decode_by<R: Input, W: Output, const AHEAD: usize, const HELD: usize>(
     )
 }
 
-/// Writes the rows of an image, and writes what is held, except after a failed write.
+/// Writes the rows of an image, and then the buffer, except after a failed write.
 fn decode_buffered<S: HeldSource, W: Output, const HELD: usize>(
     header: &Header,
     height: u32,
@@ -143,7 +143,7 @@ fn decode_buffered<S: HeldSource, W: Output, const HELD: usize>(
     ensures writes { WritesBehind buffer.old buffer.new result }
     ensures same_source { (S.view stream.new).source ≡ (S.view stream.old).source }
 {
-    // What the proof cites of the coder.
+    // The proof uses these laws of the coder.
     coder_laws();
     match decode_image(header, height, walk, window, learned, stream, buffer) {
         Ok(()) => buffer.write_held(),
@@ -157,7 +157,7 @@ fn decode_buffered<S: HeldSource, W: Output, const HELD: usize>(
     }
 }
 
-/// Writes the rows of an image.
+/// Writes the rows of an image to the buffer.
 fn decode_image<S: HeldSource, P: ByteTarget>(
     header: &Header,
     height: u32,
@@ -179,9 +179,9 @@ fn decode_image<S: HeldSource, P: ByteTarget>(
     ensures reads { ReadsOn (S.view stream.old) (S.view stream.new) result }
     ensures writes { WritesOn (P.view target.old) (P.view target.new) result }
 {
-    // What the proof cites of the coder.
+    // The proof uses these laws of the coder.
     coder_laws();
-    // The image has no more rows than its height, so it ends in a turn of the loop.
+    // The image has no more rows than its height, so it ends within the loop.
     let mut row = 0;
     'rows: while row <= height {
         let count = next_rows(header, height, walk, window, learned, stream)?;
@@ -194,7 +194,7 @@ fn decode_image<S: HeldSource, P: ByteTarget>(
     Ok(())
 }
 
-/// Decodes the next rows, which are equal, and answers how many: none where the image is whole.
+/// Decodes the next rows, which are equal, and returns how many: 0 if the image is complete.
 fn next_rows<S: HeldSource>(
     header: &Header,
     height: u32,
@@ -215,7 +215,7 @@ fn next_rows<S: HeldSource>(
     Ok(u32::from(is_row))
 }
 
-/// Decodes the next row, and reads on where what is held ends. Answers whether there is one.
+/// Decodes the next row, and reads more input when the buffer is exhausted. Returns false if the image is complete.
 fn next_row<S: HeldSource>(
     header: &Header,
     height: u32,
@@ -240,7 +240,7 @@ fn next_row<S: HeldSource>(
     }
 }
 
-/// Decodes the next row, as far as the bytes go that are held. After a fault none is held.
+/// Decodes the next row as far as the buffered bytes allow. After an error, no byte remains buffered.
 fn turn_held<S: HeldSource>(
     header: &Header,
     height: u32,
@@ -267,7 +267,7 @@ fn turn_held<S: HeldSource>(
     answer
 }
 
-/// How many of the bytes stay that a turn has not taken: none after a fault.
+/// The number of unconsumed bytes that remain buffered: none after an error.
 fn bytes_kept(answer: Result<bool, Fault>, left: usize) -> usize
     ensures kept { IfErr answer (λ f. f ≡ Truncated) → result ≡ left }
     ensures none { (f : Fault) → answer ≡ Err f → f ≢ Truncated → result ≡ 0 }

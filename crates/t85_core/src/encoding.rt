@@ -1,4 +1,4 @@
-//! Encoding an image.
+//! Encodes an image.
 
 ghost use Rattle.std.specs.Prelude.{◌≡◌, ◌≤◌, ◌<◌, OnOk, IfErr, IsErrOf, false};
 ghost use Rattle.t85_core.specs.Change.{input_change, output_change};
@@ -34,10 +34,10 @@ use crate::output_buffer::{ByteTarget, IMAGE_HELD, OutputBuffer, ROW_HELD};
 use pbm_core::{Form, Input, Output, Size, read_row};
 use raster_core::{Window, current_row};
 
-/// Writes the stream of an image of this size. The input is just after the header of the image.
+/// Encodes an image of this size. The input is positioned after the header of the image.
 ///
-/// Where rows are missing, what is written is a beginning of the stream of each image that begins with the rows
-/// that came, with each stripe whose rows all came. Each row is read when it is wanted, and nothing after it.
+/// If rows are missing, the output is a prefix of the stream of every image that begins with the rows read, and
+/// includes each stripe whose rows were all read. Each row is read when it is needed, and nothing after it.
 pub fn encode<R: Input, W: Output>(
     size: Size,
     form: Form,
@@ -55,7 +55,7 @@ pub fn encode<R: Input, W: Output>(
     encode_by::<R, W, IMAGE_HELD>(size, form, options, window, input, output)
 }
 
-/// As `encode`, between devices in memory, for which it holds little back: a write costs no call of the system.
+/// Like `encode`, for in-memory devices. It buffers little, since writes make no system calls.
 pub fn encode_in_memory<R: Input, W: Output>(
     size: Size,
     form: Form,
@@ -73,7 +73,7 @@ pub fn encode_in_memory<R: Input, W: Output>(
     encode_by::<R, W, ROW_HELD>(size, form, options, window, input, output)
 }
 
-/// As `encode`, by an array of so many bytes.
+/// Like `encode`, with a buffer of the given size.
 fn encode_by<R: Input, W: Output, const HELD: usize>(
     size: Size,
     form: Form,
@@ -90,7 +90,7 @@ fn encode_by<R: Input, W: Output, const HELD: usize>(
     ensures same_input { SameInput (R.view input.old) (R.view input.new) }
     ensures same_output { SameOutput (W.view output.old) (W.view output.new) }
 {
-    // What the proof cites.
+    // The proof uses this law.
     code_denotes();
     if options.is_low(size) {
         return Err(Fault::AnnouncedLow);
@@ -99,7 +99,7 @@ fn encode_by<R: Input, W: Output, const HELD: usize>(
     encode_buffered(size, form, options, window, input, &mut buffer)
 }
 
-/// Writes the stream, and writes what is held, except after a failed write.
+/// Writes the stream, and then the buffer, except after a failed write.
 fn encode_buffered<R: Input, W: Output, const HELD: usize>(
     size: Size,
     form: Form,
@@ -136,7 +136,7 @@ fn encode_buffered<R: Input, W: Output, const HELD: usize>(
     }
 }
 
-/// Writes the stream.
+/// Writes the stream to the buffer.
 fn encode_image<R: Input, P: ByteTarget>(
     size: Size,
     form: Form,
@@ -162,7 +162,7 @@ fn encode_image<R: Input, P: ByteTarget>(
     ensures same_input { SameInput (R.view source.old) (R.view source.new) }
     ensures writes { WritesOn (P.view target.old) (P.view target.new) result }
 {
-    // What the proof cites of what stands after some rows.
+    // The proof uses these laws about the output after some rows.
     fronts();
     let mut learning = Learning::first(size, options);
     let mut encoder = RowEncoder::new(size, options);
@@ -175,7 +175,7 @@ fn encode_image<R: Input, P: ByteTarget>(
     encoder.end(window, &mut learning, target)
 }
 
-/// Goes a row down in the window and reads that row.
+/// Moves down one row in the window, and reads that row.
 fn read_next_row<R: Input>(
     size: Size,
     form: Form,

@@ -1,4 +1,4 @@
-//! Why a stream, an image or a choice of options is refused, or a call ended early.
+//! The errors of a stream, an image, or a choice of options, and of reading and writing.
 
 ghost use Rattle.std.specs.Prelude.{◌≡◌};
 ghost use Rattle.t85_core.specs.Fault.{fault_number};
@@ -65,7 +65,7 @@ pub enum Fault {
 }
 
 impl Fault {
-    /// The number under which the fault is documented.
+    /// The documented number of the error.
     pub fn number(&self) -> u8
         ensures { result ≡ fault_number self.now }
     {

@@ -1,4 +1,4 @@
-//! The header: twenty bytes before the first segment.
+//! The header: the first twenty bytes of a stream (T.82, 6.2).
 
 ghost use Rattle.std.specs.Prelude.{◌≡◌, ◌≢◌, ◌≤◌, ◌<◌, ◌%◌, ◌^◌, length, OnOk, IfErr};
 ghost use Rattle.std.specs.Io.KnownBytes.{Consumes};
@@ -10,16 +10,16 @@ use byteorder::{BigEndian, ByteOrder};
 use pbm_core::{DeviceFailed, Input};
 use raster_core::Shape;
 
-/// What an accepted header says. Its other bytes mean nothing.
+/// The fields of an accepted header. Its other bytes have no meaning.
 #[derive(Clone, Copy, Debug, PartialEq, Eq)]
 pub struct Header {
-    /// The width.
+    /// XD, the width: 1 to 1,048,576.
     pub xd: u32,
-    /// The height.
+    /// YD, the height, or with VLENGTH the greatest possible height: at least 1.
     pub yd: u32,
-    /// The rows of a stripe.
+    /// L0, the rows per stripe: at least 1.
     pub l0: u32,
-    /// The greatest offset of the adaptive pixel.
+    /// MX, the greatest horizontal offset of the adaptive template pixel: 0 to 127.
     pub mx: u8,
     pub options: u8,
     ghost some_width: { 1 ≤ xd },
@@ -58,7 +58,7 @@ impl Header {
         Header::accept(&bytes)
     }
 
-    /// Judges the twenty bytes.
+    /// Checks the twenty bytes, in a fixed order.
     #[inline(always)]
     pub(crate) fn accept(bytes: &[u8; 20]) -> Result<Header, Fault>
         ensures accepted { IfOk result (λ h. HeaderOf bytes.now (fields_of h)) }
@@ -101,7 +101,7 @@ impl Header {
         })
     }
 
-    /// How rows are coded: LRLTWO is bit 6 of the options, TPBON is bit 3.
+    /// How rows are coded: LRLTWO is bit 0x40 of the options, TPBON is bit 0x08.
     pub(crate) fn shape(&self) -> Shape
         ensures width { result.width ≡ self.now.xd }
         ensures mode { shape_mode result ≡ mode_of self.now.options }
@@ -113,14 +113,14 @@ impl Header {
         }
     }
 
-    /// Whether the stream may have a NEWLEN: VLENGTH, bit 5 of the options.
+    /// Whether the stream may contain a NEWLEN: VLENGTH, bit 0x20 of the options.
     pub(crate) fn is_variable(&self) -> bool
         ensures { result ≡ has_bit self.now.options 5 }
     {
         self.options & 0x20 != 0
     }
 
-    /// The header as bytes, with MY and order 0.
+    /// The header as bytes, with MY and the order byte 0.
     pub fn bytes(&self) -> [u8; 20]
         ensures { result ≡ header_bytes (fields_of self.now) }
     {
@@ -135,7 +135,7 @@ impl Header {
     }
 }
 
-/// Fills the buffer from the input, and takes nothing more.
+/// Fills the buffer from the input, and consumes nothing more.
 fn fill<R: Input>(input: &mut R, buf: &mut [u8]) -> Result<(), Fault>
     ensures filled { OnOk result (Consumes (R.view input.old).remaining (R.view input.new).remaining
         buf.new) }

@@ -1,4 +1,4 @@
-//! The height of a stream, which may be given after its stripes.
+//! Finds the height of a stream, which a NEWLEN segment may give as late as after the last stripe (T.82, 6.2.6.2).
 
 ghost use Rattle.std.specs.Prelude.{◌≡◌, ◌≢◌, ◌≤◌, ◌-◌, List, ℕ, OnOk, IfOk, IfErr, IfSome, IsErrOf, None, true, false};
 ghost use Rattle.std.specs.Io.KnownBytes.{Consumes};
@@ -20,22 +20,22 @@ use crate::input_buffer::{ByteSource, InputBuffer, READ_AHEAD};
 use crate::segments::{Code, Next, Piece, Place, next_piece, read_segments, skip_code};
 use pbm_core::Input;
 
-/// How many moves and comments were skipped. Comments are counted up to 2^64 - 1.
+/// The number of moves and comments skipped. Comments are counted up to 2^64 - 1.
 #[derive(Clone, Copy)]
 pub struct Passed {
     pub moves: u64,
     pub comments: u64,
 }
 
-/// What was skipped of a stripe: all of it, or its segments up to a height.
+/// What was skipped of a stripe: all of it, or its marker segments up to a NEWLEN.
 #[derive(Clone, Copy)]
 struct Skipped {
     passed: Passed,
     height: Option<u32>,
 }
 
-/// What was skipped of a stream: how many data entities, with what comes before them, and, where a height came, the
-/// segments before that.
+/// What was skipped of a stream: how many stripe data entities, with the segments before them, and, if a NEWLEN was
+/// found, the segments before it.
 #[derive(Clone, Copy)]
 pub struct Reached {
     pub entities: u32,
@@ -44,10 +44,10 @@ pub struct Reached {
     pub height: Option<u32>,
 }
 
-/// Finds the height of the image. The input is just after the header.
+/// Finds the height of the image. The input is positioned after the header.
 ///
-/// Where the header says that the height may change, the segments are read up to the first valid height; where none
-/// comes, or the stream breaks before it, the height is the header's.
+/// If the header says that the height may change, it reads up to the first valid NEWLEN. If there is none, or the
+/// stream breaks before it, the height is the header's.
 pub fn find_height<R: Input>(header: &Header, input: &mut R) -> Result<u32, Fault>
     ensures { FindHeight (fields_of header.now) (input_change R.view input.old input.new) result }
 {
@@ -67,8 +67,8 @@ pub fn find_height<R: Input>(header: &Header, input: &mut R) -> Result<u32, Faul
     }
 }
 
-/// Skips the stripes that the header's height makes, up to the first height that is given in them or, where the height
-/// may change, after them.
+/// Skips the stripes that the header's height implies, up to the first NEWLEN within them or, if the height may change,
+/// after them.
 pub fn find<S: ByteSource>(header: &Header, stream: &mut S) -> Result<Reached, Fault>
     ensures ok { IfOk result (λ r. Finds (fields_of header.now) (reading (S.view
         stream.old).known (S.view stream.new).known) (search_end_of r) r.height) }
@@ -101,7 +101,7 @@ pub fn find<S: ByteSource>(header: &Header, stream: &mut S) -> Result<Reached, F
     }
 }
 
-/// Skips comments after the last stripe that the header's height makes, and a height where one comes after them.
+/// Skips comments after the last stripe that the header's height implies, and a NEWLEN that follows them.
 pub fn look<S: ByteSource>(
     header: &Header,
     entities: u32,
@@ -138,8 +138,8 @@ pub fn look<S: ByteSource>(
     }
 }
 
-/// Skips stripes from the one number `from` up to `count` in all, or up to a height. Whether one was given before them
-/// is `given`, and whether a move came before what is left of the first is `moved_before`.
+/// Skips stripes, from number `from` up to `count` in all, or up to a NEWLEN. `given` says whether there was a NEWLEN
+/// before them, and `moved_before` whether there was an ATMOVE before the rest of the first.
 pub fn skip_stripes<S: ByteSource>(
     header: &Header,
     from: u32,
@@ -193,7 +193,7 @@ pub fn skip_stripes<S: ByteSource>(
     })
 }
 
-/// Skips what is left of a stripe, or of its segments up to a height, after `entities` data entities.
+/// Skips the rest of a stripe, or of its segments up to a NEWLEN, after `entities` stripe data entities.
 fn skip_stripe<S: ByteSource>(
     header: &Header,
     entities: u32,
@@ -210,7 +210,7 @@ fn skip_stripe<S: ByteSource>(
         (SkipFault (fields_of header.now) (search_place entities given moved_before))) }
     ensures reads { ReadsOn (S.view stream.old) (S.view stream.new) result }
 {
-    // No height is in use where one is looked for, and none may come where one was given.
+    // While searching for a height, none is assumed; and none may follow if one was given before.
     let place = Place {
         height: 0,
         entities,
@@ -236,7 +236,7 @@ fn skip_stripe<S: ByteSource>(
     }
 }
 
-/// Skips what is left of a data entity that begins so.
+/// Skips the rest of a stripe data entity, given its first element.
 pub fn skip_rest<S: ByteSource>(first: Code, stream: &mut S) -> Result<(), Fault>
     requires first { IsByteOrMarker first }
     ensures ok { OnOk result (PassesRest first (S.view stream.old).known

@@ -1,4 +1,4 @@
-//! A reader's bytes, read ahead into a fixed array and handed out one at a time.
+//! Reads the bytes of an input ahead into an array of fixed size, and returns them one at a time.
 
 ghost use Rattle.std.specs.Prelude.{◌≡◌, ◌≤◌, ◌<◌, ◌+◌, ◌-◌, ◌^◌, ◌++◌, ℕ, List, None, length, slice_index, take, IfOk, IfErr, MatchResult};
 ghost use Rattle.std.specs.Io.KnownBytes.{Consumes, IsAtEnd, Keeps, prepend_known};
@@ -10,54 +10,54 @@ use crate::fault::Fault;
 use memchr::memchr;
 use pbm_core::{DeviceFailed, Input};
 
-/// The byte with which segments and end markers begin.
+/// The byte with which marker segments and end markers begin.
 pub const ESCAPE: u8 = 0xff;
 
-/// How many bytes are read ahead of a file.
+/// The number of bytes that are read ahead of a file.
 pub const READ_AHEAD: usize = 4096;
 
-/// The bytes of a stream, in their order.
+/// The bytes of a stream, in order.
 pub trait ByteSource {
-    /// The bytes still to come, and how often the reader has failed.
+    /// The bytes still to come, and the number of failures of the reader.
     ghost view: { Self → SourceView };
 
-    /// The next byte.
+    /// Returns the next byte.
     fn next(&mut self) -> Result<u8, Fault>
         ensures { GivesNextByte (view self.old) (view self.new) result };
 
-    /// The next byte, where it is held and is not FF; else it does nothing.
+    /// Returns the next byte if it is buffered and not FF; otherwise does nothing.
     fn next_plain(&mut self) -> Option<u8>
         ensures { GivesPlain view self.old self.new result };
 
-    /// Skips bytes other than FF, as many as are held before the next one.
+    /// Skips the buffered bytes before the next FF; it may skip fewer.
     fn skip_plain(&mut self)
         ensures { SkipsPlain (view self.old) (view self.new) };
 }
 
-/// A source that shows the bytes that it holds, and reads behind them when it is asked to.
+/// A source that exposes its buffered bytes, and reads behind them on request.
 pub trait HeldSource {
-    /// As of a `ByteSource`.
+    /// The same as for a `ByteSource`.
     ghost view: { Self → SourceView };
 
-    /// The bytes that are held.
+    /// The buffered bytes.
     ghost bytes: { Self → List ℕ };
 
     fn held(&self) -> &[u8]
         ensures { result.now ≡ bytes self.now };
 
-    /// Takes the bytes that are held, but for so many at their end.
+    /// Consumes the buffered bytes, except the last `left` of them.
     fn keep(&mut self, left: usize)
         ensures { KeepsLast (view self.old) (bytes self.old) (view self.new) (bytes self.new)
             left };
 
-    /// Reads behind the few bytes that are held.
+    /// Reads more bytes behind the few that are buffered.
     fn refill(&mut self) -> Result<(), Fault>
         requires { length (bytes self.old) ≤ 7 }
         ensures { Refills (view self.old) (bytes self.old) (view self.new) (bytes self.new)
             result };
 }
 
-/// The reader is asked only where a byte is wanted and none is held.
+/// A buffer in front of an input. The input is read only when a byte is needed and none is buffered.
 #[derive(Drop)]
 pub struct InputBuffer<'a, R: Input, const SIZE: usize> {
     input: &'a mut R,
@@ -76,7 +76,7 @@ impl<'a, R: Input, const SIZE: usize> InputBuffer<'a, R, SIZE> {
         ensures empty { result.at ≡ result.end }
         ensures lent { result.input ≡ input.entry }
     {
-        // The proof reads from this call that the number fits.
+        // The proof uses this call to bound the number of remaining bytes.
         let _ = input.left();
         InputBuffer {
             input,
@@ -177,7 +177,7 @@ impl<R: Input, const SIZE: usize> HeldSource for InputBuffer<'_, R, SIZE> {
     }
 }
 
-/// Moves the bytes from one place up to another to the front.
+/// Moves the bytes from position `at` up to `end` to the front.
 fn to_front(bytes: &mut [u8], at: usize, end: usize)
     requires ordered { at ≤ end }
     requires within { end ≤ length bytes.old }
@@ -187,7 +187,7 @@ fn to_front(bytes: &mut [u8], at: usize, end: usize)
     bytes.copy_within(at..end, 0);
 }
 
-/// Reads behind the first bytes, which are so many.
+/// Reads into the part of `bytes` after the first `held` bytes.
 fn read_behind<R: Input>(
     input: &mut R,
     bytes: &mut [u8],
@@ -210,7 +210,7 @@ fn read_behind<R: Input>(
     input.read(&mut bytes[held..])
 }
 
-/// How many bytes come before the first FF.
+/// The number of bytes before the first FF.
 pub fn plain_len(bytes: &[u8]) -> usize
     ensures bound { result ≤ length bytes.now }
     ensures plain { ArePlain (take result bytes.now) }

@@ -1,4 +1,4 @@
-//! The stream layer of JBIG1 (ITU-T T.82) in the fax profile (ITU-T T.85).
+//! The stream layer of JBIG1 (ITU-T T.82) in the fax profile (ITU-T T.85): one plane, no differential layers.
 #![tactic(auto)]
 
 mod conversion;

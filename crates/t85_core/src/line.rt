@@ -12,7 +12,7 @@ use crate::fault::Fault;
 use pbm_core::{Output, write_bytes};
 use std::marker::Model;
 
-/// A line while it is made: room for nine numbers of twenty digits, each with a byte after it.
+/// A line under construction, with space for nine numbers of twenty digits, each followed by one byte.
 #[derive(Drop)]
 pub struct Line {
     bytes: [u8; 192],
@@ -28,7 +28,7 @@ impl Model for Line {
 }
 
 impl Line {
-    /// The numbers, a space between each two, and the end of the line.
+    /// The line of these numbers, separated by spaces and ended by a line feed.
     #[tactic(auto, using(crate::proofs::Bytes::Numerals::digits))]
     pub fn of(numbers: &[u64]) -> Line
         requires { length numbers.now ≤ 9 }

@@ -1,4 +1,4 @@
-//! What a caller chooses for a stream.
+//! The options that a caller chooses for a stream.
 
 ghost use Rattle.std.specs.Prelude.{false, ◌≡◌, ◌≤◌, ◌<◌, ◌%◌, ◌^◌, ◌/◌, Option, option_map, length};
 ghost use Rattle.std.specs.Option.{option_map_or};
@@ -7,18 +7,18 @@ use crate::fault::Fault;
 use crate::header::Header;
 use pbm_core::Size;
 
-/// Choices that are accepted.
+/// Accepted options.
 #[derive(Clone, Copy)]
 pub struct Options<'a> {
-    /// The options byte of the header: LRLTWO, VLENGTH and TPBON, or some of them.
+    /// The options byte of the header: any of LRLTWO (0x40), VLENGTH (0x20) and TPBON (0x08).
     pub options: u8,
-    /// The rows of a stripe.
+    /// The rows per stripe.
     pub stripe_rows: u32,
-    /// The greatest offset of the adaptive pixel.
+    /// The greatest offset of the adaptive template pixel.
     pub most_offset: u8,
-    /// A height to announce, which the image may stay below.
+    /// A height to announce in the header. The image may be lower.
     pub announced: Option<u32>,
-    /// Whether each stripe ends in a reset.
+    /// Whether each stripe is coded independently of the ones before it, and ends in SDRST.
     pub reset: bool,
     /// The comment before the first stripe.
     pub comment: Option<&'a [u8]>,
@@ -38,8 +38,8 @@ impl<'a> Options<'a> {
     ghost use Rattle.t85_core.specs.Jbg.{header_of, is_low, settings, written_options};
     ghost use Rattle.t85_core.specs.Coding.{has_bit};
 
-    /// Judges the options byte `p`, the rows of a stripe `s` and the greatest offset `m`, in this order, and then the
-    /// length of the comment.
+    /// Checks the options byte `p`, the rows per stripe `s`, the greatest offset `m` and the length of the comment, in
+    /// this order.
     pub fn new(
         p: u32,
         s: u32,
@@ -85,7 +85,7 @@ impl<'a> Options<'a> {
         self.announced.unwrap_or(size.height) < size.height
     }
 
-    /// The header of the stream of an image that isn't higher than what is announced.
+    /// The header of the stream of an image that is not higher than announced.
     pub(crate) fn header(&self, size: Size) -> Header
         requires { is_low (settings_of self.now) size.height ≡ false }
         ensures { fields_of result ≡ header_of (settings_of self.now) size.width size.height }
@@ -99,7 +99,7 @@ impl<'a> Options<'a> {
         }
     }
 
-    /// The options byte as it is written: where a height is announced, the height may change.
+    /// The options byte as written: with VLENGTH if a height is announced.
     fn written(&self) -> u8
         ensures is { result ≡ written_options (settings_of self.now) }
         ensures small { result < 128 }
@@ -108,7 +108,7 @@ impl<'a> Options<'a> {
         self.options + 0x20 * u8::from(self.adds_bit())
     }
 
-    /// Whether VLENGTH is set for the height that is announced.
+    /// Whether VLENGTH is added because a height is announced.
     fn adds_bit(&self) -> bool
         ensures { result ≡ (is_some self.now.announced && not (has_bit self.now.options 5)) }
     {

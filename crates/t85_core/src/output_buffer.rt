@@ -1,4 +1,4 @@
-//! An output's bytes, held back in a fixed array and written together.
+//! Buffers the bytes of an output in an array of fixed size, and writes them together.
 
 ghost use Rattle.std.specs.Prelude.{◌≡◌, ◌≤◌, ◌<◌, ◌-◌, length, take, OnOk, IfErr};
 ghost use Rattle.std.specs.Io.KnownBytes.{Appends, Keeps, append_known};
@@ -10,35 +10,36 @@ ghost use Rattle.t85_core.specs.Failures.{SameOutput};
 use crate::fault::Fault;
 use pbm_core::{DeviceFailed, Output, WriteFault, write_bytes};
 
-/// How many bytes are held back of an image or of its stream.
+/// The number of bytes that are buffered of an image or of its stream.
 pub const IMAGE_HELD: usize = 4096;
 
-/// How many are where a call writes a row's alone, or a stream into memory: it is made anew at each of them.
+/// The number of bytes that are buffered by a call that writes only one row's code, or writes a stream into memory. The
+/// buffer is created anew by each such call.
 pub const ROW_HELD: usize = 64;
 
-/// Where the bytes of an image or of a stream go.
+/// A destination for the bytes of an image or of a stream.
 pub trait ByteTarget {
-    /// The bytes that it has taken, and what the writer has taken of them.
+    /// The bytes that it has accepted, and which of them the writer has accepted.
     ghost view: { Self → TargetView };
 
-    /// Takes bytes.
+    /// Accepts bytes.
     fn put(&mut self, bytes: &[u8]) -> Result<(), Fault>
         ensures { PutsBytes bytes.now (view self.old) (view self.new) result };
 
-    /// Takes a byte, or fails and leaves it out.
+    /// Accepts a byte; or fails, and discards it.
     fn push(&mut self, byte: u8) -> Result<(), Fault>
         ensures { Pushes byte (view self.old) (view self.new) result };
 
-    /// Writes what it holds.
+    /// Writes the buffered bytes.
     fn write_held(&mut self) -> Result<(), Fault>
         ensures { HandsOn (view self.old) (view self.new) result };
 
-    /// How often the writer has failed.
+    /// The number of failures of the writer.
     fn failures(&self) -> u64
         ensures { result ≡ (view self.now).failures };
 }
 
-/// Bytes are written where the array is full, and by `write_held`.
+/// A buffer in front of an output. It is written when it is full, and by `write_held`.
 #[derive(Drop)]
 pub struct OutputBuffer<'a, W: Output, const SIZE: usize> {
     output: &'a mut W,
@@ -68,7 +69,7 @@ impl<'a, W: Output, const SIZE: usize> OutputBuffer<'a, W, SIZE> {
 impl<W: Output, const SIZE: usize> OutputBuffer<'_, W, SIZE> {
     ghost use Rattle.t85_core.specs.Steps.Views.{text_taken, WritesBehind};
 
-    /// Writes what is held.
+    /// Writes the buffered bytes.
     pub fn write_held(&mut self) -> Result<(), Fault>
         ensures text { Keeps (text_taken self.old) (text_taken self.new) }
         ensures empty { OnOk result ((self.new.at ≡ 0) × (self.new.end ≡ 0)) }
@@ -89,8 +90,8 @@ impl<W: Output, const SIZE: usize> OutputBuffer<'_, W, SIZE> {
     }
 }
 
-/// Writes the bytes from one place up to another. Where a write fails the answer is the place of the first byte that
-/// isn't written.
+/// Writes the bytes from position `at` up to `end`. If a write fails, returns the position of the first byte that has
+/// not been written.
 fn write_part<W: Output>(output: &mut W, bytes: &[u8], at: usize, end: usize) -> Result<(), usize>
     requires ordered { at ≤ end }
     requires within { end ≤ length bytes.now }
@@ -118,7 +119,7 @@ fn write_part<W: Output>(output: &mut W, bytes: &[u8], at: usize, end: usize) ->
 impl<W: Output, const SIZE: usize> OutputBuffer<'_, W, SIZE> {
     ghost use Rattle.t85_core.specs.Steps.Views.{text_taken};
 
-    /// Takes the first bytes, as many as there is room for.
+    /// Copies as many of the first bytes as fit into the buffer, and returns how many.
     fn fill(&mut self, bytes: &[u8]) -> usize
         ensures bound { result ≤ length bytes.now }
         ensures takes { 0 < length bytes.now → self.old.end < SIZE → 0 < result }
@@ -137,7 +138,7 @@ impl<W: Output, const SIZE: usize> OutputBuffer<'_, W, SIZE> {
 impl<W: Output, const SIZE: usize> OutputBuffer<'_, W, SIZE> {
     ghost use Rattle.t85_core.specs.Steps.Views.{target_view};
 
-    /// Holds the bytes back, and writes what is held as often as the array is full.
+    /// Buffers the bytes, and writes the buffer each time it is full.
     fn hold(&mut self, bytes: &[u8]) -> Result<(), Fault>
         ensures { PutsBytes bytes.now (target_view self.old) (target_view self.new) result }
     {
@@ -151,7 +152,7 @@ impl<W: Output, const SIZE: usize> OutputBuffer<'_, W, SIZE> {
         Ok(())
     }
 
-    /// Writes the bytes, which no other bytes that are held come before.
+    /// Writes the bytes directly. The buffer must be empty.
     #[inline(always)]
     fn write_straight(&mut self, bytes: &[u8]) -> Result<(), Fault>
         requires empty { self.old.at ≡ self.old.end }

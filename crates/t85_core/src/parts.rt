@@ -1,4 +1,4 @@
-//! What a stream is made of, part by part: its header, segments and data entities.
+//! Lists the parts of a stream: its header, marker segments and stripe data entities.
 
 ghost use Rattle.std.specs.Prelude.{◌≡◌, ◌≢◌, ◌<◌, ◌-◌, IfErr, IfOk, IfSome, OnOk, Some, None, drop, length, true};
 ghost use Rattle.t85_core.specs.Options.{fields_of};
@@ -16,15 +16,15 @@ use crate::height::skip_rest;
 use crate::pieces::piece::Piece;
 use crate::segments::{self, Place, next_piece};
 
-/// What a part of a stream is.
+/// The kind of a part.
 #[derive(Clone, Copy, Debug, PartialEq, Eq)]
 pub enum PartKind {
     Header,
     Comment,
-    /// A move of the adaptive template pixel.
+    /// A move of the adaptive template pixel (ATMOVE).
     Move,
     NewHeight,
-    /// A code and its end marker.
+    /// A stripe data entity: a code and its end marker.
     DataEntity,
 }
 
@@ -32,11 +32,11 @@ pub enum PartKind {
 #[derive(Clone, Copy, Debug, PartialEq, Eq)]
 pub struct Part {
     pub kind: PartKind,
-    /// Where it begins, in bytes from the beginning of the stream.
+    /// The offset of its first byte from the beginning of the stream.
     pub offset: usize,
     /// Its length in bytes.
     pub len: usize,
-    /// How many data entities come before it.
+    /// The number of stripe data entities before it.
     pub stripe: u32,
 }
 
@@ -44,12 +44,12 @@ pub struct Part {
 #[derive(Clone, Copy, Debug, PartialEq, Eq)]
 pub enum Found {
     Part(Part),
-    /// All parts were told, and the stream has so many bytes. An empty data entity behind a height that came last, as the
-    /// encoder writes it, is among them, and is no part.
+    /// There are no more parts, and the stream has this many bytes. They include an empty stripe data entity after a
+    /// height that came last, as the encoder writes it; that is not a part.
     End {
         len: usize,
     },
-    /// The part at this offset, after so many data entities, breaks or ends too early.
+    /// The part at this offset, after this many stripe data entities, is broken or incomplete.
     Broken {
         fault: Fault,
         offset: usize,
@@ -57,22 +57,22 @@ pub enum Found {
     },
 }
 
-/// Where a walk over the parts of a stream stands, as numbers that anyone may keep.
+/// The state of a walk over the parts of a stream, as numbers that anyone may store.
 #[derive(Clone, Copy, Debug, PartialEq, Eq)]
 pub struct PartWalk {
-    /// How many bytes were passed.
+    /// The number of bytes passed.
     pub offset: usize,
-    /// How many data entities were passed.
+    /// The number of stripe data entities passed.
     pub entities: u32,
-    /// The height that a segment gave, or 0.
+    /// The height that a NEWLEN gave, or 0.
     pub late_height: u32,
-    /// Whether the stripe has had its move.
+    /// Whether the stripe has had its ATMOVE.
     pub moved: bool,
-    /// Whether it is known that a height comes behind the last data entity, or one came since.
+    /// Whether it is known that a height follows the last stripe data entity, or one has followed it.
     pub at_height: bool,
 }
 
-/// What was read of a stream's body: a part, and the height that it gives.
+/// What was read from the body of a stream: a part, and the height that it gives, if any.
 #[derive(Clone, Copy)]
 pub enum Taken {
     Comment,
@@ -81,10 +81,10 @@ pub enum Taken {
     DataEntity,
 }
 
-/// The bytes of a header.
+/// The number of bytes in a header.
 const HEADER_LEN: usize = 20;
 
-/// What kind a part is.
+/// The kind of a part.
 fn kind_of(taken: Taken) -> PartKind
     ensures { result ≡ kind_of taken }
 {
@@ -111,7 +111,7 @@ fn read_header(stream: &[u8]) -> Result<Header, Fault>
     Header::accept(&bytes)
 }
 
-/// The bytes from an offset on; none behind the end.
+/// The bytes from an offset on; none beyond the end.
 fn rest_of(stream: &[u8], offset: usize) -> &[u8]
     ensures { result.now ≡ drop offset stream.now }
 {
@@ -119,7 +119,7 @@ fn rest_of(stream: &[u8], offset: usize) -> &[u8]
     rest
 }
 
-/// Reads a segment, or a code and its end marker.
+/// Reads a marker segment, or a code and its end marker.
 fn read_part(
     header: &Header,
     place: Place,
@@ -143,7 +143,7 @@ fn read_part(
     }
 }
 
-/// Reads a comment or a height behind the last stripe, if one of them is there.
+/// Reads a comment or a NEWLEN after the last stripe, if there is one.
 fn read_before_height(header: &Header, entities: u32, source: &mut Piece<'_>) -> Option<Taken>
     ensures some { IfSome result (ReadsPart (fields_of header.now) (place_before entities) true
         source.old.rest.now source.new.rest.now) }

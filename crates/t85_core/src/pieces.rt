@@ -1,4 +1,4 @@
-//! Decoding a stream whose bytes come in pieces, row by row.
+//! Decodes a stream that arrives in pieces, row by row.
 
 ghost use Rattle.std.specs.Prelude.{◌≡◌, ◌≤◌, [], List, IfSome, true, false};
 ghost use Rattle.qm_core.specs.Place.{Estimate};
@@ -24,53 +24,54 @@ use crate::pieces::walk::Walk;
 use qm_core::Learned;
 use raster_core::Window;
 
-/// What a piece gave.
+/// The result of a call with a piece.
 #[derive(Clone, Copy, Debug, PartialEq, Eq)]
 pub enum Outcome {
-    /// A row: ask for it, and call again with the rest of the piece.
+    /// A row was decoded. Read it from the window, and call again with the rest of the piece.
     Row,
-    /// No row more: call again with what was not taken, seven bytes at most, and with more bytes after it, or, where there are
-    /// none, tell that the stream ends there.
+    /// No further row can be decoded. Call again with the unconsumed bytes, at most seven, followed by more; or, if
+    /// there are no more, signal the end of the stream.
     More,
-    /// The image is whole, at this height: it is as many first rows of those that were given.
+    /// The image is complete, with this height: it is the first rows of those returned, as many as the height.
     Done(u32),
-    /// The stream is broken, and all rows were given that it fixes.
+    /// The stream is broken. All rows that it determines have been returned.
     Broken(Fault),
 }
 
 /// How a stream has ended.
 #[derive(Clone, Copy)]
 pub enum End {
-    /// The image is whole at the height in use.
+    /// The image is complete, with the current height.
     Done,
     /// The stream is broken.
     Broken(Fault),
 }
 
-/// What a piece gave, and how many of its bytes were taken.
+/// The result of a call with a piece, and the number of bytes consumed.
 #[derive(Clone, Copy, Debug, PartialEq, Eq)]
 pub struct Progress {
     pub outcome: Outcome,
     pub taken: usize,
 }
 
-/// A decoder that is given the bytes after the header in pieces, whenever they come. It has no memory of its own: each call
-/// is lent the window with the rows, and the contexts, as the call before has left them.
+/// A decoder for a stream whose bytes after the header arrive in pieces, at any time. It owns no memory: each call
+/// borrows the window with the rows, and the contexts, as the previous call left them.
 ///
-/// While a height may still come (T.82, 6.2.6.2), rows that only the end of a code decides wait for what stands behind its
-/// end marker, since a height there cuts them off. All others are given as soon as the bytes decide them.
+/// While a new height may still arrive (T.82, 6.2.6.2), rows that only the end of a code determines are held back until
+/// the bytes behind its end marker are known, since a height there may cut them off. All other rows are returned as
+/// soon as the bytes determine them.
 #[derive(Drop)]
 pub struct PieceDecoder {
     header: Header,
-    /// The height in use: the header's, until another has come.
+    /// The current height: the header's, until another has arrived.
     height: u32,
     walk: Walk,
-    /// Whether a height may still come.
+    /// Whether a height may still arrive.
     is_open: bool,
-    /// Whether the walk waits for what comes behind it, which is here.
+    /// Whether the walk is waiting for the bytes behind an end marker, which `behind` parses.
     waits: bool,
     behind: Behind,
-    /// How the stream has ended.
+    /// How the stream has ended, if it has.
     end: Option<End>,
     ghost from: { 1 ≤ height },
     ghost to: { height ≤ header.yd },
@@ -80,7 +81,7 @@ impl PieceDecoder {
     ghost use Rattle.t85_core.specs.Lent.{KeepsWindow, decoder_over, decoder_view};
     ghost use Rattle.t85_core.specs.Pieces.{HasDecoded, IsCall, AreCertain, call_of};
 
-    /// Before the first byte after the header. The window is made white, and the contexts forget.
+    /// A decoder before the first byte after the header. Makes the window white, and resets the contexts.
     pub fn start(header: Header, window: &mut Window<'_>, learned: &mut Learned) -> PieceDecoder
         requires width { width_of window.old ≡ header.xd }
         ensures stream { result.header ≡ header }
@@ -99,7 +100,7 @@ impl PieceDecoder {
         }
     }
 
-    /// Goes on with these bytes up to the end of the next row, or as far as they go. The window has the row.
+    /// Decodes these bytes, up to the end of the next row or as far as possible. The row is the window's current row.
     pub fn next_row(
         &mut self,
         window: &mut Window<'_>,
@@ -113,8 +114,8 @@ impl PieceDecoder {
         self.take(window, learned, piece, false)
     }
 
-    /// Goes on with these bytes, which are the last, up to the end of the next row, or to the end of the stream. Call it
-    /// again with what was not taken as long as it gives rows.
+    /// Decodes these bytes, which are the last ones, up to the end of the next row or to the end of the stream. Call it
+    /// again with the unconsumed bytes as long as it returns rows.
     pub fn next_of_last(
         &mut self,
         window: &mut Window<'_>,
@@ -128,7 +129,7 @@ impl PieceDecoder {
         self.take(window, learned, piece, true)
     }
 
-    /// Goes on with these bytes; whether they are the last is `is_all`.
+    /// Decodes these bytes; `is_all` says whether they are the last.
     fn take(
         &mut self,
         window: &mut Window<'_>,
@@ -155,7 +156,8 @@ impl PieceDecoder {
         }
     }
 
-    /// How many first rows are the image's, whatever bytes follow: a height that comes later is not below this.
+    /// The number of first rows that belong to the image, whatever bytes follow: no height that arrives later is below
+    /// this.
     pub fn certain(&self) -> u32
         ensures certain { (rows : Held) (learned : List Estimate) →
             AreCertain (decoder_view self.now rows learned) result }
@@ -164,14 +166,14 @@ impl PieceDecoder {
         if !self.is_open || self.end.is_some() {
             return self.height;
         }
-        // Each stripe that has begun has a row of the image.
+        // Each stripe that has begun contains a row of the image.
         self.header
             .yd
             .saturating_sub(self.walk.left)
             .saturating_add(1)
     }
 
-    /// The height in use: the header's, until another has come.
+    /// The current height: the header's, until another has arrived.
     pub fn height(&self) -> u32
         ensures { result ≡ self.now.height }
     {
@@ -182,7 +184,7 @@ impl PieceDecoder {
 impl End {
     ghost use Rattle.t85_core.specs.Outcomes.{end_told};
 
-    /// What is told of it at this height.
+    /// The outcome that reports this end at this height.
     fn outcome(self, height: u32) -> Outcome
         ensures { result ≡ end_told self height }
     {
@@ -193,7 +195,7 @@ impl End {
     }
 }
 
-/// The end that an outcome is, if it is one.
+/// The end that an outcome reports, if any.
 fn end_of(outcome: Outcome) -> Option<End>
     ensures { result ≡ end_in outcome }
 {

@@ -1,4 +1,4 @@
-//! The walk over the segments of a stripe, and over the bytes of its code.
+//! Parses the marker segments of a stripe, and the bytes of its code (T.82, 6.2).
 
 ghost use Rattle.std.specs.Prelude.{◌≡◌, ◌≤◌, ◌-◌, ◌^◌, ◌<◌, ◌++◌, ◌∷◌, [], List, ℕ, length, OnOk, IfOk, IfErr, Some, false, true};
 ghost use Rattle.std.specs.Io.KnownBytes.{Consumes};
@@ -19,8 +19,8 @@ use crate::input_buffer::{ByteSource, ESCAPE};
 use crate::segments::length::read_length;
 use byteorder::{BigEndian, ByteOrder};
 
-/// Where a stripe begins, or what is next in it: the height in use, how many data entities came before it, and whether
-/// a height did.
+/// Where a stripe begins, or what is next in it: the current height, the number of stripe data entities before it, and
+/// whether there was a NEWLEN.
 #[derive(Clone, Copy)]
 pub struct Place {
     pub height: u32,
@@ -28,14 +28,14 @@ pub struct Place {
     pub given: bool,
 }
 
-/// A move of the adaptive template pixel: at a row of the stripe, to an offset.
+/// A move of the adaptive template pixel (ATMOVE): a row of the stripe, and an offset.
 #[derive(Clone, Copy)]
 pub struct Move {
     pub row: u32,
     pub offset: u8,
 }
 
-/// What a code goes on with.
+/// The next element of a code.
 #[derive(Clone, Copy)]
 pub enum Code {
     Byte(u8),
@@ -43,10 +43,10 @@ pub enum Code {
     Marker(bool),
 }
 
-/// What may come at one place before a code.
+/// What may come at a position before a code.
 #[derive(Clone, Copy)]
 pub enum Piece {
-    /// A height is given, which is valid.
+    /// A valid height (NEWLEN).
     NewLength(u32),
     Move(Move),
     Comment,
@@ -54,22 +54,22 @@ pub enum Piece {
     Code(Code),
 }
 
-/// What comes after the segments that were read.
+/// What follows the marker segments that were read.
 #[derive(Clone, Copy)]
 pub enum Next {
-    /// A valid height, which isn't the one in use.
+    /// A valid height, which is not the current one.
     Height(u32),
     /// The code begins.
     Code(Code),
 }
 
-/// Segments that were read, and what comes after them.
+/// Marker segments that were read, and what follows them.
 #[derive(Clone, Copy)]
 pub struct Segments {
     pub at: Option<Move>,
-    /// Whether the height in use was given in them, or before.
+    /// Whether the current height was given in them, or before.
     pub given: bool,
-    /// Counted up to 2^64 - 1.
+    /// The number of comments, counted up to 2^64 - 1.
     pub comments: u64,
     pub next: Next,
 }
@@ -88,8 +88,8 @@ pub const ATMOVE: u8 = 6;
 
 pub const COMMENT: u8 = 7;
 
-/// Reads segments of one stripe, up to a height that isn't in use or to the code. Whether a move of the stripe came before
-/// them is `moved_before`.
+/// Reads marker segments of one stripe, up to a NEWLEN with a height that is not the current one, or up to the code.
+/// `moved_before` says whether there was an ATMOVE of the stripe before them.
 pub fn read_segments<S: ByteSource>(
     header: &Header,
     place: Place,
@@ -139,7 +139,7 @@ pub fn read_segments<S: ByteSource>(
     }
 }
 
-/// Skips what is left of a code that has begun, and its end marker. Answers whether that resets.
+/// Skips the rest of a code that has begun, and its end marker. Returns whether the marker resets.
 pub fn skip_code<S: ByteSource>(stream: &mut S) -> Result<bool, Fault>
     ensures ok { IfOk result (PassesCode (S.view stream.old).known (S.view stream.new).known) }
     ensures err { IfErr result (Ends Truncated (S.view stream.old).known (S.view stream.new).known
@@ -197,7 +197,7 @@ fn any_code<S: ByteSource>(stream: &mut S) -> Result<Code, Fault>
     }
 }
 
-/// Reads a segment, or what the code begins with.
+/// Reads a marker segment, or the first element of the code.
 pub fn next_piece<S: ByteSource>(
     header: &Header,
     place: Place,
@@ -240,7 +240,7 @@ pub fn next_piece<S: ByteSource>(
     }
 }
 
-/// Reads what follows the two bytes of an ATMOVE, and judges it.
+/// Reads what follows the two bytes of an ATMOVE, and checks it.
 fn read_move<S: ByteSource>(header: &Header, stream: &mut S) -> Result<Move, Fault>
     ensures ok { IfOk result (λ to. (to.row < header.now.l0) × (to.offset ≤ header.now.mx)
         × Consumes (S.view stream.old).known (S.view stream.new).known
@@ -275,7 +275,7 @@ fn skip_comment<S: ByteSource>(stream: &mut S) -> Result<(), Fault>
     Ok(())
 }
 
-/// The next number of four bytes.
+/// Reads a four-byte big-endian number.
 pub fn number<S: ByteSource>(stream: &mut S) -> Result<u32, Fault>
     ensures ok { IfOk result (λ n. Consumes (S.view stream.old).known (S.view stream.new).known
         (big_bytes 4 n)) }

@@ -1,4 +1,4 @@
-//! What both directions carry from row to row and from stripe to stripe.
+//! The state that encoder and decoder carry from row to row and from stripe to stripe.
 
 ghost use Rattle.std.specs.Prelude.{◌≡◌, ◌<◌, if◌then◌else◌};
 ghost use Rattle.raster_core.specs.Window.{width_of};
@@ -9,13 +9,14 @@ ghost use Rattle.t85_core.specs.Steps.DecodeRows.{IsCarried, IsFirst};
 use qm_core::Learned;
 use raster_core::{Kept, Window};
 
-/// At the top of an image.
+/// The state at the top of an image.
 pub const START: Kept = Kept {
     offset: 0,
     previous_typical: false,
 };
 
-/// Goes on after an end marker. All stays, or is as at the top of an image where the marker resets.
+/// Prepares for the next stripe after an end marker: everything stays as it is or, if the marker resets, returns to its
+/// state at the top of an image.
 pub fn next_stripe(reset: bool, window: &mut Window<'_>, kept: &mut Kept, learned: &mut Learned)
     ensures next { (last : RowStart) → IsCarried last (carried_by window.old kept.old learned.old) →
         IsCarried (first_row_start (next_stripe_start (width_of window.old) reset last)) (carried_by
@@ -28,7 +29,7 @@ pub fn next_stripe(reset: bool, window: &mut Window<'_>, kept: &mut Kept, learne
     }
 }
 
-/// Goes to the top of an image. The window is made white, and the contexts forget.
+/// Resets to the top of an image: makes the window white, and resets the contexts.
 pub fn restart(window: &mut Window<'_>, kept: &mut Kept, learned: &mut Learned)
     ensures first { IsFirst (carried_by window.new kept.new learned.new) }
     ensures window { KeepsWindow window.old window.new }

@@ -1,4 +1,4 @@
-//! What a stream says of itself.
+//! The facts about a stream that `--info` reports.
 
 ghost use Rattle.std.specs.Prelude.{◌≡◌, ◌≢◌, ◌≤◌, ◌-◌, ◌∷◌, [], List, ℕ, IfOk, IfErr, IfSome, IsErrOf, Some};
 ghost use Rattle.std.specs.Io.KnownBytes.{Consumes};
@@ -17,29 +17,29 @@ use crate::input_buffer::{ByteSource, InputBuffer, READ_AHEAD};
 use crate::line::Line;
 use pbm_core::{Input, Output};
 
-/// What a stream says of itself: its header, the height in use, and what comes before its last data entity.
+/// The facts about a stream: its header, the actual height, and what precedes its last stripe data entity.
 #[derive(Clone, Copy, Debug, PartialEq, Eq)]
 pub struct Summary {
     pub width: u32,
-    /// The height that the header gives.
+    /// The height in the header.
     pub announced_height: u32,
-    /// The rows of a stripe.
+    /// The rows per stripe.
     pub stripe_rows: u32,
-    /// The greatest offset of the adaptive pixel.
+    /// The greatest offset of the adaptive template pixel.
     pub most_offset: u8,
     /// The options byte.
     pub options: u8,
-    /// The height in use: a later one where the stream gives it, else the header's.
+    /// The actual height: a later one if the stream gives it, or else the header's.
     pub height: u32,
-    /// The data entities, one a stripe.
+    /// The number of stripe data entities, one per stripe.
     pub entities: u32,
-    /// The moves of the adaptive pixel.
+    /// The number of moves of the adaptive template pixel.
     pub moves: u64,
-    /// The comments, counted up to 2^64 - 1.
+    /// The number of comments, counted up to 2^64 - 1.
     pub comments: u64,
 }
 
-/// Walks the stream without decoding it, and says what it finds.
+/// Parses the stream without decoding its pixels, and returns what it finds.
 pub fn summarize<R: Input>(input: &mut R) -> Result<Summary, Fault>
     ensures { Summarize (input_change R.view input.old input.new) result }
 {
@@ -48,8 +48,8 @@ pub fn summarize<R: Input>(input: &mut R) -> Result<Summary, Fault>
     summarize_body(&header, &mut stream)
 }
 
-/// Walks the stream and writes one line of nine numbers: width, height, rows of a stripe, greatest
-/// offset, options, height in use, data entities, moves and comments. Then it flushes once.
+/// Parses the stream and writes one line of nine numbers: width, height in the header, rows per stripe, greatest
+/// offset, options, actual height, and the numbers of stripe data entities, moves and comments. Then it flushes once.
 pub fn info<R: Input, W: Output>(input: &mut R, output: &mut W) -> Result<(), Fault>
     ensures outcome { Info (input_change R.view input.old input.new)
         (output_change W.view output.old output.new) (W.view output.new).flushed result }
@@ -76,7 +76,7 @@ fn line_of(found: &Summary) -> Line
     ])
 }
 
-/// The summary of the stream after this header.
+/// Summarizes the stream after this header.
 fn summarize_body<S: ByteSource>(header: &Header, stream: &mut S) -> Result<Summary, Fault>
     ensures ok { IfOk result (λ found. IfSome (S.view stream.old).known
         (BodyNumbers (fields_of header.now) (numbers_in found))) }
@@ -94,7 +94,7 @@ fn summarize_body<S: ByteSource>(header: &Header, stream: &mut S) -> Result<Summ
     }
 }
 
-/// Skips what is left of the stripes that a height makes, where it was given before the last of them.
+/// Skips the remaining stripes at a given height, if the height was given before the last of them.
 fn walk_on<S: ByteSource>(
     header: &Header,
     height: u32,
@@ -133,7 +133,7 @@ fn walk_on<S: ByteSource>(
     Ok(summary_of(header, height, count, passed))
 }
 
-/// The summary of a header, of a height and a count of data entities, and of what was skipped in them.
+/// The summary for a header, a height, a number of stripe data entities, and what was skipped in them.
 fn summary_of(header: &Header, height: u32, entities: u32, passed: Passed) -> Summary
     ensures { let h = header.now in numbers_in result ≡ h.xd ∷ h.yd ∷ h.l0 ∷ h.mx ∷ h.options ∷
         height ∷ entities ∷ passed.moves ∷ passed.comments ∷ [] }

@@ -43,7 +43,7 @@ fn command<'a>(alloc: Global) -> Result<Command<'a>, AllocError>
     Ok(unversioned(alloc)?.version(VERSION))
 }
 
-/// The command, but for its version.
+/// The command, without its version.
 fn unversioned<'a>(alloc: Global) -> Result<Command<'a>, AllocError>
     ensures { IfOk result (λ c. with_version (app_of c) ≡ the_command) }
 {
@@ -63,7 +63,7 @@ fn unversioned<'a>(alloc: Global) -> Result<Command<'a>, AllocError>
     )
 }
 
-/// The command with the option for a line of numbers.
+/// The command with the option `--info` added.
 #[inline(never)]
 fn with_info<'a>(command: Command<'a>, alloc: Global) -> Result<Command<'a>, AllocError>
     ensures { IfOk result (HasAlso command.entry info_rule) }
@@ -71,7 +71,7 @@ fn with_info<'a>(command: Command<'a>, alloc: Global) -> Result<Command<'a>, All
     command.arg(info_arg(alloc))
 }
 
-/// The command with the option that has the most rows.
+/// The command with the option `--max-rows` added.
 #[inline(never)]
 fn with_max_rows<'a>(command: Command<'a>, alloc: Global) -> Result<Command<'a>, AllocError>
     ensures { IfOk result (HasAlso command.entry max_rows_rule) }
@@ -95,9 +95,9 @@ fn job_of(alloc: Global, matches: &ArgMatches<'_>) -> Result<Job, AllocError>
     })
 }
 
-/// The job that the arguments ask for, of which the first is the program's name.
+/// The job that the arguments ask for. The first argument is the name of the program.
 ///
-/// Not made in line, it gives back its stack before the job is done.
+/// The function is not inlined, so that its stack is released before the job is done.
 #[inline(never)]
 pub fn job<S: AsStr>(alloc: Global, words: &[S]) -> Result<Job, LineFault>
     ensures simple { is_simple the_command ≡ true }

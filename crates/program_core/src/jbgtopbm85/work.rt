@@ -1,14 +1,14 @@
-//! What the arguments ask for.
+//! The job that the arguments ask for.
 
-/// What the arguments ask for.
+/// The job that the arguments ask for.
 #[derive(Debug, Drop)]
 pub struct Job {
-    /// Whether to write the line about the stream in place of its image.
+    /// Whether to write the line about the stream instead of its image.
     pub info: bool,
-    /// The most rows that an image may have; without one, as many as there are.
+    /// The greatest number of rows that an image may have; unlimited if `None`.
     pub max_rows: Option<u32>,
-    /// The input file; standard input without one, or with `-`.
+    /// The input file; standard input if `None` or `-`.
     pub input: Option<String>,
-    /// The output file; standard output without one, or with `-`.
+    /// The output file; standard output if `None` or `-`.
     pub output: Option<String>,
 }

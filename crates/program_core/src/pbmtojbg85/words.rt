@@ -21,7 +21,7 @@ fn command<'a>(alloc: Global) -> Result<Command<'a>, AllocError>
     Ok(unversioned(alloc)?.version(VERSION))
 }
 
-/// The command, but for its version.
+/// The command, without its version.
 fn unversioned<'a>(alloc: Global) -> Result<Command<'a>, AllocError>
     ensures { IfOk result (λ c. with_version (app_of c) ≡ the_command) }
 {
@@ -74,7 +74,7 @@ fn with_numbers<'a>(alloc: Global) -> Result<Command<'a>, AllocError>
     )
 }
 
-/// The bytes of a comment that may be there.
+/// The bytes of a comment, if there is one.
 pub(super) fn comment_bytes(comment: &Option<String>) -> Option<&[u8]>
     ensures { option_map (λ b. b.now) result ≡ option_map string_bytes comment.now }
 {
@@ -84,7 +84,7 @@ pub(super) fn comment_bytes(comment: &Option<String>) -> Option<&[u8]>
     }
 }
 
-/// The number of an option with a default.
+/// The number for an option with a default.
 fn given(matches: &ArgMatches<'_>, id: &str) -> u32
     requires { is_some (number_in id.now (rows_of (found_of matches.now))) ≡ true }
     ensures { number_in id.now (rows_of (found_of matches.now)) ≡ Some result }
@@ -121,9 +121,9 @@ fn job_of(alloc: Global, matches: &ArgMatches<'_>) -> Result<Job, LineFault>
     })
 }
 
-/// The job that the arguments ask for, of which the first is the program's name.
+/// The job that the arguments ask for. The first argument is the name of the program.
 ///
-/// Not made in line, it gives back its stack before the job is done.
+/// The function is not inlined, so that its stack is released before the job is done.
 #[inline(never)]
 pub fn job<S: AsStr>(alloc: Global, words: &[S]) -> Result<Job, LineFault>
     ensures simple { is_simple the_command ≡ true }

@@ -1,4 +1,4 @@
-//! What the arguments ask for.
+//! The job that the arguments ask for.
 
 ghost use Rattle.std.specs.Prelude.{◌≡◌, None, option_map, string_bytes};
 ghost use Rattle.t85_core.specs.Options.{refusal_of};
@@ -6,23 +6,23 @@ ghost use Rattle.t85_core.specs.Options.{refusal_of};
 use super::words::comment_bytes;
 use t85_core::Options;
 
-/// What the arguments ask for, with options that are accepted.
+/// The job that the arguments ask for, with accepted options.
 #[derive(Debug, Drop)]
 pub struct Job {
     /// The options byte of the stream.
     pub p: u32,
-    /// The rows of a stripe.
+    /// The rows per stripe.
     pub s: u32,
-    /// The greatest offset of the adaptive pixel.
+    /// The greatest offset of the adaptive template pixel.
     pub m: u32,
-    /// The height that is announced; the image's own without one.
+    /// The height to announce, if any; otherwise the header has the image's own height.
     pub announced: Option<u32>,
-    /// Whether each stripe ends in a reset.
+    /// Whether each stripe ends in a reset (SDRST).
     pub reset: bool,
     pub comment: Option<String>,
-    /// The input file; standard input without one, or with `-`.
+    /// The input file; standard input if `None` or `-`.
     pub input: Option<String>,
-    /// The output file; standard output without one, or with `-`.
+    /// The output file; standard output if `None` or `-`.
     pub output: Option<String>,
     ghost accepted: { refusal_of p s m (option_map string_bytes comment) ≡ None },
 }

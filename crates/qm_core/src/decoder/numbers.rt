@@ -1,4 +1,4 @@
-//! The decoder as numbers.
+//! Exports and restores a decoder as numbers.
 
 ghost use Rattle.std.specs.Prelude.{◌≡◌, ◌+◌, ◌-◌, ◌%◌, ◌<◌, false, not};
 ghost use Rattle.qm_core.specs.Place.{same};
@@ -12,7 +12,7 @@ impl Decoder {
     ghost use Rattle.qm_core.specs.Decoder.{has_stopped, decoder_registers};
     ghost use Rattle.qm_core.specs.declared.source.Heard.TheVariants.{More};
 
-    /// The decoder as numbers. Whether it has stopped is not among them.
+    /// The decoder as numbers. They do not include whether it has stopped.
     pub fn registers(&self) -> DecoderRegisters
         ensures { result ≡ decoder_registers self.now }
     {

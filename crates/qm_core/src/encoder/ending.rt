@@ -1,4 +1,4 @@
-//! The end of a code.
+//! Ends a code.
 
 ghost use Rattle.std.specs.Prelude.{◌≡◌, ◌+◌, ◌-◌, ◌*◌, ◌^◌, ◌≤◌, ◌<◌, List, ℕ, false, Err, Ok, IsErr, OnOk, OnErr, not};
 ghost use Rattle.qm_core.specs.Counts.{one_more};
@@ -12,7 +12,7 @@ impl Encoder {
     ghost use Rattle.qm_core.specs.Encoder.{has_failed, EncoderIsAt, EndsOnce, FailsOnce, Goes, Finish};
     ghost use Rattle.qm_core.specs.Sink.{sink_at};
 
-    /// Pushes what is fixed, until fewer than 24 bits are left.
+    /// Pushes final bytes until fewer than 24 bits remain.
     fn shorten<W: CodeSink>(&mut self, out: &mut W) -> Result<(), CoderFault>
         requires failed { self.old.failed ≡ false }
         ensures short { self.new.bits ≤ 23 }
@@ -26,7 +26,8 @@ impl Encoder {
         self.shift_out(self.low, self.span, self.bits, out)
     }
 
-    /// Ends the code with the chosen number of the place, without an end marker.
+    /// Ends the code with the chosen number of the interval (the one divisible by the greatest power of two). Writes no
+    /// end marker.
     pub fn finish<W: CodeSink>(mut self, out: &mut W) -> Result<(), CoderFault>
         ensures fails { EndsOnce W.failed self out.old out.new result }
         ensures code { (p : Place) (pushed : List ℕ) → has_failed self ≡ false → EncoderIsAt self p
@@ -39,7 +40,7 @@ impl Encoder {
         self.finish_short(out)
     }
 
-    /// Ends the code where fewer than 24 bits are left.
+    /// Ends the code when fewer than 24 bits remain.
     fn finish_short<W: CodeSink>(self, out: &mut W) -> Result<(), CoderFault>
         requires short { self.bits ≤ 23 }
         ensures fault { IsErr result → result ≡ Err CoderFault.Write }
@@ -65,7 +66,7 @@ impl Encoder {
     }
 }
 
-/// The number from `low` up to, not including, `low + span` that the greatest power of two divides.
+/// The number from `low` up to, but not including, `low + span` that is divisible by the greatest power of two.
 fn chosen(low: u64, span: u32) -> u64
     requires some { 1 ≤ span }
     requires room { low + span ≤ 2 ^ 40 }

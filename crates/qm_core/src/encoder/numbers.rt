@@ -1,4 +1,4 @@
-//! The encoder as numbers.
+//! Exports and restores an encoder as numbers.
 
 ghost use Rattle.std.specs.Prelude.{◌≡◌, ◌+◌, ◌-◌, ◌*◌, ◌%◌, ◌<◌, List, ℕ, None, false, not};
 ghost use Rattle.qm_core.specs.Place.{Place, same};
@@ -73,15 +73,15 @@ impl Encoder {
         })
     }
 
-    /// How many pixels were put.
+    /// The number of pixels encoded.
     pub fn events(&self) -> u64
         ensures { result ≡ event_count self.now }
     {
         self.events
     }
 
-    /// How many bytes of the code wait at most, before they are stuffed: those that a carry may still change, and those
-    /// of the low end.
+    /// An upper bound on the code bytes held back, before stuffing: those that a carry may still change, and those of
+    /// the low end.
     pub fn waiting(&self) -> u64
         ensures { result ≡ waiting_bytes self.now }
     {

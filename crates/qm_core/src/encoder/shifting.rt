@@ -1,4 +1,4 @@
-//! Shifting the registers, and handing on the bytes of a code that are fixed.
+//! Shifts the registers, and moves final bytes of the code out of them.
 
 ghost use Rattle.std.specs.Prelude.{◌≡◌, ◌+◌, ◌-◌, ◌*◌, ◌^◌, ◌≤◌, ◌<◌, List, ℕ, false, Ok};
 ghost use Rattle.qm_core.specs.Place.{Place, renormalised};
@@ -41,7 +41,7 @@ impl Encoder {
     ghost use Rattle.qm_core.specs.Encoder.{RegistersAreAt, FailsOnce, Goes, held_by};
     ghost use Rattle.qm_core.specs.Sink.{sink_at};
 
-    /// Goes to a part that is too small, doubled until it is large enough.
+    /// Selects a subinterval that is too small, and doubles it until it is large enough (renormalization).
     #[inline(always)]
     pub(super) fn go<W: CodeSink>(
         &mut self,
@@ -70,7 +70,7 @@ impl Encoder {
         self.shift_out(to.low, to.span, to.bits, out)
     }
 
-    /// Moves the bytes above the last 16 bits to the tail, two at most, and pushes what is then fixed.
+    /// Moves the bytes above the last 16 bits to the tail, at most two, and pushes the bytes that are then final.
     #[inline(never)]
     pub(super) fn shift_out<W: CodeSink>(
         &mut self,

@@ -1,4 +1,4 @@
-//! What comes before the pixels of a row.
+//! Decodes what precedes the pixels of a row: the SLNTP pseudo-pixel.
 
 ghost use Rattle.std.specs.Prelude.{◌≡◌, ◌<◌, List, IsTrue, IsErr, OnOk, OnErr, IfOk, false, true};
 ghost use Rattle.qm_core.specs.Counts.{one_more};
@@ -14,8 +14,7 @@ use crate::place::RowPlace;
 use crate::shape::{Kept, Shape};
 use qm_core::{CodeBytes, Decoder, Learned, Stop};
 
-/// Decodes what comes before the pixels of a row, if that is still to come, and says whether the
-/// row is typical.
+/// Decodes the pseudo-pixel before a row, unless this has been done, and returns whether the row is typical.
 pub(super) fn begin_row<S: CodeBytes>(
     shape: Shape,
     place: RowPlace,
@@ -48,7 +47,7 @@ pub(super) fn begin_row<S: CodeBytes>(
     }
 }
 
-/// Decodes the pixel before a row: whether the row is typical.
+/// Decodes the pseudo-pixel before a row, and returns whether the row is typical.
 fn decode_flag<S: CodeBytes>(
     shape: Shape,
     previous: bool,

@@ -1,4 +1,4 @@
-//! Decoding the pixels of a byte.
+//! Decodes the pixels of a byte.
 
 ghost use Rattle.std.specs.Prelude.{◌≡◌, ◌+◌, ◌-◌, ◌*◌, ◌%◌, ◌<◌, IfErr, false};
 ghost use Rattle.qm_core.specs.Source.{Pulls};
@@ -15,9 +15,8 @@ use crate::shape::Shape;
 use crate::uniform::past_eight;
 use qm_core::{CodeBytes, Context, Decoder, Learned, Stop};
 
-/// Decodes n pixels of a byte. The registers `second_bytes` and `above_bytes` have the byte before,
-/// the byte and the one after it of the two rows above, `before` and the result the last pixels of
-/// the row.
+/// Decodes n pixels of a byte. The registers `second_bytes` and `above_bytes` contain the byte before, the byte itself
+/// and the byte after it, of the two rows above; `before` and the result contain the last pixels of the row.
 #[inline(always)]
 pub(crate) fn decode_byte<S: CodeBytes, const TWO_LINE: bool, const MOVED: bool>(
     shape: Shape,
@@ -55,7 +54,7 @@ pub(crate) fn decode_byte<S: CodeBytes, const TWO_LINE: bool, const MOVED: bool>
     Ok(past)
 }
 
-/// Decodes a pixel, to whose context the rows above give the first of these lanes.
+/// Decodes a pixel. The first of these lanes is the contribution of the rows above to its context.
 #[inline(always)]
 fn decode_one<S: CodeBytes>(
     lanes: u64,
@@ -125,7 +124,7 @@ fn decode_four<S: CodeBytes>(
     }
 }
 
-/// Decodes the pixels of a byte, the contexts of four at once.
+/// Decodes the pixels of a byte, computing the contexts of four at once.
 #[inline(always)]
 fn decode_eight<S: CodeBytes>(
     shape: Shape,
@@ -153,7 +152,7 @@ fn decode_eight<S: CodeBytes>(
     }
 }
 
-/// Decodes n pixels of a byte, the contexts of four at once where tables have them.
+/// Decodes n pixels of a byte, computing the contexts of four at once if tables contain them.
 #[inline(always)]
 fn decode_plain<S: CodeBytes, const TWO_LINE: bool, const MOVED: bool>(
     shape: Shape,
@@ -200,8 +199,8 @@ fn decode_plain<S: CodeBytes, const TWO_LINE: bool, const MOVED: bool>(
     }
 }
 
-/// Decodes n pixels of a byte, all eight in one step where that can be: where the byte is as the
-/// one above it, of one colour.
+/// Decodes n pixels of a byte; all eight in one step if the byte and the byte above it have the same single colour and
+/// no code byte is needed.
 #[inline(always)]
 pub(crate) fn decode_step<S: CodeBytes, const TWO_LINE: bool, const MOVED: bool>(
     shape: Shape,

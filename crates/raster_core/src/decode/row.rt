@@ -1,4 +1,4 @@
-//! Decoding the pixels of a plain row.
+//! Decodes the pixels of a row that is not typical.
 
 ghost use Rattle.std.specs.Prelude.{◌≡◌, ◌+◌, ◌-◌, ◌*◌, ◌%◌, ◌<◌, ◌≤◌, IfOk, IfErr};
 ghost use Rattle.qm_core.specs.Source.{Pulls};
@@ -16,7 +16,7 @@ use crate::place::{RowPlace, around_at, register_at};
 use crate::shape::Shape;
 use qm_core::{CodeBytes, Decoder, Learned};
 
-/// Decodes what is left of a byte of which some pixels are decoded, and writes it.
+/// Decodes the rest of a partially decoded byte, and stores it.
 #[inline(never)]
 fn end_byte<S: CodeBytes, const TWO_LINE: bool, const MOVED: bool>(
     shape: Shape,
@@ -69,7 +69,7 @@ fn end_byte<S: CodeBytes, const TWO_LINE: bool, const MOVED: bool>(
     }
 }
 
-/// Decodes the pixels of a plain row from a byte on.
+/// Decodes the pixels of a row, from a byte on.
 fn decode_bytes<S: CodeBytes, const TWO_LINE: bool, const MOVED: bool>(
     shape: Shape,
     offset: u8,
@@ -158,7 +158,7 @@ fn decode_bytes<S: CodeBytes, const TWO_LINE: bool, const MOVED: bool>(
     Ok(())
 }
 
-/// Decodes the rest of the pixels of a plain row.
+/// Decodes the rest of a row's pixels.
 fn decode_rest<S: CodeBytes, const TWO_LINE: bool, const MOVED: bool>(
     shape: Shape,
     offset: u8,
@@ -196,7 +196,7 @@ fn decode_rest<S: CodeBytes, const TWO_LINE: bool, const MOVED: bool>(
     rest
 }
 
-/// Decodes the rest of the pixels of a plain row, in whichever template.
+/// Decodes the rest of a row's pixels, with either template.
 pub(crate) fn decode_pixels<S: CodeBytes>(
     shape: Shape,
     offset: u8,

@@ -1,4 +1,4 @@
-//! Decoding bytes of one colour, many in one step.
+//! Decodes bytes of one colour, many in one step.
 
 ghost use Rattle.std.specs.Prelude.{◌≡◌, ℕ, ◌+◌, ◌-◌, ◌*◌, ◌^◌, ◌<◌, ◌≤◌, length, List, slice_index, false, true, nat_eq};
 ghost use Rattle.std.specs.Int.{div_ceil};
@@ -16,8 +16,8 @@ use crate::shape::Shape;
 use crate::uniform::{is_all_above, is_filled, is_run, paint, uniform_context};
 use qm_core::{Decoder, Learned};
 
-/// Decodes a byte in one step, if it is `byte`, all that its contexts read is of its colour, and no
-/// byte of the code is wanted. Else it does nothing.
+/// Decodes a byte in one step and returns true, if it is `byte`, all pixels of its contexts have its colour, and no
+/// code byte is needed. Otherwise does nothing and returns false.
 #[inline(always)]
 pub(super) fn skip_byte<const MOVED: bool>(
     shape: Shape,
@@ -50,8 +50,8 @@ pub(super) fn skip_byte<const MOVED: bool>(
     }
 }
 
-/// Decodes eight bytes in one step, where they are of a colour and below bytes of it, and no byte of
-/// the code is wanted. Else it does nothing. What comes before them has to be of the colour.
+/// Decodes eight bytes in one step and returns true, if they have one colour, the bytes above have the same colour, and
+/// no code byte is needed. Otherwise does nothing and returns false. The pixels before them must have the colour.
 #[inline(always)]
 fn skip_word(
     colour: bool,
@@ -80,7 +80,7 @@ fn skip_word(
     }
 }
 
-/// Decodes bytes of a colour by eights, and says how many eights, as long as that can be.
+/// Decodes bytes of one colour eight at a time, as long as possible, and returns how many eights.
 #[inline(never)]
 fn skip_words(
     colour: bool,
@@ -109,7 +109,7 @@ fn skip_words(
     words
 }
 
-/// The same after pixels of one colour alone, and writes the bytes; else it decodes nothing.
+/// The same if all preceding pixels in the registers have one colour, and stores the bytes; otherwise decodes nothing.
 #[inline(always)]
 pub(crate) fn skip_filled<const MOVED: bool>(
     current: &mut [u8],
@@ -138,7 +138,7 @@ pub(crate) fn skip_filled<const MOVED: bool>(
     ensures skipped { SkipsFilledAlong (filled_run (colour_of above_bytes) i (8 * result)) above.now
         second.now decoder.old learned.now decoder.new }
 {
-    // Most bytes that are in no run end here.
+    // Most bytes that are not part of a run end here.
     if second_bytes != above_bytes {
         return 0;
     }

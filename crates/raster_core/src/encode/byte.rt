@@ -1,4 +1,4 @@
-//! Encoding the pixels of a byte: all in one step, four at a time by lanes, or one after another.
+//! Encodes the pixels of a byte: all in one step, four at a time by lanes, or one after another.
 
 ghost use Rattle.std.specs.Prelude.{◌≤◌, false};
 ghost use Rattle.qm_core.specs.Puts.{HasRoom, Puts};
@@ -10,7 +10,7 @@ use crate::lanes::{far_of, first_pixels, last_pixels};
 use crate::row_byte::RowByte;
 use qm_core::{CodeSink, Coder, CoderFault, Context};
 
-/// Encodes the pixel in the first of these lanes, which have twice the contexts and the pixels.
+/// Encodes the pixel in the first of these lanes. Each lane is twice the context, plus the pixel.
 #[inline(always)]
 fn encode_one<W: CodeSink>(lanes: u64, coder: &mut Coder<'_, W>) -> Result<(), CoderFault>
     requires { HasRoom 1 coder.old }
@@ -40,7 +40,7 @@ fn encode_four<W: CodeSink>(lanes: u64, coder: &mut Coder<'_, W>) -> Result<(), 
     encode_two(lanes >> 32, coder)
 }
 
-/// Encodes a byte with three lines, the contexts of four pixels at once.
+/// Encodes a byte with the three-line template, computing the contexts of four pixels at once.
 #[inline(always)]
 fn encode_by_lanes<W: CodeSink, const MOVED: bool>(
     byte: RowByte,
@@ -88,7 +88,7 @@ pub(crate) fn encode_pixels<W: CodeSink, const TWO_LINE: bool, const MOVED: bool
     Ok(())
 }
 
-/// Encodes a byte, in one step where that can be.
+/// Encodes a byte, in one step if possible.
 #[inline(always)]
 pub(crate) fn encode_byte<W: CodeSink, const TWO_LINE: bool, const MOVED: bool>(
     byte: RowByte,

@@ -1,4 +1,4 @@
-//! Encoding the pixels of a row, byte after byte.
+//! Encodes the pixels of a row, byte by byte.
 
 ghost use Rattle.qm_core.specs.Puts.{HasRoom, Puts};
 ghost use Rattle.raster_core.specs.Machine.Bytes.{IsMadeFor};
@@ -11,7 +11,7 @@ use crate::row_byte::{Around, Template};
 use crate::rows::Rows;
 use qm_core::{CodeSink, Coder, CoderFault};
 
-/// Encodes the pixels of a row, in code that is made for its template.
+/// Encodes the pixels of a row, in code that is compiled for its template.
 fn encode_bytes<W: CodeSink, const TWO_LINE: bool, const MOVED: bool>(
     template: Template,
     rows: Rows<'_>,

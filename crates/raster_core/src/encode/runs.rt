@@ -1,4 +1,4 @@
-//! Encoding bytes among bytes of their colour.
+//! Encodes bytes whose surroundings have the same colour.
 
 ghost use Rattle.std.specs.Prelude.{◌≡◌, ◌≤◌};
 ghost use Rattle.qm_core.specs.Puts.{HasRoom, Skips};
@@ -11,8 +11,8 @@ use crate::rows::Rows;
 use crate::uniform::{byte_of, is_all, is_all_above, is_filled, uniform_context};
 use qm_core::{CodeSink, Coder};
 
-/// Encodes so many pixels of a colour in one step, each in the context of that colour, where no byte
-/// of the code comes of it; else it does nothing.
+/// Encodes the given number of pixels of a colour in one step, each in the context of that colour, and returns true, if
+/// this involves no doubling and no byte of the code; otherwise does nothing and returns false.
 #[inline(always)]
 pub(crate) fn skip_pixels<W: CodeSink>(colour: bool, count: u32, coder: &mut Coder<'_, W>) -> bool
     requires few { count ≤ 64 }
@@ -22,8 +22,8 @@ pub(crate) fn skip_pixels<W: CodeSink>(colour: bool, count: u32, coder: &mut Cod
     coder.skip(uniform_context(colour), colour, count)
 }
 
-/// Encodes bytes of a colour below bytes of it, eight in a step, as long as no byte of the code
-/// comes of it, and says how many. What comes before them has to be of the colour.
+/// Encodes bytes of one colour below bytes of that colour, eight in a step, as long as this involves no byte of the
+/// code, and returns how many bytes. The pixels before them must have the colour.
 #[inline(never)]
 fn skip_bytes<W: CodeSink>(
     colour: bool,
@@ -46,7 +46,7 @@ fn skip_bytes<W: CodeSink>(
     at - i
 }
 
-/// The same after pixels of one colour alone; else it encodes nothing.
+/// The same if all preceding pixels in the registers have one colour; otherwise encodes nothing.
 #[inline(always)]
 pub(crate) fn skip_run<W: CodeSink, const MOVED: bool>(
     around: Around,
@@ -59,7 +59,7 @@ pub(crate) fn skip_run<W: CodeSink, const MOVED: bool>(
     requires rest { HasRest W.CodeSink rows i coder.old }
     ensures { PassesRun W.CodeSink around (byte_range rows.entry i result) coder.old coder.new }
 {
-    // Most bytes that are in no run end here.
+    // Most bytes that are not part of a run end here.
     if around.second != around.above {
         return 0;
     }

@@ -1,4 +1,4 @@
-//! Streams in pieces, and what streams are made of.
+//! Tests of streams in pieces, and of the parts of streams.
 
 use crate::tests::{DECODED, Decoded, LATE, TWICE, TWO_ROWS, TWO_STRIPES};
 use crate::{
@@ -6,7 +6,7 @@ use crate::{
     t85_decode_start, t85_next_part, t85_stream_facts,
 };
 
-/// What is told of a stream with this version of the struct: the status, the stream's length, and its height.
+/// The result for a stream with this version of the struct: the status, the stream's length, and its height.
 fn facts(stream: &[u8], version: u32) -> (u8, usize, u32) {
     let mut told = T85Facts {
         version,
@@ -33,7 +33,8 @@ fn length_of_a_stream_is_told(rt: HostRuntime) {
     assert!(rt; facts(LATE, 2) == (50, 0, 0));
 }
 
-/// What is told of the part of a stream after so many others: the status, and the part's kind, place, length and stripe.
+/// The result for the part of a stream after `others` other parts: the status, and the part's kind, offset, length and
+/// stripe.
 fn part(stream: &[u8], others: u32, version: u32) -> (u8, u32, usize, usize, u32) {
     let mut told = T85Part {
         version,
@@ -67,7 +68,8 @@ fn parts_of_a_stream_are_told(rt: HostRuntime) {
     assert!(rt; part(LATE, 1, 2) == (50, 9, 0, 0, 0));
 }
 
-/// What calls with pieces of a stream have told: the last status, the rows of a byte that were given, and how many.
+/// The results of calls with pieces of a stream: the last status, the rows of one byte that were returned, and their
+/// number.
 #[derive(Clone, Copy)]
 struct Given {
     status: u8,
@@ -75,7 +77,7 @@ struct Given {
     count: usize,
 }
 
-/// Goes on with at most `step` bytes from this place of a stream on, or tells that none come, and answers where that led.
+/// Passes at most `step` bytes of a stream from a position on, or signals the end, and returns the new position.
 fn go_on(
     decoder: &mut T85Decoder,
     window: &mut [u8; 24],
@@ -102,7 +104,7 @@ fn go_on(
     at.saturating_add(taken)
 }
 
-/// What is given of a stream in pieces of so many bytes, and the height that is told at the end.
+/// The result for a stream in pieces of this many bytes, and the height reported at the end.
 fn in_pieces(stream: &[u8], step: usize, max_rows: u32) -> (Given, u32) {
     let mut decoder = T85Decoder::first(0);
     let mut window = [0xaa; 24];
@@ -143,8 +145,8 @@ fn heights_in_pieces_are_told(rt: HostRuntime) {
     assert!(rt; in_pieces(LATE, 1, 8).0.status == 24);
 }
 
-/// The status of a first call with the header of `LATE`, of a decoder with this version, and of a second one, which is lent
-/// so many bytes.
+/// The statuses of a first call with the header of `LATE`, for a decoder with this version, and of a second call with a
+/// window of this many bytes.
 fn statuses(version: u32, window: usize) -> (u8, u8) {
     let mut decoder = T85Decoder::first(9);
     decoder.version = version;
@@ -167,7 +169,7 @@ fn misuse_of_a_decoder_is_told(rt: HostRuntime) {
     assert!(rt; statuses(2, 3) == (53, 53));
 }
 
-/// The status of a beginning with a struct of this size, and the version that is there then.
+/// The status of initializing a struct of this size, and the version that it then contains.
 fn begun(size: usize) -> (u8, u32) {
     let mut decoder = T85Decoder::first(9);
     decoder.version = 7;

@@ -1,4 +1,4 @@
-//! Streams whose rows come one by one.
+//! Tests of encoding row by row.
 
 use crate::tests::{CODED, Coded, PLAIN};
 use crate::{
@@ -7,7 +7,7 @@ use crate::{
 };
 use t85_core::Learning;
 
-/// An encoder of zeros.
+/// An encoder of all zeros.
 fn zeros() -> T85Encoder {
     T85Encoder {
         version: 0,
@@ -41,7 +41,7 @@ fn zeros() -> T85Encoder {
     }
 }
 
-/// What calls have told of an image whose rows come one by one: the last status, and the bytes that were written.
+/// The results of calls for an image row by row: the last status, and the bytes written.
 #[derive(Drop)]
 struct Sent {
     status: u8,
@@ -50,7 +50,7 @@ struct Sent {
 }
 
 impl Sent {
-    /// Adds what a call has told.
+    /// Adds the result of a call.
     fn add(&mut self, status: u8, bytes: &[u8]) {
         self.status = status;
         for byte in bytes {
@@ -67,7 +67,7 @@ impl Sent {
     }
 }
 
-/// The encoder of an example that was begun with the comment "hi", with a window and a room of so many bytes.
+/// The encoder of an example, started with the comment "hi", with a window and an output buffer of the given sizes.
 fn begun(example: &Coded, window: &mut [u8], room: usize) -> (T85Encoder, Sent) {
     let mut encoder = zeros();
     let mut sent = Sent {
@@ -92,7 +92,7 @@ fn begun(example: &Coded, window: &mut [u8], room: usize) -> (T85Encoder, Sent) 
     (encoder, sent)
 }
 
-/// Goes on with a row, or with the end where there is none, in so many bytes of room fewer than are told.
+/// Passes a row, or the end if there is none, with an output buffer this many bytes shorter than reported.
 fn go_on(
     encoder: &mut T85Encoder,
     row: Option<&[u8]>,
@@ -111,7 +111,7 @@ fn go_on(
     sent.add(status, &stream[..written.min(128)]);
 }
 
-/// Whether an example's stream is written where its rows come one by one.
+/// Whether an example's stream is written when its rows are passed one by one.
 fn is_sent(example: &Coded) -> bool {
     let mut window = [0xaa; 24];
     let (mut encoder, mut sent) = begun(example, &mut window, 64);
@@ -139,7 +139,7 @@ fn rows_that_come_one_by_one_are_encoded(rt: HostRuntime) {
     }
 }
 
-/// Two rows of a pixel, where nine are announced and may come, in stripes of one.
+/// Two rows of one pixel, where nine are announced and allowed, in stripes of one row.
 static TWO_OF_NINE: Coded = Coded {
     width: 1,
     height: 9,
@@ -173,8 +173,8 @@ fn fewer_rows_than_are_announced_are_encoded(rt: HostRuntime) {
     assert!(rt; sent.is(54, TWO_OF_NINE.stream));
 }
 
-/// The status of a row, or of the end, of an encoder, with a window of so many bytes and so many bytes of room fewer than
-/// are told.
+/// The status of a row, or of the end, for an encoder, with a window of this many bytes and an output buffer this many
+/// bytes shorter than reported.
 fn status_of(
     encoder: &mut T85Encoder,
     row: Option<&[u8]>,
@@ -217,7 +217,7 @@ fn refused_ends_leave_an_encoder_as_it_was(rt: HostRuntime) {
     assert!(rt; sent.is(0, CODED[0].stream));
 }
 
-/// The statuses of a row, and of the end, of an encoder that was begun and has this version and this as what comes next.
+/// The statuses of a row, and of the end, for an encoder with this version and this value of `next`.
 fn statuses(version: u32, next: u32) -> (u8, u8) {
     let mut window = [0xaa; 24];
     let (mut encoder, mut sent) = begun(&CODED[0], &mut window, 64);
@@ -238,7 +238,7 @@ fn encoders_that_were_not_begun_are_told(rt: HostRuntime) {
     assert!(rt; statuses(0, 2) == (53, 53));
 }
 
-/// The status of the beginning of an example in a room of so many bytes, and how many bytes were written.
+/// The status of starting an example with an output buffer of this many bytes, and the number of bytes written.
 fn starts(example: &Coded, room: usize) -> (u8, usize) {
     let mut window = [0xaa; 24];
     let (_, sent) = begun(example, &mut window, room);
@@ -253,8 +253,9 @@ fn beginnings_want_room_for_the_head(rt: HostRuntime) {
     assert!(rt; starts(&CODED[4], 28) == (0, 28));
 }
 
-/// The status of a row of an encoder, one of whose numbers is none that an encoder has, and which: another place of the
-/// window, another width, no rows in a stripe, more of them than came, another offset, more bits, a write that failed.
+/// The status of a row for an encoder with one number that no encoder has. `which` selects it: another place of the
+/// window, another width, no rows per stripe, more rows in the stripe than passed, another offset, more bits, a failed
+/// write.
 fn status_with(which: u32) -> u8 {
     let mut window = [0xaa; 24];
     let (mut encoder, mut sent) = begun(&CODED[0], &mut window, 64);

@@ -1,4 +1,4 @@
-//! The rows of a stripe beside their code.
+//! The rows of a stripe, apart from their code.
 
 ghost use Rattle.std.specs.Prelude.{◌≡◌, ◌≤◌, ◌<◌, ◌↔◌, ℕ, List, IsTrue, IfSome, option_map};
 ghost use Rattle.qm_core.specs.Place.{Place, state_of};
@@ -15,12 +15,12 @@ use crate::segments::Move;
 use qm_core::{Decoder, Learned};
 use raster_core::{Kept, Shape, skip_rows};
 
-/// How many typical rows are tried at once, and how many where those can't be taken.
+/// The number of typical rows that are tried at once, and the number tried if that fails.
 const MANY: u32 = 16;
 
 const FEW: u32 = 2;
 
-/// Takes many typical rows or few, after another one, and answers how many.
+/// Decodes `MANY` or `FEW` typical rows after another typical row, and returns how many.
 #[inline(always)]
 pub fn skip_many(
     shape: Shape,
@@ -50,7 +50,7 @@ pub fn skip_many(
     skip_few(shape, kept, learned, decoder, left)
 }
 
-/// Takes few typical rows, after another one, and answers how many.
+/// Decodes `FEW` typical rows after another typical row, and returns how many.
 #[inline(always)]
 fn skip_few(shape: Shape, kept: Kept, learned: &Learned, decoder: &mut Decoder, left: u32) -> u32
     ensures none { result ≡ 0 → decoder.new ≡ decoder.old }
@@ -68,7 +68,7 @@ fn skip_few(shape: Shape, kept: Kept, learned: &Learned, decoder: &mut Decoder, 
     if all_come { FEW } else { 0 }
 }
 
-/// Whether no move is made from this row of a stripe on.
+/// Whether no move takes place from this row of a stripe on.
 pub fn is_settled(at: Option<Move>, row: u32) -> bool
     ensures { IsTrue result ↔ ((k o : ℕ) → row ≤ k → offset_at (option_map pair_of at) k o ≡ o) }
 {
@@ -78,7 +78,7 @@ pub fn is_settled(at: Option<Move>, row: u32) -> bool
     }
 }
 
-/// Puts the same bytes so many times.
+/// Writes the same bytes `count` times.
 pub fn put_copies<P: ByteTarget>(bytes: &[u8], count: u32, target: &mut P) -> Result<(), Fault>
     ensures { PutsBytes (copies count bytes.now) (P.view target.old) (P.view target.new) result }
 {
@@ -90,7 +90,7 @@ pub fn put_copies<P: ByteTarget>(bytes: &[u8], count: u32, target: &mut P) -> Re
     Ok(())
 }
 
-/// The offset in a row of a stripe, where it was another in the row before.
+/// The offset in a row of a stripe, given the offset in the row before.
 pub fn offset_in(at: Option<Move>, row: u32, before: u8) -> u8
     requires at { IfSome at (λ to. to.offset ≤ 127) }
     requires before { before ≤ 127 }

@@ -1,4 +1,4 @@
-//! Encoding an image row by row.
+//! Encodes an image row by row.
 
 pub mod numbers;
 mod stripes;
@@ -14,28 +14,28 @@ use pbm_core::{Output, Size};
 use qm_core::Encoder;
 use raster_core::{Kept, Shape, Window};
 
-/// An encoder of an image whose rows come one by one. It has no memory of its own: the three rows are in a window that
-/// each call is lent, and so is what is learned of the image.
+/// An encoder for an image whose rows are passed one by one. It owns no memory: each call borrows the window with the
+/// three rows, and the context states and counts.
 #[derive(Drop)]
 pub struct RowEncoder {
-    /// The width, and the most rows that may come.
+    /// The width, and the greatest number of rows.
     size: Size,
     shape: Shape,
     stripe_rows: u32,
     /// The height in the header.
     announced: u32,
-    /// Whether the image may end early.
+    /// Whether the image may end early, because a height was announced.
     may_end: bool,
     /// Whether there are offsets to choose from.
     has_candidates: bool,
     reset: bool,
     kept: Kept,
     encoder: Encoder,
-    /// The rows that came.
+    /// The number of rows encoded.
     rows: u32,
-    /// Those of them that are in the stripe that runs.
+    /// The number of those that belong to the current stripe.
     in_stripe: u32,
-    /// Whether the rows of this stripe are counted.
+    /// Whether the rows of the current stripe are counted in the tally.
     is_counted: bool,
     /// Whether the stream was ended, or a write failed.
     is_closed: bool,
@@ -52,7 +52,7 @@ impl RowEncoder {
     ghost use Rattle.t85_core.specs.Steps.RowCalls.{HasNoRows, MayEnd};
     ghost use Rattle.t85_core.specs.Steps.RowSteps.{IsUntaught, StandsFirst};
 
-    /// Before the first row of an image. The head of the stream is the caller's to write.
+    /// An encoder before the first row of an image. The caller writes the head of the stream.
     #[inline(always)]
     pub(crate) fn new(size: Size, options: &Options<'_>) -> RowEncoder
         requires { is_low (settings_of options.now) size.height ≡ false }
@@ -82,7 +82,7 @@ impl RowEncoder {
         }
     }
 
-    /// How many rows may still come.
+    /// The number of further rows that are accepted.
     pub fn left(&self) -> u32
         requires within { self.now.rows ≤ self.now.size.height }
         ensures { result + self.now.rows ≡ self.now.size.height }
@@ -90,7 +90,7 @@ impl RowEncoder {
         self.size.height - self.rows
     }
 
-    /// Whether nothing more is taken: a write failed, or the stream was ended.
+    /// Whether nothing more is accepted, because a write failed or the stream was ended.
     pub fn is_closed(&self) -> bool
         ensures { result ≡ self.now.is_closed }
     {
@@ -106,14 +106,14 @@ impl RowEncoder {
         self.rows > 0 && (self.may_end || self.rows == self.size.height)
     }
 
-    /// How many bytes the next row makes the encoder write at most.
+    /// An upper bound on the bytes that the encoder writes for the next row.
     pub fn most_row_bytes(&self) -> u64
         ensures { result ≡ most_row_bytes self.now }
     {
         2 * self.encoder.waiting() + 4 * (u64::from(self.size.width) + 1) + 10
     }
 
-    /// How many bytes it writes at most where the stream ends here.
+    /// An upper bound on the bytes that it writes if the stream ends here.
     pub fn most_end_bytes(&self) -> u64
         ensures { result ≡ most_end_bytes self.now }
     {
@@ -141,7 +141,7 @@ impl RowEncoder {
     ghost use Rattle.t85_core.specs.Steps.ByRow.{view_of, MayGoOn, Stands, TakesNextRow, CutsRow, EndsImage, CutsImage, lent_to};
     ghost use Rattle.t85_core.specs.RowImage.{image_for};
 
-    /// Begins a stream: writes its head, and makes the window white. What was learned of another image is forgotten.
+    /// Starts a stream: writes its head, makes the window white, and resets the contexts and counts.
     pub fn start<W: Output>(
         size: Size,
         options: &Options<'_>,
@@ -171,9 +171,9 @@ impl RowEncoder {
         start_held(size, options, window, learning, &mut buffer)
     }
 
-    /// Takes the next row: its pixels, packed, in whole bytes; what is after the last of them is not looked at. After a
-    /// failed write, and after the end, nothing is done. What is lent may hold anything: only where it is as the last call
-    /// left it does the contract say what is written.
+    /// Encodes the next row: its pixels, packed, in a whole number of bytes; bits after the last pixel are ignored.
+    /// After a failed write, and after the end, it does nothing. The borrowed memory may contain anything; the contract
+    /// says what is written only if it is as the last call left it.
     pub fn put_row<W: Output>(
         &mut self,
         row: &[u8],
@@ -210,7 +210,7 @@ impl RowEncoder {
         self.put_held(window, learning, &mut buffer)
     }
 
-    /// Takes the row that the window has, and writes what is held.
+    /// Encodes the window's current row, and writes the buffer.
     fn put_held<W: Output>(
         &mut self,
         window: &mut Window<'_>,
@@ -230,7 +230,7 @@ impl RowEncoder {
         ensures window { StaysWindow window.old window.new }
         ensures writes { WritesBehind buffer.old buffer.new result }
     {
-        // What the proof cites of what stands after some rows.
+        // The proof uses these laws about the output after some rows.
         fronts();
         self.put_taken(window, learning, buffer)?;
         match buffer.write_held() {
@@ -242,7 +242,7 @@ impl RowEncoder {
         }
     }
 
-    /// Ends the stream: with the height, where it is less than what was announced. Nothing is taken after it.
+    /// Ends the stream, with a new height if the image is lower than announced. Nothing is accepted after this.
     pub fn finish<W: Output>(
         &mut self,
         window: &mut Window<'_>,
@@ -272,7 +272,7 @@ impl RowEncoder {
         self.end_held(window, learning, &mut buffer)
     }
 
-    /// Ends the stream, and writes what is held.
+    /// Ends the stream, and writes the buffer.
     fn end_held<W: Output>(
         &mut self,
         window: &mut Window<'_>,

@@ -1,4 +1,4 @@
-//! What is learned of an image while it is encoded.
+//! What is learned about an image while it is encoded.
 
 ghost use Rattle.std.specs.Prelude.{◌≡◌, ℕ, [], false};
 ghost use Rattle.qm_core.specs.Place.{fresh};
@@ -11,13 +11,13 @@ use pbm_core::Size;
 use qm_core::Learned;
 use raster_core::Tally;
 
-/// What a `RowEncoder` learns of an image: what its pixels are like in each context, and which offset would have served a
-/// stripe. Each call is lent it as the last one left it. `RowEncoder::start` takes any, and forgets what that had learned.
-/// A caller may lend it from memory that anything stands in: each call is safe then, too.
+/// The memory of a `RowEncoder`: the adaptive state of each context, and the counts from which the offset of the
+/// adaptive pixel is chosen. Each call borrows it, as the last one left it; `RowEncoder::start` accepts any, and resets
+/// it. It may be in caller-supplied memory with arbitrary contents: each call is safe then, too.
 #[repr(C)]
 #[derive(Drop)]
 pub struct Learning {
-    // The arrays stand one behind another, so that they are filled with zeros once and together.
+    // The arrays are adjacent, so that they are filled with zeros once and together.
     pub(crate) tally: Tally,
     pub(crate) learned: Learned,
 }
@@ -25,7 +25,7 @@ pub struct Learning {
 impl Learning {
     ghost use Rattle.t85_core.specs.Steps.RowSteps.{IsUntaught};
 
-    /// Nothing is learned, of no image yet.
+    /// Initial context states and counts, for any image.
     pub fn new() -> Learning
         ensures learned { result.learned ≡ fresh }
         ensures counts { (width current : ℕ) → CountsLines result.tally width current [] }
@@ -36,7 +36,7 @@ impl Learning {
         }
     }
 
-    /// Nothing is learned yet of an image of this size.
+    /// Initial context states and counts for an image of this size.
     #[inline(always)]
     pub(crate) fn first(size: Size, options: &Options<'_>) -> Learning
         requires { is_low (settings_of options.now) size.height ≡ false }

@@ -1,4 +1,4 @@
-//! Rows that are given, and the beginning of a stream.
+//! Rows that a caller passes, and the beginning of a stream.
 
 ghost use Rattle.std.specs.Prelude.{◌≡◌, ◌<◌, ◌-◌, [], ℕ, length, slice_index, OnErr, IfOk, IfErr, false};
 ghost use Rattle.pbm_core.specs.Device.{AppendsBeginning};
@@ -26,35 +26,35 @@ use pbm_core::laws::masks;
 use pbm_core::{Output, Size};
 use raster_core::{Window, current_row};
 
-/// Goes a row down in the window, and takes that row. What is after its last pixel is not looked at.
+/// Moves down one row in the window, and copies the row there. Bits after its last pixel are ignored.
 pub fn take_row(row: &[u8], size: Size, window: &mut Window<'_>)
     requires whole { length row.now ≡ bytes_of_row size.width }
     requires width { width_of window.old ≡ size.width }
     ensures below { IsBelow (pixels_of size.width row.now) (held window.old) (held window.new) }
     ensures window { TurnsWindow window.old window.new }
 {
-    // What the proof cites of rows.
+    // The proof uses these laws about rows.
     masks();
     window.turn();
     let current = current_row(window.width(), window.place());
     copy_row(row, size, &mut window.rows[current]);
 }
 
-/// Makes the bits after the last pixel 0, in all three rows: anything may stand in a window that a caller keeps.
+/// Clears the bits after the last pixel in all three rows, since a window that a caller keeps may contain anything.
 pub fn clear_padding(size: Size, window: &mut Window<'_>)
     requires { width_of window.old ≡ size.width }
     ensures lined { IsLined (held window.new) }
     ensures stays { IsLined (held window.old) → held window.new ≡ held window.old }
     ensures window { StaysWindow window.old window.new }
 {
-    // What the proof cites of rows.
+    // The proof uses these laws about rows.
     masks();
     turn_cleared(size, window);
     turn_cleared(size, window);
     turn_cleared(size, window);
 }
 
-/// Goes a row down in the window, to the row that is there, and makes the bits after its last pixel 0.
+/// Moves down one row in the window, and clears the bits after the last pixel of the row that is there.
 fn turn_cleared(size: Size, window: &mut Window<'_>)
     requires { width_of window.old ≡ size.width }
     ensures whole { length (held window.old).second ≡ bytes_of_row size.width }
@@ -68,7 +68,7 @@ fn turn_cleared(size: Size, window: &mut Window<'_>)
     clear_last(size, &mut window.rows[current]);
 }
 
-/// Copies a row, and makes the bits after its last pixel 0.
+/// Copies a row, and clears the bits after its last pixel.
 fn copy_row(row: &[u8], size: Size, to: &mut [u8])
     requires whole { length row.now ≡ bytes_of_row size.width }
     requires room { length to.old ≡ bytes_of_row size.width }
@@ -79,7 +79,7 @@ fn copy_row(row: &[u8], size: Size, to: &mut [u8])
     clear_last(size, to);
 }
 
-/// Makes the bits after the last pixel 0.
+/// Clears the bits after the last pixel.
 fn clear_last(size: Size, row: &mut [u8])
     requires { length row.old ≡ bytes_of_row size.width }
     ensures masked { row.new ≡ masked_row size.width row.old }
@@ -90,7 +90,7 @@ fn clear_last(size: Size, row: &mut [u8])
     row[last] -= row[last] % (1u8 << padding);
 }
 
-/// Begins a stream, and writes what is held.
+/// Begins a stream, and writes the buffer.
 pub fn start_held<W: Output>(
     size: Size,
     options: &Options<'_>,

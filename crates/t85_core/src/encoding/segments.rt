@@ -1,4 +1,4 @@
-//! Writing segments and end markers.
+//! Writes marker segments and end markers (T.82, 6.2).
 
 ghost use Rattle.std.specs.Prelude.{◌<◌, ◌+◌, ◌^◌, length, ◌++◌};
 ghost use Rattle.t85_core.specs.Grammar.{Move, Comment, segment_bytes, marker_bytes, NewLength};
@@ -11,7 +11,7 @@ use crate::output_buffer::ByteTarget;
 use crate::segments::{ATMOVE, COMMENT, NEWLEN, SDNORM, SDRST};
 use byteorder::{BigEndian, ByteOrder};
 
-/// Writes a comment.
+/// Writes a COMMENT segment.
 pub fn write_comment<P: ByteTarget>(text: &[u8], target: &mut P) -> Result<(), Fault>
     requires fits { length text.now < 2 ^ 32 }
     ensures { PutsBytes (segment_bytes (Comment text.now)) (P.view target.old) (P.view target.new)
@@ -23,7 +23,7 @@ pub fn write_comment<P: ByteTarget>(text: &[u8], target: &mut P) -> Result<(), F
     target.put(text)
 }
 
-/// Writes a move, at the first row of a stripe.
+/// Writes an ATMOVE segment for row 0 of a stripe.
 pub fn write_move<P: ByteTarget>(offset: u8, target: &mut P) -> Result<(), Fault>
     ensures { PutsBytes (segment_bytes (Move 0 offset)) (P.view target.old) (P.view target.new)
         result }
@@ -31,7 +31,7 @@ pub fn write_move<P: ByteTarget>(offset: u8, target: &mut P) -> Result<(), Fault
     target.put(&[ESCAPE, ATMOVE, 0, 0, 0, 0, offset, 0])
 }
 
-/// Writes the end marker of a stripe.
+/// Writes the end marker of a stripe: SDRST with a reset, otherwise SDNORM.
 pub fn write_marker<P: ByteTarget>(reset: bool, target: &mut P) -> Result<(), Fault>
     ensures { PutsBytes (marker_bytes reset) (P.view target.old) (P.view target.new) result }
 {
@@ -39,7 +39,7 @@ pub fn write_marker<P: ByteTarget>(reset: bool, target: &mut P) -> Result<(), Fa
     target.push(if reset { SDRST } else { SDNORM })
 }
 
-/// Writes what comes after the last stripe of an image of this height, where this one was announced.
+/// Writes what follows the last stripe of an image of this height, given the announced height.
 pub fn write_ending<P: ByteTarget>(
     height: u32,
     announced: u32,
@@ -56,7 +56,7 @@ pub fn write_ending<P: ByteTarget>(
     }
 }
 
-/// Writes a height and an empty data entity.
+/// Writes a NEWLEN segment and an empty stripe data entity.
 fn write_new_height<P: ByteTarget>(height: u32, reset: bool, target: &mut P) -> Result<(), Fault>
     ensures { PutsBytes (segment_bytes (NewLength height) ++ marker_bytes reset) (P.view target.old)
         (P.view target.new) result }

@@ -1,4 +1,4 @@
-//! The code of a stripe on its way to the target.
+//! Passes the code of a stripe to a byte target.
 
 ghost use Rattle.std.specs.Prelude.{◌≡◌};
 ghost use Rattle.t85_core.specs.Steps.Buffers.{TakesByte, RefusesByte};
@@ -7,7 +7,7 @@ ghost use Rattle.t85_core.specs.Steps.Views.{sink_view};
 use crate::output_buffer::ByteTarget;
 use qm_core::{CodeSink, SinkFault};
 
-/// A target as a sink of code bytes.
+/// A byte target as a sink for code bytes.
 #[derive(Drop)]
 pub struct EntitySink<'a, P: ByteTarget> {
     target: &'a mut P,

@@ -1,4 +1,4 @@
-//! The steps of an encoder: the head, the move of a stripe, a row, and the end of a code.
+//! The steps of an encoder: the head of the stream, the move of a stripe, a row, and the end of a code.
 
 ghost use Rattle.std.specs.Prelude.{[], ◌∷◌, ◌++◌, nat_lt, length, None, IfSome, ◌≡◌, ◌≤◌, ◌<◌, ◌+◌, ◌-◌, ◌^◌, List, ℕ, OnOk, OnErr, IfErr, false};
 ghost use Rattle.qm_core.specs.Place.{Place, state_of};
@@ -34,7 +34,7 @@ use pbm_core::Size;
 use qm_core::{CodeSink, Encoder, Learned};
 use raster_core::{Kept, Shape, Tally, Window, encode_row};
 
-/// Writes the header of the stream, and the comment, if there is one.
+/// Writes the header of the stream, and the comment if there is one.
 pub fn write_head<P: ByteTarget>(
     size: Size,
     options: &Options<'_>,
@@ -52,7 +52,7 @@ pub fn write_head<P: ByteTarget>(
     }
 }
 
-/// Moves the adaptive pixel where that would have served the stripe before, and writes the move.
+/// Moves the adaptive pixel if that would have served the previous stripe, and writes the move.
 pub fn move_pixel<P: ByteTarget>(
     kept: &mut Kept,
     tally: &Tally,
@@ -80,7 +80,7 @@ pub fn move_pixel<P: ByteTarget>(
     }
 }
 
-/// Codes the row that the window has.
+/// Encodes the window's current row.
 pub fn code_row<P: ByteTarget>(
     shape: Shape,
     window: &Window<'_>,
@@ -104,7 +104,7 @@ pub fn code_row<P: ByteTarget>(
     send_row(shape, window, kept, learned, encoder, &mut ink)
 }
 
-/// Codes the row that the window has into a sink.
+/// Encodes the window's current row into a sink.
 fn send_row<C: CodeSink>(
     shape: Shape,
     window: &Window<'_>,
@@ -141,7 +141,7 @@ fn end_code<P: ByteTarget>(encoder: Encoder, target: &mut P) -> Result<(), Fault
     send_end(encoder, &mut ink)
 }
 
-/// Ends a code into a sink.
+/// Ends a code in a sink.
 fn send_end<C: CodeSink>(encoder: Encoder, sink: &mut C) -> Result<(), Fault>
     requires going { has_failed encoder ≡ false }
     ensures ended { (p : Place) (pushed : List ℕ) → EncoderIsAt encoder p pushed →
@@ -167,7 +167,7 @@ pub fn end_entity<P: ByteTarget>(encoder: Encoder, reset: bool, target: &mut P) 
     write_marker(reset, target)
 }
 
-/// Counts the row that the window has, against an offset where one is given.
+/// Counts the window's current row, with the given offset, if there is one.
 pub fn count_row(counted: Option<u8>, width: u32, window: &Window<'_>, tally: &mut Tally)
     requires width { width_of window.now ≡ width }
     requires offset { IfSome counted (λ offset. offset ≤ 127) }
@@ -182,7 +182,8 @@ pub fn count_row(counted: Option<u8>, width: u32, window: &Window<'_>, tally: &m
     }
 }
 
-/// Goes on after an end marker. All stays, or is as at the top of an image where the marker resets.
+/// Prepares for the next stripe after an end marker: everything stays as it is or, if the marker resets, returns to its
+/// state at the top of an image.
 pub fn go_on(reset: bool, window: &mut Window<'_>, kept: &mut Kept, learned: &mut Learned)
     ensures next { (last : RowStart) → IsHeldBy None 0 last kept.old learned.old (held window.old) →
         IsHeldBy None 0 (first_row_start (next_stripe_start (width_of window.old) reset last))

@@ -1,4 +1,4 @@
-//! Going from part to part of a stream.
+//! Steps from part to part of a stream.
 
 ghost use Rattle.std.specs.Prelude.{◌≡◌, ◌≤◌, ◌<◌, ◌+◌, ◌-◌, ◌^◌, Some, None, length, true};
 ghost use Rattle.t85_core.specs.Options.{fields_of};
@@ -31,12 +31,12 @@ impl PartWalk {
         }
     }
 
-    /// Tells the next part of a stream that is all there, from its first header byte on, and goes behind it. Where there is
-    /// none, because all were told or the next one breaks, the walk stays where it is.
+    /// Returns the next part of a stream that is complete in memory, beginning with its header, and moves past it. If
+    /// there is none, because all parts have been returned or the next one is broken, the walk does not move.
     ///
-    /// The faults are those of `summarize`, but for a failed read. A height behind the last data entity and the comments
-    /// before it are parts; nothing else is that stands there. Any numbers are safe; what is told is true of a walk that
-    /// began at `start` and went on in the same stream.
+    /// The errors are those of `summarize`, except a failed read. A NEWLEN after the last stripe data entity, and the
+    /// comments before it, are parts; nothing else after that entity is. Arbitrary numbers are safe; the results are
+    /// correct for a walk that began with `start` and continued in the same stream.
     pub fn next(&mut self, stream: &[u8]) -> Found
         ensures told { (from : Passed) → IsBehind stream.now self.old from →
             TellsNext stream.now self.old self.new from result }
@@ -58,7 +58,7 @@ impl PartWalk {
         self.next_in_body(&header, stream)
     }
 
-    /// Tells the next part behind the header.
+    /// Returns the next part after the header.
     fn next_in_body(&mut self, header: &Header, stream: &[u8]) -> Found
         ensures told { TellsThere (fields_of header.now) stream.now self.old self.new result }
         ensures any { TellsOfAny stream.now self.old self.new result }
@@ -71,7 +71,7 @@ impl PartWalk {
         }
     }
 
-    /// The height that a segment gave, or else the header's.
+    /// The height that a NEWLEN gave, or else the header's.
     fn height_in_use(&self, header: &Header) -> u32
         ensures { result ≡ height_told (fields_of header.now) self.now }
     {
@@ -82,14 +82,14 @@ impl PartWalk {
         }
     }
 
-    /// Whether a segment gave a height.
+    /// Whether a NEWLEN gave a height.
     fn is_given(&self) -> bool
         ensures { result ≡ is_given self.now }
     {
         self.late_height != 0
     }
 
-    /// Tells the next part of a stripe.
+    /// Returns the next part of a stripe.
     fn next_in_stripe(&mut self, header: &Header, stream: &[u8]) -> Found
         requires few { self.old.entities < 2 ^ 32 - 1 }
         ensures told { TellsInStripe (fields_of header.now) stream.now self.old self.new result }
@@ -112,7 +112,7 @@ impl PartWalk {
         }
     }
 
-    /// Tells what comes behind the last stripe.
+    /// Returns the next part after the last stripe.
     fn next_behind(&mut self, header: &Header, stream: &[u8]) -> Found
         ensures told { TellsBehind (fields_of header.now) stream.now self.old self.new result }
         ensures any { TellsOfAny stream.now self.old self.new result }
@@ -126,7 +126,7 @@ impl PartWalk {
         }
     }
 
-    /// How many bytes an empty data entity has that stands where a height has come last.
+    /// The length of an empty stripe data entity after a height that came last.
     fn tail_len(&self, stream: &[u8]) -> usize
         ensures is { TailIs self.now stream.now result }
         ensures fits { (0 < result → self.now.offset ≤ length stream.now) × (result ≤ 2) }
@@ -140,7 +140,7 @@ impl PartWalk {
         }
     }
 
-    /// Whether a height comes behind the last stripe, after comments or none.
+    /// Whether a NEWLEN follows the last stripe, after any comments.
     fn sees_height(&self, header: &Header, stream: &[u8]) -> bool
         ensures { SeesHeight (fields_of header.now) stream.now self.now result }
     {
@@ -162,7 +162,7 @@ impl PartWalk {
         }
     }
 
-    /// Tells a comment behind the last stripe, or the height there, where it is known that one comes.
+    /// Returns a comment after the last stripe, or the NEWLEN there, if it is known that one follows.
     fn next_before_height(&mut self, header: &Header, stream: &[u8]) -> Found
         ensures told { TellsBefore (fields_of header.now) stream.now self.old self.new result }
         ensures any { TellsOfAny stream.now self.old self.new result }
@@ -178,7 +178,7 @@ impl PartWalk {
         }
     }
 
-    /// Goes behind a part that was read, of so many bytes, and tells it.
+    /// Moves past a part that was read, of this length, and returns it.
     fn take(&mut self, taken: Taken, len: usize) -> Found
         requires fits { self.old.offset + len < 2 ^ 64 }
         requires few { CanPass taken self.old }
@@ -195,7 +195,7 @@ impl PartWalk {
         })
     }
 
-    /// The walk behind such a part.
+    /// The walk after such a part.
     fn behind(&self, taken: Taken, len: usize) -> PartWalk
         requires fits { self.now.offset + len < 2 ^ 64 }
         requires few { CanPass taken self.now }
@@ -225,7 +225,7 @@ impl PartWalk {
         }
     }
 
-    /// Goes behind the header, and tells it.
+    /// Moves past the header, and returns it.
     fn pass_header(&mut self) -> Found
         ensures told { result ≡ found.Part header_part }
         ensures behind { self.new ≡ header_walk }

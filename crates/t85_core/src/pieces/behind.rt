@@ -1,4 +1,4 @@
-//! What stands behind an end marker, while a height may still come.
+//! Parses what follows an end marker, while a height may still arrive.
 
 ghost use Rattle.std.specs.Prelude.{◌≡◌, ◌≤◌, ◌<◌, ◌∷◌, ℕ, List, None, false, length, IfErr, IfOk, OnOk};
 ghost use Rattle.t85_core.specs.Options.{fields_of};
@@ -10,16 +10,16 @@ use crate::pieces::piece::Piece;
 use crate::pieces::walk::is_comment;
 use crate::segments::{self, Move, Next, Place, next_piece, number};
 
-/// The segments behind an end marker that came, or before the first stripe.
+/// The marker segments that followed an end marker, or precede the first stripe.
 #[derive(Clone, Copy, Drop)]
 pub struct Behind {
     /// The move of the stripe that they begin.
     pub at: Option<Move>,
-    /// How many bytes are to come of a comment that has begun.
+    /// The number of bytes still to come of a comment that has begun.
     pub comment: Option<u32>,
 }
 
-/// What tells whether a height comes, and the bytes after it.
+/// The element that shows whether a height follows, and the bytes after it.
 #[derive(Clone, Copy)]
 pub struct Coming<'a> {
     pub next: Next,
@@ -27,7 +27,7 @@ pub struct Coming<'a> {
 }
 
 impl Behind {
-    /// Nothing came yet.
+    /// Nothing has arrived yet.
     pub fn start() -> Behind
         ensures at { result.at ≡ None }
         ensures comment { result.comment ≡ None }
@@ -38,14 +38,15 @@ impl Behind {
         }
     }
 
-    /// Whether a move may not come: one did, or the last stripe is over.
+    /// Whether an ATMOVE is not allowed: there was one already, or the last stripe is over.
     fn is_moved(&self, is_last: bool) -> bool
         ensures { result ≡ move_came is_last self.now.at }
     {
         is_last || self.at.is_some()
     }
 
-    /// Passes comments and a move, up to what tells whether a height comes. That is looked at, and not taken.
+    /// Consumes comments and a move, up to the element that shows whether a height follows. That element is inspected,
+    /// and not consumed.
     pub fn pass<'a>(
         &mut self,
         header: &Header,

@@ -1,4 +1,4 @@
-//! What is left of a code after the last row of its stripe.
+//! Skips the rest of a code after the last row of its stripe.
 
 ghost use Rattle.std.specs.Prelude.{◌≡◌, ◌≤◌, ◌⊎◌, Bool, length, None, IfErr, IfOk, IsErrOf, IsOk, Some};
 ghost use Rattle.t85_core.specs.declared.segments.Code.TheVariants as code;
@@ -10,7 +10,8 @@ use crate::input_buffer::ByteSource;
 use crate::pieces::piece::Piece;
 use crate::segments::{Code, next_code};
 
-/// Skips what is left of a code, and answers whether its end marker resets. If that hasn't come yet, what came is skipped.
+/// Skips the rest of a code, and returns whether its end marker resets. If the marker has not arrived yet, skips what
+/// has.
 pub fn find_marker(
     first: &mut Option<Code>,
     marker: Option<bool>,
@@ -35,7 +36,7 @@ pub fn find_marker(
     }
 }
 
-/// Skips bytes of a code, and its end marker, as far as they came.
+/// Skips bytes of a code, and its end marker, as far as they have arrived.
 fn skip_some(piece: &mut Piece<'_>) -> Result<bool, Fault>
     ensures ok { IfOk result (SkipsSome piece.old.rest.now piece.new.rest.now) }
     ensures err { IfErr result (SkipBreaks piece.old.rest.now piece.new.rest.now) }

@@ -1,4 +1,4 @@
-//! A decoder in pieces that takes all that comes, and holds what it can't decode yet.
+//! A decoder in pieces that consumes all input, and stores the bytes that it cannot decode yet.
 
 ghost use Rattle.std.specs.Prelude.{◌≡◌, ◌≤◌, ◌+◌, ◌++◌, [], length, take, true, false};
 ghost use Rattle.t85_core.specs.declared.pieces.Outcome.TheVariants as outcome;
@@ -7,18 +7,18 @@ use crate::pieces::{Outcome, PieceDecoder, Progress};
 use qm_core::Learned;
 use raster_core::Window;
 
-/// How many bytes are held at most.
+/// The greatest number of stored bytes.
 const MOST: usize = 7;
 
-/// So many bytes of a piece behind what is held are enough to decode all of that.
+/// This many bytes of a piece, after the stored bytes, are enough to decode all stored bytes.
 const FRONT: usize = 8;
 
-/// Bytes that were taken of a stream and are not decoded yet: they begin an escape or a segment. Any content is safe, but a
-/// stream goes on with what its last call has left here.
+/// Bytes of a stream that were consumed but cannot be decoded yet: the beginning of an escape code or of a marker
+/// segment. Any contents are safe, but decoding continues correctly only with what the last call left here.
 #[derive(Clone, Copy, PartialEq, Eq, Debug)]
 pub struct HeldBytes {
     pub bytes: [u8; MOST],
-    /// How many are held: above seven, all are.
+    /// The number of stored bytes; a value above seven means seven.
     pub len: u8,
 }
 
@@ -26,7 +26,7 @@ impl HeldBytes {
     ghost use Rattle.t85_core.specs.Feeds.{held_bytes};
     ghost use Rattle.t85_core.specs.Steps.Feeds.{Settles};
 
-    /// Before the first byte.
+    /// No stored bytes, as before the first byte.
     pub fn none() -> HeldBytes
         ensures { held_bytes result ≡ [] }
     {
@@ -36,7 +36,7 @@ impl HeldBytes {
         }
     }
 
-    /// How many are held.
+    /// The number of stored bytes.
     fn count(&self) -> usize
         ensures count { result ≡ length (held_bytes self.now) }
         ensures front { take result self.now.bytes ≡ held_bytes self.now }
@@ -45,7 +45,7 @@ impl HeldBytes {
         usize::from(self.len).min(MOST)
     }
 
-    /// Holds these bytes, and no others.
+    /// Stores these bytes, and no others.
     fn keep(&mut self, bytes: &[u8])
         requires few { length bytes.now ≤ 7 }
         ensures { held_bytes self.new ≡ bytes.now }
@@ -58,7 +58,7 @@ impl HeldBytes {
         };
     }
 
-    /// Writes what is held, and these bytes behind it. Answers how many that are.
+    /// Writes the stored bytes followed by these bytes, and returns how many that are.
     fn join(&self, front: &[u8], joined: &mut [u8; MOST + FRONT]) -> usize
         requires few { length front.now ≤ 8 }
         ensures joined { take result joined.new ≡ held_bytes self.now ++ front.now }
@@ -71,8 +71,9 @@ impl HeldBytes {
         len
     }
 
-    /// A call took some of these bytes, the first of which were held. Holds the others, where more is wanted, and else those of
-    /// the first alone. Answers how many behind the first were taken.
+    /// After a call that consumed some of these bytes, the first `count` of which were stored before: stores the
+    /// unconsumed bytes, if more input is wanted, and otherwise only the unconsumed ones of the first `count`. Returns
+    /// the number of bytes consumed after the first `count`.
     fn settle(&mut self, bytes: &[u8], count: usize, call: Progress) -> Progress
         requires within { count ≤ length bytes.now }
         requires few { count ≤ 7 }
@@ -107,7 +108,8 @@ impl PieceDecoder {
     ghost use Rattle.t85_core.specs.Pieces.{call_of};
     ghost use Rattle.t85_core.specs.Feeds.{held_bytes, IsFeed};
 
-    /// Goes on with what is held and these bytes behind it, as `next_row` does. Where it wants more, all bytes are taken.
+    /// Decodes the stored bytes followed by these bytes, as `next_row` does. If it wants more input, it has consumed
+    /// all bytes.
     pub fn feed(
         &mut self,
         window: &mut Window<'_>,
@@ -123,7 +125,7 @@ impl PieceDecoder {
         self.feed_some(window, learned, held, piece, false)
     }
 
-    /// The same with the last bytes, as `next_of_last` goes on with them.
+    /// The same with the last bytes, as `next_of_last` does.
     pub fn feed_last(
         &mut self,
         window: &mut Window<'_>,
@@ -139,7 +141,7 @@ impl PieceDecoder {
         self.feed_some(window, learned, held, piece, true)
     }
 
-    /// Goes on with these bytes after those that are held; whether they are the last is `is_all`.
+    /// Decodes the stored bytes followed by these bytes; `is_all` says whether they are the last.
     fn feed_some(
         &mut self,
         window: &mut Window<'_>,
@@ -173,7 +175,7 @@ impl PieceDecoder {
         }
     }
 
-    /// Goes on with these bytes, where none is held.
+    /// Decodes these bytes, if none are stored.
     fn feed_piece(
         &mut self,
         window: &mut Window<'_>,
@@ -192,7 +194,7 @@ impl PieceDecoder {
     }
 }
 
-/// Whether bytes are the last that have these behind them.
+/// Whether bytes followed by `back` are the last ones.
 fn ends_there(is_all: bool, back: &[u8]) -> bool
     ensures yes { result ≡ true → (is_all ≡ true) × (back.now ≡ []) }
     ensures no { result ≡ false → is_all ≡ true → back.now ≡ [] → ⊥ }
@@ -200,7 +202,7 @@ fn ends_there(is_all: bool, back: &[u8]) -> bool
     is_all && back.is_empty()
 }
 
-/// Whether a call wants more, and there is more.
+/// Whether a call wants more input, and there is more.
 fn goes_on(answer: Outcome, back: &[u8]) -> bool
     ensures yes { result ≡ true → (answer ≡ outcome.More) × (1 ≤ length back.now) }
     ensures no { result ≡ false → answer ≡ outcome.More → back.now ≡ [] }

@@ -1,4 +1,4 @@
-//! A decoder in pieces, as plain numbers.
+//! Exports and restores a decoder in pieces as plain numbers.
 
 ghost use Rattle.std.specs.Prelude.{◌≡◌, Bool, List, Option, ℕ, IfSome};
 ghost use Rattle.qm_core.specs.Place.{Estimate};
@@ -21,48 +21,48 @@ use raster_core::{Kept, RowPlace, RowPlaceNumbers};
 /// A move of the adaptive template pixel (ATMOVE), or none.
 #[derive(Clone, Copy, PartialEq, Eq, Debug)]
 pub struct MoveNumbers {
-    /// Whether there is one.
+    /// Whether there is a move.
     pub is_there: bool,
-    /// The row of the stripe in which it is made, or 0.
+    /// The row of the stripe at which it takes effect, or 0.
     pub row: u32,
-    /// The offset that it makes, or 0.
+    /// Its offset, or 0.
     pub offset: u8,
 }
 
-/// How far a decoder in pieces has come that has not ended, as numbers that anyone may keep. Beside them it wants its header,
-/// and each call the window and the contexts.
+/// The state of a decoder in pieces that has not ended, as numbers that anyone may store. To continue, it also needs
+/// its header, and for each call the window and the contexts.
 #[derive(Clone, Copy, PartialEq, Eq, Debug)]
 pub struct PieceNumbers {
-    /// The height in use.
+    /// The current height.
     pub height: u32,
-    /// Whether a height may still come.
+    /// Whether a height may still arrive.
     pub is_open: bool,
-    /// Whether it waits behind an end marker for what comes there.
+    /// Whether it is waiting for the bytes behind an end marker.
     pub waits: bool,
-    /// What came there: a move,
+    /// What arrived there: a move,
     pub move_behind: MoveNumbers,
     /// whether a comment has begun,
     pub has_comment_behind: bool,
-    /// and how many bytes of that are to come, or 0.
+    /// and the number of its bytes still to come, or 0.
     pub comment_behind: u32,
-    /// What comes next: 0 a segment of a stripe or its code, 1 the rest of a comment, 2 a row or the end of a code, 3 the rest
-    /// of a row, 4 nothing.
+    /// What comes next: 0 a marker segment of a stripe or its code, 1 the rest of a comment, 2 a row or the end of a
+    /// code, 3 the rest of a row, 4 nothing.
     pub stage: u8,
-    /// How many data entities are whole.
+    /// The number of complete stripe data entities.
     pub entities: u32,
-    /// How many rows come after those.
+    /// The number of rows after those.
     pub left: u32,
-    /// Whether a height was given.
+    /// Whether a NEWLEN gave a height.
     pub is_given: bool,
-    /// The move of the stripe.
+    /// The move of the current stripe.
     pub move_here: MoveNumbers,
-    /// How many bytes of a comment are to come.
+    /// The number of bytes of a comment still to come.
     pub comment: u32,
-    /// How many rows of the stripe are decoded.
+    /// The number of rows of the stripe that are decoded.
     pub row: u32,
-    /// How far the next one has come.
+    /// How far the next row is decoded.
     pub place: RowPlaceNumbers,
-    /// What was read ahead of the code: 0 nothing, 1 SDNORM, 2 SDRST, 256 and more a byte.
+    /// What was read ahead of the code: 0 nothing, 1 SDNORM, 2 SDRST, from 256 on 256 plus a byte.
     pub ahead: u16,
     /// The end marker that was read: 0 none, 1 SDNORM, 2 SDRST.
     pub marker: u8,
@@ -170,7 +170,7 @@ fn move_of(numbers: MoveNumbers) -> Option<Move>
 }
 
 impl PieceDecoder {
-    /// How far it has come, as numbers. How the stream has ended is not among them.
+    /// The state as numbers. They do not include how the stream has ended.
     pub fn numbers(&self) -> PieceNumbers
         ensures { result ≡ piece_numbers self.now }
     {
@@ -203,7 +203,7 @@ impl PieceNumbers {
     ghost use Rattle.t85_core.specs.Numbers.{IsWalkAs};
     ghost use Rattle.t85_core.specs.declared.pieces.PieceDecoder.{PieceDecoder};
 
-    /// Where the stream has come to.
+    /// The position in the stream.
     fn walk(&self) -> Walk
         ensures { (d : PieceDecoder) → self.now ≡ piece_numbers d →
             IfSome d.walk.first IsByteOrMarker → IsWalkAs d.walk result }
@@ -227,7 +227,7 @@ impl PieceNumbers {
         }
     }
 
-    /// What came behind an end marker.
+    /// What arrived after an end marker.
     fn behind(&self) -> Behind
         ensures { (d : PieceDecoder) → self.now ≡ piece_numbers d → result ≡ d.behind }
     {
@@ -243,8 +243,8 @@ impl PieceDecoder {
     ghost use Rattle.t85_core.specs.Pieces.{HasDecoded};
     ghost use Rattle.t85_core.specs.declared.pieces.PieceDecoder.{PieceDecoder};
 
-    /// The decoder of this header that has these numbers, and has not ended. Numbers that no decoder has left give one of
-    /// which nothing is promised.
+    /// The decoder with this header and these numbers, which has not ended. For numbers that no decoder exported, the
+    /// result is safe but otherwise unspecified.
     pub fn resume(header: Header, numbers: &PieceNumbers) -> PieceDecoder
         ensures stream { result.header ≡ header }
         ensures resumes { (d : PieceDecoder) (rows : Held) (learned : List Estimate)

@@ -1,4 +1,4 @@
-//! A piece of a stream.
+//! A piece of a stream as a byte source.
 
 ghost use Rattle.std.specs.Prelude.{◌≡◌, ◌<◌, ℕ, Bool, None, Some, IfSome, [], length, if◌then◌else◌};
 ghost use Rattle.t85_core.specs.declared.segments.Code.TheVariants as code;
@@ -8,7 +8,7 @@ use crate::input_buffer::{ByteSource, ESCAPE, plain_len};
 use crate::segments::{Code, next_code};
 use qm_core::{CodeBytes, Pulled};
 
-/// The bytes of a piece, which are all there.
+/// The bytes of a piece, all of which are available.
 #[derive(Drop)]
 pub struct Piece<'a> {
     pub rest: &'a [u8],
@@ -53,16 +53,17 @@ impl ByteSource for Piece<'_> {
     }
 }
 
-/// The code of a data entity of which a piece came, unstuffed, and then its end marker. `PART` says nothing of it: by it a
-/// row from its first pixel on is compiled apart from the rest of one, without what that alone needs.
+/// The part of a stripe's code that is in a piece, with stuffing removed, followed by its end marker. `PART` has no
+/// meaning for the code: it makes the compiler compile whole rows and the rest of a row separately, each without what
+/// only the other needs.
 #[derive(Drop)]
 pub struct PieceCode<'a, const PART: usize> {
     pub piece: Piece<'a>,
-    /// What was read ahead to see where the code begins.
+    /// What was read ahead to find where the code begins.
     pub first: Option<Code>,
-    /// Whether the end marker resets, once it was read.
+    /// Whether the end marker resets, once it has been read.
     pub marker: Option<bool>,
-    /// Why the code has broken, or that the piece has ended.
+    /// Why the code is broken, or that the piece has ended.
     pub fault: Option<Fault>,
     pub failures: u64,
     ghost small: { (b : ℕ) → first ≡ Some (code.Byte b) → b < 256 },
@@ -75,14 +76,14 @@ impl<const PART: usize> PieceCode<'_, PART> {
     ghost use Rattle.t85_core.specs.Steps.Entity.{EntityGives};
     ghost use Rattle.t85_core.specs.Steps.Views.{piece_view};
 
-    /// Why the code has broken.
+    /// Why the code is broken.
     pub fn fault(&self) -> Fault
         ensures { IfSome self.now.fault (λ f. result ≡ f) }
     {
         self.fault.unwrap_or(Fault::Truncated)
     }
 
-    /// The next byte, whatever comes next.
+    /// Returns the next byte, whatever comes next.
     #[inline(never)]
     fn pull_any(&mut self) -> Pulled
         ensures answer { EntityGives (piece_view self.old) result (piece_view self.new) }
@@ -125,7 +126,7 @@ impl<const PART: usize> CodeBytes for PieceCode<'_, PART> {
 
     #[inline(never)]
     fn pull(&mut self) -> Pulled {
-        // After a fault nothing is promised.
+        // After an error, nothing is guaranteed.
         if self.first.is_none() {
             if let Some(byte) = self.piece.next_plain() {
                 return Pulled::Byte(byte);

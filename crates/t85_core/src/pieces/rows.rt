@@ -1,4 +1,4 @@
-//! Decoding a row of which not all bytes may have come.
+//! Decodes a row whose bytes may not all have arrived.
 
 ghost use Rattle.std.specs.Prelude.{◌≡◌, ◌≤◌, ◌<◌, ◌∷◌, ◌++◌, [], ℕ, List, None, length, OnOk, IfErr, IfSome, IsErrOf};
 ghost use Rattle.raster_core.specs.Machine.Places.{MayGoOnRow};
@@ -16,8 +16,8 @@ use crate::segments::Code;
 use qm_core::{Decoder, Learned, Stop};
 use raster_core::{Kept, RowPlace, Shape, Window, go_on_row};
 
-/// Goes on with a row of a stripe that has begun, as far as its code came. Of a piece that ends in an escape all is taken
-/// but the FF of that.
+/// Continues decoding a row of a stripe, as far as its code has arrived. If the piece ends in the FF of an escape code,
+/// everything but this FF is consumed.
 #[inline(always)]
 pub fn go_on_in_row<const PART: usize>(
     shape: Shape,
@@ -49,7 +49,7 @@ pub fn go_on_in_row<const PART: usize>(
     ensures drained { IfErr result (λ _. LeavesEscape piece.old.rest.now piece.new.rest.now ×
         (first.new ≡ None) × (marker.new ≡ marker.old)) }
 {
-    // What the proof cites of the coder.
+    // The proof uses these laws of the coder.
     coder_laws();
     let mut code: PieceCode<'_, PART> = PieceCode {
         piece: Piece { rest: piece.rest },
@@ -74,7 +74,7 @@ pub fn go_on_in_row<const PART: usize>(
     }
 }
 
-/// The FF of an escape that bytes end in, if they do.
+/// The FF of an escape code at the end of these bytes, if there is one.
 fn begun_escape(bytes: &[u8]) -> &[u8]
     ensures escape { (given : List ℕ) → bytes.now ≡ given ++ 255 ∷ [] → result.now ≡ 255 ∷ [] }
     ensures none { ((given : List ℕ) → bytes.now ≡ given ++ 255 ∷ [] → ⊥) → result.now ≡ [] }

@@ -1,4 +1,4 @@
-//! The steps of a decoder whose bytes come in pieces.
+//! The steps of a decoder in pieces.
 
 ghost use Rattle.std.specs.Prelude.{◌≡◌, ◌≢◌, ◌≤◌, ◌<◌, ◌++◌, [], ℕ, Bool, List, None, Some, IfSome, length, take, min, true, false};
 ghost use Rattle.t85_core.specs.Steps.PieceCode.{EndsInNoEscape, HasNoMarker};
@@ -19,7 +19,7 @@ use crate::segments::{Code, SDNORM, SDRST, STUFF};
 use qm_core::Learned;
 use raster_core::Window;
 
-/// How many bytes of a code are looked at, at most, for its end marker.
+/// The greatest number of code bytes that are searched for the end marker.
 const AHEAD: usize = 256;
 
 impl PieceDecoder {
@@ -27,7 +27,7 @@ impl PieceDecoder {
     ghost use Rattle.t85_core.specs.Steps.Pieces.{MarkerRead, IsInCode, RowIsLeft};
     ghost use Rattle.t85_core.specs.Steps.PieceSteps.{DecodesCode, DecoderOn, Lowers, StepLeaves};
 
-    /// Goes on up to the next row, to an end, or as far as the bytes go.
+    /// Continues up to the next row or the end, or as far as the bytes allow.
     pub(super) fn go_on(
         &mut self,
         window: &mut Window<'_>,
@@ -46,7 +46,7 @@ impl PieceDecoder {
         }
     }
 
-    /// Takes a step: to a row, to an end, to where more is wanted, or to where another step may be taken.
+    /// Takes one step: to a row, to the end, to where more input is needed, or to where another step can be taken.
     fn step(
         &mut self,
         window: &mut Window<'_>,
@@ -69,7 +69,7 @@ impl PieceDecoder {
         }
     }
 
-    /// Goes on where the height is known.
+    /// Continues if the height is known.
     fn take_turn(
         &mut self,
         window: &mut Window<'_>,
@@ -92,7 +92,7 @@ impl PieceDecoder {
         }
     }
 
-    /// Goes on in the code of a stripe, where a height may still come.
+    /// Continues in the code of a stripe, while a height may still arrive.
     fn step_in_code(
         &mut self,
         window: &mut Window<'_>,
@@ -121,7 +121,7 @@ impl PieceDecoder {
         }
     }
 
-    /// Goes on after the last row of a stripe, to the end marker.
+    /// Continues after the last row of a stripe, to the end marker.
     fn step_to_marker(&mut self, piece: &mut Piece<'_>, is_all: bool) -> Option<Outcome>
         requires in_code { DecodesCode self.old }
         requires unmarked { self.old.walk.marker ≡ None }
@@ -143,7 +143,7 @@ impl PieceDecoder {
         }
     }
 
-    /// Goes on in the rows of a stripe. What its end marker alone decides waits.
+    /// Continues in the rows of a stripe. Rows that only its end marker determines are held back.
     fn step_in_rows(
         &mut self,
         window: &mut Window<'_>,
@@ -190,7 +190,7 @@ impl PieceDecoder {
         }
     }
 
-    /// Takes the end marker that comes next, if one does, and waits there.
+    /// Consumes the end marker, if it comes next, and waits there.
     fn wait_at_marker(&mut self, piece: &mut Piece<'_>)
         requires in_code { DecodesCode self.old }
         ensures header { self.new.header ≡ self.old.header }
@@ -215,7 +215,7 @@ impl PieceDecoder {
     }
 }
 
-/// What a fault comes to: that bytes end is one only where they are the last.
+/// The outcome for an error: the end of the bytes is an error only if they are the last.
 fn outcome_of(fault: Fault, is_all: bool) -> Outcome
     ensures more { result ≡ outcome.More → (fault ≡ Truncated) × (is_all ≡ false) }
     ensures broken { (f : Fault) → result ≡ outcome.Broken f → (f ≡ fault) × (f ≡ Truncated → is_all
@@ -235,8 +235,8 @@ fn outcome_of(fault: Fault, is_all: bool) -> Outcome
     }
 }
 
-/// How many bytes of a code to look at: those before its end marker, so many at most, or all where another escape comes
-/// before one.
+/// The number of code bytes to decode now: those before the end marker, up to `AHEAD`; or all bytes, if another escape
+/// code comes first or the bytes end in a lone FF.
 fn code_len(bytes: &[u8]) -> usize
     ensures bound { result ≤ length bytes.now }
     ensures escape { result < length bytes.now → EndsInNoEscape (take result bytes.now) }
@@ -262,7 +262,7 @@ fn code_len(bytes: &[u8]) -> usize
     len
 }
 
-/// The end marker that bytes begin with: whether it resets.
+/// The end marker at the beginning of these bytes: whether it resets.
 pub(crate) fn marker_at(bytes: &[u8]) -> Option<bool>
     ensures some { IfSome result (λ reset. (rest : List ℕ) ×
         (bytes.now ≡ marker_bytes reset ++ rest)) }

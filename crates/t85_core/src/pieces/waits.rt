@@ -1,4 +1,4 @@
-//! The steps of a decoder that waits for what comes behind an end marker.
+//! The steps of a decoder that waits for the bytes behind an end marker.
 
 ghost use Rattle.t85_core.specs.declared.fault.Fault.TheVariants.{Truncated};
 ghost use Rattle.std.specs.Prelude.{◌≡◌, ◌<◌, ◌+◌, ◌-◌, ◌++◌, Bool, None, Some, min, true, false};
@@ -24,7 +24,7 @@ impl PieceDecoder {
     ghost use Rattle.t85_core.specs.Steps.Segments.{IsByteOrMarker, code_bytes};
     ghost use Rattle.t85_core.specs.Steps.PieceSteps.{is_last_of, place_after, HeightComes, LookIsOver, Lowers, SomeStand, StepLeaves};
 
-    /// Goes on behind an end marker, or before the first stripe, where a height may still come.
+    /// Continues behind an end marker, or before the first stripe, while a height may still arrive.
     pub(super) fn step_behind(
         &mut self,
         window: &mut Window<'_>,
@@ -54,7 +54,7 @@ impl PieceDecoder {
         }
     }
 
-    /// A height or a code comes next.
+    /// Handles a height or a code that comes next.
     fn take_coming<'c>(
         &mut self,
         window: &mut Window<'_>,
@@ -85,7 +85,7 @@ impl PieceDecoder {
         }
     }
 
-    /// A fault comes next, or the end of the stream.
+    /// Handles an error that comes next, or the end of the stream.
     fn stop_behind(
         &mut self,
         window: &mut Window<'_>,
@@ -110,7 +110,8 @@ impl PieceDecoder {
         self.take_fault(window, learned, fault, is_all, piece)
     }
 
-    /// A valid height comes next: it is in use, after the rows that it has of the stripe before, or the image ends there.
+    /// Handles a valid height that comes next: it becomes the current height, after the rows of the previous stripe
+    /// that it includes; or the image ends there.
     fn take_height<'c>(
         &mut self,
         window: &mut Window<'_>,
@@ -128,7 +129,7 @@ impl PieceDecoder {
         ensures lowers { Lowers self.old self.new piece.old.rest.now piece.new.rest.now result }
         ensures window { KeepsWindow window.old window.new }
     {
-        // What the proof cites of the coder.
+        // The proof uses these laws of the coder.
         coder_laws();
         let fewer = self.header.yd - height;
         let left = self.walk.left.saturating_sub(fewer);
@@ -149,7 +150,7 @@ impl PieceDecoder {
         None
     }
 
-    /// A code comes next: the next stripe has it, after the rows of the stripe before.
+    /// Handles a code that comes next: the next stripe begins with it, after the remaining rows of the previous stripe.
     fn take_code<'c>(
         &mut self,
         window: &mut Window<'_>,
@@ -182,7 +183,8 @@ impl PieceDecoder {
         None
     }
 
-    /// A fault comes next, or the end of the stream: it is told after the rows of the stripe before.
+    /// Handles an error that comes next, or the end of the stream: it is reported after the remaining rows of the
+    /// previous stripe.
     fn take_fault(
         &mut self,
         window: &mut Window<'_>,
@@ -200,7 +202,7 @@ impl PieceDecoder {
             window.new learned.new) piece.now.rest.now piece.now.rest.now (Some result) }
         ensures window { KeepsWindow window.old window.new }
     {
-        // What the proof cites of the coder.
+        // The proof uses these laws of the coder.
         coder_laws();
         if self.gives_below(window, learned, self.walk.left.min(self.header.l0)) {
             return Outcome::Row;
@@ -209,7 +211,8 @@ impl PieceDecoder {
         Outcome::Broken(fault)
     }
 
-    /// No height comes behind the last stripe: the image ends at the header's, after the rows of that stripe.
+    /// No height follows the last stripe: the image ends at the header's height, after the remaining rows of that
+    /// stripe.
     fn end_look(
         &mut self,
         window: &mut Window<'_>,
@@ -225,7 +228,7 @@ impl PieceDecoder {
             window.new learned.new) piece.now.rest.now piece.now.rest.now (Some result) }
         ensures window { KeepsWindow window.old window.new }
     {
-        // What the proof cites of the coder.
+        // The proof uses these laws of the coder.
         coder_laws();
         if self.gives_below(window, learned, self.walk.left.min(self.header.l0)) {
             return Outcome::Row;
@@ -235,7 +238,7 @@ impl PieceDecoder {
     }
 }
 
-/// Whether bytes end that are not the last.
+/// Whether bytes have ended that are not the last.
 fn is_open_end(fault: Fault, is_all: bool) -> bool
     ensures yes { result ≡ true → (fault ≡ Truncated) × (is_all ≡ false) }
     ensures no { result ≡ false → fault ≡ Truncated → is_all ≡ true }

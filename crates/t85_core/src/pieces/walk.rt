@@ -1,4 +1,4 @@
-//! How far a stream has been decoded that comes in pieces.
+//! The position and state of decoding in a stream that arrives in pieces.
 
 ghost use Rattle.std.specs.Prelude.{◌≡◌, false, ◌≤◌, ◌<◌, ◌-◌, ◌⊎◌, ◌∷◌, [], ℕ, List, None, Ok, true};
 ghost use Rattle.raster_core.specs.Window.{width_of};
@@ -25,46 +25,46 @@ use raster_core::{Kept, RowPlace, Window};
 /// What comes next in a stream.
 #[derive(Clone, Copy)]
 pub enum Stage {
-    /// A segment of a stripe, or its code.
+    /// A marker segment of a stripe, or its code.
     Head,
     /// The rest of a comment.
     Comment,
-    /// A row of a stripe, or what is left of its code.
+    /// A row of a stripe, or the rest of its code.
     Code,
     /// The rest of a row that has begun.
     Row,
-    /// Nothing: the image is whole.
+    /// Nothing: the image is complete.
     Done,
 }
 
-/// How far a stream has been decoded.
+/// The parser state: how far a stream has been decoded.
 #[derive(Drop)]
 pub struct Walk {
     pub kept: Kept,
     pub decoder: Decoder,
     pub stage: Stage,
-    /// How many data entities are whole.
+    /// The number of complete stripe data entities.
     pub entities: u32,
-    /// How many rows come after those.
+    /// The number of rows after those.
     pub left: u32,
-    /// Whether a height was given.
+    /// Whether a NEWLEN gave a height.
     pub given: bool,
-    /// The move of the stripe.
+    /// The move of the current stripe.
     pub at: Option<Move>,
-    /// How many bytes of a comment are to come.
+    /// The number of bytes of a comment still to come.
     pub comment: u32,
-    /// How many rows of the stripe are decoded.
+    /// The number of rows of the stripe that are decoded.
     pub row: u32,
-    /// How far the next one has come.
+    /// How far the next row is decoded.
     pub place: RowPlace,
-    /// What was read ahead to see where the code begins.
+    /// What was read ahead to find where the code begins.
     pub first: Option<Code>,
-    /// Whether the end marker resets, once it was read.
+    /// Whether the end marker resets, once it has been read.
     pub marker: Option<bool>,
 }
 
 impl Walk {
-    /// Before the first byte after the header. The window is made white, and the contexts forget.
+    /// The state before the first byte after the header. Makes the window white, and resets the contexts.
     pub fn start(
         header: &Header,
         height: u32,
@@ -78,7 +78,7 @@ impl Walk {
         ensures first { IsFirstWalk (over result window.new learned.new) }
         ensures window { KeepsWindow window.old window.new }
     {
-        // The proof reads from this value that a stripe has rows.
+        // The proof uses this value to show that a stripe has rows.
         let _rows = header.l0;
         let mut kept = START;
         restart(window, &mut kept, learned);
@@ -98,7 +98,7 @@ impl Walk {
         }
     }
 
-    /// Reads the head of a stripe, and decodes its first row, if there is one.
+    /// Reads the head of a stripe, and decodes its first row, if there is one. Returns whether there is.
     fn begin_stripe(
         &mut self,
         header: &Header,
@@ -114,7 +114,7 @@ impl Walk {
         ensures code { result ≡ Ok true → self.new.stage ≡ stage.Code }
         ensures window { KeepsWindow window.old window.new }
     {
-        // The proof reads from this value that a stripe has rows.
+        // The proof uses this value to show that a stripe has rows.
         let _rows = header.l0;
         self.read_head(header, height, piece)?;
         if let Stage::Code = self.stage {
@@ -128,7 +128,7 @@ impl Walk {
         Ok(false)
     }
 
-    /// Goes on after the last row of a stripe. Answers whether a row was decoded.
+    /// Continues after the last row of a stripe. Returns whether a row was decoded.
     fn go_on(
         &mut self,
         header: &Header,
@@ -151,7 +151,7 @@ impl Walk {
         self.begin_stripe(header, height, window, learned, piece)
     }
 
-    /// Decodes the next row, and answers whether there is one.
+    /// Decodes the next row. Returns false if the image is complete.
     pub fn next(
         &mut self,
         header: &Header,
@@ -183,7 +183,7 @@ impl Walk {
     }
 }
 
-/// Whether a comment comes next.
+/// Whether a COMMENT segment comes next.
 pub fn is_comment(bytes: &[u8]) -> bool
     ensures yes { result ≡ true → (rest : List ℕ) × (bytes.now ≡ 255 ∷ 7 ∷ rest) }
     ensures no { result ≡ false → (rest : List ℕ) → bytes.now ≡ 255 ∷ 7 ∷ rest → ⊥ }

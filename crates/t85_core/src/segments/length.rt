@@ -1,4 +1,4 @@
-//! A height that a stream gives after its header.
+//! The height that a stream gives after its header (T.82, 6.2.6.2).
 
 ghost use Rattle.std.specs.Prelude.{◌≡◌, ◌≤◌, ◌-◌, ◌<◌, IfOk, IfErr, false, true};
 ghost use Rattle.std.specs.Io.KnownBytes.{Consumes};
@@ -15,7 +15,8 @@ use crate::header::Header;
 use crate::input_buffer::ByteSource;
 use crate::segments::{Place, number};
 
-/// Reads what follows the two bytes of a NEWLEN, and judges it: it is valid at this place, and no other came before.
+/// Reads what follows the two bytes of a NEWLEN, and checks that it is valid at this position and that there was no
+/// other before.
 pub(super) fn read_length<S: ByteSource>(
     header: &Header,
     place: Place,
@@ -43,7 +44,7 @@ pub(super) fn read_length<S: ByteSource>(
     Ok(height)
 }
 
-/// Whether a height may be given after `entities` data entities.
+/// Whether a height is allowed after `entities` stripe data entities.
 fn is_valid(header: &Header, entities: u32, height: u32) -> bool
     ensures { result ≡ is_valid_length (fields_of header.now) entities height }
 {

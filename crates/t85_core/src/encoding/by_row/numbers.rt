@@ -1,4 +1,4 @@
-//! An encoder whose rows come one by one, as plain numbers.
+//! Exports and restores a row encoder as plain numbers.
 
 ghost use Rattle.std.specs.Prelude.{◌≡◌, true, false, IfSome, IsSomeAnd};
 ghost use Rattle.t85_core.specs.Jbg.{is_low};
@@ -11,15 +11,15 @@ use pbm_core::Size;
 use qm_core::{Encoder, EncoderRegisters};
 use raster_core::Kept;
 
-/// How far an encoder has come that is not closed, as numbers that anyone may keep. Beside them it wants its size and its
-/// options, the window's memory and place, and what was learned.
+/// The state of a row encoder that is not closed, as numbers that anyone may store. To continue, it also needs its size
+/// and options, the memory and the place of the window, and the context states and counts.
 #[derive(Clone, Copy, PartialEq, Eq, Debug)]
 pub struct RowNumbers {
-    /// How many rows came.
+    /// The number of rows encoded.
     pub rows: u32,
-    /// How many of them are in the stripe that runs.
+    /// The number of those that belong to the current stripe.
     pub in_stripe: u32,
-    /// Whether the rows of this stripe are counted.
+    /// Whether the rows of the current stripe are counted in the tally.
     pub is_counted: bool,
     /// The offset of the adaptive template pixel.
     pub offset: u8,
@@ -31,7 +31,7 @@ pub struct RowNumbers {
 impl RowNumbers {
     ghost use Rattle.t85_core.specs.RowNumbers.{AreWithin};
 
-    /// Whether an encoder of this size, with so many rows in a stripe, may have come so far.
+    /// Whether an encoder of this size, with this number of rows per stripe, can have reached this state.
     fn are_within(&self, size: Size, stripe_rows: u32) -> bool
         ensures within { result ≡ true → AreWithin size.width size.height stripe_rows self.now }
         ensures all { AreWithin size.width size.height stripe_rows self.now → result ≡ true }
@@ -52,7 +52,7 @@ impl RowEncoder {
     ghost use Rattle.t85_core.specs.declared.encoding.by_row.RowEncoder.{RowEncoder};
     ghost use Rattle.t85_core.specs.declared.encoding.learning.Learning.{Learning};
 
-    /// How far it has come, as numbers. Whether it is closed is not among them.
+    /// The state as numbers. They do not include whether the encoder is closed.
     pub fn numbers(&self) -> RowNumbers
         ensures { result ≡ row_numbers self.now }
     {
@@ -66,8 +66,9 @@ impl RowEncoder {
         }
     }
 
-    /// The encoder of this size and with these options that has these numbers and is not closed, if there is one. The next
-    /// call is to be lent the window and what was learned as the last one left them: lent others it is safe, and no more.
+    /// The encoder of this size and with these options that has these numbers and is not closed, if there is one. The
+    /// next call must borrow the window, and the context states and counts, as the last call left them; with others it
+    /// is only safe.
     pub fn resume(size: Size, options: &Options<'_>, numbers: &RowNumbers) -> Option<RowEncoder>
         ensures resumes { (e : RowEncoder) → is_low (settings_of options.now) size.height ≡ false →
             IsPlan (image_for options.now size) (plan_of e) → MayGoOn e →

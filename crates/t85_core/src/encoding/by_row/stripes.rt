@@ -1,4 +1,4 @@
-//! The steps of an encoder whose rows come one by one: a row, with the stripe that it begins or ends, and the end.
+//! The steps of a row encoder: a row, together with the stripe that it begins or ends, and the end of the image.
 
 use crate::encoding::by_row::RowEncoder;
 use crate::encoding::learning::Learning;
@@ -23,7 +23,7 @@ impl RowEncoder {
     ghost use Rattle.t85_core.specs.Steps.RowCalls.{AddsRow, LeavesClosed, HasRows, TakesRow, CodesNothing, KeepsRows, MayEnd, MayTakeRow};
     ghost use Rattle.t85_core.specs.Steps.RowSteps.{IsGoing, TakesBelow, CutsBelow, StandsToRun, WaitsToRun, CutsMove, CodesRow, CutsCode, RunsToStand, CutsRunning, EndsStripe, CutsStripe, EndsStripes};
 
-    /// Takes the row that the window has. After a failed write, and after the end, nothing is done.
+    /// Encodes the window's current row. After a failed write, and after the end, it does nothing.
     pub(crate) fn put_taken<P: ByteTarget>(
         &mut self,
         window: &mut Window<'_>,
@@ -58,7 +58,7 @@ impl RowEncoder {
         Ok(())
     }
 
-    /// Begins a stripe where none runs.
+    /// Begins a stripe, unless one is in progress.
     fn begin_where_due<P: ByteTarget>(
         &mut self,
         learning: &mut Learning,
@@ -105,7 +105,7 @@ impl RowEncoder {
         Ok(())
     }
 
-    /// Whether there are offsets to choose from for a stripe after the one that begins, and rows.
+    /// Whether another stripe follows the one that begins, and there are offsets to choose from for it.
     fn is_followed(&self) -> bool
         requires { self.now.rows ≤ self.now.size.height }
         ensures { self.now.stripe_rows < self.now.size.height - self.now.rows →
@@ -114,7 +114,7 @@ impl RowEncoder {
         self.has_candidates && self.stripe_rows < self.size.height - self.rows
     }
 
-    /// Codes the row that the window has, in a stripe that runs.
+    /// Encodes the window's current row within a stripe.
     fn code<P: ByteTarget>(
         &mut self,
         window: &Window<'_>,
@@ -133,7 +133,7 @@ impl RowEncoder {
         ensures counts { AddsRow self.old self.new }
         ensures fails { WritesOrFails (P.view target.old) (P.view target.new) result }
     {
-        // What the proof cites of the coder.
+        // The proof uses these laws of the coder.
         writing_laws();
         self.rows += 1;
         self.in_stripe += 1;
@@ -150,7 +150,7 @@ impl RowEncoder {
         Ok(())
     }
 
-    /// The offset against which the rows of this stripe are counted, where they are.
+    /// The offset with which the rows of this stripe are counted, if they are counted.
     fn counted(&self) -> Option<u8>
         ensures is { (learning : Learning) → result ≡ counted_of (view_of self.now learning) }
         ensures small { self.now.kept.offset ≤ 127 → IfSome result (λ offset. offset ≤ 127) }
@@ -162,7 +162,7 @@ impl RowEncoder {
         }
     }
 
-    /// Ends a stripe where it has all its rows.
+    /// Ends the stripe if all of its rows are encoded.
     fn end_where_due<P: ByteTarget>(
         &mut self,
         window: &mut Window<'_>,
@@ -192,7 +192,7 @@ impl RowEncoder {
         }
     }
 
-    /// Ends the stripe that runs, and writes what is held.
+    /// Ends the current stripe, and writes the buffer.
     fn end_stripe<P: ByteTarget>(
         &mut self,
         window: &mut Window<'_>,
@@ -209,7 +209,7 @@ impl RowEncoder {
             (P.view target.old).text (P.view target.new).text) }
         ensures few { AppendsAtMost (most_code_bytes self.old + 2) (P.view target.old).text
             (P.view target.new).text }
-        // No byte of a stripe that is whole waits for the next one.
+        // No byte of a finished stripe remains buffered.
         ensures sent { OnOk result ((P.view target.new).held ≡ []) }
         ensures able { OnOk result (IsAble self.new) }
         ensures none { OnOk result (self.new.in_stripe ≡ 0) }
@@ -218,7 +218,7 @@ impl RowEncoder {
         ensures window { StaysWindow window.old window.new }
         ensures fails { WritesOrFails (P.view target.old) (P.view target.new) result }
     {
-        // What the proof cites of the coder.
+        // The proof uses these laws of the coder.
         writing_laws();
         let encoder = std::mem::replace(&mut self.encoder, Encoder::start());
         end_entity(encoder, self.reset, target)?;
@@ -227,7 +227,7 @@ impl RowEncoder {
         target.write_held()
     }
 
-    /// Ends the stream: with the height, where it is less than what was announced.
+    /// Ends the stream, with a new height if the image is lower than announced.
     pub(crate) fn end<P: ByteTarget>(
         &mut self,
         window: &mut Window<'_>,
@@ -257,7 +257,7 @@ impl RowEncoder {
         write_ending(self.rows, self.announced, self.reset, target)
     }
 
-    /// Ends the last stripe, where it runs.
+    /// Ends the last stripe, if it is still in progress.
     fn end_last<P: ByteTarget>(
         &mut self,
         window: &mut Window<'_>,

@@ -1,4 +1,4 @@
-//! The stripe before what comes behind an end marker.
+//! The stripe before an end marker.
 
 ghost use Rattle.std.specs.Prelude.{◌≡◌, ◌≤◌, ◌<◌, ◌+◌, ◌-◌, ◌^◌, [], Some, min, true, false};
 ghost use Rattle.t85_core.specs.Steps.PieceSteps.{LooksForHeight};
@@ -16,7 +16,7 @@ impl PieceDecoder {
     ghost use Rattle.t85_core.specs.Steps.Pieces.{IsInCode};
     ghost use Rattle.t85_core.specs.Steps.PieceSteps.{is_last_of, place_after, SomeStand, KeepsDecoder, GivesBelow, StaysAbove, RowsAreGiven, HeadEntered, StripeLeft, StripeClosed};
 
-    /// Where what comes behind stands: how many data entities are before it.
+    /// The position behind the marker: the number of stripe data entities before it.
     pub(super) fn place_behind(&self) -> Place
         requires few { self.now.walk.entities < 2 ^ 32 - 1 }
         ensures { result ≡ place_after self.now }
@@ -32,7 +32,7 @@ impl PieceDecoder {
         }
     }
 
-    /// Whether the last stripe is over there that the header's height makes.
+    /// Whether the marker ends the last stripe that the header's height implies.
     pub(super) fn is_last(&self) -> bool
         ensures { result ≡ is_last_of self.now }
     {
@@ -43,7 +43,7 @@ impl PieceDecoder {
         }
     }
 
-    /// Whether a stripe is before what comes.
+    /// Whether there is a stripe before the position.
     pub(crate) fn is_in_code(&self) -> bool
         ensures yes { result ≡ true → IsInCode self.now.walk.stage }
         ensures no { result ≡ false → IsInCode self.now.walk.stage → ⊥ }
@@ -54,7 +54,8 @@ impl PieceDecoder {
         }
     }
 
-    /// Whether the image ends in the stripe before, where it has so many rows from the first of that on.
+    /// Whether the image ends in the previous stripe, if it has this many rows counted from the first row of that
+    /// stripe.
     pub(super) fn ends_in_stripe(&self, left: u32) -> bool
         ensures yes { result ≡ true → IsInCode self.now.walk.stage × (left ≤ self.now.header.l0) }
         ensures no { result ≡ false → IsInCode self.now.walk.stage → self.now.header.l0 < left }
@@ -62,7 +63,8 @@ impl PieceDecoder {
         self.is_in_code() && left <= self.header.l0
     }
 
-    /// Gives the next row of the stripe before, where that is below this one. It waited for what its end marker decides.
+    /// Decodes the next row of the previous stripe if its number is below `limit`, and returns whether it did. The row
+    /// was held back because only the end marker determines it.
     pub(super) fn gives_below(
         &mut self,
         window: &mut Window<'_>,
@@ -92,7 +94,8 @@ impl PieceDecoder {
         true
     }
 
-    /// Ends the stripe before, if there is one, all of whose rows are given. The segments that came behind begin the next.
+    /// Ends the previous stripe, if there is one and all its rows have been returned. The marker segments that followed
+    /// belong to the next stripe.
     pub(super) fn enter_head(&mut self, window: &mut Window<'_>, learned: &mut Learned)
         requires looks { LooksForHeight self.old }
         requires all { RowsAreGiven (over self.old window.old learned.old) }
@@ -112,7 +115,7 @@ impl PieceDecoder {
         self.walk.stage = Stage::Comment;
     }
 
-    /// Ends the stripe before, if there is one, all of whose rows are given.
+    /// Ends the previous stripe, if there is one and all its rows have been returned.
     fn close_stripe(&mut self, window: &mut Window<'_>, learned: &mut Learned)
         requires looks { LooksForHeight self.old }
         requires all { RowsAreGiven (over self.old window.old learned.old) }
@@ -129,7 +132,7 @@ impl PieceDecoder {
         self.end_stripe(window, learned);
     }
 
-    /// Ends the stripe before, all of whose rows are given. Its end marker came.
+    /// Ends the previous stripe, all of whose rows have been returned. Its end marker has arrived.
     pub(super) fn end_stripe(&mut self, window: &mut Window<'_>, learned: &mut Learned)
         requires looks { LooksForHeight self.old }
         requires all { RowsAreGiven (over self.old window.old learned.old) }

@@ -1,4 +1,4 @@
-//! Reading the head of a stripe: its segments, and what its code begins with.
+//! Reads the head of a stripe: its marker segments, and the first element of its code.
 
 ghost use Rattle.std.specs.Prelude.{◌≡◌, ◌≢◌, false, ◌≤◌, ◌<◌, ◌-◌, ◌⊎◌, ◌∷◌, ℕ, List, None, Ok, true, length, min, OnOk};
 ghost use Rattle.t85_core.specs.Steps.HeightWalk.{MayBeHeight};
@@ -16,7 +16,7 @@ use crate::segments::{self, Code, Move, Place, next_piece, number};
 use qm_core::Decoder;
 
 impl Walk {
-    /// Reads the segments of a stripe, and what its code begins with.
+    /// Reads the marker segments of a stripe, and the first element of its code.
     pub(super) fn read_head(
         &mut self,
         header: &Header,
@@ -39,7 +39,7 @@ impl Walk {
         }
     }
 
-    /// Whether the code of a stripe is still to begin.
+    /// Whether the code of a stripe has not begun yet.
     fn is_in_head(&self) -> bool
         ensures head { result ≡ true → (self.now.stage ≡ stage.Head) ⊎ (self.now.stage ≡
             stage.Comment) }
@@ -88,7 +88,7 @@ impl Walk {
         ensures stage { OnOk result (self.new.stage ≡ stage.Head) }
         ensures no_more { length piece.new.rest.now ≤ length piece.old.rest.now }
     {
-        // What the proof cites of the coder.
+        // The proof uses these laws of the coder.
         coder_laws();
         let len = piece.rest.len().min(self.comment as usize);
         let (_, rest) = piece.rest.split_at(len);
@@ -101,7 +101,7 @@ impl Walk {
         Ok(())
     }
 
-    /// Reads a segment of a stripe, or what its code begins with. Of a comment it reads the length.
+    /// Reads a marker segment of a stripe, or the first element of its code. Of a comment, it reads the length.
     fn read_segment(
         &mut self,
         header: &Header,
@@ -139,7 +139,7 @@ impl Walk {
         ensures stage { OnOk result (self.new.stage ≡ stage.Comment) }
         ensures lowers { OnOk result (length piece.new.rest.now < length piece.old.rest.now) }
     {
-        // What the proof cites of the coder.
+        // The proof uses these laws of the coder.
         coder_laws();
         let bytes = piece.rest;
         let (_, rest) = bytes.split_at(2);
@@ -157,7 +157,7 @@ impl Walk {
         }
     }
 
-    /// Reads a segment of a stripe, or what its code begins with.
+    /// Reads a marker segment of a stripe, or the first element of its code.
     fn pass_segment(
         &mut self,
         header: &Header,
@@ -174,7 +174,7 @@ impl Walk {
             ⊎ (self.new.stage ≡ stage.Head)) }
         ensures lowers { OnOk result (length piece.new.rest.now < length piece.old.rest.now) }
     {
-        // What the proof cites of the coder.
+        // The proof uses these laws of the coder.
         coder_laws();
         let bytes = piece.rest;
         let place = Place {

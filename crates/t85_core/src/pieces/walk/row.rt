@@ -1,4 +1,4 @@
-//! Decoding a row of a stripe.
+//! Decodes a row of a stripe.
 
 ghost use Rattle.std.specs.Prelude.{◌≡◌, ◌≢◌, false, ◌≤◌, ◌<◌, ◌-◌, [], ℕ, List, None, Ok, true, IfSome, OnOk};
 ghost use Rattle.qm_core.specs.Place.{Estimate};
@@ -24,17 +24,17 @@ use qm_core::{Decoder, Learned};
 use raster_core::{RowPlace, Window};
 use std::mem::replace;
 
-/// The greatest offset of the adaptive template pixel that T.85 has.
+/// The greatest offset of the adaptive template pixel in T.85.
 const MOST_OFFSET: u8 = 127;
 
-/// A row from its first pixel on, and the rest of one: each is compiled apart.
+/// A whole row, and the rest of a row: each is compiled separately.
 const WHOLE_ROW: usize = 0;
 
 const REST_OF_ROW: usize = 1;
 
 impl Walk {
-    /// Goes on to the end of the next row, where one is wanted. Numbers that no decoder leaves are answered by the end of
-    /// the piece.
+    /// Continues to the end of the next row, if one is wanted. For numbers that no decoder exports, it reports that the
+    /// piece has ended.
     pub fn give_row(
         &mut self,
         header: &Header,
@@ -87,7 +87,7 @@ impl Walk {
         self.finish_row::<WHOLE_ROW>(header, height, window, learned, piece)
     }
 
-    /// Goes down to the next row of a stripe, and makes its move.
+    /// Moves down to the next row of a stripe, and performs its move.
     fn enter_row(&mut self, header: &Header, height: u32, window: &mut Window<'_>)
         requires rows { WantsRow header.now.l0 self.old }
         requires fits { RowFits header.now.xd self.old (held window.old) }
@@ -102,7 +102,7 @@ impl Walk {
         ensures same { (self.new.row ≡ self.old.row) × (self.new.first ≡ self.old.first) ×
             (self.new.marker ≡ self.old.marker) }
     {
-        // The proof reads from this value that a row has pixels.
+        // The proof uses this value to show that a row has pixels.
         let _width = header.xd;
         self.kept.offset = offset_in(self.at, self.row, self.kept.offset);
         window.turn();
@@ -110,7 +110,7 @@ impl Walk {
         self.place = RowPlace::start();
     }
 
-    /// Goes on with a row of a stripe that has begun. `PART` says whether it has just begun.
+    /// Continues decoding a row of a stripe. `PART` says whether the row has just begun.
     #[inline(always)]
     fn finish_row<const PART: usize>(
         &mut self,
@@ -131,9 +131,9 @@ impl Walk {
         ensures code { OnOk result (self.new.stage ≡ stage.Code) }
         ensures window { KeepsWindow window.old window.new }
     {
-        // What the proof cites of the coder.
+        // The proof uses these laws of the coder.
         coder_laws();
-        // Both are the row's own until it ends or waits: so the compiler keeps them in registers.
+        // Both are local until the row ends or waits, so that the compiler keeps them in registers.
         let mut place = self.place;
         let mut decoder = replace(&mut self.decoder, Decoder::start());
         decoder.resume();
@@ -156,7 +156,7 @@ impl Walk {
         Ok(())
     }
 
-    /// Whether the numbers of the walk are such that a row of this image can be decoded.
+    /// Whether the numbers of the walk allow a row of this image to be decoded.
     fn has_row_that_fits(&self, header: &Header, window: &Window<'_>) -> bool
         ensures yes { result ≡ true → RowFits header.now.xd self.now (held window.now) }
         ensures no { result ≡ false → RowFits header.now.xd self.now (held window.now) → ⊥ }
@@ -176,7 +176,7 @@ impl Walk {
         true
     }
 
-    /// Whether the move of the stripe, if there is one, is one to an offset that can be.
+    /// Whether the move of the stripe, if there is one, has an allowed offset.
     fn has_low_move(&self) -> bool
         ensures yes { result ≡ true → IfSome self.now.at (λ to. to.offset ≤ 127) }
         ensures no { result ≡ false → IfSome self.now.at (λ to. to.offset ≤ 127) → ⊥ }

@@ -1,4 +1,4 @@
-//! The rows of a stripe that are still to come, and its end.
+//! The remaining rows of a stripe, and its end.
 
 ghost use Rattle.std.specs.Prelude.{◌≡◌, ◌≢◌, false, ◌≤◌, ◌<◌, ◌+◌, ◌-◌, ◌⊎◌, ◌++◌, ℕ, List, None, Ok, true, length, min, IsOk, IfErr, OnOk};
 ghost use Rattle.qm_core.specs.Place.{Estimate};
@@ -25,7 +25,7 @@ use qm_core::Learned;
 use raster_core::Window;
 
 impl Walk {
-    /// Whether a row of a stripe whose code has begun is still to come, or to be finished.
+    /// Whether a row of a stripe whose code has begun is still to be decoded, or to be finished.
     pub fn wants_row(&self, header: &Header) -> bool
         ensures wants { result ≡ true → (self.now.stage ≡ stage.Code) ⊎ (self.now.stage ≡ stage.Row)
             → RowIsLeft header.now.l0 self.now }
@@ -38,7 +38,7 @@ impl Walk {
         }
     }
 
-    /// How many rows of a stripe whose code has begun are still to come; none in the middle of one.
+    /// The number of rows still to be decoded in a stripe whose code has begun; 0 in the middle of a row.
     fn rows_left(&self, header: &Header) -> u32
         ensures { 0 < result → (self.now.stage ≡ stage.Code) ×
             (self.now.row + result ≤ min self.now.left header.now.l0) }
@@ -49,8 +49,8 @@ impl Walk {
         }
     }
 
-    /// Takes rows that equal the one before, where the bits that are there decide them, and answers how many. The window
-    /// has the last of them.
+    /// Decodes rows that equal the one before, if the bits already read determine them, and returns how many. The
+    /// window contains the last of them.
     #[inline(always)]
     pub fn repeat_rows(
         &mut self,
@@ -78,7 +78,7 @@ impl Walk {
         count
     }
 
-    /// Whether the end marker of the code was read.
+    /// Whether the end marker of the code has been read.
     pub fn has_marker(&self) -> bool
         ensures yes { result ≡ true → MarkerRead self.now.marker self.now.first }
         ensures no { result ≡ false → self.now.marker ≡ None }
@@ -87,7 +87,7 @@ impl Walk {
         self.marker.is_some() || matches!(self.first, Some(Code::Marker(_)))
     }
 
-    /// Skips what is left of the code of a stripe, after its last row, up to its end marker. That is read ahead.
+    /// Skips the rest of the code of a stripe, after its last row, up to its end marker, and reads the marker ahead.
     pub fn find_end(
         &mut self,
         header: &Header,
@@ -107,14 +107,14 @@ impl Walk {
         ensures other { (rows : Held) (learned : List Estimate) → SomeStands (sized_by header.now
             height) (walk_view self.old rows learned) → IfErr result (λ f. f ≢ Changed) }
     {
-        // What the proof cites of the coder.
+        // The proof uses these laws of the coder.
         coder_laws();
         let reset = find_marker(&mut self.first, self.marker, piece)?;
         self.first = Some(Code::Marker(reset));
         Ok(())
     }
 
-    /// Skips what is left of the code of a stripe, after its last row.
+    /// Skips the rest of the code of a stripe, after its last row, and prepares for the next stripe.
     pub fn finish_stripe(
         &mut self,
         header: &Header,
@@ -140,7 +140,7 @@ impl Walk {
             learned.old) → OnOk result (self.new.entities ≡ self.old.entities + 1) }
         ensures window { KeepsWindow window.old window.new }
     {
-        // What the proof cites of the coder.
+        // The proof uses these laws of the coder.
         coder_laws();
         let reset = find_marker(&mut self.first, self.marker, piece)?;
         next_stripe(reset, window, &mut self.kept, learned);
