@@ -1,5 +1,6 @@
 -- A decoder that a C caller holds.
-use Rattle.std.proofs.Common.{◌≡◌, ◌≤◌, ◌<◌, ◌+◌, ◌*◌, ◌⊎◌, inl, inr, ℕ, suc, ◌==◌, Bool, true, false, not, List, [], ◌++◌, length, take, drop, None, Some, refl, sym, ap, subst, ◌∙◌, arith, append_assoc, append-nil, length-take, take_all, take-append-drop}
+use Rattle.std.proofs.Common.{◌≡◌, ◌≤◌, ◌<◌, ◌+◌, ◌*◌, ◌⊎◌, inl, inr, ℕ, suc, ◌==◌, Bool, true, false, not, List, [], ◌++◌, length, take, drop, None, Some, refl, sym, ap, subst, ◌∙◌, arith, append_assoc, append-nil, length-take, take_all, take-append-drop, true≢false}
+use Rattle.std.specs.Prelude.{◌&&◌}
 use Rattle.std.proofs.lemmas.Bool.Decides.{nat_tests}
 use Rattle.std.proofs.lemmas.List.{length-drop, length-take-le, take-append-le}
 use Rattle.std.proofs.Math.Nat.{mul-le-mul_right, suc-mul}
@@ -11,7 +12,7 @@ use Rattle.raster_core.specs.Window.{current_place, width_of}
 use Rattle.raster_core.specs.Window.{held as rows_held}
 use Rattle.raster_core.specs.declared.window.Window.{Window}
 use Rattle.t85_core.specs.declared.fault.Fault.{Fault}
-use Rattle.t85_core.specs.declared.fault.Fault.TheVariants.{ShortHeader}
+use Rattle.t85_core.specs.declared.fault.Fault.TheVariants.{ShortHeader, Truncated}
 use Rattle.t85_core.specs.declared.header.Header.{Header}
 use Rattle.t85_core.specs.declared.pieces.Outcome.{Outcome}
 use Rattle.t85_core.specs.declared.pieces.Outcome.TheVariants as outcome
@@ -26,7 +27,7 @@ use Rattle.t85_core.specs.Feeds.{HasFed, IsFeed}
 use Rattle.t85_core.specs.Pieces.{HasDecoded, HandsOut, HoldsImage}
 use Rattle.t85_core.specs.Pieces.{call_of as piece_call}
 use Rattle.t85.specs.Decoded.{window_bytes}
-use Rattle.t85.specs.Decoder.{AnnouncesMore, Answers, BehindHeader, BytesCall, GivesRowAt, HasRead, Hold, InHeader, InRows, IsBrokenStream, IsImageOf, IsShort, StandAt, TellsAnswer, bytes_of_call, bytes_call, bytes_held_by, hold_of, numbers_of_decoder}
+use Rattle.t85.specs.Decoder.{AnnouncesMore, Answers, BehindHeader, BreaksBehindHeader, BytesCall, GivesRowAt, HasRead, Hold, InHeader, InRows, IsBrokenStream, IsImageOf, IsShort, StandAt, TellsAnswer, bytes_of_call, bytes_call, bytes_held_by, hold_of, is_waiting, numbers_of_decoder}
 use Rattle.t85.specs.DecoderSteps.{IsAwaited, IsFilled, IsJudged, IsOfEngine, IsToldOf}
 use Rattle.t85.specs.declared.decoder.T85Decoder.{T85Decoder}
 use Rattle.t85.specs.declared.decoder.Told.{Told}
@@ -58,7 +59,7 @@ in_rows hold stream out e (inr (inr h)) = h
 
 pub answers_from : {Has Has' : List ℕ → List ℕ → Type 0} (old mid new : Hold) (call : BytesCall) (what : Answer) → ((stream out : List ℕ) → Has stream out → Has' stream out) → IsOfEngine what → Answers Has' mid new call what → Answers Has old new call what
 answers_from old mid new call answer.Row k of a = record { bound = a.bound; tells = λ s o h. a.tells s o (k s o h) }
-answers_from old mid new call answer.More k of a = record { bound = a.bound; tells = (a.tells.0, λ s o h. a.tells.1 s o (k s o h)) }
+answers_from old mid new call answer.More k of a = record { bound = a.bound; tells = (a.tells.0, (λ s o h. a.tells.1 s o (k s o h)), a.tells.2, (λ n w s o h. a.tells.3 n w s o (k s o h))) }
 answers_from old mid new call answer.Done k of a = record { bound = a.bound; tells = (a.tells.0, λ s o r h m. a.tells.1 s o r (k s o h) m) }
 answers_from old mid new call (answer.Broken fault) k of a = record { bound = a.bound; tells = (a.tells.0, λ s o r h m. a.tells.1 s o r (k s o h) m) }
 answers_from old mid new call what k of a = absurd of
@@ -78,7 +79,7 @@ header_waits d mid new bytes window count is_all answer.More version next fill f
   bound = omega (arith, fill.count_is);
   tells = (
     omega (arith, fill.count_is, fill.len_is, few),
-    λ stream out has.
+    (λ stream out has.
         let was = in_header (hold_of d window) stream out next has in
         inl (subst (λ z. InHeader z (stream ++ take count bytes) out) (sym same)
         (record {
@@ -87,7 +88,9 @@ header_waits d mid new bytes window count is_all answer.More version next fill f
           few = few;
           stream_is = ap (λ s. s ++ take count bytes) was.stream_is ∙ sym fill.filled;
           out_is = was.out_is;
-        })),
+        }))),
+    (λ a. true≢false (sym a ∙ all)),
+    (λ n. absurd (omega (arith, n, ap (λ z. z.next) same, fill.next_is, next))),
   );
 }
 header_waits d mid new bytes window count is_all (answer.Broken fault) version next fill few (all, is, ended) = record {
@@ -287,9 +290,21 @@ module _ (laws : HeaderLaws) (old kept new : T85Decoder) (memory memory' : List 
   row_told outcome.More e1 (is, same) =
       told_as answer.More is tt (
         taken ∙ call.all e1,
-        λ stream out k.
+        (λ stream out k.
             subst (λ d. HasRead (hold_of d memory') (stream ++ take told.taken bytes) out) (sym same)
-            (inr (inr (rows_of (stream ++ take told.taken bytes) out (k.text ++ take progress.taken bytes) out (further stream out k) (call.fed.more e1 k.text out (has_of stream out k)).0))),
+            (inr (inr (rows_of (stream ++ take told.taken bytes) out (k.text ++ take progress.taken bytes) out (further stream out k) (call.fed.more e1 k.text out (has_of stream out k)).0)))),
+        (λ all. call.fed.ends all e1),
+        (λ n w stream out k.
+            let high : e'.height ≡ new.height = sym (ap (λ d. d.height) same ∙ height_of) in
+            let quiet : (e'.is_open && e'.waits) ≡ false = sym (ap (λ z. z.is_open && z.waits) numbers) ∙ (sym (ap is_waiting same) ∙ w) in
+            subst (λ s. BreaksBehindHeader s new.height Truncated out) (sym (ap (λ s. s ++ bytes) k.stream_is ∙ append_assoc old.header k.text bytes))
+            (record {
+              header = fields_of header;
+              header_of = laws.stands old.header (k.text ++ bytes) (fields_of header) header_of;
+              hands = subst (λ b. HandsOut (fields_of header) b new.height Truncated out) (sym (behind (k.text ++ bytes)))
+                  (subst (λ n. HandsOut (fields_of header) (k.text ++ bytes) n Truncated out) high
+                  (subst (λ h. HandsOut (fields_of h) (k.text ++ bytes) e'.height Truncated out) header_is ((call.fed.more e1 k.text out (has_of stream out k)).1 quiet)));
+            })),
       )
   row_told (outcome.Done height) e1 (is, ended, same) =
       told_as answer.Done is tt (
@@ -382,7 +397,7 @@ module _ (laws : HeaderLaws) (d d' : T85Decoder) (window memory' rest : List ℕ
 
   pub window_cut : (call : BytesCall) (what : Answer) → IsOfEngine what → Answers (HasRead (hold_of d (take needed window))) (hold_of d (take needed window)) (hold_of d' memory') call what → Answers (HasRead (hold_of d window)) (hold_of d window) (hold_of d' (memory' ++ rest)) call what
   window_cut call answer.Row of a = record { bound = a.bound; tells = λ s o h. row_back call (s ++ bytes_of_call call) o (a.tells s o (lent s o h)) }
-  window_cut call answer.More of a = record { bound = a.bound; tells = (a.tells.0, λ s o h. read_with d' memory' (memory' ++ rest) same_back (s ++ bytes_of_call call) o (a.tells.1 s o (lent s o h))) }
+  window_cut call answer.More of a = record { bound = a.bound; tells = (a.tells.0, (λ s o h. read_with d' memory' (memory' ++ rest) same_back (s ++ bytes_of_call call) o (a.tells.1 s o (lent s o h))), a.tells.2, (λ n w s o h. a.tells.3 n w s o (lent s o h))) }
   window_cut call answer.Done of a = record { bound = a.bound; tells = (a.tells.0, λ s o r h m. a.tells.1 s o r (lent s o h) m) }
   window_cut call (answer.Broken fault) of a = record { bound = a.bound; tells = (a.tells.0, λ s o r h m. a.tells.1 s o r (lent s o h) m) }
   window_cut call what of a = absurd of

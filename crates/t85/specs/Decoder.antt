@@ -1,10 +1,11 @@
 -- A decoder that a C caller holds, and what its calls leave.
-use Rattle.std.specs.Prelude.{ℕ, ◌≡◌, ◌≢◌, ◌≤◌, ◌<◌, ◌⊎◌, ◌==◌, ◌||◌, not, if◌then◌else◌, Bool, List, [], ◌++◌, length, take, drop, Some}
+use Rattle.std.specs.Prelude.{ℕ, ◌≡◌, ◌≢◌, ◌≤◌, ◌<◌, ◌⊎◌, ◌==◌, ◌||◌, ◌&&◌, not, if◌then◌else◌, Bool, true, false, List, [], ◌++◌, length, take, drop, Some}
 use Rattle.std.specs.Int.{div_ceil}
 use Rattle.raster_core.specs.Packed.{rows_at}
 use Rattle.t85_core.specs.declared.fault.Fault.{Fault}
 use Rattle.t85_core.specs.declared.pieces.PieceDecoder.{PieceDecoder}
 use Rattle.t85_core.specs.declared.pieces.numbers.PieceNumbers.{PieceNumbers}
+use Rattle.t85_core.specs.declared.fault.Fault.TheVariants.{Truncated}
 use Rattle.t85_core.specs.Fault.{fault_number}
 use Rattle.t85_core.specs.Header.{Fields, HeaderOf, header_fault}
 use Rattle.t85_core.specs.Lent.{decoder_view}
@@ -172,11 +173,17 @@ status_told answer.Row = 61
 status_told answer.More = 62
 status_told (answer.Ended status) = status
 
+-- whether what stands behind an end marker is waited for, or a height before the first stripe
+abbrev pub is_waiting : T85Decoder → Bool
+is_waiting d = not (d.is_open == 0) && not (d.waits == 0)
+
 -- What an answer says, where `Has` holds of each stream that a decoder may have been given, and the rows that it gave.
 abbrev pub TellsAnswer : (Has : List ℕ → List ℕ → Type 0) → Hold → Hold → BytesCall → Answer → Type 0
 TellsAnswer Has old new call answer.Header = (stream out : List ℕ) → Has stream out → BehindHeader new.decoder (stream ++ bytes_of_call call) out
 TellsAnswer Has old new call answer.Row = (stream out : List ℕ) → Has stream out → GivesRowAt new call (stream ++ bytes_of_call call) out
-TellsAnswer Has old new call answer.More = (call.taken ≡ length call.bytes) × ((stream out : List ℕ) → Has stream out → HasRead new (stream ++ bytes_of_call call) out)
+TellsAnswer Has old new call answer.More =
+    (call.taken ≡ length call.bytes) × ((stream out : List ℕ) → Has stream out → HasRead new (stream ++ bytes_of_call call) out) × (call.is_all ≡ true → ⊥)
+    × (new.decoder.next ≡ 2 → is_waiting new.decoder ≡ false → (stream out : List ℕ) → Has stream out → BreaksBehindHeader (stream ++ call.bytes) new.decoder.height Truncated out)
 TellsAnswer Has old new call answer.Done =
     HasEnded new.decoder 0 × ((stream out rest : List ℕ) → Has stream out → MayFollow call.is_all rest → IsImageOf ((stream ++ call.bytes) ++ rest) new.decoder.height out)
 TellsAnswer Has old new call (answer.Broken fault) =
@@ -191,11 +198,17 @@ pub record Answers (Has : List ℕ → List ℕ → Type 0) (old new : Hold) (ca
   pub bound : call.taken ≤ length call.bytes
   pub tells : TellsAnswer Has old new call what
 
+-- no decoder was begun here, as is seen at once
+abbrev pub IsNotBegun : T85Decoder → Type 0
+IsNotBegun d = (d.version ≢ 1) ⊎ (3 < d.next)
+
 -- what a call leaves, and its status
 pub record IsAnswered (old new : Hold) (call : BytesCall) (status : ℕ) : Type 0 where
   pub what : Answer
   pub status_is : status ≡ status_told what
   pub answers : Answers (HasRead old) old new call what
+  pub not_begun : IsNotBegun old.decoder → what ≡ answer.NotBegun
+  pub ended : old.decoder.version ≡ 1 → old.decoder.next ≡ 3 → what ≡ answer.Ended old.decoder.status
 
 -- So many rows are certain: no height that can still come is below that, and one is just that.
 abbrev pub TellsCertain : T85Decoder → ℕ → Type 0

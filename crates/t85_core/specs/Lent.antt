@@ -1,5 +1,5 @@
 -- What decoders are seen as: what they hold, and what they are lent.
-use Rattle.std.specs.Prelude.{ℕ, ◌≡◌, Bool, List, Option}
+use Rattle.std.specs.Prelude.{ℕ, ◌≡◌, Bool, ◌&&◌, List, Option}
 use Rattle.qm_core.specs.declared.decoder.Decoder.{Decoder}
 use Rattle.qm_core.specs.Place.{Estimate}
 use Rattle.raster_core.specs.Packed.{Held, next_place}
@@ -80,6 +80,10 @@ pub record PieceView : Type 0 where
   pub waits : Bool
   pub behind : Behind
   pub end : Option End
+
+-- whether it waits for what comes behind an end marker, or for a height before the first stripe
+abbrev pub waits_behind : PieceView → Bool
+waits_behind d = d.is_open && d.waits
 
 abbrev pub decoder_view : PieceDecoder → Held → List Estimate → PieceView
 decoder_view d rows learned = record {

@@ -3,7 +3,7 @@ use Rattle.std.specs.Prelude.{ℕ, ◌+◌, ◌*◌, ◌≡◌, ◌≢◌, ◌�
 use Rattle.raster_core.specs.Packed.{packed_row}
 use Rattle.t85_core.specs.declared.fault.Fault.{Fault}
 use Rattle.t85_core.specs.declared.fault.Fault.TheVariants.{Truncated}
-use Rattle.t85_core.specs.Lent.{PieceView}
+use Rattle.t85_core.specs.Lent.{PieceView, waits_behind}
 use Rattle.t85_core.specs.declared.pieces.End.{End}
 use Rattle.t85_core.specs.declared.pieces.Outcome.{Outcome}
 use Rattle.t85_core.specs.declared.pieces.Progress.{Progress}
@@ -101,7 +101,7 @@ RowsWait Before old call =
 abbrev pub WantsMore : (Before After : List ℕ → List ℕ → Type 0) → PieceView → Call → Type 0
 WantsMore Before After old call =
     call.answer ≡ outcome.More → (text out : List ℕ) → Before text out →
-    After (text ++ take call.taken call.piece) out × (call.new.waits ≡ false → HandsOut (stream_of old) (text ++ call.piece) call.new.height Truncated out)
+    After (text ++ take call.taken call.piece) out × (waits_behind call.new ≡ false → HandsOut (stream_of old) (text ++ call.piece) call.new.height Truncated out)
 
 -- the image is whole at this height, whatever comes after the piece
 abbrev pub IsWhole : (Before : List ℕ → List ℕ → Type 0) → PieceView → Call → Type 0
@@ -185,7 +185,7 @@ PiecesBroken =
 
 abbrev pub PiecesMore : Type 0
 PiecesMore =
-    (d : PieceView) (calls : List Call) (last : Call) → HasDecoded d [] [] → AreCalls d calls → IsCall (decoder_after d calls) last → last.answer ≡ outcome.More → last.new.waits ≡ false →
+    (d : PieceView) (calls : List Call) (last : Call) → HasDecoded d [] [] → AreCalls d calls → IsCall (decoder_after d calls) last → last.answer ≡ outcome.More → waits_behind last.new ≡ false →
     HandsOut (stream_of d) (flat_map bytes_taken calls ++ last.piece) last.new.height Truncated (flat_map row_given calls)
 
 abbrev pub PiecesWait : Type 0

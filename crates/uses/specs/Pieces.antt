@@ -1,7 +1,7 @@
 -- What is read of a stream in pieces.
 use Rattle.std.specs.Prelude.{⊤, ℕ, ◌≡◌, ◌≢◌, ◌≤◌, ◌-◌, ◌^◌, Bool, true, false, List, [], ◌∷◌, ◌++◌, length, take, flat_map, sum_by}
 use Rattle.t85_core.specs.declared.fault.Fault.TheVariants.{Truncated}
-use Rattle.t85_core.specs.Lent.{PieceView}
+use Rattle.t85_core.specs.Lent.{PieceView, waits_behind}
 use Rattle.t85_core.specs.declared.pieces.Outcome.{Outcome}
 use Rattle.t85_core.specs.declared.pieces.Outcome.TheVariants as outcome
 use Rattle.t85_core.specs.Header.{Fields}
@@ -26,7 +26,7 @@ WereMade d (call ∷ calls) = IsCall d call × WereMade call.new calls
 -- where it is a row itself, or where rows wait, and else what they are, whatever comes after.
 abbrev pub SaysOfRows : Fields → Bool → PieceView → Outcome → List ℕ → List ℕ → Type 0
 SaysOfRows h is_all new outcome.Row come out = ⊤
-SaysOfRows h is_all new outcome.More come out = new.waits ≡ false → HandsOut h come new.height Truncated out
+SaysOfRows h is_all new outcome.More come out = waits_behind new ≡ false → HandsOut h come new.height Truncated out
 SaysOfRows h is_all new (outcome.Done height) come out = (rest : List ℕ) → MayFollow is_all rest → HoldsImage h (come ++ rest) height out
 SaysOfRows h is_all new (outcome.Broken fault) come out = (rest : List ℕ) → MayFollow is_all rest → HandsOut h (come ++ rest) new.height fault out
 

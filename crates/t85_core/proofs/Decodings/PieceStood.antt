@@ -1,6 +1,6 @@
 -- Where a decoder stands, before a step and after it.
 use Rattle.std.proofs.Common.{cond, ◌≡◌, ◌≢◌, ◌<◌, ◌≤◌, ◌+◌, ◌-◌, ◌*◌, ◌⊎◌, inl, inr, ℕ, Bool, true, false, List, [], ◌∷◌, ◌++◌, length, min, take, drop, slice_index, nat_le, Option, None, Some, Result, Ok, Err, refl, sym, ap, ◌∙◌, subst, append_assoc, append-nil, length-append, arith, true≢false}
-use Rattle.std.specs.Prelude.{IsOk, OnOk, IfSome, is_some}
+use Rattle.std.specs.Prelude.{IsOk, OnOk, IfSome, is_some, ◌&&◌}
 use Rattle.std.proofs.lemmas.Bool.Decides.{nat_tests}
 use Rattle.std.proofs.Math.Seq.{drop-append_seam, take-append_seam}
 use Rattle.std.proofs.lemmas.Bool.{cases_lt}
@@ -23,7 +23,7 @@ use Rattle.t85_core.specs.Steps.Segments.{IsByteOrMarker, PieceFault, code_bytes
 use Rattle.t85_core.specs.declared.fault.Fault.{Fault}
 use Rattle.t85_core.specs.declared.fault.Fault.TheVariants.{Truncated, Changed}
 use Rattle.t85_core.specs.declared.header.Header.{Header}
-use Rattle.t85_core.specs.Lent.{PieceView, WalkView}
+use Rattle.t85_core.specs.Lent.{PieceView, WalkView, waits_behind}
 use Rattle.t85_core.specs.declared.pieces.Outcome.{Outcome}
 use Rattle.t85_core.specs.declared.pieces.Outcome.TheVariants as outcome
 use Rattle.t85_core.specs.declared.pieces.behind.Behind.{Behind}
@@ -111,7 +111,7 @@ none_some e = cc
 abbrev AnswerLeaves : Bool → PieceView → PieceView → List ℕ → List ℕ → Option Outcome → Type 0
 AnswerLeaves is_all d d' p p' None = DecoderOn d d' p p' []
 AnswerLeaves is_all d d' p p' (Some outcome.Row) = DecoderOn d d' p p' (row_held d') × NoHeightBelow is_all d d' p
-AnswerLeaves is_all d d' p p' (Some outcome.More) = (is_all ≡ false) × DecoderOn d d' p p' [] × (d'.waits ≡ false → EndsBroken true d p d'.height Truncated) × (length p' ≤ 7)
+AnswerLeaves is_all d d' p p' (Some outcome.More) = (is_all ≡ false) × DecoderOn d d' p p' [] × (waits_behind d' ≡ false → EndsBroken true d p d'.height Truncated) × (length p' ≤ 7)
 AnswerLeaves is_all d d' p p' (Some (outcome.Done n)) = (d'.height ≡ n) × EndsWhole is_all d p n
 AnswerLeaves is_all d d' p p' (Some (outcome.Broken f)) = EndsBroken is_all d p d'.height f
 
@@ -578,8 +578,8 @@ module _ (d : PieceView) (known : d.is_open ≡ false) where
       cut_hands (fields_of d.header) d.height (text ++ p) out rest f (subst (λ z. HasHeight (fields_of d.header) z d.height) (sym (append_assoc text p rest)) (known_of text (p ++ rest) s.height)) (λ t. follows (all t)) (off text out (walks_of d text out known s))
 
 -- more is wanted behind a marker
-pub leaves_more : (is_all : Bool) (d d' : PieceView) (p p' : List ℕ) → d'.header ≡ d.header → d'.end ≡ d.end → is_all ≡ false → d'.waits ≡ true → DecoderOn d d' p p' [] → length p' ≤ 7 → StepLeaves is_all d d' p p' (Some outcome.More)
-leaves_more is_all d d' p p' header going open_ waits on few = leaves_as is_all d d' p p' (Some outcome.More) header going (open_, on, (λ w. absurd (true≢false (sym waits ∙ w))), few)
+pub leaves_more : (is_all : Bool) (d d' : PieceView) (p p' : List ℕ) → d'.header ≡ d.header → d'.end ≡ d.end → is_all ≡ false → d'.is_open ≡ true → d'.waits ≡ true → DecoderOn d d' p p' [] → length p' ≤ 7 → StepLeaves is_all d d' p p' (Some outcome.More)
+leaves_more is_all d d' p p' header going open_ late waits on few = leaves_as is_all d d' p p' (Some outcome.More) header going (open_, on, (λ w. absurd (true≢false (sym (subst (λ b. (b && d'.waits) ≡ true) (sym late) waits) ∙ w))), few)
 
 pub fewer_after : (old mid new : Bool) (p p1 p' : List ℕ) → mid ≡ old → length p1 ≤ length p → steps_left new p' < steps_left mid p1 → steps_left new p' < steps_left old p
 fewer_after old mid new p p1 p' same le less = let k : steps_left new p' < 2 * length p1 + cond {A = ℕ} old 0 1 = subst (λ b. steps_left new p' < 2 * length p1 + cond {A = ℕ} b 0 1) same less in omega (arith, k, le)

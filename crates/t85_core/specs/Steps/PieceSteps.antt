@@ -2,7 +2,7 @@
 use Rattle.std.specs.Prelude.{ℕ, ◌+◌, ◌*◌, ◌≡◌, ◌≤◌, ◌<◌, Bool, true, false, List, [], ◌++◌, length, min, Option, Some, None, if◌then◌else◌}
 use Rattle.t85_core.specs.declared.fault.Fault.{Fault}
 use Rattle.t85_core.specs.declared.fault.Fault.TheVariants.{Truncated}
-use Rattle.t85_core.specs.Lent.{PieceView, WalkView}
+use Rattle.t85_core.specs.Lent.{PieceView, WalkView, waits_behind}
 use Rattle.t85_core.specs.declared.pieces.Outcome.{Outcome}
 use Rattle.t85_core.specs.declared.pieces.PieceDecoder.{PieceDecoder}
 use Rattle.t85_core.specs.declared.pieces.Outcome.TheVariants as outcome
@@ -57,7 +57,7 @@ pub record StepLeaves (is_all : Bool) (d d' : PieceView) (piece piece' : List �
   pub on : answer ≡ None → DecoderOn d d' piece piece' []
   pub row : answer ≡ Some outcome.Row → DecoderOn d d' piece piece' (row_held d')
   pub waits : answer ≡ Some outcome.Row → NoHeightBelow is_all d d' piece
-  pub more : answer ≡ Some outcome.More → (is_all ≡ false) × DecoderOn d d' piece piece' [] × (d'.waits ≡ false → EndsBroken true d piece d'.height Truncated) × (length piece' ≤ 7)
+  pub more : answer ≡ Some outcome.More → (is_all ≡ false) × DecoderOn d d' piece piece' [] × (waits_behind d' ≡ false → EndsBroken true d piece d'.height Truncated) × (length piece' ≤ 7)
   pub done : (n : ℕ) → answer ≡ Some (outcome.Done n) → (d'.height ≡ n) × EndsWhole is_all d piece n
   pub broken : (f : Fault) → answer ≡ Some (outcome.Broken f) → EndsBroken is_all d piece d'.height f
 

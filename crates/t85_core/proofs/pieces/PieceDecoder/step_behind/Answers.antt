@@ -15,7 +15,7 @@ pub returns-in-Ok-clause-lowers : goal.returns-in-Ok-clause-lowers
 returns-in-Ok-clause-lowers c = λ is. fewer_after c.args.self.now.waits c.args.self.now.waits c.take_coming.new.self.waits c.args.piece.now.rest.now c.pass.new.piece.rest.now c.take_coming.new.piece.rest.now refl c.pass.ensures.no_more (c.take_coming.ensures.lowers is)
 
 pub returns-then-is_open_end-clause-leaves : goal.returns-then-is_open_end-clause-leaves
-returns-then-is_open_end-clause-leaves c = leaves_more c.args.is_all (decoder_over c.args.self.now c.args.window.now c.args.learned.now) _ c.args.piece.now.rest.now c.pass.new.piece.rest.now refl refl (c.is_open_end.ensures.yes (search rules)).1 c.requires.looks.1 (passed_on (decoder_over c.args.self.now c.args.window.now c.args.learned.now) _ c.pass.new.self c.args.piece.now.rest.now c.pass.new.piece.rest.now c.requires.looks.0 c.requires.looks.1 refl refl refl refl refl refl (subst (λ z. BehindOn (fields_of c.args.self.now.header) (behind_at z (last_behind (fields_of c.args.self.now.header) c.args.self.now.walk.stage c.args.self.now.walk.left)) c.args.self.now.behind c.pass.new.self c.args.piece.now.rest.now c.pass.new.piece.rest.now) c.place_behind-place.ensures (subst (λ l. BehindOn (fields_of c.args.self.now.header) (behind_at c.place_behind-place.result l) c.args.self.now.behind c.pass.new.self c.args.piece.now.rest.now c.pass.new.piece.rest.now) c.is_last-is_last.ensures c.pass.ensures.on))) (c.in-Err.ensures.err.few (c.is_open_end.ensures.yes (search rules)).0)
+returns-then-is_open_end-clause-leaves c = leaves_more c.args.is_all (decoder_over c.args.self.now c.args.window.now c.args.learned.now) _ c.args.piece.now.rest.now c.pass.new.piece.rest.now refl refl (c.is_open_end.ensures.yes (search rules)).1 c.requires.looks.0 c.requires.looks.1 (passed_on (decoder_over c.args.self.now c.args.window.now c.args.learned.now) _ c.pass.new.self c.args.piece.now.rest.now c.pass.new.piece.rest.now c.requires.looks.0 c.requires.looks.1 refl refl refl refl refl refl (subst (λ z. BehindOn (fields_of c.args.self.now.header) (behind_at z (last_behind (fields_of c.args.self.now.header) c.args.self.now.walk.stage c.args.self.now.walk.left)) c.args.self.now.behind c.pass.new.self c.args.piece.now.rest.now c.pass.new.piece.rest.now) c.place_behind-place.ensures (subst (λ l. BehindOn (fields_of c.args.self.now.header) (behind_at c.place_behind-place.result l) c.args.self.now.behind c.pass.new.self c.args.piece.now.rest.now c.pass.new.piece.rest.now) c.is_last-is_last.ensures c.pass.ensures.on))) (c.in-Err.ensures.err.few (c.is_open_end.ensures.yes (search rules)).0)
 
 pub returns-else-is_open_end-clause-leaves : goal.returns-else-is_open_end-clause-leaves
 returns-else-is_open_end-clause-leaves c = leaves_after c.args.is_all (decoder_over c.args.self.now c.args.window.now c.args.learned.now) _ (decoder_over c.stop_behind.new.self c.stop_behind.new.window c.stop_behind.new.learned) c.args.piece.now.rest.now c.pass.new.piece.rest.now c.pass.new.piece.rest.now refl refl (passed_on (decoder_over c.args.self.now c.args.window.now c.args.learned.now) _ c.pass.new.self c.args.piece.now.rest.now c.pass.new.piece.rest.now c.requires.looks.0 c.requires.looks.1 refl refl refl refl refl refl (subst (λ z. BehindOn (fields_of c.args.self.now.header) (behind_at z (last_behind (fields_of c.args.self.now.header) c.args.self.now.walk.stage c.args.self.now.walk.left)) c.args.self.now.behind c.pass.new.self c.args.piece.now.rest.now c.pass.new.piece.rest.now) c.place_behind-place.ensures (subst (λ l. BehindOn (fields_of c.args.self.now.header) (behind_at c.place_behind-place.result l) c.args.self.now.behind c.pass.new.self c.args.piece.now.rest.now c.pass.new.piece.rest.now) c.is_last-is_last.ensures c.pass.ensures.on))) (Some c.stop_behind.result) c.stop_behind.ensures.leaves
