@@ -2,31 +2,30 @@
 use Rattle.std.proofs.Common.{◌≡◌, ℕ, ◌+◌, ◌-◌, ◌*◌, ◌/◌, ◌%◌, ◌^◌, ◌<◌, Bool, List, [], ◌∷◌, ◌++◌, length, refl, sym, ◌∙◌, ap, arith, subst, append_assoc, Ok, Err}
 use Rattle.std.specs.Prelude.{Result, OnErr, IfErr, IfOk, IsErr, IsErrAnd}
 use Rattle.std.proofs.lemmas.List.{length-append, append-nil}
-use Rattle.qm_core.specs.Place.{Place, Estimate, after}
-use Rattle.qm_core.specs.Decoder.{DecoderIsAt, Next, decoder_state}
+use Rattle.qm_core.specs.Place.{Place, after}
+use Rattle.qm_core.specs.Decoder.{DecoderIsAt, DecoderState, Next}
 use Rattle.qm_core.specs.declared.source.Pulled.{Pulled}
-use Rattle.qm_core.specs.declared.decoder.Decoder.{Decoder}
 use Rattle.qm_core.specs.declared.decoder.Stop.{Stop}
 use Rattle.qm_core.specs.Source.{source_at}
-use Rattle.raster_core.specs.Lines.{Lines, Mode, context_at, pixel_events}
+use Rattle.raster_core.specs.Lines.{Lines, context_at, pixel_events}
 use Rattle.raster_core.specs.Machine.Registers.{bit, before, past_bits, AreAt}
 use Rattle.raster_core.specs.Events.{Decodes}
 use Rattle.raster_core.specs.declared.place.Pause.{Pause}
-use Rattle.raster_core.specs.Machine.Decoded.{with_row, PixelsSoFar, Along, StopsAlong, byte_around, plain_row}
+use Rattle.raster_core.specs.Machine.Decoded.{ByteAround, with_row, PixelsSoFar, Along, StopsAlong, plain_row}
 use Rattle.raster_core.proofs.Before.{some_past}
 use Rattle.raster_core.proofs.Runs.{decodes_next, decodes_stop}
 use Rattle.raster_core.proofs.Causal.{pixel_events_more, past_next}
 use Rattle.raster_core.proofs.BytePixels.{at_registers}
 use Rattle.raster_core.proofs.EventLists.{event_is}
 
-pub along_none : {S : Type 0} (pull : S → Pulled → S → Type 0) (old : S) (mode : Mode) (offset second above past : ℕ) (d : Decoder) (learned : List Estimate) →
-    Along pull (byte_around mode offset second above past) (decoder_state old d learned) 0 past (decoder_state old d learned)
-along_none {S} pull old mode offset second above past d learned = λ from first s answers lines done so_far s2 a2.
-    record {
-      pixels = [];
-      count = refl;
-      so_far = subst (λ row. PixelsSoFar (source_at pull from answers) (plain_row mode offset first s lines) row past (decoder_state old d learned)) (sym (append-nil done)) so_far;
-    }
+pub along_none : {S : Type 0} {pull : S → Pulled → S → Type 0} {b : ByteAround} {old : DecoderState S} → Along pull b old 0 b.past old
+along_none {S} {pull} {b} {old} = record {
+  any = λ from first s answers lines done so_far s2 a2. record {
+    pixels = [];
+    count = refl;
+    so_far = subst (λ row. PixelsSoFar (source_at pull from answers) (plain_row b.mode b.offset first s lines) row b.past old) (sym (append-nil done)) so_far;
+  };
+}
 
 -- the registers at a pixel of the byte
 registers_at : (lines : Lines) (second above past offset n : ℕ) (done pixels : List Bool) → n < 8 → length pixels ≡ n →
@@ -37,46 +36,44 @@ registers_at lines second above past offset n done pixels h count s a p =
     subst (λ x. AreAt (with_row lines (done ++ pixels)) offset (second / 2 ^ 7 * 2 ^ n) (above / 2 ^ 6 * 2 ^ n) past x) long
     (at_registers (with_row lines (done ++ pixels)) offset second above (before (done ++ pixels) (length done + 8) 8) past (length done) n h (record { second_is = s; above_is = a; byte_is = refl }) (rw long p))
 
-pub along_next : {S : Type 0} (pull : S → Pulled → S → Type 0) (old mid to : S) (mode : Mode) (offset second above past₀ : ℕ) (d₀ : Decoder) (learned₀ : List Estimate)
-    (n past past' : ℕ) (d d' : Decoder) (learned learned' : List Estimate) (cx : ℕ) (result : Result Bool Stop) (pixel : Bool) →
-    n < 8 → result ≡ Ok pixel → past' ≡ past % 2 ^ (past_bits offset - 1) * 2 + bit pixel →
-    ((lines : Lines) (x : ℕ) → AreAt lines offset (second / 2 ^ 7 * 2 ^ n) (above / 2 ^ 6 * 2 ^ n) past x → cx ≡ context_at mode lines offset x) →
-    ((p : Place) (answers : List Pulled) → DecoderIsAt d p answers → Next (source_at pull mid answers) (record { place = p; learned = learned }) cx (decoder_state to d' learned') result) →
-    Along pull (byte_around mode offset second above past₀) (decoder_state old d₀ learned₀) n past (decoder_state mid d learned) →
-    Along pull (byte_around mode offset second above past₀) (decoder_state old d₀ learned₀) (n + 1) past' (decoder_state to d' learned')
-along_next {S} pull old mid to mode offset second above past₀ d₀ learned₀ n past past' d d' learned learned' cx result pixel few is past_is context next along = λ from first s answers lines done so_far s2 a2.
-    let m = along from first s answers lines done so_far s2 a2 in
-    let at = registers_at lines second above past offset n done m.pixels few m.count s2 a2 m.so_far.past_is in
-    let here : cx ≡ context_at mode (with_row lines (done ++ m.pixels)) offset (length (done ++ m.pixels)) = context (with_row lines (done ++ m.pixels)) (length (done ++ m.pixels)) at in
-    let t = decodes_next pull from mid to s answers m.so_far.more (first ++ pixel_events mode (with_row lines (done ++ m.pixels)) offset) d d' learned learned' cx result pixel is m.so_far.decodes
-    (next (after s (first ++ pixel_events mode (with_row lines (done ++ m.pixels)) offset)).place (answers ++ m.so_far.more) m.so_far.decodes.stands) in
-    let assoc : (done ++ m.pixels) ++ pixel ∷ [] ≡ done ++ (m.pixels ++ pixel ∷ []) = append_assoc done m.pixels (pixel ∷ []) in
-    let e₁ : record { context = cx; pixel = pixel } ∷ [] ≡ record { context = context_at mode (with_row lines (done ++ m.pixels)) offset (length (done ++ m.pixels)); pixel = pixel } ∷ [] =
-    ap (λ event. event ∷ []) (event_is cx _ pixel _ here refl) in
-    let e : (first ++ pixel_events mode (with_row lines (done ++ m.pixels)) offset) ++ record { context = cx; pixel = pixel } ∷ [] ≡ first ++ pixel_events mode (with_row lines ((done ++ m.pixels) ++ pixel ∷ [])) offset =
-    append_assoc first (pixel_events mode (with_row lines (done ++ m.pixels)) offset) (record { context = cx; pixel = pixel } ∷ [])
-    ∙ (ap (λ es. first ++ (pixel_events mode (with_row lines (done ++ m.pixels)) offset ++ es)) e₁
-    ∙ ap (λ es. first ++ es) (sym (pixel_events_more mode lines offset (done ++ m.pixels) pixel))) in
-    let p : past' ≡ before ((done ++ m.pixels) ++ pixel ∷ []) (length ((done ++ m.pixels) ++ pixel ∷ [])) (past_bits offset) = past_is ∙ subst (λ w. past % 2 ^ (past_bits offset - 1) * 2 + bit pixel ≡ before ((done ++ m.pixels) ++ pixel ∷ []) (length ((done ++ m.pixels) ++ pixel ∷ [])) w) (some_past offset) (past_next (done ++ m.pixels) pixel past (past_bits offset - 1) (m.so_far.past_is ∙ ap (λ w. before (done ++ m.pixels) (length (done ++ m.pixels)) w) (sym (some_past offset)))) in
-    let whole : PixelsSoFar (source_at pull from answers) (plain_row mode offset first s lines) ((done ++ m.pixels) ++ pixel ∷ []) past' (decoder_state to d' learned') =
-    record { past_is = p; more = t.0; decodes = subst (λ es. Decodes (source_at pull from answers) s t.0 es (decoder_state to d' learned')) e t.1 } in
-    record {
-      pixels = m.pixels ++ pixel ∷ [];
-      count = length-append m.pixels (pixel ∷ []) ∙ ap (λ k. k + 1) m.count;
-      so_far = subst (λ row. PixelsSoFar (source_at pull from answers) (plain_row mode offset first s lines) row past' (decoder_state to d' learned')) assoc whole;
-    }
+pub along_next : {S : Type 0} {pull : S → Pulled → S → Type 0} {b : ByteAround} {old mid to : DecoderState S} {n past past' cx : ℕ} {pixel : Bool} →
+    n < 8 → past' ≡ past % 2 ^ (past_bits b.offset - 1) * 2 + bit pixel →
+    ((lines : Lines) (x : ℕ) → AreAt lines b.offset (b.second / 2 ^ 7 * 2 ^ n) (b.above / 2 ^ 6 * 2 ^ n) past x → cx ≡ context_at b.mode lines b.offset x) →
+    ((p : Place) (answers : List Pulled) → DecoderIsAt mid.decoder p answers → Next (source_at pull mid.source answers) (record { place = p; learned = mid.learned }) cx to (Ok pixel)) →
+    Along pull b old n past mid → Along pull b old (n + 1) past' to
+along_next {S} {pull} {b} {old} {mid} {to} {n} {past} {past'} {cx} {pixel} few past_is context next along = record {
+  any = λ from first s answers lines done so_far s2 a2.
+      let m = along.any from first s answers lines done so_far s2 a2 in
+      let row = done ++ m.pixels in
+      let events = first ++ pixel_events b.mode (with_row lines row) b.offset in
+      let at = registers_at lines b.second b.above past b.offset n done m.pixels few m.count s2 a2 m.so_far.past_is in
+      let t = decodes_next m.so_far.decodes (next (after s events).place (answers ++ m.so_far.more) m.so_far.decodes.stands) in
+      let more : pixel_events b.mode (with_row lines (row ++ pixel ∷ [])) b.offset ≡ pixel_events b.mode (with_row lines row) b.offset ++ record { context = cx; pixel = pixel } ∷ [] =
+      pixel_events_more b.mode lines b.offset row pixel ∙ ap (λ event. pixel_events b.mode (with_row lines row) b.offset ++ event ∷ []) (sym (event_is cx _ pixel _ (context (with_row lines row) (length row) at) refl)) in
+      let p = past_is ∙ subst (λ w. past % 2 ^ (past_bits b.offset - 1) * 2 + bit pixel ≡ before (row ++ pixel ∷ []) (length (row ++ pixel ∷ [])) w) (some_past b.offset)
+      (past_next row pixel past (past_bits b.offset - 1) (m.so_far.past_is ∙ ap (λ w. before row (length row) w) (sym (some_past b.offset)))) in
+      let whole : PixelsSoFar (source_at pull from answers) (plain_row b.mode b.offset first s lines) (row ++ pixel ∷ []) past' to = record {
+        past_is = p;
+        more = t.0;
+        decodes = subst (λ es. Decodes (source_at pull from answers) s t.0 es to) (append_assoc first _ _ ∙ ap (λ es. first ++ es) (sym more)) t.1;
+      } in
+      record {
+        pixels = m.pixels ++ pixel ∷ [];
+        count = length-append m.pixels (pixel ∷ []) ∙ ap (λ k. k + 1) m.count;
+        so_far = subst (λ r. PixelsSoFar (source_at pull from answers) (plain_row b.mode b.offset first s lines) r past' to) (append_assoc done m.pixels (pixel ∷ [])) whole;
+      };
+}
 
-pub along_stop : {S : Type 0} (pull : S → Pulled → S → Type 0) (old mid to : S) (mode : Mode) (offset second above past₀ : ℕ) (d₀ : Decoder) (learned₀ : List Estimate)
-    (n all past : ℕ) (d d' : Decoder) (learned learned' : List Estimate) (cx : ℕ) (result : Result Bool Stop) (fault : Stop) (pause : Pause) →
-    n < all → pause.count ≡ n → pause.past ≡ past → result ≡ Err fault →
-    ((p : Place) (answers : List Pulled) → DecoderIsAt d p answers → Next (source_at pull mid answers) (record { place = p; learned = learned }) cx (decoder_state to d' learned') result) →
-    Along pull (byte_around mode offset second above past₀) (decoder_state old d₀ learned₀) n past (decoder_state mid d learned) →
-    StopsAlong pull (byte_around mode offset second above past₀) (decoder_state old d₀ learned₀) all pause (decoder_state to d' learned')
-along_stop {S} pull old mid to mode offset second above past₀ d₀ learned₀ n all past d d' learned learned' cx result fault pause few count_is past_is is next along = λ from first s answers lines done so_far s2 a2.
-    let m = along from first s answers lines done so_far s2 a2 in
-    let t = decodes_stop pull from mid to s answers m.so_far.more (first ++ pixel_events mode (with_row lines (done ++ m.pixels)) offset) d d' learned learned' cx result fault is m.so_far.decodes
-    (next (after s (first ++ pixel_events mode (with_row lines (done ++ m.pixels)) offset)).place (answers ++ m.so_far.more) m.so_far.decodes.stands) in
-    record { few = omega (arith, count_is, few); pixels = m.pixels; many = m.count ∙ sym count_is; past_is = past_is ∙ m.so_far.past_is; more = t.0; stops = t.1 }
+pub along_stop : {S : Type 0} {pull : S → Pulled → S → Type 0} {b : ByteAround} {old mid to : DecoderState S} {n all past cx : ℕ} {fault : Stop} {pause : Pause} →
+    n < all → pause.count ≡ n → pause.past ≡ past →
+    ((p : Place) (answers : List Pulled) → DecoderIsAt mid.decoder p answers → Next (source_at pull mid.source answers) (record { place = p; learned = mid.learned }) cx to (Err fault)) →
+    Along pull b old n past mid → StopsAlong pull b old all pause to
+along_stop few count_is past_is next along = record {
+  any = λ from first s answers lines done so_far s2 a2.
+      let m = along.any from first s answers lines done so_far s2 a2 in
+      let t = decodes_stop m.so_far.decodes (next _ (answers ++ m.so_far.more) m.so_far.decodes.stands) in
+      record { few = omega (arith, count_is, few); pixels = m.pixels; many = m.count ∙ sym count_is; past_is = past_is ∙ m.so_far.past_is; more = t.0; stops = t.1 };
+}
 
 -- a fact of what is left, at an `Err`
 pub exit_err : {T E : Type 0} (r : Result T E) (P : Type 0) → P → OnErr r P

@@ -112,9 +112,9 @@ puts_none sink c = record {
 
 -- ---- events after events
 
-pub puts_join : {S : Type 0} (sink : Ghosts S) (a b c : Coder S) (xs ys : List Event) (result : Result (Unit {0}) CoderFault) →
+pub puts_join : {S : Type 0} {sink : Ghosts S} {a b c : Coder S} {xs ys : List Event} {result : Result (Unit {0}) CoderFault} →
     Puts sink xs a b (Ok tt) → Puts sink ys b c result → Puts sink (xs ++ ys) a c result
-puts_join sink a b c xs ys result h k =
+puts_join {S} {sink} {a} {b} {c} {xs} {ys} {result} h k =
     record {
       lends = same_loan a b c h.lends k.lends;
       count = counted result k.count;
@@ -161,15 +161,15 @@ puts_join sink a b c xs ys result h k =
     failed (Err f) first second = λ p pushed at. fails_later sink a.out.now b.out.now c.out.now (state_at a p) pushed xs ys b.encoder.now b.learned.now (first.ok p pushed at) second.err
 
 -- a failure that `?` hands on
-pub puts_handed : {S : Type 0} (sink : Ghosts S) (a b : Coder S) (xs : List Event) (f : CoderFault) (result : Result (Unit {0}) CoderFault) →
+pub puts_handed : {S : Type 0} {sink : Ghosts S} {a b : Coder S} {xs : List Event} {f : CoderFault} {result : Result (Unit {0}) CoderFault} →
     IsErr result × IsErrAnd result (λ e. e ≡ f) → Puts sink xs a b (Err f) → Puts sink xs a b result
-puts_handed sink a b xs f (Ok x) is h = absurd (no_err x is.0)
-puts_handed sink a b xs f (Err e) is h = subst (λ r. Puts sink xs a b (Err r)) (sym is.1) h
+puts_handed {S} {sink} {a} {b} {xs} {f} {result = Ok x} is h = absurd (no_err x is.0)
+puts_handed {S} {sink} {a} {b} {xs} {f} {result = Err e} is h = subst (λ r. Puts sink xs a b (Err r)) (sym is.1) h
 
 -- it comes before all that was to follow
-pub puts_stop : {S : Type 0} (sink : Ghosts S) (a b : Coder S) (xs ys : List Event) (f : CoderFault) (result : Result (Unit {0}) CoderFault) →
+pub puts_stop : {S : Type 0} {sink : Ghosts S} {a b : Coder S} {xs : List Event} {f : CoderFault} {result : Result (Unit {0}) CoderFault} (ys : List Event) →
     IsErr result × IsErrAnd result (λ e. e ≡ f) → Puts sink xs a b (Err f) → Puts sink (xs ++ ys) a b result
-puts_stop sink a b xs ys f result is h = puts_handed sink a b (xs ++ ys) f result is (record {
+puts_stop {S} {sink} {a} {b} {xs} {f} {result} ys is h = puts_handed is (record {
   lends = h.lends;
   count = tt;
   same = tt;
@@ -186,14 +186,14 @@ puts_stop sink a b xs ys f result is h = puts_handed sink a b (xs ++ ys) f resul
 })
 
 -- the same for other lists
-pub puts_as : {S : Type 0} (sink : Ghosts S) (a b : Coder S) (xs ys : List Event) (result : Result (Unit {0}) CoderFault) → xs ≡ ys → Puts sink xs a b result → Puts sink ys a b result
-puts_as sink a b xs ys result e h = subst (λ zs. Puts sink zs a b result) e h
+pub puts_as : {S : Type 0} {sink : Ghosts S} {a b : Coder S} {xs ys : List Event} {result : Result (Unit {0}) CoderFault} → xs ≡ ys → Puts sink xs a b result → Puts sink ys a b result
+puts_as {S} {sink} {a} {b} {xs} {ys} {result} e h = subst (λ zs. Puts sink zs a b result) e h
 
 -- ---- a run in one step
 
 -- a try that left all as it was
 pub puts_idle : {S : Type 0} (sink : Ghosts S) (a b c : Coder S) (xs : List Event) → IsSameLoan b c → IsUnchanged b c → Puts sink xs a b (Ok tt) → Puts sink xs a c (Ok tt)
-puts_idle sink a b c xs loan same h = puts_as sink a c _ _ _ (append-nil xs) (puts_join sink a b c xs [] (Ok tt) h (record {
+puts_idle sink a b c xs loan same h = puts_as (append-nil xs) (puts_join {ys = []} {result = Ok tt} h (record {
   lends = loan;
   count = let e = ap event_count same.encoder_is in omega arith;
   same = ap sink.failed same.out_is;

@@ -17,7 +17,7 @@ use Rattle.raster_core.specs.Window.{shape_mode}
 use Rattle.raster_core.specs.Packed.{packed_row, Held, HasLines}
 use Rattle.raster_core.specs.Events.{Decodes}
 use Rattle.raster_core.specs.Enough.{AreEnough}
-use Rattle.raster_core.specs.Machine.Decoded.{with_row, PixelsSoFar, PixelsHeld, RowPaused, RowPixels, plain_row, row_part}
+use Rattle.raster_core.specs.Machine.Decoded.{with_row, PixelsSoFar, PixelsHeld, RowPaused, RowPixels, plain_row}
 use Rattle.raster_core.specs.Row.{first_events, events_after, plain_events_of, FirstDecoded, FirstStopped, RowIs, IsRowUndecided, RowDecoded, IsRowStart, HasAbove, StandsInPixels, StandsInRow, RowBegins, RowGoesOn, RowPasses, row_task, row_left}
 use Rattle.raster_core.specs.declared.place.RowPlace.{RowPlace}
 use Rattle.raster_core.specs.Machine.Registers.{past_bits}
@@ -214,7 +214,7 @@ stop_first pull from to shape kept kept' s learned' answers lines window place d
 
 pub stop_pixels : AnswersLie → PartForever → {S : Type 0} (pull : S → Pulled → S → Type 0) (from to : S) (shape : Shape) (kept kept' : Kept) (s : State) (learned' : List Estimate) (answers : List Pulled) (lines : Lines)
     (window : Held) (place : RowPlace) (d : Decoder) (result : Result (Unit {0}) Stop) → IsErr result → HasAbove window lines →
-    RowPaused (source_at pull from answers) (plain_row (shape_mode shape) kept.offset (first_events (shape_mode shape) kept.previous_typical false) s lines) shape.width (row_part place window.current to d learned') →
+    RowPaused (source_at pull from answers) (plain_row (shape_mode shape) kept.offset (first_events (shape_mode shape) kept.previous_typical false) s lines) shape.width (record { place = place; current = window.current; state = decoder_state to d learned' }) →
     RowGoesOn (source_at pull from answers) (row_task shape kept s lines) (row_left kept' window) place (decoder_state to d learned') result
 stop_pixels lie apart pull from to shape kept kept' s learned' answers lines window place d (Ok x) err above f = absurd (not_err x err)
 stop_pixels lie apart pull from to shape kept kept' s learned' answers lines window place d (Err e) err above f =

@@ -207,6 +207,6 @@ no_run sink a rows i c inside stands stops =
     record {
       inside = omega arith;
       stands = subst (λ k. StandsAt a a.template (lines_in rows) k) same stands;
-      puts = puts_as sink c c _ _ _ (sym (events_none a.template (lines_in rows) (8 * i))) (puts_none sink c);
+      puts = puts_as (sym (events_none a.template (lines_in rows) (8 * i))) (puts_none sink c);
       stops = λ colour only. subst (λ k. StopsAt colour rows k c) same (stops colour only);
     }

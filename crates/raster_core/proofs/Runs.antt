@@ -1,11 +1,11 @@
 -- Events decoded one after another.
 use Rattle.std.proofs.Common.{◌≡◌, ℕ, ◌+◌, ◌<◌, ◌≤◌, Bool, List, [], ◌∷◌, ◌++◌, length, refl, sym, ◌∙◌, ap, arith, subst, Ok, Err, append_assoc}
-use Rattle.std.specs.Prelude.{Result, IsErr}
+use Rattle.std.specs.Prelude.{IsErr}
 use Rattle.std.proofs.lemmas.List.{append-nil, length-append}
-use Rattle.qm_core.specs.Place.{State, Event, Estimate, step, after}
+use Rattle.qm_core.specs.Place.{State, Event, step, after}
 use Rattle.qm_core.specs.Code.{wanted_bytes}
 use Rattle.qm_core.specs.Source.{bytes_of, heard_of, source_at}
-use Rattle.qm_core.specs.Decoder.{DecoderIsAt, Next, decoder_state}
+use Rattle.qm_core.specs.Decoder.{DecoderIsAt, DecoderState, Next, decoder_state}
 use Rattle.qm_core.specs.declared.source.Pulled.{Pulled}
 use Rattle.qm_core.specs.declared.source.Pulled.TheVariants.{Byte, End, Fault}
 use Rattle.qm_core.specs.declared.source.Heard.{Heard}
@@ -71,30 +71,28 @@ enough_kept events s xs ys enough going stopped = by (heard_of xs) refl
 no_err : (pixel : Bool) → IsErr {T = Bool} {E = Stop} (Ok pixel) → ⊥
 no_err pixel h = cc
 
-pub decodes_none : {S : Type 0} (pull : S → Pulled → S → Type 0) (from : S) (s : State) (answers : List Pulled) (d : Decoder) →
+pub decodes_none : {S : Type 0} {pull : S → Pulled → S → Type 0} {from : S} {s : State} {answers : List Pulled} {d : Decoder} →
     DecoderIsAt d s.place answers → Decodes (source_at pull from answers) s [] [] (decoder_state from d s.learned)
-decodes_none pull from s answers d h =
+decodes_none h =
     record { gives = refl; stands = rw append-nil h; taught = refl; enough = λ _. tt; going = λ _. refl }
 
-pub decodes_next : {S : Type 0} (pull : S → Pulled → S → Type 0) (from mid to : S) (s : State) (answers more : List Pulled) (events : List Event)
-    (d d' : Decoder) (learned learned' : List Estimate) (cx : ℕ) (result : Result Bool Stop) (pixel : Bool) → result ≡ Ok pixel →
-    Decodes (source_at pull from answers) s more events (decoder_state mid d learned) →
-    Next (source_at pull mid (answers ++ more)) (record { place = (after s events).place; learned = learned }) cx (decoder_state to d' learned') result →
-    (more' : List Pulled) × Decodes (source_at pull from answers) s more' (events ++ record { context = cx; pixel = pixel } ∷ []) (decoder_state to d' learned')
-decodes_next {S} pull from mid to s answers more events d d' learned learned' cx result pixel is h n =
-    let at : Next (source_at pull mid (answers ++ more)) (after s events) cx (decoder_state to d' learned') (Ok pixel) =
-    subst (λ r. Next (source_at pull mid (answers ++ more)) (after s events) cx (decoder_state to d' learned') r) is
-    (subst (λ l. Next (source_at pull mid (answers ++ more)) (record { place = (after s events).place; learned = l }) cx (decoder_state to d' learned') result) h.taught n) in
+pub decodes_next : {S : Type 0} {pull : S → Pulled → S → Type 0} {from : S} {mid to : DecoderState S} {s : State} {answers more : List Pulled} {events : List Event} {cx : ℕ} {pixel : Bool} →
+    Decodes (source_at pull from answers) s more events mid →
+    Next (source_at pull mid.source (answers ++ more)) (record { place = (after s events).place; learned = mid.learned }) cx to (Ok pixel) →
+    (more' : List Pulled) × Decodes (source_at pull from answers) s more' (events ++ record { context = cx; pixel = pixel } ∷ []) to
+decodes_next {S} {pull} {from} {mid} {to} {s} {answers} {more} {events} {cx} {pixel} h n =
+    let at : Next (source_at pull mid.source (answers ++ more)) (after s events) cx to (Ok pixel) =
+    subst (λ l. Next (source_at pull mid.source (answers ++ more)) (record { place = (after s events).place; learned = l }) cx to (Ok pixel)) h.taught n in
     let last : after s (events ++ record { context = cx; pixel = pixel } ∷ []) ≡ step (after s events) cx pixel = after_append s events (record { context = cx; pixel = pixel } ∷ []) in
     (more ++ at.more, parts at last)
   where
-    parts : (at : Next (source_at pull mid (answers ++ more)) (after s events) cx (decoder_state to d' learned') (Ok pixel)) →
+    parts : (at : Next (source_at pull mid.source (answers ++ more)) (after s events) cx to (Ok pixel)) →
         after s (events ++ record { context = cx; pixel = pixel } ∷ []) ≡ step (after s events) cx pixel →
-        Decodes (source_at pull from answers) s (more ++ at.more) (events ++ record { context = cx; pixel = pixel } ∷ []) (decoder_state to d' learned')
+        Decodes (source_at pull from answers) s (more ++ at.more) (events ++ record { context = cx; pixel = pixel } ∷ []) to
     parts at last =
         let assoc : (answers ++ more) ++ at.more ≡ answers ++ (more ++ at.more) = append_assoc answers more at.more in
         record {
-          gives = Gives-append pull from mid to more at.more h.gives at.gives;
+          gives = Gives-append pull from mid.source to.source more at.more h.gives at.gives;
           stands = rw (last, ← assoc) at.stands;
           taught = rw last at.taught;
           enough = λ going.
@@ -111,18 +109,16 @@ decodes_next {S} pull from mid to s answers more events d d' learned learned' cx
           going = λ stopped. absurd (no_err pixel (at.stop.1 (subst (λ a. heard_of a ≡ Stopped) (sym assoc) stopped)));
         }
 
-pub decodes_stop : {S : Type 0} (pull : S → Pulled → S → Type 0) (from mid to : S) (s : State) (answers more : List Pulled) (events : List Event)
-    (d d' : Decoder) (learned learned' : List Estimate) (cx : ℕ) (result : Result Bool Stop) (fault : Stop) → result ≡ Err fault →
-    Decodes (source_at pull from answers) s more events (decoder_state mid d learned) →
-    Next (source_at pull mid (answers ++ more)) (record { place = (after s events).place; learned = learned }) cx (decoder_state to d' learned') result →
-    (more' : List Pulled) × Stops (source_at pull from answers) s more' events (decoder_state to d' learned')
-decodes_stop {S} pull from mid to s answers more events d d' learned learned' cx result fault is h n =
-    let at : Next (source_at pull mid (answers ++ more)) (after s events) cx (decoder_state to d' learned') (Err fault) =
-    subst (λ r. Next (source_at pull mid (answers ++ more)) (after s events) cx (decoder_state to d' learned') r) is
-    (subst (λ l. Next (source_at pull mid (answers ++ more)) (record { place = (after s events).place; learned = l }) cx (decoder_state to d' learned') result) h.taught n) in
+pub decodes_stop : {S : Type 0} {pull : S → Pulled → S → Type 0} {from : S} {mid to : DecoderState S} {s : State} {answers more : List Pulled} {events : List Event} {cx : ℕ} {fault : Stop} →
+    Decodes (source_at pull from answers) s more events mid →
+    Next (source_at pull mid.source (answers ++ more)) (record { place = (after s events).place; learned = mid.learned }) cx to (Err fault) →
+    (more' : List Pulled) × Stops (source_at pull from answers) s more' events to
+decodes_stop {S} {pull} {from} {mid} {to} {s} {answers} {more} {events} {cx} {fault} h n =
+    let at : Next (source_at pull mid.source (answers ++ more)) (after s events) cx to (Err fault) =
+    subst (λ l. Next (source_at pull mid.source (answers ++ more)) (record { place = (after s events).place; learned = l }) cx to (Err fault)) h.taught n in
     (more ++ at.more, parts at)
   where
-    parts : (at : Next (source_at pull mid (answers ++ more)) (after s events) cx (decoder_state to d' learned') (Err fault)) → Stops (source_at pull from answers) s (more ++ at.more) events (decoder_state to d' learned')
+    parts : (at : Next (source_at pull mid.source (answers ++ more)) (after s events) cx to (Err fault)) → Stops (source_at pull from answers) s (more ++ at.more) events to
     parts at =
         let assoc : (answers ++ more) ++ at.more ≡ answers ++ (more ++ at.more) = append_assoc answers more at.more in
         let stopped : heard_of ((answers ++ more) ++ at.more) ≡ Stopped = at.stop.0 refl in
@@ -130,7 +126,7 @@ decodes_stop {S} pull from mid to s answers more events d d' learned learned' cx
         let most = at.asked.no_more in
         let short : length (bytes_of ((answers ++ more) ++ at.more)) < wanted_bytes (after s events).place.doublings = omega arith in
         record {
-          gives = Gives-append pull from mid to more at.more h.gives at.gives;
+          gives = Gives-append pull from mid.source to.source more at.more h.gives at.gives;
           stopped = rw (← assoc) stopped;
           short = rw (← assoc) short;
           stays = rw (← assoc) at.unchanged.1;

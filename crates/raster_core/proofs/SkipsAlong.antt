@@ -3,11 +3,11 @@ use Rattle.std.proofs.Common.{◌≡◌, ℕ, zero, suc, ◌+◌, ◌-◌, ◌*�
 use Rattle.std.proofs.Math.Nat.{pow-suc}
 use Rattle.std.proofs.lemmas.Nat.{pow_pos}
 use Rattle.std.proofs.lemmas.List.{replicate-append-replicate, append-nil, length-append, length-replicate, get_or-append-add, get_or-replicate}
-use Rattle.qm_core.specs.Place.{Place, State, Event, Estimate, step, after}
+use Rattle.qm_core.specs.Place.{Place, State, Event, step, after}
 use Rattle.qm_core.specs.Code.{wanted_bytes}
-use Rattle.qm_core.specs.Source.{bytes_of, heard_of, is_stopped, source_at}
+use Rattle.qm_core.specs.Source.{SourceAt, bytes_of, heard_of, is_stopped}
 use Rattle.qm_core.specs.Skipping.{IsRun}
-use Rattle.qm_core.specs.Decoder.{DecoderIsAt, has_stopped, decoder_state}
+use Rattle.qm_core.specs.Decoder.{DecoderIsAt, DecoderState, has_stopped, decoder_state}
 use Rattle.qm_core.specs.declared.source.Pulled.{Pulled}
 use Rattle.qm_core.specs.declared.source.Heard.TheVariants.{More, Stopped}
 use Rattle.qm_core.specs.declared.decoder.Decoder.{Decoder}
@@ -15,7 +15,7 @@ use Rattle.raster_core.specs.Raster.{pixel_at}
 use Rattle.raster_core.specs.Lines.{Lines, Mode, context_at, pixel_events}
 use Rattle.raster_core.specs.Machine.Registers.{bit, before, past_bits}
 use Rattle.raster_core.specs.Enough.{AreEnough}
-use Rattle.raster_core.specs.Machine.Decoded.{with_row, PixelsSoFar, Along, SkipsAlong, byte_around, plain_row}
+use Rattle.raster_core.specs.Machine.Decoded.{ByteAround, PlainRow, with_row, events_up_to, PixelsSoFar, Along, SkipsAlong}
 use Rattle.raster_core.specs.Machine.Uniform.{uniform_context, uniform_event, StaysUniform}
 use Rattle.raster_core.proofs.Before.{before_suc, before_zero}
 use Rattle.raster_core.proofs.Causal.{context_front, before_front, pixel_events_more}
@@ -88,24 +88,24 @@ not_stopped d p answers h going stopped =
     cc
 
 -- n pixels in one step
-pub decoded_run : {S : Type 0} (pull : S → Pulled → S → Type 0) (from old : S) (mode : Mode) (offset : ℕ) (first : List Event) (s : State) (answers : List Pulled) (lines : Lines) (done : List Bool)
-    (n past past' : ℕ) (d d' : Decoder) (learned : List Estimate) (c : Bool) →
-    PixelsSoFar (source_at pull from answers) (plain_row mode offset first s lines) done past (decoder_state old d learned) →
-    StaysUniform mode (with_row lines (done ++ replicate n c)) offset c (length done) n → past' ≡ before (done ++ replicate n c) (length (done ++ replicate n c)) (past_bits offset) →
-    has_stopped d ≡ false →
-    ((p : Place) (given : List Pulled) → DecoderIsAt d p given →
-    IsRun (record { place = p; learned = learned }) (uniform_event c) n
-    × DecoderIsAt d' (after (record { place = p; learned = learned }) (replicate n (uniform_event c))).place given
+pub decoded_run : {S : Type 0} {old : SourceAt S} {row : PlainRow} {at : DecoderState S} {done : List Bool} {past past' : ℕ} {d' : Decoder} (n : ℕ) (c : Bool) →
+    PixelsSoFar old row done past at →
+    StaysUniform row.mode (with_row row.lines (done ++ replicate n c)) row.offset c (length done) n → past' ≡ before (done ++ replicate n c) (length (done ++ replicate n c)) (past_bits row.offset) →
+    has_stopped at.decoder ≡ false →
+    ((p : Place) (given : List Pulled) → DecoderIsAt at.decoder p given →
+    IsRun (record { place = p; learned = at.learned }) (uniform_event c) n
+    × DecoderIsAt d' (after (record { place = p; learned = at.learned }) (replicate n (uniform_event c))).place given
     × (heard_of given ≡ More → wanted_bytes p.doublings ≤ length (bytes_of given))) →
-    PixelsSoFar (source_at pull from answers) (plain_row mode offset first s lines) (done ++ replicate n c) past' (decoder_state old d' learned)
-decoded_run {S} pull from old mode offset first s answers lines done n past past' d d' learned c h stays past_is going decoded =
-    let es = first ++ pixel_events mode (with_row lines done) offset in
-    let given = answers ++ h.more in
+    PixelsSoFar old row (done ++ replicate n c) past' (decoder_state at.source d' at.learned)
+decoded_run {S} {old} {row} {at} {done} {d' = d'} n c h stays past_is going decoded =
+    let s = row.state in
+    let es = events_up_to row done in
+    let given = old.answers ++ h.more in
     let k = decoded (after s es).place given h.decodes.stands in
-    let same : after s es ≡ record { place = (after s es).place; learned = learned } = ap (λ l. record { place = (after s es).place; learned = l }) (sym h.decodes.taught) in
-    let run : es ++ replicate n (uniform_event c) ≡ first ++ pixel_events mode (with_row lines (done ++ replicate n c)) offset =
-    append_assoc first (pixel_events mode (with_row lines done) offset) (replicate n (uniform_event c)) ∙ ap (λ z. first ++ z) (sym (events_run mode lines offset done n c (run_contexts mode lines offset done n c stays))) in
-    let last : after (record { place = (after s es).place; learned = learned }) (replicate n (uniform_event c)) ≡ after s (first ++ pixel_events mode (with_row lines (done ++ replicate n c)) offset) =
+    let same : after s es ≡ record { place = (after s es).place; learned = at.learned } = ap (λ l. record { place = (after s es).place; learned = l }) (sym h.decodes.taught) in
+    let run : es ++ replicate n (uniform_event c) ≡ events_up_to row (done ++ replicate n c) =
+    append_assoc row.first _ (replicate n (uniform_event c)) ∙ ap (λ z. row.first ++ z) (sym (events_run row.mode row.lines row.offset done n c (run_contexts row.mode row.lines row.offset done n c stays))) in
+    let last : after (record { place = (after s es).place; learned = at.learned }) (replicate n (uniform_event c)) ≡ after s (events_up_to row (done ++ replicate n c)) =
     ap (λ t. after t (replicate n (uniform_event c))) (sym same) ∙ (sym (after_append s es (replicate n (uniform_event c))) ∙ ap (after s) run) in
     record {
       past_is = past_is;
@@ -117,23 +117,25 @@ decoded_run {S} pull from old mode offset first s answers lines done n past past
         enough = λ more. subst (λ z. AreEnough (length (bytes_of given)) s z) run
             (enough_append es (replicate n (uniform_event c)) (length (bytes_of given)) s (h.decodes.enough more)
             (subst (λ t. AreEnough (length (bytes_of given)) t (replicate n (uniform_event c))) (sym same)
-            (enough_run n (record { place = (after s es).place; learned = learned }) (uniform_event c) (length (bytes_of given)) k.0.quiet (k.2 more))));
-        going = λ stopped. absurd (not_stopped d (after s es).place given h.decodes.stands going stopped);
+            (enough_run n (record { place = (after s es).place; learned = at.learned }) (uniform_event c) (length (bytes_of given)) k.0.quiet (k.2 more))));
+        going = λ stopped. absurd (not_stopped at.decoder (after s es).place given h.decodes.stands going stopped);
       };
     }
 
-pub skipped_along : {S : Type 0} (pull : S → Pulled → S → Type 0) (old : S) (mode : Mode) (offset second above byte past past' : ℕ) (d d' : Decoder) (learned : List Estimate) →
-    SkipsAlong (byte_around mode offset second above past) byte d learned d' → past' ≡ past % 2 ^ (past_bits offset - 8) * 256 + byte →
-    Along pull (byte_around mode offset second above past) (decoder_state old d learned) 8 past' (decoder_state old d' learned)
-skipped_along {S} pull old mode offset second above byte past past' d d' learned k past_is = λ from first s answers lines done so_far s2 a2.
-    let row = done ++ replicate 8 k.colour in
-    let near : past ≡ before row (length done) (past_bits offset) = so_far.past_is ∙ sym (before_front done (replicate 8 k.colour) (length done) (past_bits offset) (omega arith)) in
-    let byte_is : byte ≡ before row (length done + 8) 8 = k.byte_is ∙ sym (run_before row (length done) 8 k.colour (run_pixels done 8 k.colour)) in
-    let long : length row ≡ length done + 8 = length-append done (replicate 8 k.colour) in
-    let behind : past' ≡ before row (length row) (past_bits offset) =
-    past_is ∙ (past_run row offset past (length done) byte near byte_is ∙ ap (λ x. before row x (past_bits offset)) (sym long)) in
-    record {
-      pixels = replicate 8 k.colour;
-      count = refl;
-      so_far = decoded_run pull from old mode offset first s answers lines done 8 past past' d d' learned k.colour so_far (k.uniform (with_row lines row) (length done) s2 a2 near) behind k.going k.decoded;
-    }
+pub skipped_along : {S : Type 0} {pull : S → Pulled → S → Type 0} {b : ByteAround} {byte past' : ℕ} {old : DecoderState S} {d' : Decoder} →
+    SkipsAlong b byte old.decoder old.learned d' → past' ≡ b.past % 2 ^ (past_bits b.offset - 8) * 256 + byte →
+    Along pull b old 8 past' (decoder_state old.source d' old.learned)
+skipped_along {b = b} {byte} {past'} k past_is = record {
+  any = λ from first s answers lines done so_far s2 a2.
+      let row = done ++ replicate 8 k.colour in
+      let near : b.past ≡ before row (length done) (past_bits b.offset) = so_far.past_is ∙ sym (before_front done (replicate 8 k.colour) (length done) (past_bits b.offset) (omega arith)) in
+      let byte_is : byte ≡ before row (length done + 8) 8 = k.byte_is ∙ sym (run_before row (length done) 8 k.colour (run_pixels done 8 k.colour)) in
+      let long : length row ≡ length done + 8 = length-append done (replicate 8 k.colour) in
+      let behind : past' ≡ before row (length row) (past_bits b.offset) =
+      past_is ∙ (past_run row b.offset b.past (length done) byte near byte_is ∙ ap (λ x. before row x (past_bits b.offset)) (sym long)) in
+      record {
+        pixels = replicate 8 k.colour;
+        count = refl;
+        so_far = decoded_run 8 k.colour so_far (k.uniform (with_row lines row) (length done) s2 a2 near) behind k.going k.decoded;
+      };
+}

@@ -5,5 +5,7 @@ pub mod Lanes
 pub mod Uniform
 pub mod Bytes
 pub mod Rows
+pub mod Reads
 pub mod Decoded
 pub mod Places
+pub mod Goes

@@ -9,11 +9,14 @@ ghost use Rattle.qm_core.specs.declared.source.Pulled.{Pulled};
 ghost use Rattle.raster_core.specs.Lines.{Lines};
 ghost use Rattle.raster_core.specs.Window.{held};
 ghost use Rattle.raster_core.specs.Packed.{HasLines, SameAbove, held_rows, row_placed, rows_at, rows_beside, next_place};
+ghost use Rattle.raster_core.specs.Machine.Reads.{Reads};
+ghost use Rattle.raster_core.specs.Machine.Goes.{GoesOn, row_held};
 ghost use Rattle.raster_core.specs.Machine.Places.{DecodesCurrent, LeavesPlace, MayCodeRow, MayGoOnIn, MayGoOnRow};
 ghost use Rattle.raster_core.specs.Row.{RowDecoded, IsRowStart, StandsInRow, RowGoesOn, RowPasses, RowsSkipped, CanSkipRows, row_task, row_left};
 
 mod begin;
 mod byte;
+mod registers;
 mod row;
 mod runs;
 
@@ -21,6 +24,7 @@ use crate::context::flag_context;
 use crate::decode::begin::begin_row;
 use crate::decode::row::decode_pixels;
 use crate::place::RowPlace;
+use crate::reader::Reader;
 use crate::shape::{Kept, Shape};
 use crate::window::Window;
 use qm_core::{CodeBytes, Decoder, Learned, Stop, laws};
@@ -33,40 +37,25 @@ fn decode_below<S: CodeBytes>(
     current: &mut [u8],
     above: &[u8],
     second: &[u8],
-    learned: &mut Learned,
-    decoder: &mut Decoder,
-    source: &mut S,
+    reader: &mut Reader<'_, S>,
 ) -> Result<(), Stop>
-    requires goes_on { MayGoOnIn shape kept.old place.old decoder.old }
+    requires goes_on { MayGoOnIn shape kept.old place.old reader.old.decoder.now }
     requires current { length current.old ≡ div_ceil shape.width 8 }
     requires above { length above.now ≡ div_ceil shape.width 8 }
-    ensures stop { StopsOnce S.failed decoder.old decoder.new source.old source.new result }
+    ensures reads { Reads S.failed reader.old reader.new result }
     ensures place { LeavesPlace shape kept.old kept.new place.new result }
-    ensures row { (s : State) (answers : List Pulled) (lines : Lines) →
-        StandsInRow (row_task shape kept.old s lines) place.old answers
-        (held_rows shape.width current.old above.now second.now) learned.old decoder.old →
-        RowGoesOn (source_of S.CodeBytes source.old answers) (row_task shape kept.old s lines)
-        (row_left kept.new (held_rows shape.width current.new above.now second.now)) place.new
-        (decoder_state source.new decoder.new learned.new) result }
+    ensures row { GoesOn S.CodeBytes shape (row_held kept.old place.old (held_rows shape.width
+        current.old above.now second.now) reader.old) (row_held kept.new place.new (held_rows
+        shape.width current.new above.now second.now) reader.new) result }
 {
     // The proof uses these laws of the coder.
     laws::answers();
     laws::apart();
-    let flag = begin_row(shape, *place, *kept, learned, decoder, source)?;
+    let flag = begin_row(shape, *place, *kept, reader)?;
     if flag {
         current.copy_from_slice(above);
     } else {
-        match decode_pixels(
-            shape,
-            kept.offset,
-            *place,
-            current,
-            above,
-            second,
-            learned,
-            decoder,
-            source,
-        ) {
+        match decode_pixels(shape, kept.offset, *place, current, above, second, reader) {
             Ok(()) => {}
             Err(at) => {
                 *place = at;
@@ -109,31 +98,24 @@ fn decode_beside<S: CodeBytes>(
     row: &mut [u8],
     tail: &[u8],
     at: u8,
-    learned: &mut Learned,
-    decoder: &mut Decoder,
-    source: &mut S,
+    reader: &mut Reader<'_, S>,
 ) -> Result<(), Stop>
-    requires goes_on { MayGoOnIn shape kept.old place.old decoder.old }
+    requires goes_on { MayGoOnIn shape kept.old place.old reader.old.decoder.now }
     requires head { length head.now ≡ at * div_ceil shape.width 8 }
     requires row { length row.old ≡ div_ceil shape.width 8 }
     requires tail { length head.now + length tail.now ≡ 2 * div_ceil shape.width 8 }
     requires at { at < 3 }
-    ensures stop { StopsOnce S.failed decoder.old decoder.new source.old source.new result }
+    ensures reads { Reads S.failed reader.old reader.new result }
     ensures place { LeavesPlace shape kept.old kept.new place.new result }
     ensures above { SameAbove (rows_beside at shape.width head.now row.old tail.now)
         (rows_beside at shape.width head.now row.new tail.now) }
-    ensures row { (s : State) (answers : List Pulled) (lines : Lines) →
-        StandsInRow (row_task shape kept.old s lines) place.old answers
-        (rows_beside at shape.width head.now row.old tail.now) learned.old decoder.old →
-        RowGoesOn (source_of S.CodeBytes source.old answers) (row_task shape kept.old s lines)
-        (row_left kept.new (rows_beside at shape.width head.now row.new tail.now)) place.new
-        (decoder_state source.new decoder.new learned.new) result }
+    ensures row { GoesOn S.CodeBytes shape (row_held kept.old place.old (rows_beside at shape.width
+        head.now row.old tail.now) reader.old) (row_held kept.new place.new (rows_beside at
+        shape.width head.now row.new tail.now) reader.new) result }
 {
     let long = shape.width.div_ceil(8) as usize;
     let (above, second) = rows_above(head, tail, long, at);
-    decode_below(
-        shape, place, kept, row, above, second, learned, decoder, source,
-    )
+    decode_below(shape, place, kept, row, above, second, reader)
 }
 
 /// Decodes the rest of the row at a place, in memory that contains it and the two rows above it, which remain
@@ -144,30 +126,23 @@ fn decode_at<S: CodeBytes>(
     kept: &mut Kept,
     rows: &mut [u8],
     current: u8,
-    learned: &mut Learned,
-    decoder: &mut Decoder,
-    source: &mut S,
+    reader: &mut Reader<'_, S>,
 ) -> Result<(), Stop>
-    requires goes_on { MayGoOnIn shape kept.old place.old decoder.old }
+    requires goes_on { MayGoOnIn shape kept.old place.old reader.old.decoder.now }
     requires long { length rows.old ≡ 3 * div_ceil shape.width 8 }
     requires current { current < 3 }
-    ensures stop { StopsOnce S.failed decoder.old decoder.new source.old source.new result }
+    ensures reads { Reads S.failed reader.old reader.new result }
     ensures place { LeavesPlace shape kept.old kept.new place.new result }
     ensures above { SameAbove (rows_at current shape.width rows.old)
         (rows_at current shape.width rows.new) }
-    ensures row { (s : State) (answers : List Pulled) (lines : Lines) →
-        StandsInRow (row_task shape kept.old s lines) place.old answers
-        (rows_at current shape.width rows.old) learned.old decoder.old →
-        RowGoesOn (source_of S.CodeBytes source.old answers) (row_task shape kept.old s lines)
-        (row_left kept.new (rows_at current shape.width rows.new)) place.new
-        (decoder_state source.new decoder.new learned.new) result }
+    ensures row { GoesOn S.CodeBytes shape (row_held kept.old place.old (rows_at current shape.width
+        rows.old) reader.old) (row_held kept.new place.new (rows_at current shape.width rows.new)
+        reader.new) result }
 {
     let long = shape.width.div_ceil(8) as usize;
     let (front, rest) = rows.split_at_mut(current as usize * long);
     let (row, back) = rest.split_at_mut(long);
-    decode_beside(
-        shape, place, kept, front, row, back, current, learned, decoder, source,
-    )
+    decode_beside(shape, place, kept, front, row, back, current, reader)
 }
 
 /// Decodes the current row of a window, below the two rows above it.
@@ -192,15 +167,18 @@ pub fn decode_row<S: CodeBytes>(
         (decoder_state source.new decoder.new learned.new) result }
 {
     let mut place = RowPlace::start();
+    let mut reader = Reader {
+        learned,
+        decoder,
+        source,
+    };
     decode_at(
         shape,
         &mut place,
         kept,
         window.rows,
         window.place,
-        learned,
-        decoder,
-        source,
+        &mut reader,
     )
 }
 
@@ -261,17 +239,13 @@ pub fn go_on_row<S: CodeBytes>(
         (row_task shape kept.old s lines) (row_left kept.new (held window.new)) place.new
         (decoder_state source.new decoder.new learned.new) result }
 {
-    let outcome = decode_at(
-        shape,
-        place,
-        kept,
-        window.rows,
-        window.place,
+    let mut reader = Reader {
         learned,
         decoder,
         source,
-    );
-    decoder.resume();
+    };
+    let outcome = decode_at(shape, place, kept, window.rows, window.place, &mut reader);
+    reader.decoder.resume();
     if outcome.is_ok() {
         *place = RowPlace::start();
     }

@@ -259,19 +259,13 @@ pub(crate) fn last_pixels<const MOVED: bool>(
     pixel_lanes(second_window, (above_bytes >> 6) % 256, row % 64)
 }
 
-/// Whether these n pixels are a whole byte, coded with the three-line template and the adaptive pixel in its nominal
-/// position.
+/// Whether pixels are coded with the three-line template and the adaptive pixel in its nominal position.
 #[inline(always)]
-pub(crate) fn has_lanes<const TWO_LINE: bool, const MOVED: bool>(
-    shape: Shape,
-    offset: u8,
-    n: u32,
-) -> bool
+pub(crate) fn has_lanes<const TWO_LINE: bool, const MOVED: bool>(shape: Shape, offset: u8) -> bool
     requires template { TWO_LINE ≡ shape.two_line }
     requires moved { MOVED ≡ is_moved offset }
     ensures three { result ≡ true → shape.two_line ≡ false }
     ensures nominal { result ≡ true → offset ≡ 0 }
-    ensures whole { result ≡ true → n ≡ 8 }
 {
-    !TWO_LINE && !MOVED && n == 8
+    !TWO_LINE && !MOVED
 }

@@ -13,6 +13,7 @@ mod decode;
 mod encode;
 mod lanes;
 mod place;
+mod reader;
 mod row_byte;
 mod rows;
 mod shape;

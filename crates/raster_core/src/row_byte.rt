@@ -95,7 +95,7 @@ impl RowByte {
             above,
             past,
         } = self.around;
-        is_run::<MOVED>(template.offset, second, above, self.byte, past, 8)
+        is_run::<MOVED>(template.offset, second, above, self.byte, past)
     }
 
     /// The registers after the byte.

@@ -73,22 +73,19 @@ pub(crate) fn is_run<const MOVED: bool>(
     above_bytes: u32,
     byte: u8,
     past: u128,
-    n: u32,
 ) -> bool
     requires offset { offset ≤ 127 }
     requires moved { MOVED ≡ is_moved offset }
-    ensures eight { IsTrue result → n ≡ 8 }
     ensures byte { IsTrue result → byte ≡ bit (nat_eq byte 255) * 255 }
     ensures uniform { IsTrue result → (mode : Mode) (lines : Lines) (x : ℕ) →
         second_bytes ≡ before lines.second (x + 16) 24 →
         above_bytes ≡ before lines.above (x + 16) 24 →
         past ≡ before lines.row x (past_bits offset) →
         StaysUniform mode lines offset (nat_eq byte 255) x 8 }
-    ensures all { n ≡ 8 → byte ≡ bit (nat_eq byte 255) * 255 →
+    ensures all { byte ≡ bit (nat_eq byte 255) * 255 →
         AreAllOf second_bytes above_bytes past offset (nat_eq byte 255) → result ≡ true }
 {
-    n == 8
-        && (byte == 0 || byte == 255)
+    (byte == 0 || byte == 255)
         && is_uniform::<MOVED>(byte == 255, offset, second_bytes, above_bytes, past)
 }
 

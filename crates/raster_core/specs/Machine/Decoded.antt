@@ -1,20 +1,25 @@
 -- What decoding the pixels of a row leaves, on the way.
-use Rattle.std.specs.Prelude.{ℕ, ◌+◌, ◌*◌, ◌≡◌, ◌≤◌, ◌<◌, Bool, true, false, List, ◌++◌, length, replicate, slice_index, Result, IfOk, IfErr, OnOk}
+use Rattle.std.specs.Prelude.{ℕ, ◌+◌, ◌*◌, ◌%◌, ◌≡◌, ◌≤◌, ◌<◌, Bool, true, false, List, ◌++◌, length, replicate, slice_index, Result, IfOk, IfErr, OnOk}
 use Rattle.std.specs.Int.{div_ceil}
 use Rattle.qm_core.specs.Place.{Place, State, Event, Estimate, after}
-use Rattle.qm_core.specs.Source.{SourceAt, bytes_of, heard_of, source_at}
+use Rattle.qm_core.specs.Source.{Pulls, SourceAt, bytes_of, heard_of, source_at}
 use Rattle.qm_core.specs.Code.{wanted_bytes}
 use Rattle.qm_core.specs.Skipping.{IsRun}
-use Rattle.qm_core.specs.Decoder.{DecoderIsAt, DecoderState, decoder_state, has_stopped}
+use Rattle.qm_core.specs.Decoder.{DecoderIsAt, DecoderState, has_stopped}
 use Rattle.qm_core.specs.declared.source.Heard.TheVariants.{More}
 use Rattle.qm_core.specs.declared.source.Pulled.{Pulled}
+use Rattle.qm_core.specs.declared.source.CodeBytes.{Ghosts}
 use Rattle.qm_core.specs.declared.decoder.Decoder.{Decoder}
 use Rattle.raster_core.specs.Lines.{Lines, Mode, pixel_events}
 use Rattle.raster_core.specs.Machine.Registers.{bit, before, past_bits}
 use Rattle.raster_core.specs.Events.{Decodes, Stops}
 use Rattle.raster_core.specs.Packed.{packed_row}
 use Rattle.raster_core.specs.Machine.Lanes.{HasAround}
+use Rattle.raster_core.specs.Machine.Reads.{reader_state}
+use Rattle.raster_core.specs.Window.{shape_mode}
 use Rattle.raster_core.specs.declared.place.Pause.{Pause}
+use Rattle.raster_core.specs.declared.reader.Reader.{Reader}
+use Rattle.raster_core.specs.declared.decode.registers.Registers.{Registers}
 use Rattle.raster_core.specs.declared.place.RowPlace.{RowPlace}
 use Rattle.raster_core.specs.Machine.Uniform.{uniform_event, StaysUniform, AreFilled}
 
@@ -69,25 +74,28 @@ pub record ByteAround : Type 0 where
 abbrev pub byte_around : Mode → (offset second above past : ℕ) → ByteAround
 byte_around mode offset second above past = record { mode = mode; offset = offset; second = second; above = above; past = past }
 
+abbrev pub around_of : Registers → ByteAround
+around_of r = byte_around (shape_mode r.shape) r.offset r.second r.above r.past
+
 -- n pixels more were decoded of a byte, and these are then the last of the row
-abbrev pub Along : {S : Type 0} (pull : S → Pulled → S → Type 0) (b : ByteAround) (old : DecoderState S) (n past' : ℕ) (new : DecoderState S) → Type 0
-Along {S} pull b old n past' new =
-    (from : S) (first : List Event) (s : State) (answers : List Pulled) (lines : Lines) (done : List Bool) →
-    PixelsSoFar (source_at pull from answers) (plain_row b.mode b.offset first s lines) done b.past old →
-    b.second ≡ before lines.second (length done + 16) 24 → b.above ≡ before lines.above (length done + 16) 24 →
-    MorePixels (source_at pull from answers) (plain_row b.mode b.offset first s lines) done n past' new
+pub record Along {S : Type 0} (pull : S → Pulled → S → Type 0) (b : ByteAround) (old : DecoderState S) (n past' : ℕ) (new : DecoderState S) : Type 0 where
+  pub any : (from : S) (first : List Event) (s : State) (answers : List Pulled) (lines : Lines) (done : List Bool) →
+      PixelsSoFar (source_at pull from answers) (plain_row b.mode b.offset first s lines) done b.past old →
+      b.second ≡ before lines.second (length done + 16) 24 → b.above ≡ before lines.above (length done + 16) 24 →
+      MorePixels (source_at pull from answers) (plain_row b.mode b.offset first s lines) done n past' new
 
 -- the source stopped at one of n pixels
-abbrev pub StopsAlong : {S : Type 0} (pull : S → Pulled → S → Type 0) (b : ByteAround) (old : DecoderState S) (n : ℕ) (pause : Pause) (new : DecoderState S) → Type 0
-StopsAlong {S} pull b old n pause new =
-    (from : S) (first : List Event) (s : State) (answers : List Pulled) (lines : Lines) (done : List Bool) →
-    PixelsSoFar (source_at pull from answers) (plain_row b.mode b.offset first s lines) done b.past old →
-    b.second ≡ before lines.second (length done + 16) 24 → b.above ≡ before lines.above (length done + 16) 24 →
-    PixelsStop (source_at pull from answers) (plain_row b.mode b.offset first s lines) done n pause new
+pub record StopsAlong {S : Type 0} (pull : S → Pulled → S → Type 0) (b : ByteAround) (old : DecoderState S) (n : ℕ) (pause : Pause) (new : DecoderState S) : Type 0 where
+  pub any : (from : S) (first : List Event) (s : State) (answers : List Pulled) (lines : Lines) (done : List Bool) →
+      PixelsSoFar (source_at pull from answers) (plain_row b.mode b.offset first s lines) done b.past old →
+      b.second ≡ before lines.second (length done + 16) 24 → b.above ≡ before lines.above (length done + 16) 24 →
+      PixelsStop (source_at pull from answers) (plain_row b.mode b.offset first s lines) done n pause new
 
 -- What decoding n pixels of a byte leaves: they were decoded, or the source stopped at one of them.
-abbrev pub DecodesPixels : {S : Type 0} (pull : S → Pulled → S → Type 0) (b : ByteAround) (old : DecoderState S) (n : ℕ) (new : DecoderState S) (result : Result ℕ Pause) → Type 0
-DecodesPixels pull b old n new result = IfOk result (λ past. Along pull b old n past new) × IfErr result (λ pause. StopsAlong pull b old n pause new)
+abbrev pub DecodesPixels : {S : Type 0} (source : Ghosts S) (b : ByteAround) (n : ℕ) (r r' : Reader S) (result : Result ℕ Pause) → Type 0
+DecodesPixels source b n r r' result =
+    IfOk result (λ past. Along (Pulls source.gives source.failed) b (reader_state r) n past (reader_state r'))
+    × IfErr result (λ pause. (pause.count < n) × StopsAlong (Pulls source.gives source.failed) b (reader_state r) n pause (reader_state r'))
 
 -- the same, counted from n pixels before
 abbrev pub later : ℕ → Pause → Pause
@@ -101,23 +109,26 @@ pub record LanesAround : Type 0 where
 abbrev pub lanes_around : (lanes past : ℕ) → LanesAround
 lanes_around lanes past = record { lanes = lanes; past = past }
 
+-- these lanes are those of some pixels of a byte, from pixel n on
+pub record AreLanesOf (lanes : ℕ) (b : ByteAround) (n count : ℕ) : Type 0 where
+  pub three_line : b.mode.two_line ≡ false
+  pub nominal : b.offset ≡ 0
+  pub within : n + count ≤ 8
+  pub around_is : HasAround lanes b.second b.above n count
+
 -- Pixels more were decoded of a byte, with these lanes.
-abbrev pub AlongMore : {S : Type 0} (pull : S → Pulled → S → Type 0) (a : LanesAround) (mid : DecoderState S) (count past' : ℕ) (new : DecoderState S) → Type 0
-AlongMore {S} pull a mid count past' new =
-    (typical : Bool) (old : S) (second above past₀ : ℕ) (d₀ : Decoder) (learned₀ : List Estimate) (n : ℕ) → n + count ≤ 8 → HasAround a.lanes second above n count →
-    Along pull (byte_around (record { two_line = false; typical = typical }) 0 second above past₀) (decoder_state old d₀ learned₀) n a.past mid →
-    Along pull (byte_around (record { two_line = false; typical = typical }) 0 second above past₀) (decoder_state old d₀ learned₀) (n + count) past' new
+pub record AlongMore {S : Type 0} (pull : S → Pulled → S → Type 0) (a : LanesAround) (mid : DecoderState S) (count past' : ℕ) (new : DecoderState S) : Type 0 where
+  pub any : (b : ByteAround) (old : DecoderState S) (n : ℕ) → AreLanesOf a.lanes b n count → Along pull b old n a.past mid → Along pull b old (n + count) past' new
 
 -- the source stopped at one of them
-abbrev pub StopsMore : {S : Type 0} (pull : S → Pulled → S → Type 0) (a : LanesAround) (mid : DecoderState S) (count : ℕ) (pause : Pause) (new : DecoderState S) → Type 0
-StopsMore {S} pull a mid count pause new =
-    (typical : Bool) (old : S) (second above past₀ : ℕ) (d₀ : Decoder) (learned₀ : List Estimate) (n : ℕ) → n + count ≤ 8 → HasAround a.lanes second above n count →
-    Along pull (byte_around (record { two_line = false; typical = typical }) 0 second above past₀) (decoder_state old d₀ learned₀) n a.past mid →
-    StopsAlong pull (byte_around (record { two_line = false; typical = typical }) 0 second above past₀) (decoder_state old d₀ learned₀) 8 (later n pause) new
+pub record StopsMore {S : Type 0} (pull : S → Pulled → S → Type 0) (a : LanesAround) (mid : DecoderState S) (count : ℕ) (pause : Pause) (new : DecoderState S) : Type 0 where
+  pub any : (b : ByteAround) (old : DecoderState S) (n : ℕ) → AreLanesOf a.lanes b n count → Along pull b old n a.past mid → StopsAlong pull b old 8 (later n pause) new
 
 -- What decoding pixels with these lanes leaves.
-abbrev pub DecodesLanes : {S : Type 0} (pull : S → Pulled → S → Type 0) (a : LanesAround) (old : DecoderState S) (count : ℕ) (new : DecoderState S) (result : Result ℕ Pause) → Type 0
-DecodesLanes pull a old count new result = IfOk result (λ past. AlongMore pull a old count past new) × IfErr result (λ pause. StopsMore pull a old count pause new)
+abbrev pub DecodesLanes : {S : Type 0} (source : Ghosts S) (a : LanesAround) (count : ℕ) (r r' : Reader S) (result : Result ℕ Pause) → Type 0
+DecodesLanes source a count r r' result =
+    IfOk result (λ past. AlongMore (Pulls source.gives source.failed) a (reader_state r) count past (reader_state r'))
+    × IfErr result (λ pause. (pause.count < count) × StopsMore (Pulls source.gives source.failed) a (reader_state r) count pause (reader_state r'))
 
 -- A byte of one colour was decoded in one step, with no byte asked for: each of its pixels is in the context of that colour.
 pub record SkipsAlong (b : ByteAround) (byte : ℕ) (d : Decoder) (learned : List Estimate) (d' : Decoder) : Type 0 where
@@ -162,6 +173,20 @@ pub record BytesAt : Type 0 where
 abbrev pub bytes_at : (left i second above past : ℕ) → List ℕ → BytesAt
 bytes_at left i second above past current = record { left = left; i = i; second = second; above = above; past = past; current = current }
 
+-- What the pixels of a row are decoded with: the mode, the adaptive pixel, and the bytes of the two rows above.
+pub record RowAround : Type 0 where
+  pub mode : Mode
+  pub offset : ℕ
+  pub above : List ℕ
+  pub second : List ℕ
+
+abbrev pub row_around : Mode → ℕ → (above second : List ℕ) → RowAround
+row_around mode offset above second = record { mode = mode; offset = offset; above = above; second = second }
+
+-- what the pixels of the next byte are decoded with
+abbrev pub byte_at : RowAround → BytesAt → ByteAround
+byte_at a b = byte_around a.mode a.offset (b.second % 65536 * 256 + slice_index a.second (b.i + 1)) (b.above % 65536 * 256 + slice_index a.above (b.i + 1)) b.past
+
 -- The bytes of a row have been decoded up to the next one.
 pub record BytesSoFar {S : Type 0} (old : SourceAt S) (row : PlainRow) (width : ℕ) (b : BytesAt) (new : DecoderState S) : Type 0 where
   pub done : List Bool
@@ -177,32 +202,21 @@ pub record PixelsHeld (offset : ℕ) (place : RowPlace) (current : List ℕ) (do
   pub past_is : place.past ≡ before done (length done) (past_bits offset)
   pub bytes : (k : ℕ) → 8 * k + 8 ≤ length done → slice_index current k ≡ before done (8 * k + 8) 8
 
--- What the pixels of a row are decoded with: the mode, the adaptive pixel, and the bytes of the two rows above.
-pub record RowAround : Type 0 where
-  pub mode : Mode
-  pub offset : ℕ
-  pub above : List ℕ
-  pub second : List ℕ
-
-abbrev pub row_around : Mode → ℕ → (above second : List ℕ) → RowAround
-row_around mode offset above second = record { mode = mode; offset = offset; above = above; second = second }
-
 -- How far a row is decoded: its place, its bytes, and the decoder.
 pub record RowPart (S : Type 0) : Type 0 where
   pub place : RowPlace
   pub current : List ℕ
   pub state : DecoderState S
 
-abbrev pub row_part : {S : Type 0} → RowPlace → List ℕ → S → Decoder → List Estimate → RowPart S
-row_part place current source decoder learned = record { place = place; current = current; state = decoder_state source decoder learned }
+abbrev pub row_part : {S : Type 0} → RowPlace → List ℕ → Reader S → RowPart S
+row_part place current r = record { place = place; current = current; state = reader_state r }
 
 -- What a step leaves of a row, whichever pixels of it were decoded before.
-abbrev pub FromPixels : {S : Type 0} (pull : S → Pulled → S → Type 0) (a : RowAround) (part : RowPart S) (Leaves : SourceAt S → PlainRow → Type 0) → Type 0
-FromPixels {S} pull a part Leaves =
-    (from : S) (first : List Event) (s : State) (answers : List Pulled) (lines : Lines) (done : List Bool) → PixelsHeld a.offset part.place part.current done →
-    PixelsSoFar (source_at pull from answers) (plain_row a.mode a.offset first s lines) done part.place.past part.state →
-    a.above ≡ packed_row lines.above → a.second ≡ packed_row lines.second →
-    Leaves (source_at pull from answers) (plain_row a.mode a.offset first s lines)
+pub record FromPixels {S : Type 0} (pull : S → Pulled → S → Type 0) (a : RowAround) (part : RowPart S) (Leaves : SourceAt S → PlainRow → Type 0) : Type 0 where
+  pub any : (from : S) (first : List Event) (s : State) (answers : List Pulled) (lines : Lines) (done : List Bool) → PixelsHeld a.offset part.place part.current done →
+      PixelsSoFar (source_at pull from answers) (plain_row a.mode a.offset first s lines) done part.place.past part.state →
+      a.above ≡ packed_row lines.above → a.second ≡ packed_row lines.second →
+      Leaves (source_at pull from answers) (plain_row a.mode a.offset first s lines)
 
 -- bytes of it were decoded
 abbrev pub BytesAlong : {S : Type 0} (pull : S → Pulled → S → Type 0) (a : RowAround) (part : RowPart S) (width : ℕ) (b : BytesAt) (new : DecoderState S) → Type 0

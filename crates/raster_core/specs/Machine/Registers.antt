@@ -1,5 +1,5 @@
 -- The pixels that registers hold.
-use Rattle.std.specs.Prelude.{ℕ, zero, suc, ◌+◌, ◌*◌, ◌≡◌, ◌-◌, ◌^◌, ◌≤◌, ◌<◌, Bool, true, false, List}
+use Rattle.std.specs.Prelude.{ℕ, zero, suc, ◌+◌, ◌*◌, ◌≡◌, ◌-◌, ◌^◌, ◌≤◌, Bool, true, false, List}
 use Rattle.raster_core.specs.Raster.{pixel_at}
 use Rattle.raster_core.specs.Lines.{Lines}
 use Rattle.raster_core.specs.declared.shape.Shape.{Shape}
@@ -44,7 +44,3 @@ pub record ByteAt (lines : Lines) (second above byte x : ℕ) : Type 0 where
 -- the template that code was made for, and whether its adaptive pixel is moved
 abbrev pub IsTemplate : Bool → Bool → Shape → ℕ → Type 0
 IsTemplate two_line moved shape offset = (offset ≤ 127) × (two_line ≡ shape.two_line) × (moved ≡ is_moved offset)
-
--- a byte of a row, or a part of one, with the bytes round it in the rows above
-abbrev pub AreFew : ℕ → ℕ → ℕ → Type 0
-AreFew second_bytes above_bytes n = (second_bytes < 2 ^ 24) × (above_bytes < 2 ^ 24) × (1 ≤ n) × (n ≤ 8)

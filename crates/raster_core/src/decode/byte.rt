@@ -1,49 +1,38 @@
 //! Decodes the pixels of a byte.
 
-ghost use Rattle.std.specs.Prelude.{◌≡◌, ◌+◌, ◌-◌, ◌*◌, ◌%◌, ◌<◌, IfErr, false};
-ghost use Rattle.qm_core.specs.Source.{Pulls};
-ghost use Rattle.qm_core.specs.Decoder.{StopsOnce, decoder_state};
-ghost use Rattle.raster_core.specs.Machine.Decoded.{DecodesPixels, DecodesLanes, byte_around, lanes_around};
-ghost use Rattle.raster_core.specs.Window.{shape_mode};
-ghost use Rattle.raster_core.specs.Machine.Registers.{AreFew, IsTemplate};
+ghost use Rattle.std.specs.Prelude.{◌≡◌, ◌≤◌, false};
+ghost use Rattle.raster_core.specs.Machine.Reads.{Reads};
+ghost use Rattle.raster_core.specs.Machine.Decoded.{DecodesPixels, DecodesLanes, around_of, lanes_around};
+ghost use Rattle.raster_core.specs.Machine.Registers.{IsTemplate};
 
 use crate::context::{context_of, past_and};
+use crate::decode::registers::Registers;
 use crate::decode::runs::skip_byte;
 use crate::lanes::{first_around, has_lanes, last_around};
 use crate::place::Pause;
-use crate::shape::Shape;
+use crate::reader::Reader;
 use crate::uniform::past_eight;
-use qm_core::{CodeBytes, Context, Decoder, Learned, Stop};
+use qm_core::{CodeBytes, Context, Stop};
 
-/// Decodes n pixels of a byte. The registers `second_bytes` and `above_bytes` contain the byte before, the byte itself
-/// and the byte after it, of the two rows above; `before` and the result contain the last pixels of the row.
+/// Decodes n pixels of a byte, one after another. The result contains the last pixels of the row.
 #[inline(always)]
 pub(crate) fn decode_byte<S: CodeBytes, const TWO_LINE: bool, const MOVED: bool>(
-    shape: Shape,
-    offset: u8,
-    second_bytes: u32,
-    above_bytes: u32,
-    before: u128,
+    registers: Registers,
     n: u32,
-    learned: &mut Learned,
-    decoder: &mut Decoder,
-    source: &mut S,
+    reader: &mut Reader<'_, S>,
 ) -> Result<u128, Pause>
-    requires template { IsTemplate TWO_LINE MOVED shape offset }
-    requires few { AreFew second_bytes above_bytes n }
-    ensures stop { StopsOnce S.failed decoder.old decoder.new source.old source.new result }
-    ensures pixels { DecodesPixels (Pulls S.gives S.failed)
-        (byte_around (shape_mode shape) offset second_bytes above_bytes before)
-        (decoder_state source.old decoder.old learned.old) n
-        (decoder_state source.new decoder.new learned.new) result }
-    ensures few { IfErr result (λ pause. pause.count < n) }
+    requires template { IsTemplate TWO_LINE MOVED registers.shape registers.offset }
+    requires few { (1 ≤ n) × (n ≤ 8) }
+    ensures reads { Reads S.failed reader.old reader.new result }
+    ensures pixels { DecodesPixels S.CodeBytes (around_of registers) n reader.old reader.new
+        result }
 {
-    let mut second = second_bytes >> 7;
-    let mut above = above_bytes >> 6;
-    let mut past = before;
+    let mut second = registers.second >> 7;
+    let mut above = registers.above >> 6;
+    let mut past = registers.past;
     for j in 0..n {
-        let cx = context_of::<TWO_LINE, MOVED>(offset, second, above, past);
-        let pixel = match decoder.next(learned, cx, source) {
+        let cx = context_of::<TWO_LINE, MOVED>(registers.offset, second, above, past);
+        let pixel = match reader.next(cx) {
             Ok(pixel) => pixel,
             Err(Stop) => return Err(Pause { count: j, past }),
         };
@@ -59,19 +48,15 @@ pub(crate) fn decode_byte<S: CodeBytes, const TWO_LINE: bool, const MOVED: bool>
 fn decode_one<S: CodeBytes>(
     lanes: u64,
     before: u128,
-    learned: &mut Learned,
-    decoder: &mut Decoder,
-    source: &mut S,
+    reader: &mut Reader<'_, S>,
 ) -> Result<u128, Pause>
-    ensures stop { StopsOnce S.failed decoder.old decoder.new source.old source.new result }
-    ensures pixels { DecodesLanes (Pulls S.gives S.failed) (lanes_around lanes before)
-        (decoder_state source.old decoder.old learned.old) 1
-        (decoder_state source.new decoder.new learned.new) result }
-    ensures few { IfErr result (λ pause. pause.count < 1) }
+    ensures reads { Reads S.failed reader.old reader.new result }
+    ensures pixels { DecodesLanes S.CodeBytes (lanes_around lanes before) 1 reader.old reader.new
+        result }
 {
     let around = (lanes % 0x400) as u16 / 4 * 4;
     let cx = Context::of(around + (before % 4) as u16);
-    match decoder.next(learned, cx, source) {
+    match reader.next(cx) {
         Ok(pixel) => Ok(past_and::<false>(before, pixel)),
         Err(Stop) => Err(Pause {
             count: 0,
@@ -85,18 +70,14 @@ fn decode_one<S: CodeBytes>(
 fn decode_two<S: CodeBytes>(
     lanes: u64,
     before: u128,
-    learned: &mut Learned,
-    decoder: &mut Decoder,
-    source: &mut S,
+    reader: &mut Reader<'_, S>,
 ) -> Result<u128, Pause>
-    ensures stop { StopsOnce S.failed decoder.old decoder.new source.old source.new result }
-    ensures pixels { DecodesLanes (Pulls S.gives S.failed) (lanes_around lanes before)
-        (decoder_state source.old decoder.old learned.old) 2
-        (decoder_state source.new decoder.new learned.new) result }
-    ensures few { IfErr result (λ pause. pause.count < 2) }
+    ensures reads { Reads S.failed reader.old reader.new result }
+    ensures pixels { DecodesLanes S.CodeBytes (lanes_around lanes before) 2 reader.old reader.new
+        result }
 {
-    let past = decode_one(lanes, before, learned, decoder, source)?;
-    match decode_one(lanes >> 16, past, learned, decoder, source) {
+    let past = decode_one(lanes, before, reader)?;
+    match decode_one(lanes >> 16, past, reader) {
         Ok(last) => Ok(last),
         Err(pause) => Err(pause.after(1)),
     }
@@ -107,145 +88,75 @@ fn decode_two<S: CodeBytes>(
 fn decode_four<S: CodeBytes>(
     lanes: u64,
     before: u128,
-    learned: &mut Learned,
-    decoder: &mut Decoder,
-    source: &mut S,
+    reader: &mut Reader<'_, S>,
 ) -> Result<u128, Pause>
-    ensures stop { StopsOnce S.failed decoder.old decoder.new source.old source.new result }
-    ensures pixels { DecodesLanes (Pulls S.gives S.failed) (lanes_around lanes before)
-        (decoder_state source.old decoder.old learned.old) 4
-        (decoder_state source.new decoder.new learned.new) result }
-    ensures few { IfErr result (λ pause. pause.count < 4) }
+    ensures reads { Reads S.failed reader.old reader.new result }
+    ensures pixels { DecodesLanes S.CodeBytes (lanes_around lanes before) 4 reader.old reader.new
+        result }
 {
-    let past = decode_two(lanes, before, learned, decoder, source)?;
-    match decode_two(lanes >> 32, past, learned, decoder, source) {
+    let past = decode_two(lanes, before, reader)?;
+    match decode_two(lanes >> 32, past, reader) {
         Ok(last) => Ok(last),
         Err(pause) => Err(pause.after(2)),
     }
 }
 
-/// Decodes the pixels of a byte, computing the contexts of four at once.
+/// Decodes the pixels of a byte with the three-line template and the adaptive pixel in its nominal position, computing
+/// the contexts of four at once.
 #[inline(always)]
 fn decode_eight<S: CodeBytes>(
-    shape: Shape,
-    second_bytes: u32,
-    above_bytes: u32,
-    before: u128,
-    learned: &mut Learned,
-    decoder: &mut Decoder,
-    source: &mut S,
+    registers: Registers,
+    reader: &mut Reader<'_, S>,
 ) -> Result<u128, Pause>
-    requires template { shape.two_line ≡ false }
-    ensures stop { StopsOnce S.failed decoder.old decoder.new source.old source.new result }
-    ensures pixels { DecodesPixels (Pulls S.gives S.failed)
-        (byte_around (shape_mode shape) 0 second_bytes above_bytes before)
-        (decoder_state source.old decoder.old learned.old) 8
-        (decoder_state source.new decoder.new learned.new) result }
-    ensures few { IfErr result (λ pause. pause.count < 8) }
+    requires template { registers.shape.two_line ≡ false }
+    requires nominal { registers.offset ≡ 0 }
+    ensures reads { Reads S.failed reader.old reader.new result }
+    ensures pixels { DecodesPixels S.CodeBytes (around_of registers) 8 reader.old reader.new
+        result }
 {
-    let first = first_around(second_bytes, above_bytes);
-    let half = decode_four(first, before, learned, decoder, source)?;
-    let last = last_around(second_bytes, above_bytes);
-    match decode_four(last, half, learned, decoder, source) {
+    let first = first_around(registers.second, registers.above);
+    let half = decode_four(first, registers.past, reader)?;
+    let last = last_around(registers.second, registers.above);
+    match decode_four(last, half, reader) {
         Ok(past) => Ok(past),
         Err(pause) => Err(pause.after(4)),
     }
 }
 
-/// Decodes n pixels of a byte, computing the contexts of four at once if tables contain them.
+/// Decodes the pixels of a byte, computing the contexts of four at once if tables contain them.
 #[inline(always)]
 fn decode_plain<S: CodeBytes, const TWO_LINE: bool, const MOVED: bool>(
-    shape: Shape,
-    offset: u8,
-    second_bytes: u32,
-    above_bytes: u32,
-    before: u128,
-    n: u32,
-    learned: &mut Learned,
-    decoder: &mut Decoder,
-    source: &mut S,
+    registers: Registers,
+    reader: &mut Reader<'_, S>,
 ) -> Result<u128, Pause>
-    requires template { IsTemplate TWO_LINE MOVED shape offset }
-    requires few { AreFew second_bytes above_bytes n }
-    ensures stop { StopsOnce S.failed decoder.old decoder.new source.old source.new result }
-    ensures pixels { DecodesPixels (Pulls S.gives S.failed)
-        (byte_around (shape_mode shape) offset second_bytes above_bytes before)
-        (decoder_state source.old decoder.old learned.old) n
-        (decoder_state source.new decoder.new learned.new) result }
-    ensures few { IfErr result (λ pause. pause.count < n) }
+    requires template { IsTemplate TWO_LINE MOVED registers.shape registers.offset }
+    ensures reads { Reads S.failed reader.old reader.new result }
+    ensures pixels { DecodesPixels S.CodeBytes (around_of registers) 8 reader.old reader.new
+        result }
 {
-    if has_lanes::<TWO_LINE, MOVED>(shape, offset, n) {
-        decode_eight(
-            shape,
-            second_bytes,
-            above_bytes,
-            before,
-            learned,
-            decoder,
-            source,
-        )
+    if has_lanes::<TWO_LINE, MOVED>(registers.shape, registers.offset) {
+        decode_eight(registers, reader)
     } else {
-        decode_byte::<_, TWO_LINE, MOVED>(
-            shape,
-            offset,
-            second_bytes,
-            above_bytes,
-            before,
-            n,
-            learned,
-            decoder,
-            source,
-        )
+        decode_byte::<_, TWO_LINE, MOVED>(registers, 8, reader)
     }
 }
 
-/// Decodes n pixels of a byte; all eight in one step if the byte and the byte above it have the same single colour and
+/// Decodes the pixels of a byte; all eight in one step if the byte and the byte above it have the same single colour and
 /// no code byte is needed.
 #[inline(always)]
 pub(crate) fn decode_step<S: CodeBytes, const TWO_LINE: bool, const MOVED: bool>(
-    shape: Shape,
-    offset: u8,
-    second_bytes: u32,
-    above_bytes: u32,
-    before: u128,
-    n: u32,
-    learned: &mut Learned,
-    decoder: &mut Decoder,
-    source: &mut S,
+    registers: Registers,
+    reader: &mut Reader<'_, S>,
 ) -> Result<u128, Pause>
-    requires template { IsTemplate TWO_LINE MOVED shape offset }
-    requires few { AreFew second_bytes above_bytes n }
-    ensures stop { StopsOnce S.failed decoder.old decoder.new source.old source.new result }
-    ensures pixels { DecodesPixels (Pulls S.gives S.failed)
-        (byte_around (shape_mode shape) offset second_bytes above_bytes before)
-        (decoder_state source.old decoder.old learned.old) n
-        (decoder_state source.new decoder.new learned.new) result }
-    ensures few { IfErr result (λ pause. pause.count < n) }
+    requires template { IsTemplate TWO_LINE MOVED registers.shape registers.offset }
+    ensures reads { Reads S.failed reader.old reader.new result }
+    ensures pixels { DecodesPixels S.CodeBytes (around_of registers) 8 reader.old reader.new
+        result }
 {
-    let byte = ((above_bytes >> 8) % 256) as u8;
-    if skip_byte::<MOVED>(
-        shape,
-        offset,
-        second_bytes,
-        above_bytes,
-        byte,
-        before,
-        n,
-        learned,
-        decoder,
-    ) {
-        Ok(past_eight::<MOVED>(before, byte))
+    let byte = ((registers.above >> 8) % 256) as u8;
+    if skip_byte::<MOVED>(registers, byte, &*reader.learned, &mut *reader.decoder) {
+        Ok(past_eight::<MOVED>(registers.past, byte))
     } else {
-        decode_plain::<_, TWO_LINE, MOVED>(
-            shape,
-            offset,
-            second_bytes,
-            above_bytes,
-            before,
-            n,
-            learned,
-            decoder,
-            source,
-        )
+        decode_plain::<_, TWO_LINE, MOVED>(registers, reader)
     }
 }

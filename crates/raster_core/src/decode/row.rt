@@ -2,7 +2,7 @@
 
 ghost use Rattle.std.specs.Prelude.{◌≡◌, ◌+◌, ◌-◌, ◌*◌, ◌%◌, ◌<◌, ◌≤◌, IfOk, IfErr};
 ghost use Rattle.qm_core.specs.Source.{Pulls};
-ghost use Rattle.qm_core.specs.Decoder.{StopsOnce};
+ghost use Rattle.raster_core.specs.Machine.Reads.{Reads};
 ghost use Rattle.raster_core.specs.Machine.Places.{IsPartOf};
 ghost use Rattle.raster_core.specs.Machine.Decoded.{ByteEnds, DecodesRow, RowStops, row_around, row_part};
 ghost use Rattle.raster_core.specs.Window.{shape_mode};
@@ -11,10 +11,12 @@ ghost use Rattle.raster_core.specs.Machine.Registers.{IsTemplate};
 use crate::bytes::byte_at;
 use crate::context::by_template;
 use crate::decode::byte::{decode_byte, decode_step};
+use crate::decode::registers::Registers;
 use crate::decode::runs::skip_filled;
 use crate::place::{RowPlace, around_at, register_at};
+use crate::reader::Reader;
 use crate::shape::Shape;
-use qm_core::{CodeBytes, Decoder, Learned};
+use qm_core::CodeBytes;
 
 /// Decodes the rest of a partially decoded byte, and stores it.
 #[inline(never)]
@@ -25,42 +27,34 @@ fn end_byte<S: CodeBytes, const TWO_LINE: bool, const MOVED: bool>(
     current: &mut [u8],
     above: &[u8],
     second: &[u8],
-    learned: &mut Learned,
-    decoder: &mut Decoder,
-    source: &mut S,
+    reader: &mut Reader<'_, S>,
 ) -> Result<RowPlace, RowPlace>
     requires template { IsTemplate TWO_LINE MOVED shape offset }
     requires begun { 1 ≤ place.done % 8 }
     requires part { IsPartOf shape place current.old }
-    ensures stop { StopsOnce S.failed decoder.old decoder.new source.old source.new result }
+    ensures reads { Reads S.failed reader.old reader.new result }
     ensures whole { IfOk result (λ to. to.done < shape.width → to.done % 8 ≡ 0) }
     ensures within { IfOk result (λ to. to.done ≤ shape.width) }
     ensures inside { IfErr result (λ at. at.done < shape.width) }
     ensures ok { IfOk result (λ to. ByteEnds (Pulls S.gives S.failed)
         (row_around (shape_mode shape) offset above.now second.now)
-        (row_part place current.old source.old decoder.old learned.old)
-        (row_part to current.new source.new decoder.new learned.new)) }
+        (row_part place current.old reader.old) (row_part to current.new reader.new)) }
     ensures err { IfErr result (λ at. RowStops (Pulls S.gives S.failed)
         (row_around (shape_mode shape) offset above.now second.now)
-        (row_part place current.old source.old decoder.old learned.old) shape.width
-        (row_part at current.new source.new decoder.new learned.new)) }
+        (row_part place current.old reader.old) shape.width
+        (row_part at current.new reader.new)) }
 {
     let begun = place.done % 8;
     let i = (place.done / 8) as usize;
     let n = (8 - begun).min(shape.width - place.done);
-    let second_bytes = around_at(second, place.done);
-    let above_bytes = around_at(above, place.done);
-    match decode_byte::<_, TWO_LINE, MOVED>(
+    let registers = Registers {
         shape,
         offset,
-        second_bytes,
-        above_bytes,
-        place.past,
-        n,
-        learned,
-        decoder,
-        source,
-    ) {
+        second: around_at(second, place.done),
+        above: around_at(above, place.done),
+        past: place.past,
+    };
+    match decode_byte::<_, TWO_LINE, MOVED>(registers, n, reader) {
         Ok(past) => {
             current[i] = ((((past % 256) as u32) << (8 - begun - n)) % 256) as u8;
             Ok(RowPlace::behind(place.done + n, past))
@@ -77,19 +71,17 @@ fn decode_bytes<S: CodeBytes, const TWO_LINE: bool, const MOVED: bool>(
     current: &mut [u8],
     above: &[u8],
     second: &[u8],
-    learned: &mut Learned,
-    decoder: &mut Decoder,
-    source: &mut S,
+    reader: &mut Reader<'_, S>,
 ) -> Result<(), RowPlace>
     requires template { IsTemplate TWO_LINE MOVED shape offset }
     requires whole { place.done % 8 ≡ 0 }
     requires part { IsPartOf shape place current.old }
-    ensures stop { StopsOnce S.failed decoder.old decoder.new source.old source.new result }
+    ensures reads { Reads S.failed reader.old reader.new result }
     ensures inside { IfErr result (λ at. at.done < shape.width) }
     ensures leaves { DecodesRow (Pulls S.gives S.failed)
         (row_around (shape_mode shape) offset above.now second.now)
-        (row_part place current.old source.old decoder.old learned.old) shape.width
-        (row_part place current.new source.new decoder.new learned.new) result }
+        (row_part place current.old reader.old) shape.width
+        (row_part place current.new reader.new) result }
 {
     let mut i = (place.done / 8) as usize;
     let mut above_bytes = register_at(above, i);
@@ -106,8 +98,8 @@ fn decode_bytes<S: CodeBytes, const TWO_LINE: bool, const MOVED: bool>(
             second_bytes,
             above_bytes,
             past,
-            learned,
-            decoder,
+            &*reader.learned,
+            &mut *reader.decoder,
         );
         if words > 0 {
             i += 8 * words as usize;
@@ -116,17 +108,14 @@ fn decode_bytes<S: CodeBytes, const TWO_LINE: bool, const MOVED: bool>(
         }
         above_bytes = above_bytes % 0x1_0000 * 256 + byte_at(above, i + 1);
         second_bytes = second_bytes % 0x1_0000 * 256 + byte_at(second, i + 1);
-        past = match decode_step::<_, TWO_LINE, MOVED>(
+        let registers = Registers {
             shape,
             offset,
-            second_bytes,
-            above_bytes,
+            second: second_bytes,
+            above: above_bytes,
             past,
-            8,
-            learned,
-            decoder,
-            source,
-        ) {
+        };
+        past = match decode_step::<_, TWO_LINE, MOVED>(registers, reader) {
             Ok(past) => past,
             Err(pause) => return Err(RowPlace::within(i, pause)),
         };
@@ -138,19 +127,14 @@ fn decode_bytes<S: CodeBytes, const TWO_LINE: bool, const MOVED: bool>(
         return Ok(());
     }
     let n = left;
-    let last_above = above_bytes % 0x1_0000 * 256 + byte_at(above, i + 1);
-    let last_second = second_bytes % 0x1_0000 * 256 + byte_at(second, i + 1);
-    let last = match decode_byte::<_, TWO_LINE, MOVED>(
+    let registers = Registers {
         shape,
         offset,
-        last_second,
-        last_above,
+        second: second_bytes % 0x1_0000 * 256 + byte_at(second, i + 1),
+        above: above_bytes % 0x1_0000 * 256 + byte_at(above, i + 1),
         past,
-        n,
-        learned,
-        decoder,
-        source,
-    ) {
+    };
+    let last = match decode_byte::<_, TWO_LINE, MOVED>(registers, n, reader) {
         Ok(last) => last,
         Err(pause) => return Err(RowPlace::within(i, pause)),
     };
@@ -166,32 +150,30 @@ fn decode_rest<S: CodeBytes, const TWO_LINE: bool, const MOVED: bool>(
     current: &mut [u8],
     above: &[u8],
     second: &[u8],
-    learned: &mut Learned,
-    decoder: &mut Decoder,
-    source: &mut S,
+    reader: &mut Reader<'_, S>,
 ) -> Result<(), RowPlace>
     requires template { IsTemplate TWO_LINE MOVED shape offset }
     requires part { IsPartOf shape place current.old }
-    ensures stop { StopsOnce S.failed decoder.old decoder.new source.old source.new result }
+    ensures reads { Reads S.failed reader.old reader.new result }
     ensures inside { IfErr result (λ at. at.done < shape.width) }
     ensures leaves { DecodesRow (Pulls S.gives S.failed)
         (row_around (shape_mode shape) offset above.now second.now)
-        (row_part place current.old source.old decoder.old learned.old) shape.width
-        (row_part place current.new source.new decoder.new learned.new) result }
+        (row_part place current.old reader.old) shape.width
+        (row_part place current.new reader.new) result }
 {
     if place.done % 8 == 0 {
         return decode_bytes::<_, TWO_LINE, MOVED>(
-            shape, offset, place, current, above, second, learned, decoder, source,
+            shape, offset, place, current, above, second, reader,
         );
     }
     let from = end_byte::<_, TWO_LINE, MOVED>(
-        shape, offset, place, current, above, second, learned, decoder, source,
+        shape, offset, place, current, above, second, reader,
     )?;
     if from.done == shape.width {
         return Ok(());
     }
     let rest = decode_bytes::<_, TWO_LINE, MOVED>(
-        shape, offset, from, current, above, second, learned, decoder, source,
+        shape, offset, from, current, above, second, reader,
     );
     rest
 }
@@ -204,25 +186,21 @@ pub(crate) fn decode_pixels<S: CodeBytes>(
     current: &mut [u8],
     above: &[u8],
     second: &[u8],
-    learned: &mut Learned,
-    decoder: &mut Decoder,
-    source: &mut S,
+    reader: &mut Reader<'_, S>,
 ) -> Result<(), RowPlace>
     requires offset { offset ≤ 127 }
     requires part { IsPartOf shape place current.old }
-    ensures stop { StopsOnce S.failed decoder.old decoder.new source.old source.new result }
+    ensures reads { Reads S.failed reader.old reader.new result }
     ensures inside { IfErr result (λ at. at.done < shape.width) }
     ensures leaves { DecodesRow (Pulls S.gives S.failed)
         (row_around (shape_mode shape) offset above.now second.now)
-        (row_part place current.old source.old decoder.old learned.old) shape.width
-        (row_part place current.new source.new decoder.new learned.new) result }
+        (row_part place current.old reader.old) shape.width
+        (row_part place current.new reader.new) result }
 {
     by_template!(
         decode_rest,
         shape,
         offset,
-        (
-            shape, offset, place, current, above, second, learned, decoder, source
-        )
+        (shape, offset, place, current, above, second, reader)
     )
 }

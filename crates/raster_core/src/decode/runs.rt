@@ -7,12 +7,11 @@ ghost use Rattle.qm_core.specs.Skipping.{CanSkip};
 ghost use Rattle.qm_core.specs.Decoder.{DecoderIsAt, SkipsOrStays};
 ghost use Rattle.qm_core.specs.declared.source.Pulled.{Pulled};
 ghost use Rattle.raster_core.specs.Machine.Places.{SkipsSoMany};
-ghost use Rattle.raster_core.specs.Machine.Decoded.{SkipsFilledAlong, SkipsAlong, byte_around, filled_run};
+ghost use Rattle.raster_core.specs.Machine.Decoded.{SkipsFilledAlong, SkipsAlong, around_of, filled_run};
 ghost use Rattle.raster_core.specs.Machine.Registers.{bit, is_moved, past_bits};
 ghost use Rattle.raster_core.specs.Machine.Uniform.{uniform_event, colour_of, filled, AreFilled, AreAllOf};
-ghost use Rattle.raster_core.specs.Window.{shape_mode};
 
-use crate::shape::Shape;
+use crate::decode::registers::Registers;
 use crate::uniform::{is_all_above, is_filled, is_run, paint, uniform_context};
 use qm_core::{Decoder, Learned};
 
@@ -20,30 +19,31 @@ use qm_core::{Decoder, Learned};
 /// code byte is needed. Otherwise does nothing and returns false.
 #[inline(always)]
 pub(super) fn skip_byte<const MOVED: bool>(
-    shape: Shape,
-    offset: u8,
-    second_bytes: u32,
-    above_bytes: u32,
+    registers: Registers,
     byte: u8,
-    before: u128,
-    n: u32,
     learned: &Learned,
     decoder: &mut Decoder,
 ) -> bool
-    requires offset { offset ≤ 127 }
-    requires moved { MOVED ≡ is_moved offset }
+    requires moved { MOVED ≡ is_moved registers.offset }
     ensures skips { SkipsOrStays result decoder.old decoder.new }
-    ensures eight { result ≡ true → n ≡ 8 }
-    ensures skipped { result ≡ true → SkipsAlong (byte_around (shape_mode shape) offset second_bytes
-        above_bytes before) byte decoder.old learned.now decoder.new }
+    ensures skipped { result ≡ true → SkipsAlong (around_of registers) byte decoder.old learned.now
+        decoder.new }
     ensures taken { (p : Place) (answers : List Pulled) → DecoderIsAt decoder.old p answers →
-        n ≡ 8 → byte ≡ bit (nat_eq byte 255) * 255 →
-        AreAllOf second_bytes above_bytes before offset (nat_eq byte 255) →
+        byte ≡ bit (nat_eq byte 255) * 255 →
+        AreAllOf registers.second registers.above registers.past registers.offset
+        (nat_eq byte 255) →
         CanSkip decoder.old (state_of p learned.now) answers
         (uniform_event (nat_eq byte 255)) 8 → result ≡ true }
 {
+    let Registers {
+        shape: _shape,
+        offset,
+        second,
+        above,
+        past,
+    } = registers;
     let colour = byte == 255;
-    if is_run::<MOVED>(offset, second_bytes, above_bytes, byte, before, n) {
+    if is_run::<MOVED>(offset, second, above, byte, past) {
         decoder.skip(learned, uniform_context(colour), colour, 8)
     } else {
         false

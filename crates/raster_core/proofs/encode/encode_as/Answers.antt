@@ -6,12 +6,12 @@ use Rattle.raster_core.proofs.encode.encode_as.Goals as goal
 
 pub returns-in_err-encode_flag : goal.returns-in_err-encode_flag
 unfolding coded_events
-returns-in_err-encode_flag g c = puts_stop g.W.CodeSink _ _ _ _ _ _ c.from_residual.ensures c.in_err-encode_flag.ensures
+returns-in_err-encode_flag g c = puts_stop _ c.from_residual.ensures c.in_err-encode_flag.ensures
 
 pub returns-then-flag : goal.returns-then-flag
-returns-then-flag g c = puts_as g.W.CodeSink _ _ _ _ _ (coded_typical (shape_mode c.args.shape) c.args.template c.args.rows c.args.previous c.args.flag c.if-flag.true) c.in_ok-encode_flag.ensures
+returns-then-flag g c = puts_as (coded_typical (shape_mode c.args.shape) c.args.template c.args.rows c.args.previous c.args.flag c.if-flag.true) c.in_ok-encode_flag.ensures
 
 pub returns : goal.returns
 returns g c =
-    puts_as g.W.CodeSink _ _ _ _ _ (coded_plain (shape_mode c.args.shape) c.args.template c.args.rows c.args.previous c.args.flag c.if-flag.false)
-    (puts_join g.W.CodeSink _ _ _ _ _ _ c.in_ok-encode_flag.ensures c.encode_plain.ensures)
+    puts_as (coded_plain (shape_mode c.args.shape) c.args.template c.args.rows c.args.previous c.args.flag c.if-flag.false)
+    (puts_join c.in_ok-encode_flag.ensures c.encode_plain.ensures)

@@ -11,7 +11,7 @@ pub returns-in_err-encode_as-clause-row : goal.returns-in_err-encode_as-clause-r
 returns-in_err-encode_as-clause-row g c = λ p pushed lines going at w.
     let held : HasLines _ lines = subst (λ h. HasLines h lines) (sym c.rows-rows.ensures) w in
     row_coded g.W.CodeSink c.args.shape c.args.kept.now _ _ c.rows-rows.result lines c.is_typical-flag.result _ _ _ p pushed _ _ _ (search rules) (search rules) (search rules)
-    refl refl held (c.is_typical-flag.ensures.lines lines held) (search rules) (puts_handed g.W.CodeSink _ _ _ _ _ c.from_residual.ensures c.in_err-encode_as.ensures) going at
+    refl refl held (c.is_typical-flag.ensures.lines lines held) (search rules) (puts_handed c.from_residual.ensures c.in_err-encode_as.ensures) going at
 
 pub returns-clause-fails : goal.returns-clause-fails
 returns-clause-fails g c =

@@ -1,9 +1,7 @@
 use Rattle.std.proofs.Common.{◌≡◌, ◌+◌, ◌-◌, ◌*◌, ◌%◌, ◌^◌, ◌<◌, length, arith, refl, sym, ◌∙◌, false, length-set, Ok}
 use Rattle.std.specs.Prelude.{slice_set}
 use Rattle.std.specs.Int.{div_ceil}
-use Rattle.qm_core.specs.Source.{Pulls}
 use Rattle.qm_core.specs.Decoder.{has_stopped}
-use Rattle.raster_core.specs.Window.{shape_mode}
 use Rattle.raster_core.specs.Machine.Uniform.{colour_of}
 use Rattle.raster_core.specs.declared.place.Pause.{Pause}
 use Rattle.raster_core.proofs.Joins.{had_not_stopped, not_both}
@@ -14,30 +12,25 @@ use Rattle.raster_core.proofs.decode.row.decode_bytes.Goals as goal
 pub returns-in-Err-clause-leaves : goal.returns-in-Err-clause-leaves
 returns-in-Err-clause-leaves g c =
     let inside : 8 * c.bytes.i < c.args.shape.width = omega arith in
-    let same : c.skip_filled-words.new.decoder ≡ c.bytes.decoder = c.skip_filled-words.ensures.skips.2 (omega (arith, c.if-words-gt0.false)) in
-    let along = kept_along (Pulls g.S.CodeBytes.gives g.S.CodeBytes.failed) c.args.source.now c.bytes.source (shape_mode c.args.shape) c.args.offset c.args.above.now c.args.second.now c.args.place c.args.current.now c.args.decoder.now c.args.learned.now
-    c.args.shape.width c.bytes.left c.bytes.i c.bytes.second_bytes c.bytes.above_bytes c.bytes.past c.bytes.current c.skip_filled-words.new.current c.bytes.decoder c.skip_filled-words.new.decoder c.bytes.learned
-    same c.skip_filled-words.ensures.kept c.bytes.invariant.along in (
+    let same : c.skip_filled-words.new.decoder ≡ c.bytes.reader.decoder.now = c.skip_filled-words.ensures.skips.2 (omega (arith, c.if-words-gt0.false)) in
+    let along = kept_along same c.skip_filled-words.ensures.kept c.bytes.invariant.along in (
       tt,
-      bytes_stop (Pulls g.S.CodeBytes.gives g.S.CodeBytes.failed) c.args.source.now c.bytes.source c.decode_step.new.source (shape_mode c.args.shape) c.args.offset c.args.above.now c.args.second.now c.args.place c.args.current.now c.args.decoder.now c.args.learned.now
-          c.args.shape.width c.bytes.left c.bytes.i c.bytes.second_bytes c.bytes.above_bytes c.bytes.past 8 c.skip_filled-words.new.current c.skip_filled-words.new.decoder c.decode_step.new.decoder c.bytes.learned c.decode_step.new.learned c.in-Err.pause c.within.result
-          c.bytes.invariant.left inside (omega arith) c.within.ensures.begun c.within.ensures.done c.within.ensures.past along
-          (rw (← c.byte_at-in-bytes.ensures.byte, ← c.byte_at.ensures.byte) c.in-Err.ensures.pixels.1),
+      bytes_stop 8 c.bytes.invariant.left inside (omega arith) c.within.ensures.begun c.within.ensures.done c.within.ensures.past along
+          (rw (← c.byte_at-in-bytes.ensures.byte, ← c.byte_at.ensures.byte) c.in-Err.ensures.pixels.1.1),
     )
 
 pub bytes-preserved-then-words-gt0 : goal.bytes-preserved-then-words-gt0
 bytes-preserved-then-words-gt0 g c =
     let inside : 8 * (c.bytes.i + 8 * c.skip_filled-words.result) < c.args.shape.width = omega (arith, c.bytes.invariant.left, c.skip_filled-words.ensures.inside) in
     let left : c.bytes.left - 64 * c.skip_filled-words.result ≡ c.args.shape.width - 8 * (c.bytes.i + 8 * c.skip_filled-words.result) = omega (arith, c.bytes.invariant.left, c.skip_filled-words.ensures.inside) in
-    let along = bytes_skipped (Pulls g.S.CodeBytes.gives g.S.CodeBytes.failed) c.args.source.now c.bytes.source (shape_mode c.args.shape) c.args.offset c.args.above.now c.args.second.now c.args.place c.args.current.now c.args.decoder.now c.args.learned.now
-    c.args.shape.width c.bytes.left (c.bytes.left - 64 * c.skip_filled-words.result) c.bytes.i (8 * c.skip_filled-words.result) c.bytes.second_bytes c.bytes.above_bytes c.bytes.past c.bytes.current c.skip_filled-words.new.current c.bytes.decoder c.skip_filled-words.new.decoder c.bytes.learned (colour_of c.bytes.above_bytes)
-    c.requires.template.0 c.bytes.invariant.left (omega (arith, inside)) (omega (arith, c.skip_filled-words.ensures.inside)) (omega arith) (omega (arith, c.if-words-gt0.true))
+    let along = bytes_skipped (8 * c.skip_filled-words.result) (colour_of c.bytes.above_bytes) c.requires.template.0 c.bytes.invariant.left (omega (arith, inside)) (omega (arith, c.skip_filled-words.ensures.inside)) (omega arith) (omega (arith, c.if-words-gt0.true))
     (c.skip_filled-words.ensures.second c.if-words-gt0.true) (c.skip_filled-words.ensures.above c.if-words-gt0.true) (c.skip_filled-words.ensures.before c.if-words-gt0.true c.args.offset c.requires.template.2) (c.skip_filled-words.ensures.skips.1 c.if-words-gt0.true)
     c.skip_filled-words.ensures.filled c.skip_filled-words.ensures.kept c.skip_filled-words.ensures.skipped c.bytes.invariant.along in
     record {
+      lends = c.bytes.invariant.lends;
       same = c.bytes.invariant.same;
       going = c.skip_filled-words.ensures.skips.0 ∙ c.bytes.invariant.going;
-      stuck = λ t. absurd (not_both (has_stopped c.args.decoder.now) t (sym c.bytes.invariant.going ∙ c.skip_filled-words.ensures.skips.1 (omega (arith, c.if-words-gt0.true))));
+      stuck = λ t. absurd (not_both (has_stopped c.args.reader.now.decoder.now) t (sym c.bytes.invariant.going ∙ c.skip_filled-words.ensures.skips.1 (omega (arith, c.if-words-gt0.true))));
       left = left;
       along = along;
     }
@@ -45,30 +38,27 @@ bytes-preserved-then-words-gt0 g c =
 pub bytes-preserved : goal.bytes-preserved
 bytes-preserved g c =
     let inside : 8 * c.bytes.i < c.args.shape.width = omega arith in
-    let same : c.skip_filled-words.new.decoder ≡ c.bytes.decoder = c.skip_filled-words.ensures.skips.2 (omega (arith, c.if-words-gt0.false)) in
-    let along = kept_along (Pulls g.S.CodeBytes.gives g.S.CodeBytes.failed) c.args.source.now c.bytes.source (shape_mode c.args.shape) c.args.offset c.args.above.now c.args.second.now c.args.place c.args.current.now c.args.decoder.now c.args.learned.now
-    c.args.shape.width c.bytes.left c.bytes.i c.bytes.second_bytes c.bytes.above_bytes c.bytes.past c.bytes.current c.skip_filled-words.new.current c.bytes.decoder c.skip_filled-words.new.decoder c.bytes.learned
-    same c.skip_filled-words.ensures.kept c.bytes.invariant.along in
-    let going : has_stopped c.skip_filled-words.new.decoder ≡ false = had_not_stopped {E = Pause} (has_stopped c.skip_filled-words.new.decoder) (Ok c.in-Ok.past) c.in-Ok.past (λ t. (c.in-Ok.ensures.stop.0 t).0) (refl) in
-    let was : has_stopped c.args.decoder.now ≡ false = sym c.bytes.invariant.going ∙ (sym c.skip_filled-words.ensures.skips.0 ∙ going) in
+    let same : c.skip_filled-words.new.decoder ≡ c.bytes.reader.decoder.now = c.skip_filled-words.ensures.skips.2 (omega (arith, c.if-words-gt0.false)) in
+    let along = kept_along same c.skip_filled-words.ensures.kept c.bytes.invariant.along in
+    let going : has_stopped c.skip_filled-words.new.decoder ≡ false = had_not_stopped {E = Pause} (has_stopped c.skip_filled-words.new.decoder) (Ok c.in-Ok.past) c.in-Ok.past (λ t. (c.in-Ok.ensures.reads.0.0 t).0) (refl) in
+    let was : has_stopped c.args.reader.now.decoder.now ≡ false = sym c.bytes.invariant.going ∙ (sym c.skip_filled-words.ensures.skips.0 ∙ going) in
+    let lent = c.in-Ok.ensures.reads.1 in
+    let was_lent = c.bytes.invariant.lends in
     record {
-      same = c.in-Ok.ensures.stop.2 ∙ c.bytes.invariant.same;
-      going = had_not_stopped {E = Pause} (has_stopped c.decode_step.new.decoder) (Ok c.in-Ok.past) c.in-Ok.past c.in-Ok.ensures.stop.1.0 (refl) ∙ sym was;
-      stuck = λ t. absurd (not_both (has_stopped c.args.decoder.now) t was);
+      lends = (lent.0 ∙ was_lent.0, lent.1 ∙ was_lent.1, lent.2 ∙ was_lent.2);
+      same = c.in-Ok.ensures.reads.0.2 ∙ c.bytes.invariant.same;
+      going = had_not_stopped {E = Pause} (has_stopped c.decode_step.new.reader.decoder.now) (Ok c.in-Ok.past) c.in-Ok.past c.in-Ok.ensures.reads.0.1.0 (refl) ∙ sym was;
+      stuck = λ t. absurd (not_both (has_stopped c.args.reader.now.decoder.now) t was);
       left = omega arith;
       along = rw (c.byte_at.ensures.byte, c.byte_at-in-bytes.ensures.byte)
-          (bytes_next (Pulls g.S.CodeBytes.gives g.S.CodeBytes.failed) c.args.source.now c.bytes.source c.decode_step.new.source (shape_mode c.args.shape) c.args.offset c.args.above.now c.args.second.now c.args.place c.args.current.now c.args.decoder.now c.args.learned.now
-          c.args.shape.width c.bytes.left c.bytes.i c.bytes.second_bytes c.bytes.above_bytes c.bytes.past c.in-Ok.past 8 (c.in-Ok.past % 256) c.skip_filled-words.new.current c.skip_filled-words.new.decoder c.decode_step.new.decoder c.bytes.learned c.decode_step.new.learned
-          c.bytes.invariant.left inside (omega arith) (omega arith) (whole c.in-Ok.past) along
+          (bytes_next c.bytes.invariant.left inside (omega arith) (omega arith) (whole c.in-Ok.past) along
           (rw (← c.byte_at-in-bytes.ensures.byte, ← c.byte_at.ensures.byte) c.in-Ok.ensures.pixels.0));
     }
 
 pub returns-then-left-eq0-clause-leaves : goal.returns-then-left-eq0-clause-leaves
 returns-then-left-eq0-clause-leaves g c =
     let long : length c.bytes.current ≡ div_ceil c.args.shape.width 8 = c.bytes.auto.current ∙ c.requires.part.1 in (
-      bytes_all (Pulls g.S.CodeBytes.gives g.S.CodeBytes.failed) c.args.source.now c.bytes.source (shape_mode c.args.shape) c.args.offset c.args.above.now c.args.second.now c.args.place c.args.current.now c.args.decoder.now c.args.learned.now
-          c.args.shape.width c.bytes.left c.bytes.i c.bytes.second_bytes c.bytes.above_bytes c.bytes.past c.bytes.current c.bytes.decoder c.bytes.learned
-          c.bytes.invariant.left long (omega (arith, long, c.bytes.invariant.left, c.if-left-eq0.true)) c.bytes.invariant.along,
+      bytes_all c.bytes.invariant.left long (omega (arith, long, c.bytes.invariant.left, c.if-left-eq0.true)) c.bytes.invariant.along,
       tt,
     )
 
@@ -76,10 +66,8 @@ pub returns-in-Err-decode_byte-clause-leaves : goal.returns-in-Err-decode_byte-c
 returns-in-Err-decode_byte-clause-leaves g c =
     let inside : 8 * c.bytes.i < c.args.shape.width = omega (arith, c.bytes.invariant.left, c.if-left-eq0.false) in (
       tt,
-      bytes_stop (Pulls g.S.CodeBytes.gives g.S.CodeBytes.failed) c.args.source.now c.bytes.source c.decode_byte.new.source (shape_mode c.args.shape) c.args.offset c.args.above.now c.args.second.now c.args.place c.args.current.now c.args.decoder.now c.args.learned.now
-          c.args.shape.width c.bytes.left c.bytes.i c.bytes.second_bytes c.bytes.above_bytes c.bytes.past c.bytes.left c.bytes.current c.bytes.decoder c.decode_byte.new.decoder c.bytes.learned c.decode_byte.new.learned c.in-Err-decode_byte.pause c.within-in-Err-decode_byte.result
-          c.bytes.invariant.left inside (omega arith) c.within-in-Err-decode_byte.ensures.begun c.within-in-Err-decode_byte.ensures.done c.within-in-Err-decode_byte.ensures.past c.bytes.invariant.along
-          (rw (← c.byte_at-3.ensures.byte, ← c.byte_at-2.ensures.byte) c.in-Err-decode_byte.ensures.pixels.1),
+      bytes_stop c.bytes.left c.bytes.invariant.left inside (omega arith) c.within-in-Err-decode_byte.ensures.begun c.within-in-Err-decode_byte.ensures.done c.within-in-Err-decode_byte.ensures.past c.bytes.invariant.along
+          (rw (← c.byte_at-3.ensures.byte, ← c.byte_at-2.ensures.byte) c.in-Err-decode_byte.ensures.pixels.1.1),
     )
 
 pub returns-clause-leaves : goal.returns-clause-leaves
@@ -88,12 +76,8 @@ returns-clause-leaves g c =
     let wide : length c.bytes.current ≡ div_ceil c.args.shape.width 8 = c.bytes.auto.current ∙ c.requires.part.1 in
     let byte = c.in-Ok-decode_byte.last % 256 * 2 ^ (8 - c.bytes.left) % 4294967296 % 256 in
     let long : length (slice_set c.bytes.current c.bytes.i byte) ≡ div_ceil c.args.shape.width 8 = length-set c.bytes.current c.bytes.i byte ∙ wide in (
-      bytes_all (Pulls g.S.CodeBytes.gives g.S.CodeBytes.failed) c.args.source.now c.decode_byte.new.source (shape_mode c.args.shape) c.args.offset c.args.above.now c.args.second.now c.args.place c.args.current.now c.args.decoder.now c.args.learned.now
-          c.args.shape.width (c.bytes.left - c.bytes.left) (c.bytes.i + 1) _ _ c.in-Ok-decode_byte.last (slice_set c.bytes.current c.bytes.i byte) c.decode_byte.new.decoder c.decode_byte.new.learned
-          (omega (arith, c.bytes.invariant.left)) long (omega (arith, long, c.bytes.invariant.left, c.bytes-test.false))
-          (bytes_next (Pulls g.S.CodeBytes.gives g.S.CodeBytes.failed) c.args.source.now c.bytes.source c.decode_byte.new.source (shape_mode c.args.shape) c.args.offset c.args.above.now c.args.second.now c.args.place c.args.current.now c.args.decoder.now c.args.learned.now
-          c.args.shape.width c.bytes.left c.bytes.i c.bytes.second_bytes c.bytes.above_bytes c.bytes.past c.in-Ok-decode_byte.last c.bytes.left byte c.bytes.current c.bytes.decoder c.decode_byte.new.decoder c.bytes.learned c.decode_byte.new.learned
-          c.bytes.invariant.left inside (omega (arith, wide, inside)) (omega arith) (wrap (c.in-Ok-decode_byte.last % 256 * 2 ^ (8 - c.bytes.left))) c.bytes.invariant.along
+      bytes_all (omega (arith, c.bytes.invariant.left)) long (omega (arith, long, c.bytes.invariant.left, c.bytes-test.false))
+          (bytes_next c.bytes.invariant.left inside (omega (arith, wide, inside)) (omega arith) (wrap (c.in-Ok-decode_byte.last % 256 * 2 ^ (8 - c.bytes.left))) c.bytes.invariant.along
           (rw (← c.byte_at-3.ensures.byte, ← c.byte_at-2.ensures.byte) c.in-Ok-decode_byte.ensures.pixels.0)),
       tt,
     )

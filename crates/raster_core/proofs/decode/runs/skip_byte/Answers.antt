@@ -14,7 +14,7 @@ returns-then-is_run-clause-skipped g c = λ is. record {
   colour = nat_eq c.args.byte 255;
   byte_is = c.is_run.ensures.byte c.if-is_run.true;
   going = c.skip.ensures.skips.1 is;
-  uniform = c.is_run.ensures.uniform c.if-is_run.true (shape_mode c.args.shape);
+  uniform = c.is_run.ensures.uniform c.if-is_run.true (shape_mode c.args.registers.shape);
   decoded = λ p answers h. subst (λ k. IsRun (record { place = p; learned = c.args.learned.now }) (record { context = k; pixel = nat_eq c.args.byte 255 }) 8
       × DecoderIsAt c.skip.new.self (after (record { place = p; learned = c.args.learned.now }) (replicate 8 (record { context = k; pixel = nat_eq c.args.byte 255 }))).place answers
       × (heard_of answers ≡ More → wanted_bytes p.doublings ≤ length (bytes_of answers))) c.uniform_context.ensures (c.skip.ensures.skipped p answers h is);

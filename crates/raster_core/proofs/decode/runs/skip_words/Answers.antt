@@ -1,4 +1,4 @@
-use Rattle.std.proofs.Common.{◌+◌, ◌*◌, arith, sym, ◌∙◌}
+use Rattle.std.proofs.Common.{◌*◌, arith, sym, ◌∙◌}
 use Rattle.raster_core.proofs.FilledAlong.{along_join}
 use Rattle.raster_core.proofs.decode.runs.skip_words.Goals as goal
 
@@ -10,6 +10,5 @@ words-preserved c =
       some = omega (arith, c.skip_word.ensures.inside c.words-test.true);
       stopped = c.skip_word.ensures.skips.0 ∙ c.words.invariant.stopped;
       going = λ _. sym c.words.invariant.stopped ∙ c.skip_word.ensures.skips.1 c.words-test.true;
-      skipped = along_join c.args.colour c.args.above.now c.args.second.now c.args.i (8 * c.words.words) c.words.at (8 * (c.words.words + 1)) c.args.decoder.now c.words.decoder c.skip_word.new.decoder c.args.learned.now
-          c.words.invariant.at (omega arith) c.words.invariant.skipped (c.skip_word.ensures.skipped c.words-test.true);
+      skipped = along_join (8 * c.words.words) c.words.invariant.at (omega arith) c.words.invariant.skipped (c.skip_word.ensures.skipped c.words-test.true);
     }

@@ -3,9 +3,9 @@ use Rattle.raster_core.proofs.Putting.{puts_as, puts_join, puts_stop}
 use Rattle.raster_core.proofs.encode.byte.encode_four.Goals as goal
 
 pub returns-in_err-encode_two : goal.returns-in_err-encode_two
-returns-in_err-encode_two g c = puts_stop g.W.CodeSink _ _ _ _ _ _ c.from_residual.ensures c.in_err-encode_two.ensures
+returns-in_err-encode_two g c = puts_stop _ c.from_residual.ensures c.in_err-encode_two.ensures
 
 pub returns : goal.returns
 returns g c =
-    puts_as g.W.CodeSink _ _ _ _ _ (two_and_two c.args.lanes)
-    (puts_join g.W.CodeSink _ _ _ _ _ _ c.in_ok-encode_two.ensures c.encode_two-2.ensures)
+    puts_as (two_and_two c.args.lanes)
+    (puts_join c.in_ok-encode_two.ensures c.encode_two-2.ensures)

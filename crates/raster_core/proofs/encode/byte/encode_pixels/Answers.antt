@@ -10,7 +10,7 @@ pub loop-j-init : goal.loop-j-init
 loop-j-init g c =
     let small : c.args.byte.byte < 256 = omega arith in
     record {
-      puts = puts_as g.W.CodeSink _ _ _ _ _ (sym (events_none c.args.byte.around.template (byte_lines c.args.byte) 128)) (puts_none g.W.CodeSink _);
+      puts = puts_as (sym (events_none c.args.byte.around.template (byte_lines c.args.byte) 128)) (puts_none g.W.CodeSink _);
       events = omega arith;
       same = refl;
       offset = refl;
@@ -28,9 +28,9 @@ returns-in_err-put g c =
     let small : c.args.byte.byte < 256 = omega arith in
     let next = pixel_next c.args.byte c.loop-j._j c.context_of-cx.result.number c.loop-j.second c.loop-j.above c.loop-j.row c.loop-j.past _ small (omega arith) c.requires.template.two_line_is
     c.loop-j.invariant.second c.loop-j.invariant.above c.loop-j.invariant.row c.loop-j.invariant.past c.context_of-cx.ensures in
-    puts_as g.W.CodeSink _ _ _ _ _ (events_rest c.args.byte.around.template (byte_lines c.args.byte) 128 (c.loop-j._j + 1) c.args.n (omega arith))
-    (puts_stop g.W.CodeSink _ _ _ _ _ _ c.from_residual.ensures
-    (puts_as g.W.CodeSink _ _ _ _ _ next (puts_join g.W.CodeSink _ _ _ _ _ _ c.loop-j.invariant.puts c.in_err-put.ensures)))
+    puts_as (events_rest c.args.byte.around.template (byte_lines c.args.byte) 128 (c.loop-j._j + 1) c.args.n (omega arith))
+    (puts_stop _ c.from_residual.ensures
+    (puts_as next (puts_join c.loop-j.invariant.puts c.in_err-put.ensures)))
 
 pub loop-j-preserved : goal.loop-j-preserved
 loop-j-preserved g c =
@@ -38,7 +38,7 @@ loop-j-preserved g c =
     let next = pixel_next c.args.byte c.loop-j._j c.context_of-cx.result.number c.loop-j.second c.loop-j.above c.loop-j.row c.loop-j.past _ small (omega arith) c.requires.template.two_line_is
     c.loop-j.invariant.second c.loop-j.invariant.above c.loop-j.invariant.row c.loop-j.invariant.past c.context_of-cx.ensures in
     record {
-      puts = puts_as g.W.CodeSink _ _ _ _ _ next (puts_join g.W.CodeSink _ _ _ _ _ _ c.loop-j.invariant.puts c.in_ok-put.ensures);
+      puts = puts_as next (puts_join c.loop-j.invariant.puts c.in_ok-put.ensures);
       events = let e = c.in_ok-put.ensures.count in omega arith;
       same = c.in_ok-put.ensures.same ∙ c.loop-j.invariant.same;
       offset = refl;

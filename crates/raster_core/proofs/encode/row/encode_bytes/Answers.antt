@@ -11,7 +11,7 @@ use Rattle.raster_core.proofs.encode.row.encode_bytes.Goals as goal
 pub bytes-init : goal.bytes-init
 bytes-init g c = record {
   inside = omega arith;
-  puts = puts_as g.W.CodeSink _ _ _ _ _ (sym (events_none c.args.template (lines_in c.args.rows) 0)) (puts_none g.W.CodeSink _);
+  puts = puts_as (sym (events_none c.args.template (lines_in c.args.rows) 0)) (puts_none g.W.CodeSink _);
   events = omega arith;
   same = refl;
   stands = c.start-around.ensures;
@@ -24,9 +24,9 @@ bytes-preserved-then-skipped-gt0 g c =
     let long = length-events c.bytes.around.template (lines_in c.args.rows) (8 * c.bytes.i) (8 * c.skip_run-skipped.result) in
     record {
       inside = omega (arith, c.skip_run-skipped.ensures.inside);
-      puts = puts_as g.W.CodeSink _ _ _ _ _
+      puts = puts_as
           (events_on c.args.template c.bytes.around.template (lines_in c.args.rows) (8 * c.bytes.i) (8 * c.bytes.i) (8 * c.skip_run-skipped.result) (8 * (c.bytes.i + c.skip_run-skipped.result)) c.bytes.invariant.stands.template_is refl (omega arith))
-          (puts_join g.W.CodeSink _ _ _ _ _ _ c.bytes.invariant.puts run);
+          (puts_join c.bytes.invariant.puts run);
       events = omega arith;
       same = run.same ∙ c.bytes.invariant.same;
       stands = stands_as c.bytes.around _ _ (lines_in c.args.rows) _ c.bytes.invariant.stands.template_is c.skip_run-skipped.ensures.stands;
@@ -47,13 +47,13 @@ returns-in_err-encode_byte g c =
     let none = c.if-skipped-gt0.false in
     let small : c.byte-byte.result.byte < 256 = omega arith in
     let before : Puts g.W.CodeSink (events_from c.args.template lines 0 (8 * c.bytes.i)) c.args.coder.now c.skip_run-skipped.new.coder (Ok tt) =
-    puts_as g.W.CodeSink _ _ _ _ _
+    puts_as
     (events_on c.args.template c.bytes.around.template lines (8 * c.bytes.i) (8 * c.bytes.i) (8 * c.skip_run-skipped.result) (8 * c.bytes.i) c.bytes.invariant.stands.template_is refl (omega arith))
-    (puts_join g.W.CodeSink _ _ _ _ _ _ c.bytes.invariant.puts c.skip_run-skipped.ensures.puts) in
-    puts_as g.W.CodeSink _ _ _ _ _ (events_rest c.args.template lines 0 (8 * (c.bytes.i + 1)) c.args.rows.width (omega arith))
-    (puts_stop g.W.CodeSink _ _ _ _ _ _ c.from_residual.ensures
-    (puts_as g.W.CodeSink _ _ _ _ _ (byte_on c.byte-byte.result c.args.template c.bytes.around.template lines c.bytes.i 8 (8 * (c.bytes.i + 1)) small c.byte-byte.ensures c.bytes.invariant.stands.template_is (omega arith) (omega arith))
-    (puts_join g.W.CodeSink _ _ _ _ _ _ before c.in_err-encode_byte.ensures)))
+    (puts_join c.bytes.invariant.puts c.skip_run-skipped.ensures.puts) in
+    puts_as (events_rest c.args.template lines 0 (8 * (c.bytes.i + 1)) c.args.rows.width (omega arith))
+    (puts_stop _ c.from_residual.ensures
+    (puts_as (byte_on c.byte-byte.result c.args.template c.bytes.around.template lines c.bytes.i 8 (8 * (c.bytes.i + 1)) small c.byte-byte.ensures c.bytes.invariant.stands.template_is (omega arith) (omega arith))
+    (puts_join before c.in_err-encode_byte.ensures)))
 
 pub bytes-preserved : goal.bytes-preserved
 bytes-preserved g c =
@@ -66,14 +66,14 @@ bytes-preserved g c =
     let eight = length-events c.byte-byte.result.around.template (byte_lines c.byte-byte.result) 128 8 in
     let small : c.byte-byte.result.byte < 256 = omega arith in
     let before : Puts g.W.CodeSink (events_from c.args.template lines 0 (8 * c.bytes.i)) c.args.coder.now c.skip_run-skipped.new.coder (Ok tt) =
-    puts_as g.W.CodeSink _ _ _ _ _
+    puts_as
     (events_on c.args.template c.bytes.around.template lines (8 * c.bytes.i) (8 * c.bytes.i) (8 * c.skip_run-skipped.result) (8 * c.bytes.i) c.bytes.invariant.stands.template_is refl (omega arith))
-    (puts_join g.W.CodeSink _ _ _ _ _ _ c.bytes.invariant.puts run) in
+    (puts_join c.bytes.invariant.puts run) in
     let is : IsByte c.byte-byte.result c.byte-byte.result.around.template lines c.bytes.i = byte_as c.byte-byte.result _ _ lines _ (sym c.byte-byte.ensures.template_is) c.byte-byte.ensures in
     record {
       inside = omega arith;
-      puts = puts_as g.W.CodeSink _ _ _ _ _ (byte_on c.byte-byte.result c.args.template c.bytes.around.template lines c.bytes.i 8 (8 * (c.bytes.i + 1)) small c.byte-byte.ensures c.bytes.invariant.stands.template_is (omega arith) (omega arith))
-          (puts_join g.W.CodeSink _ _ _ _ _ _ before c.in_ok-encode_byte.ensures);
+      puts = puts_as (byte_on c.byte-byte.result c.args.template c.bytes.around.template lines c.bytes.i 8 (8 * (c.bytes.i + 1)) small c.byte-byte.ensures c.bytes.invariant.stands.template_is (omega arith) (omega arith))
+          (puts_join before c.in_ok-encode_byte.ensures);
       events = omega arith;
       same = c.in_ok-encode_byte.ensures.same ∙ (run.same ∙ c.bytes.invariant.same);
       stands = stands_as c.after-around.result _ _ lines _ (c.byte-byte.ensures.template_is ∙ c.bytes.invariant.stands.template_is) (c.after-around.ensures lines c.bytes.i is);
@@ -83,5 +83,5 @@ pub returns : goal.returns
 returns g c =
     let lines : Lines = lines_in c.args.rows in
     let small : c.byte.result.byte < 256 = omega arith in
-    puts_as g.W.CodeSink _ _ _ _ _ (byte_on c.byte.result c.args.template c.bytes.around.template lines c.bytes.i (c.args.rows.width % 8) c.args.rows.width small c.byte.ensures c.bytes.invariant.stands.template_is (omega arith) (omega arith))
-    (puts_join g.W.CodeSink _ _ _ _ _ _ c.bytes.invariant.puts c.encode_pixels.ensures)
+    puts_as (byte_on c.byte.result c.args.template c.bytes.around.template lines c.bytes.i (c.args.rows.width % 8) c.args.rows.width small c.byte.ensures c.bytes.invariant.stands.template_is (omega arith) (omega arith))
+    (puts_join c.bytes.invariant.puts c.encode_pixels.ensures)

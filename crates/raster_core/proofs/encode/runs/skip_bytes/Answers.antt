@@ -17,7 +17,7 @@ words-init g c =
       left = omega arith;
       some = omega arith;
       uniform = uniform_none c.args.colour c.args.rows c.args.i (c.args.i - c.args.i) (omega arith);
-      puts = puts_as g.W.CodeSink _ _ _ _ _ (ap (λ n. replicate n (uniform_event c.args.colour)) none) (puts_none g.W.CodeSink _);
+      puts = puts_as (ap (λ n. replicate n (uniform_event c.args.colour)) none) (puts_none g.W.CodeSink _);
       events = omega arith;
       same = refl;
     }
@@ -33,8 +33,8 @@ words-preserved g c =
       some = omega arith;
       uniform = uniform_more c.args.colour c.args.rows c.args.i c.words.at c.words.invariant.from c.words.invariant.uniform
           (c.is_all.ensures.filled c.if-is_all.true) (c.is_all_above.ensures.above c.words-test.true) (c.is_all_above.ensures.second c.words-test.true);
-      puts = puts_as g.W.CodeSink _ _ _ _ _ (replicate-append-replicate (8 * (c.words.at - c.args.i)) 64 (uniform_event c.args.colour) ∙ ap (λ n. replicate n (uniform_event c.args.colour)) more)
-          (puts_join g.W.CodeSink _ _ _ _ _ _ c.words.invariant.puts h);
+      puts = puts_as (replicate-append-replicate (8 * (c.words.at - c.args.i)) 64 (uniform_event c.args.colour) ∙ ap (λ n. replicate n (uniform_event c.args.colour)) more)
+          (puts_join c.words.invariant.puts h);
       events = omega arith;
       same = h.same ∙ c.words.invariant.same;
     }

@@ -19,7 +19,7 @@ returns-then-is_filled g c =
     record {
       inside = c.skip_bytes.ensures.inside;
       stands = stands_on c.args.around c.args.around.template c.args.rows c.args.i c.skip_bytes.result (colour_of c.args.around.above) c.requires.stands second above past c.skip_bytes.ensures.uniform;
-      puts = puts_as g.W.CodeSink _ _ _ _ _ (run_events c.args.around c.args.around.template c.args.rows c.args.i c.skip_bytes.result (colour_of c.args.around.above) c.requires.stands second above past c.skip_bytes.ensures.uniform)
+      puts = puts_as (run_events c.args.around c.args.around.template c.args.rows c.args.i c.skip_bytes.result (colour_of c.args.around.above) c.requires.stands second above past c.skip_bytes.ensures.uniform)
           c.skip_bytes.ensures.puts;
       stops = λ colour. ends_alike colour c.args.around c.args.rows _ _ c.skip_bytes.ensures.stops;
     }

@@ -1,0 +1,21 @@
+//! What the pixels of a byte are decoded with.
+
+ghost use Rattle.std.specs.Prelude.{◌<◌, ◌≤◌, ◌^◌};
+
+use crate::shape::Shape;
+
+/// Which pixels are a context, the bytes round a byte in the rows above, and the last pixels before it.
+#[derive(Clone, Copy)]
+pub(crate) struct Registers {
+    pub(crate) shape: Shape,
+    /// Where the adaptive pixel is.
+    pub(crate) offset: u8,
+    /// The byte before, the byte and the one after it of the row two above.
+    pub(crate) second: u32,
+    /// The same of the row above.
+    pub(crate) above: u32,
+    pub(crate) past: u128,
+    ghost in_reach: { offset ≤ 127 },
+    ghost second_fits: { second < 2 ^ 24 },
+    ghost above_fits: { above < 2 ^ 24 },
+}
