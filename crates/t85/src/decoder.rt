@@ -652,3 +652,5 @@ fn feed(
         decoder.feed(window, learned, held, piece)
     }
 }
+
+const _: () = prove!(std::mem::size_of::<T85Decoder>() == SIZE);

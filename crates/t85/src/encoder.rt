@@ -554,3 +554,5 @@ fn end_in(
 {
     engine.finish(window, learning, room).is_ok();
 }
+
+const _: () = prove!(std::mem::size_of::<T85Encoder>() == SIZE);
