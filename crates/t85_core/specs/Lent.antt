@@ -8,6 +8,7 @@ use Rattle.raster_core.specs.declared.shape.Kept.{Kept}
 use Rattle.raster_core.specs.declared.place.RowPlace.{RowPlace}
 use Rattle.raster_core.specs.declared.window.Window.{Window}
 use Rattle.t85_core.specs.declared.header.Header.{Header}
+use Rattle.t85_core.specs.declared.lent.Lent.{Lent}
 use Rattle.t85_core.specs.declared.segments.Code.{Code}
 use Rattle.t85_core.specs.declared.segments.Move.{Move}
 use Rattle.t85_core.specs.declared.pieces.End.{End}
@@ -27,6 +28,10 @@ StaysWindow old new = KeepsWindow old new × (current_place new ≡ current_plac
 -- a row further: the current row of before is above the one at the current place
 abbrev pub TurnsWindow : Window → Window → Type 0
 TurnsWindow old new = KeepsWindow old new × (current_place new ≡ next_place (next_place (current_place old)))
+
+-- the same two are lent: the same contexts, and the same window, which keeps its width and its memory
+abbrev pub KeepsLent : Lent → Lent → Type 0
+KeepsLent old new = (new.window.ghost_name ≡ old.window.ghost_name) × (new.learned.ghost_name ≡ old.learned.ghost_name) × KeepsWindow old.window.now new.window.now
 
 -- what is carried from row to row and from stripe to stripe
 pub record Carried : Type 0 where
@@ -71,6 +76,9 @@ walk_view w rows learned = record {
 abbrev pub walk_over : Walk → Window → List Estimate → WalkView
 walk_over w window learned = walk_view w (held window) learned
 
+abbrev pub walk_lent : Walk → Lent → WalkView
+walk_lent w lent = walk_over w lent.window.now lent.learned.now
+
 -- a decoder in pieces, with these
 pub record PieceView : Type 0 where
   pub header : Header
@@ -98,3 +106,6 @@ decoder_view d rows learned = record {
 
 abbrev pub decoder_over : PieceDecoder → Window → List Estimate → PieceView
 decoder_over d window learned = decoder_view d (held window) learned
+
+abbrev pub decoder_lent : PieceDecoder → Lent → PieceView
+decoder_lent d lent = decoder_over d lent.window.now lent.learned.now

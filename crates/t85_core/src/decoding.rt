@@ -6,13 +6,13 @@ ghost use Rattle.t85_core.specs.Steps.HeightWalk.{MayBeHeight};
 ghost use Rattle.t85_core.specs.Options.{fields_of};
 ghost use Rattle.t85_core.specs.Change.{input_change, output_change};
 ghost use Rattle.t85_core.specs.Decode.{Decode};
-ghost use Rattle.t85_core.specs.Lent.{walk_over as over};
+ghost use Rattle.t85_core.specs.Lent.{walk_lent as over};
 ghost use Rattle.t85_core.specs.Steps.Buffers.{ReadsOn, WritesOn, reading};
 ghost use Rattle.t85_core.specs.Steps.Views.{text_taken, passage_of, WritesBehind};
 ghost use Rattle.t85_core.specs.Steps.Passage.{passage};
 ghost use Rattle.t85_core.specs.Steps.DecodeStripes.{ImageRead, ImageCut, ImageUnwritten};
 ghost use Rattle.t85_core.specs.Steps.Pieces.{WalkStands};
-ghost use Rattle.t85_core.specs.Steps.SizedImage.{sized_by};
+ghost use Rattle.t85_core.specs.Steps.SizedImage.{sized_of};
 ghost use Rattle.t85_core.specs.Steps.Reading.{HeldTurn, ReadTurn, RowsTurn, SameSource, still_left};
 ghost use Rattle.t85_core.specs.Failures.{CountsBoth, SameOutput};
 ghost use Rattle.t85_core.specs.declared.fault.Fault.{Fault};
@@ -23,9 +23,10 @@ pub mod rows;
 
 use crate::decoding::rows::put_copies;
 use crate::fault::Fault;
-use crate::header::Header;
+use crate::header::{Header, SizedImage};
 use crate::input_buffer::{HeldSource, InputBuffer, READ_AHEAD};
 use crate::laws::coder_laws;
+use crate::lent::Lent;
 use crate::output_buffer::{ByteTarget, IMAGE_HELD, OutputBuffer};
 use crate::pieces::piece::Piece;
 use crate::pieces::walk::Walk;
@@ -49,7 +50,11 @@ pub fn decode<R: Input, W: Output>(
         (output_change W.view output.old output.new) result }
     ensures same_output { SameOutput (W.view output.old) (W.view output.new) }
 {
-    decode_by::<R, W, READ_AHEAD, IMAGE_HELD>(header, height, window, input, output)
+    let image = SizedImage {
+        header: *header,
+        height,
+    };
+    decode_by::<R, W, READ_AHEAD, IMAGE_HELD>(&image, window, input, output)
 }
 
 /// The number of bytes that are read ahead and buffered for in-memory devices. Each row is written directly.
@@ -71,35 +76,41 @@ pub fn decode_in_memory<R: Input, W: Output>(
         (output_change W.view output.old output.new) result }
     ensures same_output { SameOutput (W.view output.old) (W.view output.new) }
 {
-    decode_by::<R, W, MEMORY_AHEAD, MEMORY_HELD>(header, height, window, input, output)
+    let image = SizedImage {
+        header: *header,
+        height,
+    };
+    decode_by::<R, W, MEMORY_AHEAD, MEMORY_HELD>(&image, window, input, output)
 }
 
 /// Like `decode`, with buffers of the given sizes.
 fn decode_by<R: Input, W: Output, const AHEAD: usize, const HELD: usize>(
-    header: &Header,
-    height: u32,
+    image: &SizedImage,
     window: &mut Window<'_>,
     input: &mut R,
     output: &mut W,
 ) -> Result<(), Fault>
-    requires width { width_of window.old ≡ header.now.xd }
+    requires width { width_of window.old ≡ image.now.header.xd }
     requires ahead { 7 < AHEAD }
     requires few_ahead { AHEAD ≤ 4096 }
     requires held { 0 < HELD }
     requires few_held { HELD ≤ 4096 }
-    requires height { MayBeHeight header.now.yd height }
-    ensures outcome { Decode (fields_of header.now) height (input_change R.view input.old input.new)
-        (output_change W.view output.old output.new) result }
+    ensures outcome { Decode (fields_of image.now.header) image.now.height (input_change R.view
+        input.old input.new) (output_change W.view output.old output.new) result }
     ensures same_output { SameOutput (W.view output.old) (W.view output.new) }
 {
     // The proof uses these laws of the coder.
     coder_laws();
     let size = Size {
-        width: header.xd,
-        height,
+        width: image.header.xd,
+        height: image.height,
     };
     let mut learned = Learned::new();
-    let mut walk = Walk::start(header, height, window, &mut learned);
+    let mut lent = Lent {
+        window,
+        learned: &mut learned,
+    };
+    let mut walk = Walk::start(image, &mut lent);
     match write_header(output, size) {
         Ok(()) => {}
         Err(WriteFault) => return Err(Fault::Write),
@@ -107,11 +118,9 @@ fn decode_by<R: Input, W: Output, const AHEAD: usize, const HELD: usize>(
     let mut stream: InputBuffer<'_, R, AHEAD> = InputBuffer::new(input);
     let mut buffer: OutputBuffer<'_, W, HELD> = OutputBuffer::new(output);
     decode_buffered(
-        header,
-        height,
+        image,
         &mut walk,
-        window,
-        &mut learned,
+        &mut lent,
         &mut stream,
         &mut buffer,
     )
@@ -119,25 +128,22 @@ fn decode_by<R: Input, W: Output, const AHEAD: usize, const HELD: usize>(
 
 /// Writes the rows of an image, and then the buffer, except after a failed write.
 fn decode_buffered<S: HeldSource, W: Output, const HELD: usize>(
-    header: &Header,
-    height: u32,
+    image: &SizedImage,
     walk: &mut Walk,
-    window: &mut Window<'_>,
-    learned: &mut Learned,
+    lent: &mut Lent<'_, '_>,
     stream: &mut S,
     buffer: &mut OutputBuffer<'_, W, HELD>,
 ) -> Result<(), Fault>
-    requires stands { WalkStands (sized_by header.now height) (over walk.old window.old learned.old)
-        [] [] }
-    requires height { MayBeHeight header.now.yd height }
-    ensures ok { OnOk result (ImageRead (fields_of header.now) height
+    requires stands { WalkStands (sized_of image.now) (over walk.old lent.old) [] [] }
+    ensures ok { OnOk result (ImageRead (fields_of image.now.header) image.now.height
         (passage (S.view stream.old).known (S.view stream.new).known
         (text_taken buffer.old) (W.view buffer.new.output.now).contents)) }
-    ensures err { IfErr result (λ f. f ≢ Write → ImageCut (fields_of header.now) height
-        (passage (S.view stream.old).known (S.view stream.new).known
+    ensures err { IfErr result (λ f. f ≢ Write → ImageCut (fields_of image.now.header)
+        image.now.height (passage (S.view stream.old).known (S.view stream.new).known
         (text_taken buffer.old) (W.view buffer.new.output.now).contents) f) }
-    ensures begun { ImageUnwritten (fields_of header.now) height (passage (S.view stream.old).known
-        (S.view stream.new).known (text_taken buffer.old) (text_taken buffer.new)) }
+    ensures begun { ImageUnwritten (fields_of image.now.header) image.now.height
+        (passage (S.view stream.old).known (S.view stream.new).known
+        (text_taken buffer.old) (text_taken buffer.new)) }
     ensures drained { IsErrOf result Read → (S.view stream.new).known ≡ (S.view stream.new).beyond }
     ensures reads { CountsBoth (S.view stream.old).failures (S.view stream.new).failures result }
     ensures writes { WritesBehind buffer.old buffer.new result }
@@ -145,7 +151,7 @@ fn decode_buffered<S: HeldSource, W: Output, const HELD: usize>(
 {
     // The proof uses these laws of the coder.
     coder_laws();
-    match decode_image(header, height, walk, window, learned, stream, buffer) {
+    match decode_image(image, walk, lent, stream, buffer) {
         Ok(()) => buffer.write_held(),
         Err(fault) => match fault {
             Fault::Write => Err(fault),
@@ -159,23 +165,21 @@ fn decode_buffered<S: HeldSource, W: Output, const HELD: usize>(
 
 /// Writes the rows of an image to the buffer.
 fn decode_image<S: HeldSource, P: ByteTarget>(
-    header: &Header,
-    height: u32,
+    image: &SizedImage,
     walk: &mut Walk,
-    window: &mut Window<'_>,
-    learned: &mut Learned,
+    lent: &mut Lent<'_, '_>,
     stream: &mut S,
     target: &mut P,
 ) -> Result<(), Fault>
-    requires stands { WalkStands (sized_by header.now height) (over walk.old window.old learned.old)
-        [] [] }
-    requires height { MayBeHeight header.now.yd height }
-    ensures ok { OnOk result (ImageRead (fields_of header.now) height (passage_of
+    requires stands { WalkStands (sized_of image.now) (over walk.old lent.old) [] [] }
+    ensures ok { OnOk result (ImageRead (fields_of image.now.header) image.now.height (passage_of
         (S.view stream.old) (S.view stream.new) (P.view target.old) (P.view target.new))) }
-    ensures err { IfErr result (λ f. f ≢ Write → ImageCut (fields_of header.now) height (passage_of
-        (S.view stream.old) (S.view stream.new) (P.view target.old) (P.view target.new)) f) }
-    ensures unwritten { IfErr result (λ _. ImageUnwritten (fields_of header.now) height (passage_of
-        (S.view stream.old) (S.view stream.new) (P.view target.old) (P.view target.new))) }
+    ensures err { IfErr result (λ f. f ≢ Write → ImageCut (fields_of image.now.header)
+        image.now.height (passage_of (S.view stream.old) (S.view stream.new)
+        (P.view target.old) (P.view target.new)) f) }
+    ensures unwritten { IfErr result (λ _. ImageUnwritten (fields_of image.now.header)
+        image.now.height (passage_of (S.view stream.old) (S.view stream.new)
+        (P.view target.old) (P.view target.new))) }
     ensures reads { ReadsOn (S.view stream.old) (S.view stream.new) result }
     ensures writes { WritesOn (P.view target.old) (P.view target.new) result }
 {
@@ -183,12 +187,12 @@ fn decode_image<S: HeldSource, P: ByteTarget>(
     coder_laws();
     // The image has no more rows than its height, so it ends within the loop.
     let mut row = 0;
-    'rows: while row <= height {
-        let count = next_rows(header, height, walk, window, learned, stream)?;
+    'rows: while row <= image.height {
+        let count = next_rows(image, walk, lent, stream)?;
         if count == 0 {
             return Ok(());
         }
-        put_copies(window.row(0), count, target)?;
+        put_copies(lent.window.row(0), count, target)?;
         row += count;
     }
     Ok(())
@@ -196,41 +200,35 @@ fn decode_image<S: HeldSource, P: ByteTarget>(
 
 /// Decodes the next rows, which are equal, and returns how many: 0 if the image is complete.
 fn next_rows<S: HeldSource>(
-    header: &Header,
-    height: u32,
+    image: &SizedImage,
     walk: &mut Walk,
-    window: &mut Window<'_>,
-    learned: &mut Learned,
+    lent: &mut Lent<'_, '_>,
     stream: &mut S,
 ) -> Result<u32, Fault>
-    requires height { MayBeHeight header.now.yd height }
-    ensures turn { RowsTurn (sized_by header.now height) (over walk.old window.old learned.old)
-        (over walk.new window.new learned.new) (S.view stream.old) (S.view stream.new) result }
+    ensures turn { RowsTurn (sized_of image.now) (over walk.old lent.old)
+        (over walk.new lent.new) (S.view stream.old) (S.view stream.new) result }
 {
-    let count = walk.repeat_rows(header, height, window, learned);
+    let count = walk.repeat_rows(image, lent);
     if count > 0 {
         return Ok(count);
     }
-    let is_row = next_row(header, height, walk, window, learned, stream)?;
+    let is_row = next_row(image, walk, lent, stream)?;
     Ok(u32::from(is_row))
 }
 
 /// Decodes the next row, and reads more input when the buffer is exhausted. Returns false if the image is complete.
 fn next_row<S: HeldSource>(
-    header: &Header,
-    height: u32,
+    image: &SizedImage,
     walk: &mut Walk,
-    window: &mut Window<'_>,
-    learned: &mut Learned,
+    lent: &mut Lent<'_, '_>,
     stream: &mut S,
 ) -> Result<bool, Fault>
-    requires height { MayBeHeight header.now.yd height }
-    ensures turn { ReadTurn (sized_by header.now height) (over walk.old window.old learned.old)
-        (over walk.new window.new learned.new) (S.view stream.old) (S.view stream.new) result }
+    ensures turn { ReadTurn (sized_of image.now) (over walk.old lent.old)
+        (over walk.new lent.new) (S.view stream.old) (S.view stream.new) result }
     ensures code { result ≡ Ok true → walk.new.stage ≡ stage.Code }
 {
     'turns: loop {
-        match turn_held(header, height, walk, window, learned, stream) {
+        match turn_held(image, walk, lent, stream) {
             Ok(is_row) => return Ok(is_row),
             Err(fault) => match fault {
                 Fault::Truncated => stream.refill()?,
@@ -242,17 +240,13 @@ fn next_row<S: HeldSource>(
 
 /// Decodes the next row as far as the buffered bytes allow. After an error, no byte remains buffered.
 fn turn_held<S: HeldSource>(
-    header: &Header,
-    height: u32,
+    image: &SizedImage,
     walk: &mut Walk,
-    window: &mut Window<'_>,
-    learned: &mut Learned,
+    lent: &mut Lent<'_, '_>,
     stream: &mut S,
 ) -> Result<bool, Fault>
-    requires height { MayBeHeight header.now.yd height }
-    ensures turn { HeldTurn (sized_by header.now height) (over walk.old window.old learned.old)
-        (over walk.new window.new learned.new) (reading (S.view stream.old).known
-        (S.view stream.new).known) (S.bytes stream.new) result }
+    ensures turn { HeldTurn (sized_of image.now) (over walk.old lent.old) (over walk.new lent.new)
+        (reading (S.view stream.old).known (S.view stream.new).known) (S.bytes stream.new) result }
     ensures still { still_left (S.view stream.new) (S.bytes stream.new) ≡
         still_left (S.view stream.old) (S.bytes stream.old) }
     ensures same { SameSource (S.view stream.old) (S.view stream.new) }
@@ -261,7 +255,7 @@ fn turn_held<S: HeldSource>(
     let mut piece = Piece {
         rest: stream.held(),
     };
-    let answer = walk.next(header, height, window, learned, &mut piece);
+    let answer = walk.next(image, lent, &mut piece);
     let left = piece.rest.len();
     stream.keep(bytes_kept(answer, left));
     answer

@@ -33,6 +33,16 @@ pub struct Header {
     ghost no_private_table: { options % 8 ≢ 6 },
 }
 
+/// An image whose height in use is known.
+#[derive(Clone, Copy)]
+pub struct SizedImage {
+    pub header: Header,
+    /// At least 1, and at most the header's.
+    pub height: u32,
+    ghost from: { 1 ≤ height },
+    ghost to: { height ≤ header.yd },
+}
+
 impl Header {
     ghost use Rattle.std.specs.Prelude.{ℕ, List, ◌^◌, length, Ok, Err, IfOk, IfErr, MatchResult, OnOk, None, Some};
     ghost use Rattle.std.specs.Io.KnownBytes.{Consumes};

@@ -9,6 +9,7 @@ mod header;
 mod height;
 mod input_buffer;
 pub mod laws;
+mod lent;
 mod line;
 mod options;
 mod output_buffer;

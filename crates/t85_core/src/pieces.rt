@@ -17,7 +17,8 @@ mod waits;
 pub mod walk;
 
 use crate::fault::Fault;
-use crate::header::Header;
+use crate::header::{Header, SizedImage};
+use crate::lent::Lent;
 use crate::pieces::behind::Behind;
 use crate::pieces::piece::Piece;
 use crate::pieces::walk::Walk;
@@ -78,7 +79,7 @@ pub struct PieceDecoder {
 }
 
 impl PieceDecoder {
-    ghost use Rattle.t85_core.specs.Lent.{KeepsWindow, decoder_over, decoder_view};
+    ghost use Rattle.t85_core.specs.Lent.{KeepsWindow, KeepsLent, decoder_lent, decoder_over, decoder_view};
     ghost use Rattle.t85_core.specs.Pieces.{HasDecoded, IsCall, AreCertain, call_of};
 
     /// A decoder before the first byte after the header. Makes the window white, and resets the contexts.
@@ -89,10 +90,15 @@ impl PieceDecoder {
         ensures window { KeepsWindow window.old window.new }
     {
         let is_open = header.is_variable();
+        let mut lent = Lent { window, learned };
+        let image = SizedImage {
+            header,
+            height: header.yd,
+        };
         PieceDecoder {
             header,
             height: header.yd,
-            walk: Walk::start(&header, header.yd, window, learned),
+            walk: Walk::start(&image, &mut lent),
             is_open,
             waits: is_open,
             behind: Behind::start(),
@@ -111,7 +117,8 @@ impl PieceDecoder {
             (call_of piece.now false result (decoder_over self.new window.new learned.new)) }
         ensures window { KeepsWindow window.old window.new }
     {
-        self.take(window, learned, piece, false)
+        let mut lent = Lent { window, learned };
+        self.take(&mut lent, piece, false)
     }
 
     /// Decodes these bytes, which are the last ones, up to the end of the next row or to the end of the stream. Call it
@@ -126,20 +133,15 @@ impl PieceDecoder {
             (call_of piece.now true result (decoder_over self.new window.new learned.new)) }
         ensures window { KeepsWindow window.old window.new }
     {
-        self.take(window, learned, piece, true)
+        let mut lent = Lent { window, learned };
+        self.take(&mut lent, piece, true)
     }
 
     /// Decodes these bytes; `is_all` says whether they are the last.
-    fn take(
-        &mut self,
-        window: &mut Window<'_>,
-        learned: &mut Learned,
-        piece: &[u8],
-        is_all: bool,
-    ) -> Progress
-        ensures call { IsCall (decoder_over self.old window.old learned.old)
-            (call_of piece.now is_all result (decoder_over self.new window.new learned.new)) }
-        ensures window { KeepsWindow window.old window.new }
+    fn take(&mut self, lent: &mut Lent<'_, '_>, piece: &[u8], is_all: bool) -> Progress
+        ensures call { IsCall (decoder_lent self.old lent.old)
+            (call_of piece.now is_all result (decoder_lent self.new lent.new)) }
+        ensures lent { KeepsLent lent.old lent.new }
     {
         if let Some(end) = self.end {
             return Progress {
@@ -148,7 +150,7 @@ impl PieceDecoder {
             };
         }
         let mut rest = Piece { rest: piece };
-        let outcome = self.go_on(window, learned, &mut rest, is_all);
+        let outcome = self.go_on(lent, &mut rest, is_all);
         self.end = end_of(outcome);
         Progress {
             outcome,

@@ -1,10 +1,11 @@
 //! The state that encoder and decoder carry from row to row and from stripe to stripe.
 
-ghost use Rattle.std.specs.Prelude.{◌≡◌, ◌<◌, if◌then◌else◌};
-ghost use Rattle.raster_core.specs.Window.{width_of};
+ghost use Rattle.std.specs.Prelude.{◌≡◌, ◌≤◌, ◌<◌, if◌then◌else◌};
+ghost use Rattle.raster_core.specs.Window.{held, width_of};
 ghost use Rattle.t85_core.specs.Steps.State.{RowStart, first_row_start, next_stripe_start};
-ghost use Rattle.t85_core.specs.Lent.{KeepsWindow, carried_by};
+ghost use Rattle.t85_core.specs.Lent.{StaysWindow, carried_by};
 ghost use Rattle.t85_core.specs.Steps.DecodeRows.{IsCarried, IsFirst};
+ghost use Rattle.t85_core.specs.Steps.ByRow.{IsLined};
 
 use qm_core::Learned;
 use raster_core::{Kept, Window};
@@ -21,8 +22,10 @@ pub fn next_stripe(reset: bool, window: &mut Window<'_>, kept: &mut Kept, learne
     ensures next { (last : RowStart) → IsCarried last (carried_by window.old kept.old learned.old) →
         IsCarried (first_row_start (next_stripe_start (width_of window.old) reset last)) (carried_by
         window.new kept.new learned.new) }
-    ensures window { KeepsWindow window.old window.new }
+    ensures window { StaysWindow window.old window.new }
     ensures offset { kept.new.offset ≡ if reset then 0 else kept.old.offset }
+    ensures low { kept.old.offset ≤ 127 → kept.new.offset ≤ 127 }
+    ensures lined { IsLined (held window.old) → IsLined (held window.new) }
 {
     if reset {
         restart(window, kept, learned);
@@ -32,7 +35,7 @@ pub fn next_stripe(reset: bool, window: &mut Window<'_>, kept: &mut Kept, learne
 /// Resets to the top of an image: makes the window white, and resets the contexts.
 pub fn restart(window: &mut Window<'_>, kept: &mut Kept, learned: &mut Learned)
     ensures first { IsFirst (carried_by window.new kept.new learned.new) }
-    ensures window { KeepsWindow window.old window.new }
+    ensures window { StaysWindow window.old window.new }
     ensures offset { kept.new.offset ≡ 0 }
 {
     window.clear();

@@ -1,12 +1,12 @@
 -- Stripes one after another are an image, or the rows that what came fixes.
-use Rattle.std.proofs.Common.{◌≡◌, ◌<◌, ◌≤◌, ◌+◌, ◌-◌, ◌*◌, ℕ, List, [], ◌∷◌, ◌++◌, length, min, Option, refl, sym, ap, ◌∙◌, subst, arith, append_assoc, length-append, Bool}
+use Rattle.std.proofs.Common.{◌≡◌, ◌<◌, ◌≤◌, ◌+◌, ◌-◌, ◌*◌, ◌^◌, ℕ, List, [], ◌∷◌, ◌++◌, length, min, Option, refl, sym, ap, ◌∙◌, subst, arith, append_assoc, length-append, Bool}
 use Rattle.std.specs.Prelude.{flat_map}
 use Rattle.std.specs.Io.KnownBytes.{Appends, Consumes}
 use Rattle.std.proofs.lemmas.Grind.{flat_map-append}
 use Rattle.raster_core.specs.Packed.{packed_row}
 use Rattle.t85_core.specs.declared.fault.Fault.{Fault}
 use Rattle.t85_core.specs.Lent.{Carried}
-use Rattle.t85_core.specs.declared.header.Header.{Header}
+use Rattle.t85_core.specs.declared.header.SizedImage.{SizedImage}
 use Rattle.t85_core.specs.Header.{Fields}
 use Rattle.t85_core.specs.Options.{fields_of}
 use Rattle.t85_core.specs.Laws.{IsInUse}
@@ -120,9 +120,12 @@ image_read h height known known' count heights carried text text' r use_ all = r
 }
 
 -- a header, and a height from 1 to its own
-pub in_use : (header : Header) (height : ℕ) → 1 ≤ height → height ≤ header.yd → IsInUse (fields_of header) height
-in_use header height from to = record {
-  accepted = accepted header;
-  from = from;
-  to = to;
+pub in_use : (image : SizedImage) → IsInUse (fields_of image.header) image.height
+in_use image = record {
+  accepted = accepted image.header;
+  from = image.from;
+  to = image.to;
 }
+
+pub few_rows : (image : SizedImage) → image.height < 2 ^ 32
+few_rows image = let to = image.to in let few = image.header.not_too_tall in omega (arith, to, few)

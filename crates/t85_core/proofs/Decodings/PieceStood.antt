@@ -56,7 +56,7 @@ known_more h height is_open text more k = record {
 
 -- a header's own height is in use
 pub own_height : (header : Header) → IsInUse (fields_of header) header.yd
-own_height header = in_use header header.yd header.some_height (omega arith)
+own_height header = in_use (record { header = header; height = header.yd; from = header.some_height; to = omega arith })
 
 module _ (d : PieceView) (text out : List ℕ) where
   pub walks_of : d.is_open ≡ false → DecoderStands d text out → WalkStands (sized (fields_of d.header) d.height) d.walk text out

@@ -1,20 +1,33 @@
 -- What a target took of a row, and of the end of a code.
-use Rattle.std.proofs.Common.{◌≡◌, ℕ, List, ◌++◌, sym, ap, ◌∙◌, subst, Option, Result, Ok, Err, arith, append_assoc}
+use Rattle.std.proofs.Common.{◌≡◌, ℕ, List, ◌++◌, refl, sym, ap, ◌∙◌, subst, Option, Result, Ok, Err, arith, append_assoc}
+use Rattle.std.specs.Prelude.{IfErr, OnErr, OnOk}
 use Rattle.std.specs.Io.KnownBytes.{Appends}
+use Rattle.qm_core.specs.Counts.{one_more}
 use Rattle.qm_core.specs.Place.{Place, State, Estimate, after}
-use Rattle.qm_core.specs.Encoder.{IsStuffedFront, encoder_state}
+use Rattle.qm_core.specs.Encoder.{IsStuffedFront, Finish, encoder_state}
 use Rattle.qm_core.specs.Sink.{Took, Refused, sink_at}
 use Rattle.qm_core.specs.declared.encoder.Encoder.{Encoder}
 use Rattle.qm_core.specs.declared.sink.CodeSink.{Ghosts}
 use Rattle.raster_core.specs.Lines.{Lines}
 use Rattle.raster_core.specs.declared.shape.Shape.{Shape}
 use Rattle.raster_core.specs.declared.shape.Kept.{Kept}
-use Rattle.t85_core.specs.declared.fault.Fault.{Fault}
+use Rattle.qm_core.specs.declared.encoder.CoderFault.{CoderFault}
+use Rattle.t85_core.specs.declared.fault.Fault.TheVariants.{Write}
+use Rattle.t85_core.specs.Failures.{CountsWrite}
 use Rattle.t85_core.specs.Steps.Buffers.{SinkView, SameSink, TakesByte, RefusesByte}
-use Rattle.t85_core.specs.Steps.RowSteps.{RowSent, EndSent, RowOutcome, CodeFinished}
+use Rattle.t85_core.specs.Steps.RowSteps.{sent_as, RowOutcome, CodeFinished}
 use Rattle.t85_core.proofs.Bytes.Streams.{Appends-keeps}
 use Rattle.t85_core.proofs.Encodings.SinkTakes.{took_inked}
-use Rattle.raster_core.specs.Row.{row_task}
+use Rattle.raster_core.specs.Row.{RowEncoded, row_task}
+
+-- what is answered for it, and counted
+pub sent_err : (answer : Result (Unit {0}) CoderFault) → IfErr (sent_as answer) (λ f. f ≡ Write)
+sent_err (Ok u) = tt
+sent_err (Err f) = refl
+
+pub sent_counts : (answer : Result (Unit {0}) CoderFault) (old new : ℕ) → OnOk answer (new ≡ old) → OnErr answer (new ≡ one_more old) → CountsWrite old new (sent_as answer)
+sent_counts (Ok u) old new same counted = same
+sent_counts (Err f) old new same counted = counted
 
 module _ {S : Type 0} (view : S → SinkView) (failed : S → ℕ) (from to : S) where
   abbrev takes : S → ℕ → S → Type 0
@@ -33,14 +46,14 @@ module _ {S : Type 0} (view : S → SinkView) (failed : S → ℕ) (from to : S)
       record { same_buffer = last.same_buffer ∙ front.same_buffer; same_writer = last.same_writer ∙ front.same_writer; grows = (let a = front.grows in let b = last.grows in omega (arith, a, b)) }
 
   -- it is the same target
-  pub row_stays : (shape : Shape) (kept kept' : Kept) (s : State) (pushed : List ℕ) (lines : Lines) (e : Encoder) (learned : List Estimate) (answer : Result (Unit {0}) Fault)
-      → RowSent (sink_at pushes from pushed) (row_task shape kept s lines) kept' (encoder_state to e learned) answer → SameSink (view from) (view to)
+  pub row_stays : (shape : Shape) (kept kept' : Kept) (s : State) (pushed : List ℕ) (lines : Lines) (e : Encoder) (learned : List Estimate) (answer : Result (Unit {0}) CoderFault)
+      → RowEncoded (sink_at pushes from pushed) (row_task shape kept s lines) kept' (encoder_state to e learned) answer → SameSink (view from) (view to)
   row_stays shape kept kept' s pushed lines e learned (Ok u) r = (took_inked view from to r.ok.encodes.more r.ok.encodes.taken).0
   row_stays shape kept kept' s pushed lines e learned (Err f) r = refused_stays r.err.fails.more r.err.fails.cut
 
-  pub end_stays : (p : Place) (pushed : List ℕ) (answer : Result (Unit {0}) Fault) → EndSent (sink_at pushes from pushed) p to answer → SameSink (view from) (view to)
-  end_stays p pushed (Ok u) r = (took_inked view from to r.more r.ok).0
-  end_stays p pushed (Err f) r = refused_stays r.more r.err
+  pub end_stays : (p : Place) (pushed : List ℕ) (answer : Result (Unit {0}) CoderFault) → Finish (sink_at pushes from pushed) p to answer → SameSink (view from) (view to)
+  end_stays p pushed (Ok u) r = (took_inked view from to r.more r.writes.ok).0
+  end_stays p pushed (Err f) r = refused_stays r.more r.writes.err
 
   module _ (text text' : Option (List ℕ)) (text_is : (view from).text ≡ text) (text_is' : (view to).text ≡ text') where
     taken : (bytes : List ℕ) → Took takes from bytes to → Appends text text' bytes
@@ -51,8 +64,8 @@ module _ {S : Type 0} (view : S → SinkView) (failed : S → ℕ) (from to : S)
         let kept = Appends-keeps (view from).text (view r.last).text (view to).text r.done (took_inked view from r.last r.done r.taken).1 r.then.1 in
         subst (λ z. Appends z text' r.done) text_is (subst (λ z. Appends (view from).text z r.done) text_is' kept)
 
-    pub row_inked : (shape : Shape) (kept kept' : Kept) (s : State) (pushed : List ℕ) (lines : Lines) (e : Encoder) (learned : List Estimate) (answer : Result (Unit {0}) Fault)
-        → RowSent (sink_at pushes from pushed) (row_task shape kept s lines) kept' (encoder_state to e learned) answer → RowOutcome (row_task shape kept s lines) pushed kept' text (encoder_state text' e learned) answer
+    pub row_inked : (shape : Shape) (kept kept' : Kept) (s : State) (pushed : List ℕ) (lines : Lines) (e : Encoder) (learned : List Estimate) (answer : Result (Unit {0}) CoderFault)
+        → RowEncoded (sink_at pushes from pushed) (row_task shape kept s lines) kept' (encoder_state to e learned) answer → RowOutcome (row_task shape kept s lines) pushed kept' text (encoder_state text' e learned) (sent_as answer)
     row_inked shape kept kept' s pushed lines e learned (Ok u) r = record {
       ok = record {
         more = r.ok.encodes.more;
@@ -77,13 +90,13 @@ module _ {S : Type 0} (view : S → SinkView) (failed : S → ℕ) (from to : S)
       });
     }
 
-    pub end_inked : (p : Place) (pushed : List ℕ) (answer : Result (Unit {0}) Fault) → EndSent (sink_at pushes from pushed) p to answer → CodeFinished p pushed text text' answer
-    end_inked p pushed (Ok u) r = record { code = r.code; is = r.is; more = r.more; all = r.all; ok = taken r.more r.ok; cut = tt }
+    pub end_inked : (p : Place) (pushed : List ℕ) (answer : Result (Unit {0}) CoderFault) → Finish (sink_at pushes from pushed) p to answer → CodeFinished p pushed text text' (sent_as answer)
+    end_inked p pushed (Ok u) r = record { code = r.code; is = r.is; more = r.more; all = r.all; ok = taken r.more r.writes.ok; cut = tt }
     end_inked p pushed (Err f) r = record {
       code = r.code;
       is = r.is;
       more = r.more;
       all = r.all;
       ok = tt;
-      cut = record { front = r.err.done; rest = r.err.left; text_is = r.err.all; appends = cut r.more r.err };
+      cut = record { front = r.writes.err.done; rest = r.writes.err.left; text_is = r.writes.err.all; appends = cut r.more r.writes.err };
     }

@@ -1,4 +1,5 @@
 -- A row encoder, from row to row.
+use Rattle.t85_core.specs.Steps.DecodeRows.{IsCarried}
 use Rattle.std.proofs.Common.{◌≡◌, ℕ, zero, suc, ◌+◌, ◌-◌, ◌*◌, ◌^◌, ◌<◌, ◌≤◌, ◌⊎◌, inl, inr, nat_eq, true, false, Bool, List, [], ◌∷◌, ◌++◌, length, refl, sym, ◌∙◌, ap, subst, arith, Option, None, Some, append_assoc, append-nil, length-append}
 use Rattle.std.specs.Prelude.{if◌then◌else◌, is_some, unwrap_or, IfSome, ◌==◌}
 use Rattle.std.specs.List.{AllByRecursion}
@@ -36,6 +37,13 @@ use Rattle.t85_core.proofs.Bytes.Sendings.{Sends-more, Sends-keeps, sends_after,
 use Rattle.t85_core.proofs.Encodings.RowsDown.{after_more, lines_more}
 use Rattle.t85_core.proofs.Encodings.RowShort.{rows_place, fails_begins}
 use Rattle.t85_core.proofs.Encodings.RowStream.{none_whole, same_announced, come_first, come_long, stripe_more, part_begins, whole_more, inside_of, front_begins, less_or_not}
+
+-- before the first row of a stripe without a move, what is held is what is carried
+pub carried_by_held : {b : RowStart} {kept : Kept} {learned : List Estimate} {window : Held} → IsHeldBy None 0 b kept learned window → IsCarried b (record { held = window; kept = kept; learned = learned })
+carried_by_held h = record { offset_is = h.offset_is; previous_is = h.previous_is; learned_is = h.learned_is; third = h.third; lines_are = h.lines_are }
+
+pub held_by_carried : {b : RowStart} {kept : Kept} {learned : List Estimate} {window : Held} → IsCarried b (record { held = window; kept = kept; learned = learned }) → IsHeldBy None 0 b kept learned window
+held_by_carried h = record { at_top = tt; offset_is = h.offset_is; previous_is = h.previous_is; learned_is = h.learned_is; third = h.third; lines_are = h.lines_are }
 
 -- the move was made at the first row
 moved_before : (move : Option (ℕ × ℕ)) (r offset : ℕ) → IfSome move (λ m. m.0 ≡ 0) → offset ≡ offset_at move (suc r) offset

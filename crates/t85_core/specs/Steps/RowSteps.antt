@@ -1,5 +1,5 @@
 -- What the steps of a row encoder leave.
-use Rattle.std.specs.Prelude.{ℕ, ◌+◌, ◌*◌, ◌≡◌, ◌≤◌, ◌<◌, Bool, false, List, [], ◌∷◌, ◌++◌, length, Option, IfSome, flat_map, unwrap_or, Result, OnOk, OnErr}
+use Rattle.std.specs.Prelude.{ℕ, ◌+◌, ◌*◌, ◌≡◌, ◌≤◌, ◌<◌, Bool, false, List, [], ◌∷◌, ◌++◌, length, Option, IfSome, flat_map, unwrap_or, Result, Ok, Err, OnOk, OnErr}
 use Rattle.std.specs.Io.KnownBytes.{Appends}
 use Rattle.pbm_core.specs.Device.{AppendsBeginning}
 use Rattle.pbm_core.specs.Image.{pixels_of}
@@ -8,6 +8,7 @@ use Rattle.qm_core.specs.Encoder.{EncoderIsAt, EncoderState, IsStuffedFront}
 use Rattle.qm_core.specs.Code.{stuffed, IsCode}
 use Rattle.qm_core.specs.Place as place
 use Rattle.qm_core.specs.Sink.{Took, Refused, SinkAt}
+use Rattle.qm_core.specs.declared.encoder.CoderFault.{CoderFault}
 use Rattle.raster_core.specs.Packed.{Held, HasLines, white_lines}
 use Rattle.raster_core.specs.Row.{RowCoded, RowTask, canonical_events}
 use Rattle.qm_core.specs.Puts.{FailsIn}
@@ -17,6 +18,8 @@ use Rattle.raster_core.specs.Tally.{CountsLines, is_two_line, most_of}
 use Rattle.raster_core.specs.declared.shape.Kept.{Kept}
 use Rattle.t85_core.specs.Grammar.{marker_bytes, segment_bytes, stripe_bytes, stripe_count}
 use Rattle.t85_core.specs.declared.encoding.by_row.RowEncoder.{RowEncoder}
+use Rattle.t85_core.specs.declared.fault.Fault.{Fault}
+use Rattle.t85_core.specs.declared.fault.Fault.TheVariants.{Write}
 use Rattle.t85_core.specs.declared.encoding.learning.Learning.{Learning}
 use Rattle.t85_core.specs.Coding.{mode_of}
 use Rattle.t85_core.specs.Encode.{raster_of}
@@ -57,19 +60,10 @@ pub record RowCut (s : State) (pushed : List ℕ) (all : List place.Event) (text
   pub appended : Appends text text' done
   pub begins : IsStuffedFront ((pushed ++ done) ++ left) (place.after s events).place
 
--- what a sink has of a row that was coded
-pub record RowSent {S : Type 0} {E : Type 0} (old : SinkAt S) (task : RowTask) (kept' : Kept) (new : EncoderState S) (answer : Result (Unit {0}) E) : Type 0 where
-  pub ok : OnOk answer (RowCoded old task kept' new)
-  pub err : OnErr answer (FailsIn old task.state (canonical_events task.shape task.kept task.lines) new.out)
-
--- and of the end of a code
-pub record EndSent {S : Type 0} {E : Type 0} (old : SinkAt S) (p : Place) (to : S) (answer : Result (Unit {0}) E) : Type 0 where
-  pub code : List ℕ
-  pub is : IsCode p code
-  pub more : List ℕ
-  pub all : old.pushed ++ more ≡ stuffed code
-  pub ok : OnOk answer (Took old.sink.took old.from more to)
-  pub err : OnErr answer (Refused old.sink.took old.sink.refused old.from more to)
+-- the answer of a call whose coder answered so
+abbrev pub sent_as : Result (Unit {0}) CoderFault → Result (Unit {0}) Fault
+sent_as (Ok u) = Ok u
+sent_as (Err f) = Err Write
 
 -- what a call that codes a row leaves
 pub record RowOutcome {E : Type 0} (task : RowTask) (pushed : List ℕ) (kept' : Kept) (text : Option (List ℕ)) (new : EncoderState (Option (List ℕ))) (answer : Result (Unit {0}) E) : Type 0 where

@@ -1,6 +1,7 @@
 -- An image of which the height in use is known.
 use Rattle.std.specs.Prelude.{ℕ}
 use Rattle.t85_core.specs.declared.header.Header.{Header}
+use Rattle.t85_core.specs.declared.header.SizedImage as declared
 use Rattle.t85_core.specs.Header.{Fields}
 use Rattle.t85_core.specs.Options.{fields_of}
 
@@ -15,3 +16,7 @@ sized h height = record { fields = h; height = height }
 -- by a header
 abbrev pub sized_by : Header → ℕ → SizedImage
 sized_by header height = sized (fields_of header) height
+
+-- by its struct
+abbrev pub sized_of : declared.SizedImage → SizedImage
+sized_of image = sized_by image.header image.height

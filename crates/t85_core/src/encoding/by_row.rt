@@ -10,6 +10,7 @@ use crate::fault::Fault;
 use crate::laws::fronts;
 use crate::options::Options;
 use crate::output_buffer::{OutputBuffer, ROW_HELD};
+use crate::state::START;
 use pbm_core::{Output, Size};
 use qm_core::Encoder;
 use raster_core::{Kept, Shape, Window};
@@ -70,10 +71,7 @@ impl RowEncoder {
             may_end: options.announced.is_some(),
             has_candidates: has_candidates(shape, options.most_offset),
             reset: options.reset,
-            kept: Kept {
-                offset: 0,
-                previous_typical: false,
-            },
+            kept: START,
             encoder: Encoder::start(),
             rows: 0,
             in_stripe: 0,

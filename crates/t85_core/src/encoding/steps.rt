@@ -8,21 +8,16 @@ ghost use Rattle.qm_core.specs.Encoder.{EncoderIsAt, has_failed, encoder_state};
 ghost use Rattle.raster_core.specs.Lines.{Lines};
 ghost use Rattle.raster_core.specs.Packed.{HasLines};
 ghost use Rattle.raster_core.specs.Window.{held, width_of};
-ghost use Rattle.t85_core.specs.Lent.{StaysWindow};
 ghost use Rattle.t85_core.specs.Jbg.{Settings, head_of, is_low};
 ghost use Rattle.t85_core.specs.Options.{settings_of};
-ghost use Rattle.t85_core.specs.Steps.State.{RowStart, first_row_start, next_stripe_start};
 ghost use Rattle.t85_core.specs.Steps.Written.{EncoderStart, next_move};
 ghost use Rattle.t85_core.specs.Steps.EncodeRows.{IsCountedTo};
 ghost use Rattle.t85_core.specs.Steps.EncodeStripes.{IsTallied};
-ghost use Rattle.t85_core.specs.Steps.ByRow.{IsSomewhere, IsLined, IsHeldBy};
+ghost use Rattle.t85_core.specs.Steps.ByRow.{IsSomewhere, IsLined};
 ghost use Rattle.t85_core.specs.Steps.Buffers.{PutsBytes, WritesOrFails};
 ghost use Rattle.t85_core.specs.Steps.MostBytes.{AppendsAtMost};
 ghost use Rattle.t85_core.specs.Steps.RowCalls.{HasCoded, MayCode};
-ghost use Rattle.t85_core.specs.Steps.RowSteps.{MoveMade, MoveCut, RowOutcome, RowSent, EndSent, CodeFinished, CodeEnded};
-ghost use Rattle.t85_core.specs.Failures.{CountsWrite};
-ghost use Rattle.t85_core.specs.declared.fault.Fault.TheVariants.{Write};
-ghost use Rattle.qm_core.specs.Sink.{sink_at};
+ghost use Rattle.t85_core.specs.Steps.RowSteps.{MoveMade, MoveCut, sent_as, RowOutcome, CodeFinished, CodeEnded};
 ghost use Rattle.raster_core.specs.Row.{row_task};
 
 use crate::encoding::segments::{write_comment, write_marker, write_move};
@@ -31,7 +26,7 @@ use crate::fault::Fault;
 use crate::options::Options;
 use crate::output_buffer::ByteTarget;
 use pbm_core::Size;
-use qm_core::{CodeSink, Encoder, Learned};
+use qm_core::{CoderFault, Encoder, Learned};
 use raster_core::{Kept, Shape, Tally, Window, encode_row};
 
 /// Writes the header of the stream, and the comment if there is one.
@@ -101,29 +96,14 @@ pub fn code_row<P: ByteTarget>(
     ensures fails { WritesOrFails (P.view target.old) (P.view target.new) result }
 {
     let mut ink = EntitySink::new(target);
-    send_row(shape, window, kept, learned, encoder, &mut ink)
+    written(encode_row(shape, kept, window, learned, encoder, &mut ink))
 }
 
-/// Encodes the window's current row into a sink.
-fn send_row<C: CodeSink>(
-    shape: Shape,
-    window: &Window<'_>,
-    kept: &mut Kept,
-    learned: &mut Learned,
-    encoder: &mut Encoder,
-    sink: &mut C,
-) -> Result<(), Fault>
-    requires able { MayCode shape kept.old window.now encoder.old }
-    ensures row { (p : Place) (pushed : List ℕ) (lines : Lines) → EncoderIsAt encoder.old p pushed →
-        HasLines (held window.now) lines →
-        RowSent (sink_at C.CodeSink sink.old pushed)
-        (row_task shape kept.old (state_of p learned.old) lines) kept.new
-        (encoder_state sink.new encoder.new learned.new) result }
-    ensures able { OnOk result (HasCoded shape kept.old kept.new encoder.old encoder.new) }
-    ensures err { IfErr result (λ f. f ≡ Write) }
-    ensures writes { CountsWrite (C.failed sink.old) (C.failed sink.new) result }
+/// The answer of a call whose coder answered so: its fault is a failed write.
+fn written(answer: Result<(), CoderFault>) -> Result<(), Fault>
+    ensures { result ≡ sent_as answer }
 {
-    match encode_row(shape, kept, window, learned, encoder, sink) {
+    match answer {
         Ok(()) => Ok(()),
         Err(_) => Err(Fault::Write),
     }
@@ -138,21 +118,7 @@ fn end_code<P: ByteTarget>(encoder: Encoder, target: &mut P) -> Result<(), Fault
     ensures fails { WritesOrFails (P.view target.old) (P.view target.new) result }
 {
     let mut ink = EntitySink::new(target);
-    send_end(encoder, &mut ink)
-}
-
-/// Ends a code in a sink.
-fn send_end<C: CodeSink>(encoder: Encoder, sink: &mut C) -> Result<(), Fault>
-    requires going { has_failed encoder ≡ false }
-    ensures ended { (p : Place) (pushed : List ℕ) → EncoderIsAt encoder p pushed →
-        EndSent (sink_at C.CodeSink sink.old pushed) p sink.new result }
-    ensures err { IfErr result (λ f. f ≡ Write) }
-    ensures writes { CountsWrite (C.failed sink.old) (C.failed sink.new) result }
-{
-    match encoder.finish(sink) {
-        Ok(()) => Ok(()),
-        Err(_) => Err(Fault::Write),
-    }
+    written(encoder.finish(&mut ink))
 }
 
 /// Ends a code, and writes the end marker.
@@ -179,26 +145,6 @@ pub fn count_row(counted: Option<u8>, width: u32, window: &Window<'_>, tally: &m
 {
     if let Some(offset) = counted {
         tally.add_row(window, width, offset);
-    }
-}
-
-/// Prepares for the next stripe after an end marker: everything stays as it is or, if the marker resets, returns to its
-/// state at the top of an image.
-pub fn go_on(reset: bool, window: &mut Window<'_>, kept: &mut Kept, learned: &mut Learned)
-    ensures next { (last : RowStart) → IsHeldBy None 0 last kept.old learned.old (held window.old) →
-        IsHeldBy None 0 (first_row_start (next_stripe_start (width_of window.old) reset last))
-        kept.new learned.new (held window.new) }
-    ensures offset { kept.old.offset ≤ 127 → kept.new.offset ≤ 127 }
-    ensures lined { IsLined (held window.old) → IsLined (held window.new) }
-    ensures window { StaysWindow window.old window.new }
-{
-    if reset {
-        window.clear();
-        *kept = Kept {
-            offset: 0,
-            previous_typical: false,
-        };
-        *learned = Learned::new();
     }
 }
 

@@ -3,6 +3,7 @@
 ghost use Rattle.std.specs.Prelude.{◌≡◌, ◌≤◌, ◌+◌, ◌++◌, [], length, take, true, false};
 ghost use Rattle.t85_core.specs.declared.pieces.Outcome.TheVariants as outcome;
 
+use crate::lent::Lent;
 use crate::pieces::{Outcome, PieceDecoder, Progress};
 use qm_core::Learned;
 use raster_core::Window;
@@ -104,7 +105,7 @@ impl HeldBytes {
 }
 
 impl PieceDecoder {
-    ghost use Rattle.t85_core.specs.Lent.{KeepsWindow, decoder_over};
+    ghost use Rattle.t85_core.specs.Lent.{KeepsWindow, KeepsLent, decoder_lent, decoder_over};
     ghost use Rattle.t85_core.specs.Pieces.{call_of};
     ghost use Rattle.t85_core.specs.Feeds.{held_bytes, IsFeed};
 
@@ -122,7 +123,8 @@ impl PieceDecoder {
             (call_of piece.now false result (decoder_over self.new window.new learned.new)) }
         ensures window { KeepsWindow window.old window.new }
     {
-        self.feed_some(window, learned, held, piece, false)
+        let mut lent = Lent { window, learned };
+        self.feed_some(&mut lent, held, piece, false)
     }
 
     /// The same with the last bytes, as `next_of_last` does.
@@ -138,37 +140,36 @@ impl PieceDecoder {
             (call_of piece.now true result (decoder_over self.new window.new learned.new)) }
         ensures window { KeepsWindow window.old window.new }
     {
-        self.feed_some(window, learned, held, piece, true)
+        let mut lent = Lent { window, learned };
+        self.feed_some(&mut lent, held, piece, true)
     }
 
     /// Decodes the stored bytes followed by these bytes; `is_all` says whether they are the last.
     fn feed_some(
         &mut self,
-        window: &mut Window<'_>,
-        learned: &mut Learned,
+        lent: &mut Lent<'_, '_>,
         held: &mut HeldBytes,
         piece: &[u8],
         is_all: bool,
     ) -> Progress
-        ensures feed { IsFeed (decoder_over self.old window.old learned.old) (held_bytes held.old)
-            (held_bytes held.new)
-            (call_of piece.now is_all result (decoder_over self.new window.new learned.new)) }
-        ensures window { KeepsWindow window.old window.new }
+        ensures feed { IsFeed (decoder_lent self.old lent.old) (held_bytes held.old) (held_bytes
+            held.new) (call_of piece.now is_all result (decoder_lent self.new lent.new)) }
+        ensures lent { KeepsLent lent.old lent.new }
     {
         let count = held.count();
         if count == 0 {
-            return self.feed_piece(window, learned, held, piece, is_all);
+            return self.feed_piece(lent, held, piece, is_all);
         }
         let (front, back) = piece.split_at(piece.len().min(FRONT));
         let mut bytes = [0; MOST + FRONT];
         let len = held.join(front, &mut bytes);
         let (joined, _) = bytes.split_at(len);
-        let call = self.take(window, learned, joined, ends_there(is_all, back));
+        let call = self.take(lent, joined, ends_there(is_all, back));
         if !goes_on(call.outcome, back) {
             return held.settle(joined, count, call);
         }
         let (_, rest) = piece.split_at(call.taken.saturating_sub(count));
-        let last = self.feed_piece(window, learned, held, rest, is_all);
+        let last = self.feed_piece(lent, held, rest, is_all);
         Progress {
             outcome: last.outcome,
             taken: piece.len() - rest.len() + last.taken,
@@ -178,18 +179,16 @@ impl PieceDecoder {
     /// Decodes these bytes, if none are stored.
     fn feed_piece(
         &mut self,
-        window: &mut Window<'_>,
-        learned: &mut Learned,
+        lent: &mut Lent<'_, '_>,
         held: &mut HeldBytes,
         piece: &[u8],
         is_all: bool,
     ) -> Progress
-        ensures feed { IsFeed (decoder_over self.old window.old learned.old) []
-            (held_bytes held.new)
-            (call_of piece.now is_all result (decoder_over self.new window.new learned.new)) }
-        ensures window { KeepsWindow window.old window.new }
+        ensures feed { IsFeed (decoder_lent self.old lent.old) [] (held_bytes held.new) (call_of
+            piece.now is_all result (decoder_lent self.new lent.new)) }
+        ensures lent { KeepsLent lent.old lent.new }
     {
-        let call = self.take(window, learned, piece, is_all);
+        let call = self.take(lent, piece, is_all);
         held.settle(piece, 0, call)
     }
 }

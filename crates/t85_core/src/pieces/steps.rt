@@ -8,16 +8,16 @@ ghost use Rattle.t85_core.specs.declared.fault.Fault.{Fault};
 ghost use Rattle.t85_core.specs.declared.fault.Fault.TheVariants.{Truncated};
 ghost use Rattle.qm_core.specs.Place.{Estimate};
 ghost use Rattle.raster_core.specs.Packed.{Held};
-ghost use Rattle.t85_core.specs.Lent.{KeepsWindow, decoder_over as over, decoder_view};
+ghost use Rattle.t85_core.specs.Lent.{KeepsLent, decoder_lent as over, decoder_view};
 
 use crate::fault::Fault;
+use crate::header::SizedImage;
 use crate::input_buffer::ESCAPE;
+use crate::lent::Lent;
 use crate::pieces::behind::Behind;
 use crate::pieces::piece::Piece;
 use crate::pieces::{Outcome, PieceDecoder};
 use crate::segments::{Code, SDNORM, SDRST, STUFF};
-use qm_core::Learned;
-use raster_core::Window;
 
 /// The greatest number of code bytes that are searched for the end marker.
 const AHEAD: usize = 256;
@@ -30,17 +30,16 @@ impl PieceDecoder {
     /// Continues up to the next row or the end, or as far as the bytes allow.
     pub(super) fn go_on(
         &mut self,
-        window: &mut Window<'_>,
-        learned: &mut Learned,
+        lent: &mut Lent<'_, '_>,
         piece: &mut Piece<'_>,
         is_all: bool,
     ) -> Outcome
-        ensures leaves { StepLeaves is_all (over self.old window.old learned.old) (over self.new
-            window.new learned.new) piece.old.rest.now piece.new.rest.now (Some result) }
-        ensures window { KeepsWindow window.old window.new }
+        ensures leaves { StepLeaves is_all (over self.old lent.old) (over self.new
+            lent.new) piece.old.rest.now piece.new.rest.now (Some result) }
+        ensures lent { KeepsLent lent.old lent.new }
     {
         'steps: loop {
-            if let Some(outcome) = self.step(window, learned, piece, is_all) {
+            if let Some(outcome) = self.step(lent, piece, is_all) {
                 return outcome;
             }
         }
@@ -49,43 +48,37 @@ impl PieceDecoder {
     /// Takes one step: to a row, to the end, to where more input is needed, or to where another step can be taken.
     fn step(
         &mut self,
-        window: &mut Window<'_>,
-        learned: &mut Learned,
+        lent: &mut Lent<'_, '_>,
         piece: &mut Piece<'_>,
         is_all: bool,
     ) -> Option<Outcome>
-        ensures leaves { StepLeaves is_all (over self.old window.old learned.old) (over self.new
-            window.new learned.new) piece.old.rest.now piece.new.rest.now result }
+        ensures leaves { StepLeaves is_all (over self.old lent.old) (over self.new
+            lent.new) piece.old.rest.now piece.new.rest.now result }
         ensures lowers { Lowers self.old self.new piece.old.rest.now piece.new.rest.now result }
-        ensures window { KeepsWindow window.old window.new }
+        ensures lent { KeepsLent lent.old lent.new }
     {
         if !self.is_open {
-            return Some(self.take_turn(window, learned, piece, is_all));
+            return Some(self.take_turn(lent, piece, is_all));
         }
         if self.waits {
-            self.step_behind(window, learned, piece, is_all)
+            self.step_behind(lent, piece, is_all)
         } else {
-            self.step_in_code(window, learned, piece, is_all)
+            self.step_in_code(lent, piece, is_all)
         }
     }
 
     /// Continues if the height is known.
-    fn take_turn(
-        &mut self,
-        window: &mut Window<'_>,
-        learned: &mut Learned,
-        piece: &mut Piece<'_>,
-        is_all: bool,
-    ) -> Outcome
+    fn take_turn(&mut self, lent: &mut Lent<'_, '_>, piece: &mut Piece<'_>, is_all: bool) -> Outcome
         requires known { self.old.is_open ≡ false }
-        ensures leaves { StepLeaves is_all (over self.old window.old learned.old) (over self.new
-            window.new learned.new) piece.old.rest.now piece.new.rest.now (Some result) }
-        ensures window { KeepsWindow window.old window.new }
+        ensures leaves { StepLeaves is_all (over self.old lent.old) (over self.new
+            lent.new) piece.old.rest.now piece.new.rest.now (Some result) }
+        ensures lent { KeepsLent lent.old lent.new }
     {
-        match self
-            .walk
-            .next(&self.header, self.height, window, learned, piece)
-        {
+        let image = SizedImage {
+            header: self.header,
+            height: self.height,
+        };
+        match self.walk.next(&image, lent, piece) {
             Ok(true) => Outcome::Row,
             Ok(false) => Outcome::Done(self.height),
             Err(fault) => outcome_of(fault, is_all),
@@ -95,16 +88,15 @@ impl PieceDecoder {
     /// Continues in the code of a stripe, while a height may still arrive.
     fn step_in_code(
         &mut self,
-        window: &mut Window<'_>,
-        learned: &mut Learned,
+        lent: &mut Lent<'_, '_>,
         piece: &mut Piece<'_>,
         is_all: bool,
     ) -> Option<Outcome>
         requires in_code { DecodesCode self.old }
-        ensures leaves { StepLeaves is_all (over self.old window.old learned.old) (over self.new
-            window.new learned.new) piece.old.rest.now piece.new.rest.now result }
+        ensures leaves { StepLeaves is_all (over self.old lent.old) (over self.new
+            lent.new) piece.old.rest.now piece.new.rest.now result }
         ensures lowers { Lowers self.old self.new piece.old.rest.now piece.new.rest.now result }
-        ensures window { KeepsWindow window.old window.new }
+        ensures lent { KeepsLent lent.old lent.new }
     {
         if !self.is_in_code() {
             return Some(Outcome::Broken(Fault::Truncated));
@@ -115,7 +107,7 @@ impl PieceDecoder {
             return None;
         }
         if self.walk.wants_row(&self.header) {
-            self.step_in_rows(window, learned, piece, is_all)
+            self.step_in_rows(lent, piece, is_all)
         } else {
             self.step_to_marker(piece, is_all)
         }
@@ -132,8 +124,11 @@ impl PieceDecoder {
             piece.new.rest.now result }
         ensures lowers { Lowers self.old self.new piece.old.rest.now piece.new.rest.now result }
     {
-        let header = self.header;
-        match self.walk.find_end(&header, header.yd, piece) {
+        let image = SizedImage {
+            header: self.header,
+            height: self.header.yd,
+        };
+        match self.walk.find_end(&image, piece) {
             Ok(()) => {
                 self.waits = true;
                 self.behind = Behind::start();
@@ -146,8 +141,7 @@ impl PieceDecoder {
     /// Continues in the rows of a stripe. Rows that only its end marker determines are held back.
     fn step_in_rows(
         &mut self,
-        window: &mut Window<'_>,
-        learned: &mut Learned,
+        lent: &mut Lent<'_, '_>,
         piece: &mut Piece<'_>,
         is_all: bool,
     ) -> Option<Outcome>
@@ -155,19 +149,19 @@ impl PieceDecoder {
         requires unmarked { self.old.walk.marker ≡ None }
         requires ahead { MarkerRead self.old.walk.marker self.old.walk.first → ⊥ }
         requires wants { RowIsLeft self.old.header.l0 self.old.walk }
-        ensures leaves { StepLeaves is_all (over self.old window.old learned.old) (over self.new
-            window.new learned.new) piece.old.rest.now piece.new.rest.now result }
+        ensures leaves { StepLeaves is_all (over self.old lent.old) (over self.new
+            lent.new) piece.old.rest.now piece.new.rest.now result }
         ensures lowers { Lowers self.old self.new piece.old.rest.now piece.new.rest.now result }
-        ensures window { KeepsWindow window.old window.new }
+        ensures lent { KeepsLent lent.old lent.new }
     {
         let bytes = piece.rest;
         let (front, behind) = bytes.split_at(code_len(bytes));
         let mut part = Piece { rest: front };
-        let header = self.header;
-        match self
-            .walk
-            .give_row(&header, header.yd, window, learned, &mut part)
-        {
+        let image = SizedImage {
+            header: self.header,
+            height: self.header.yd,
+        };
+        match self.walk.give_row(&image, lent, &mut part) {
             Ok(()) => {
                 let (_, rest) = bytes.split_at(front.len().saturating_sub(part.rest.len()));
                 piece.rest = rest;

@@ -3,19 +3,19 @@
 ghost use Rattle.t85_core.specs.declared.fault.Fault.TheVariants.{Truncated};
 ghost use Rattle.std.specs.Prelude.{◌≡◌, ◌<◌, ◌+◌, ◌-◌, ◌++◌, Bool, None, Some, min, true, false};
 ghost use Rattle.t85_core.specs.Steps.PieceSteps.{LooksForHeight};
-ghost use Rattle.t85_core.specs.Lent.{KeepsWindow, decoder_over as over, walk_over};
+ghost use Rattle.t85_core.specs.Lent.{KeepsLent, decoder_lent as over, walk_lent};
 
 mod before;
 
 use crate::fault::Fault;
 use crate::laws::coder_laws;
+use crate::lent::Lent;
 use crate::pieces::behind::Coming;
 use crate::pieces::piece::Piece;
 use crate::pieces::walk::Stage;
 use crate::pieces::{Outcome, PieceDecoder};
 use crate::segments::{Code, Next};
-use qm_core::{Decoder, Learned};
-use raster_core::Window;
+use qm_core::Decoder;
 
 impl PieceDecoder {
     ghost use Rattle.t85_core.specs.declared.pieces.walk.Stage.TheVariants as stage;
@@ -27,16 +27,15 @@ impl PieceDecoder {
     /// Continues behind an end marker, or before the first stripe, while a height may still arrive.
     pub(super) fn step_behind(
         &mut self,
-        window: &mut Window<'_>,
-        learned: &mut Learned,
+        lent: &mut Lent<'_, '_>,
         piece: &mut Piece<'_>,
         is_all: bool,
     ) -> Option<Outcome>
         requires looks { LooksForHeight self.old }
-        ensures leaves { StepLeaves is_all (over self.old window.old learned.old) (over self.new
-            window.new learned.new) piece.old.rest.now piece.new.rest.now result }
+        ensures leaves { StepLeaves is_all (over self.old lent.old) (over self.new
+            lent.new) piece.old.rest.now piece.new.rest.now result }
         ensures lowers { Lowers self.old self.new piece.old.rest.now piece.new.rest.now result }
-        ensures window { KeepsWindow window.old window.new }
+        ensures lent { KeepsLent lent.old lent.new }
     {
         if self.walk.entities == u32::MAX {
             return Some(Outcome::Broken(Fault::Truncated));
@@ -44,12 +43,12 @@ impl PieceDecoder {
         let place = self.place_behind();
         let is_last = self.is_last();
         match self.behind.pass(&self.header, place, is_last, piece) {
-            Ok(coming) => self.take_coming(window, learned, coming, is_last, is_all, piece),
+            Ok(coming) => self.take_coming(lent, coming, is_last, is_all, piece),
             Err(fault) => {
                 if is_open_end(fault, is_all) {
                     return Some(Outcome::More);
                 }
-                Some(self.stop_behind(window, learned, fault, is_last, is_all, piece))
+                Some(self.stop_behind(lent, fault, is_last, is_all, piece))
             }
         }
     }
@@ -57,8 +56,7 @@ impl PieceDecoder {
     /// Handles a height or a code that comes next.
     fn take_coming<'c>(
         &mut self,
-        window: &mut Window<'_>,
-        learned: &mut Learned,
+        lent: &mut Lent<'_, '_>,
         coming: Coming<'c>,
         is_last: bool,
         is_all: bool,
@@ -69,18 +67,18 @@ impl PieceDecoder {
         requires last { is_last ≡ is_last_of self.old }
         requires comes { ComesBehind (fields_of self.old.header) (place_after self.old) coming.next
             piece.old.rest.now coming.rest.now }
-        ensures leaves { StepLeaves is_all (over self.old window.old learned.old) (over self.new
-            window.new learned.new) piece.old.rest.now piece.new.rest.now result }
+        ensures leaves { StepLeaves is_all (over self.old lent.old) (over self.new
+            lent.new) piece.old.rest.now piece.new.rest.now result }
         ensures lowers { Lowers self.old self.new piece.old.rest.now piece.new.rest.now result }
-        ensures window { KeepsWindow window.old window.new }
+        ensures lent { KeepsLent lent.old lent.new }
     {
         match coming.next {
-            Next::Height(height) => self.take_height(window, learned, height, coming.rest, piece),
+            Next::Height(height) => self.take_height(lent, height, coming.rest, piece),
             Next::Code(code) => {
                 if is_last {
-                    return Some(self.end_look(window, learned, is_all, piece));
+                    return Some(self.end_look(lent, is_all, piece));
                 }
-                self.take_code(window, learned, code, coming.rest, piece)
+                self.take_code(lent, code, coming.rest, piece)
             }
         }
     }
@@ -88,8 +86,7 @@ impl PieceDecoder {
     /// Handles an error that comes next, or the end of the stream.
     fn stop_behind(
         &mut self,
-        window: &mut Window<'_>,
-        learned: &mut Learned,
+        lent: &mut Lent<'_, '_>,
         fault: Fault,
         is_last: bool,
         is_all: bool,
@@ -100,47 +97,46 @@ impl PieceDecoder {
         requires end { fault ≡ Truncated → is_all ≡ true }
         requires stops { StopsBehind (fields_of self.old.header)
             (behind_at (place_after self.old) is_last) self.old.behind piece.now.rest.now fault }
-        ensures leaves { StepLeaves is_all (over self.old window.old learned.old) (over self.new
-            window.new learned.new) piece.now.rest.now piece.now.rest.now (Some result) }
-        ensures window { KeepsWindow window.old window.new }
+        ensures leaves { StepLeaves is_all (over self.old lent.old) (over self.new
+            lent.new) piece.now.rest.now piece.now.rest.now (Some result) }
+        ensures lent { KeepsLent lent.old lent.new }
     {
         if is_last {
-            return self.end_look(window, learned, is_all, piece);
+            return self.end_look(lent, is_all, piece);
         }
-        self.take_fault(window, learned, fault, is_all, piece)
+        self.take_fault(lent, fault, is_all, piece)
     }
 
     /// Handles a valid height that comes next: it becomes the current height, after the rows of the previous stripe
     /// that it includes; or the image ends there.
     fn take_height<'c>(
         &mut self,
-        window: &mut Window<'_>,
-        learned: &mut Learned,
+        lent: &mut Lent<'_, '_>,
         height: u32,
         rest: &'c [u8],
         piece: &mut Piece<'c>,
     ) -> Option<Outcome>
         requires looks { LooksForHeight self.old }
         requires between { self.old.behind.comment ≡ None }
-        requires comes { HeightComes (fields_of self.old.header) (walk_over self.old.walk window.old
-            learned.old) height piece.old.rest.now rest.now }
-        ensures leaves { (is_all : Bool) → StepLeaves is_all (over self.old window.old learned.old)
-            (over self.new window.new learned.new) piece.old.rest.now piece.new.rest.now result }
+        requires comes { HeightComes (fields_of self.old.header) (walk_lent self.old.walk lent.old)
+            height piece.old.rest.now rest.now }
+        ensures leaves { (is_all : Bool) → StepLeaves is_all (over self.old lent.old)
+            (over self.new lent.new) piece.old.rest.now piece.new.rest.now result }
         ensures lowers { Lowers self.old self.new piece.old.rest.now piece.new.rest.now result }
-        ensures window { KeepsWindow window.old window.new }
+        ensures lent { KeepsLent lent.old lent.new }
     {
         // The proof uses these laws of the coder.
         coder_laws();
         let fewer = self.header.yd - height;
         let left = self.walk.left.saturating_sub(fewer);
-        if self.gives_below(window, learned, left.min(self.header.l0)) {
+        if self.gives_below(lent, left.min(self.header.l0)) {
             return Some(Outcome::Row);
         }
         if self.ends_in_stripe(left) {
             self.height = height;
             return Some(Outcome::Done(height));
         }
-        self.enter_head(window, learned);
+        self.enter_head(lent);
         piece.rest = rest;
         self.walk.given = true;
         self.walk.left = self.walk.left.saturating_sub(fewer);
@@ -153,8 +149,7 @@ impl PieceDecoder {
     /// Handles a code that comes next: the next stripe begins with it, after the remaining rows of the previous stripe.
     fn take_code<'c>(
         &mut self,
-        window: &mut Window<'_>,
-        learned: &mut Learned,
+        lent: &mut Lent<'_, '_>,
         code: Code,
         rest: &'c [u8],
         piece: &mut Piece<'c>,
@@ -164,15 +159,15 @@ impl PieceDecoder {
         requires more { is_last_of self.old ≡ false }
         requires code { IsByteOrMarker code }
         requires comes { piece.old.rest.now ≡ code_bytes code ++ rest.now }
-        ensures leaves { (is_all : Bool) → StepLeaves is_all (over self.old window.old learned.old)
-            (over self.new window.new learned.new) piece.old.rest.now piece.new.rest.now result }
+        ensures leaves { (is_all : Bool) → StepLeaves is_all (over self.old lent.old)
+            (over self.new lent.new) piece.old.rest.now piece.new.rest.now result }
         ensures lowers { Lowers self.old self.new piece.old.rest.now piece.new.rest.now result }
-        ensures window { KeepsWindow window.old window.new }
+        ensures lent { KeepsLent lent.old lent.new }
     {
-        if self.gives_below(window, learned, self.walk.left.min(self.header.l0)) {
+        if self.gives_below(lent, self.walk.left.min(self.header.l0)) {
             return Some(Outcome::Row);
         }
-        self.enter_head(window, learned);
+        self.enter_head(lent);
         piece.rest = rest;
         self.walk.stage = Stage::Code;
         self.walk.decoder = Decoder::start();
@@ -187,8 +182,7 @@ impl PieceDecoder {
     /// previous stripe.
     fn take_fault(
         &mut self,
-        window: &mut Window<'_>,
-        learned: &mut Learned,
+        lent: &mut Lent<'_, '_>,
         fault: Fault,
         is_all: bool,
         piece: &Piece<'_>,
@@ -198,42 +192,36 @@ impl PieceDecoder {
         requires end { fault ≡ Truncated → is_all ≡ true }
         requires stops { StopsBehind (fields_of self.old.header)
             (behind_at (place_after self.old) false) self.old.behind piece.now.rest.now fault }
-        ensures leaves { StepLeaves is_all (over self.old window.old learned.old) (over self.new
-            window.new learned.new) piece.now.rest.now piece.now.rest.now (Some result) }
-        ensures window { KeepsWindow window.old window.new }
+        ensures leaves { StepLeaves is_all (over self.old lent.old) (over self.new
+            lent.new) piece.now.rest.now piece.now.rest.now (Some result) }
+        ensures lent { KeepsLent lent.old lent.new }
     {
         // The proof uses these laws of the coder.
         coder_laws();
-        if self.gives_below(window, learned, self.walk.left.min(self.header.l0)) {
+        if self.gives_below(lent, self.walk.left.min(self.header.l0)) {
             return Outcome::Row;
         }
-        self.enter_head(window, learned);
+        self.enter_head(lent);
         Outcome::Broken(fault)
     }
 
     /// No height follows the last stripe: the image ends at the header's height, after the remaining rows of that
     /// stripe.
-    fn end_look(
-        &mut self,
-        window: &mut Window<'_>,
-        learned: &mut Learned,
-        is_all: bool,
-        piece: &Piece<'_>,
-    ) -> Outcome
+    fn end_look(&mut self, lent: &mut Lent<'_, '_>, is_all: bool, piece: &Piece<'_>) -> Outcome
         requires looks { LooksForHeight self.old }
         requires last { is_last_of self.old ≡ true }
-        requires over { SomeStand (over self.old window.old learned.old) → LookIsOver is_all
-            (over self.old window.old learned.old) piece.now.rest.now }
-        ensures leaves { StepLeaves is_all (over self.old window.old learned.old) (over self.new
-            window.new learned.new) piece.now.rest.now piece.now.rest.now (Some result) }
-        ensures window { KeepsWindow window.old window.new }
+        requires over { SomeStand (over self.old lent.old) → LookIsOver is_all
+            (over self.old lent.old) piece.now.rest.now }
+        ensures leaves { StepLeaves is_all (over self.old lent.old) (over self.new
+            lent.new) piece.now.rest.now piece.now.rest.now (Some result) }
+        ensures lent { KeepsLent lent.old lent.new }
     {
         // The proof uses these laws of the coder.
         coder_laws();
-        if self.gives_below(window, learned, self.walk.left.min(self.header.l0)) {
+        if self.gives_below(lent, self.walk.left.min(self.header.l0)) {
             return Outcome::Row;
         }
-        self.end_stripe(window, learned);
+        self.end_stripe(lent);
         Outcome::Done(self.height)
     }
 }

@@ -2,25 +2,25 @@
 
 ghost use Rattle.std.specs.Prelude.{◌≡◌, false, ◌≤◌, ◌<◌, ◌-◌, ◌⊎◌, ◌∷◌, [], ℕ, List, None, Ok, true};
 ghost use Rattle.raster_core.specs.Window.{width_of};
-ghost use Rattle.t85_core.specs.Steps.HeightWalk.{MayBeHeight};
 ghost use Rattle.t85_core.specs.declared.fault.Fault.TheVariants.{Truncated};
 ghost use Rattle.t85_core.specs.declared.pieces.walk.Stage.TheVariants as stage;
-ghost use Rattle.t85_core.specs.Lent.{KeepsWindow, walk_over as over};
+ghost use Rattle.t85_core.specs.Lent.{KeepsLent, walk_lent as over};
 ghost use Rattle.t85_core.specs.Steps.Pieces.{WalkStands, HasAllRows, IsFirstWalk, Turn};
-ghost use Rattle.t85_core.specs.Steps.SizedImage.{sized_by};
+ghost use Rattle.t85_core.specs.Steps.SizedImage.{sized_of};
 
 mod head;
 mod row;
 mod stripe;
 
 use crate::fault::Fault;
-use crate::header::Header;
+use crate::header::SizedImage;
 use crate::input_buffer::ESCAPE;
+use crate::lent::Lent;
 use crate::pieces::piece::Piece;
 use crate::segments::{COMMENT, Code, Move};
 use crate::state::{START, restart};
-use qm_core::{Decoder, Learned};
-use raster_core::{Kept, RowPlace, Window};
+use qm_core::Decoder;
+use raster_core::{Kept, RowPlace};
 
 /// What comes next in a stream.
 #[derive(Clone, Copy)]
@@ -65,29 +65,22 @@ pub struct Walk {
 
 impl Walk {
     /// The state before the first byte after the header. Makes the window white, and resets the contexts.
-    pub fn start(
-        header: &Header,
-        height: u32,
-        window: &mut Window<'_>,
-        learned: &mut Learned,
-    ) -> Walk
-        requires width { width_of window.old ≡ header.now.xd }
-        requires from { 1 ≤ height }
-        ensures stands { WalkStands (sized_by header.now height)
-            (over result window.new learned.new) [] [] }
-        ensures first { IsFirstWalk (over result window.new learned.new) }
-        ensures window { KeepsWindow window.old window.new }
+    pub fn start(image: &SizedImage, lent: &mut Lent<'_, '_>) -> Walk
+        requires width { width_of lent.old.window.now ≡ image.now.header.xd }
+        ensures stands { WalkStands (sized_of image.now) (over result lent.new) [] [] }
+        ensures first { IsFirstWalk (over result lent.new) }
+        ensures lent { KeepsLent lent.old lent.new }
     {
         // The proof uses this value to show that a stripe has rows.
-        let _rows = header.l0;
+        let _rows = image.header.l0;
         let mut kept = START;
-        restart(window, &mut kept, learned);
+        restart(lent.window, &mut kept, lent.learned);
         Walk {
             kept,
             decoder: Decoder::start(),
             stage: Stage::Head,
             entities: 0,
-            left: height,
+            left: image.height,
             given: false,
             at: None,
             comment: 0,
@@ -101,28 +94,25 @@ impl Walk {
     /// Reads the head of a stripe, and decodes its first row, if there is one. Returns whether there is.
     fn begin_stripe(
         &mut self,
-        header: &Header,
-        height: u32,
-        window: &mut Window<'_>,
-        learned: &mut Learned,
+        image: &SizedImage,
+        lent: &mut Lent<'_, '_>,
         piece: &mut Piece<'_>,
     ) -> Result<bool, Fault>
-        requires height { MayBeHeight header.now.yd height }
         requires stage { (self.old.stage ≡ stage.Head) ⊎ (self.old.stage ≡ stage.Comment) }
-        ensures step { Turn (sized_by header.now height) (over self.old window.old learned.old)
-            (over self.new window.new learned.new) piece.old.rest.now piece.new.rest.now result }
+        ensures step { Turn (sized_of image.now) (over self.old lent.old)
+            (over self.new lent.new) piece.old.rest.now piece.new.rest.now result }
         ensures code { result ≡ Ok true → self.new.stage ≡ stage.Code }
-        ensures window { KeepsWindow window.old window.new }
+        ensures lent { KeepsLent lent.old lent.new }
     {
         // The proof uses this value to show that a stripe has rows.
-        let _rows = header.l0;
-        self.read_head(header, height, piece)?;
+        let _rows = image.header.l0;
+        self.read_head(image, piece)?;
         if let Stage::Code = self.stage {
-            if !self.wants_row(header) {
+            if !self.wants_row(&image.header) {
                 piece.rest = &[];
                 return Err(Fault::Truncated);
             }
-            self.give_row(header, height, window, learned, piece)?;
+            self.give_row(image, lent, piece)?;
             return Ok(true);
         }
         Ok(false)
@@ -131,51 +121,43 @@ impl Walk {
     /// Continues after the last row of a stripe. Returns whether a row was decoded.
     fn go_on(
         &mut self,
-        header: &Header,
-        height: u32,
-        window: &mut Window<'_>,
-        learned: &mut Learned,
+        image: &SizedImage,
+        lent: &mut Lent<'_, '_>,
         piece: &mut Piece<'_>,
     ) -> Result<bool, Fault>
-        requires height { MayBeHeight header.now.yd height }
-        requires rows { HasAllRows header.now.l0 self.old }
-        ensures step { Turn (sized_by header.now height) (over self.old window.old learned.old)
-            (over self.new window.new learned.new) piece.old.rest.now piece.new.rest.now result }
+        requires rows { HasAllRows image.now.header.l0 self.old }
+        ensures step { Turn (sized_of image.now) (over self.old lent.old)
+            (over self.new lent.new) piece.old.rest.now piece.new.rest.now result }
         ensures code { result ≡ Ok true → self.new.stage ≡ stage.Code }
-        ensures window { KeepsWindow window.old window.new }
+        ensures lent { KeepsLent lent.old lent.new }
     {
-        self.finish_stripe(header, height, window, learned, piece)?;
+        self.finish_stripe(image, lent, piece)?;
         if let Stage::Done = self.stage {
             return Ok(false);
         }
-        self.begin_stripe(header, height, window, learned, piece)
+        self.begin_stripe(image, lent, piece)
     }
 
     /// Decodes the next row. Returns false if the image is complete.
     pub fn next(
         &mut self,
-        header: &Header,
-        height: u32,
-        window: &mut Window<'_>,
-        learned: &mut Learned,
+        image: &SizedImage,
+        lent: &mut Lent<'_, '_>,
         piece: &mut Piece<'_>,
     ) -> Result<bool, Fault>
-        requires height { MayBeHeight header.now.yd height }
-        ensures step { Turn (sized_by header.now height) (over self.old window.old learned.old)
-            (over self.new window.new learned.new) piece.old.rest.now piece.new.rest.now result }
+        ensures step { Turn (sized_of image.now) (over self.old lent.old)
+            (over self.new lent.new) piece.old.rest.now piece.new.rest.now result }
         ensures code { result ≡ Ok true → self.new.stage ≡ stage.Code }
-        ensures window { KeepsWindow window.old window.new }
+        ensures lent { KeepsLent lent.old lent.new }
     {
         match self.stage {
-            Stage::Head | Stage::Comment => self.begin_stripe(
-                header, height, window, learned, piece,
-            ),
+            Stage::Head | Stage::Comment => self.begin_stripe(image, lent, piece),
             Stage::Code | Stage::Row => {
-                if self.wants_row(header) {
-                    self.give_row(header, height, window, learned, piece)?;
+                if self.wants_row(&image.header) {
+                    self.give_row(image, lent, piece)?;
                     Ok(true)
                 } else {
-                    self.go_on(header, height, window, learned, piece)
+                    self.go_on(image, lent, piece)
                 }
             }
             Stage::Done => Ok(false),

@@ -13,7 +13,7 @@ returns-in-Ok-clause-ok g c =
 
 pub returns-in-Ok-clause-begun : goal.returns-in-Ok-clause-begun
 returns-in-Ok-clause-begun g c =
-    begun_handed _ _ _ _ _ _ _ (image_begun c.coder_laws.ensures (fields_of c.args.header.now) c.args.height (in_use c.args.header.now c.args.height c.requires.height.0 c.requires.height.1) _ _ _ _ c.in-Ok.ensures.ok) c.write_held.ensures.text
+    begun_handed _ _ _ _ _ _ _ (image_begun c.coder_laws.ensures (fields_of c.args.image.now.header) c.args.image.now.height (in_use c.args.image.now) _ _ _ _ c.in-Ok.ensures.ok) c.write_held.ensures.text
 
 pub returns-in-Ok-clause-reads : goal.returns-in-Ok-clause-reads
 returns-in-Ok-clause-reads g c = counts_whole _ _ c.write_held.result c.in-Ok.ensures.reads.counts c.write_held.ensures.err

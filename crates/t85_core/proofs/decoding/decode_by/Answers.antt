@@ -16,12 +16,12 @@ use Rattle.t85_core.proofs.Decodings.Decoded.{decoded, decodes_at, decodes_unhea
 use Rattle.t85_core.proofs.decoding.decode_by.Goals as goal
 
 pub returns-in-Err-clause-outcome : goal.returns-in-Err-clause-outcome
-returns-in-Err-clause-outcome g c = decodes_unheaded (fields_of c.args.header.now) c.args.height _ _ _ _ _ _ c.in-Err.ensures.cut c.in-Err.ensures.failures
+returns-in-Err-clause-outcome g c = decodes_unheaded (fields_of c.args.image.now.header) c.args.image.now.height _ _ _ _ _ _ c.in-Err.ensures.cut c.in-Err.ensures.failures
 
 pub returns-clause-outcome : goal.returns-clause-outcome
 returns-clause-outcome g c =
-    let h = fields_of c.args.header.now in
-    let height = c.args.height in
+    let h = fields_of c.args.image.now.header in
+    let height = c.args.image.now.height in
     let stream = c.new-stream.result in
     let buffer = c.new-buffer.result in
     let r = c.decode_buffered.result in
@@ -49,5 +49,5 @@ returns-clause-outcome g c =
     let grows : known_length text_before ≤ known_length text_after = subst (λ z. known_length z ≤ known_length text_after) (ap (λ m. (g.W.Output.view m.now).contents) c.new-buffer.ensures.lent) c.decode_buffered.ensures.writes.1 in
     let done : Decode h height (between (g.R.Input.view c.args.input.now).remaining (g.R.Input.view input).remaining (g.R.Input.view c.args.input.now).failures (g.R.Input.view input).failures)
     (between (g.W.Output.view c.args.output.now).contents text_after (g.W.Output.view c.args.output.now).failures (g.W.Output.view output).failures) r =
-    decoded c.coder_laws.ensures h height (in_use c.args.header.now height c.requires.height.0 c.requires.height.1) _ _ _ _ c.in-Ok.ensures.whole in_held out_held after _ _ _ _ _ r ok err (λ read. c.decode_buffered.ensures.drained read) reads writes grows begun in
+    decoded c.coder_laws.ensures h height (in_use c.args.image.now) _ _ _ _ c.in-Ok.ensures.whole in_held out_held after _ _ _ _ _ r ok err (λ read. c.decode_buffered.ensures.drained read) reads writes grows begun in
     decodes_at (λ d. (g.R.Input.view d).remaining) (λ d. (g.R.Input.view d).failures) (λ d. (g.W.Output.view d).contents) (λ d. (g.W.Output.view d).failures) h height c.args.input.now c.args.output.now input _ output _ r (search rules) (search rules) done

@@ -1,6 +1,6 @@
 use Rattle.std.proofs.Common.{◌≡◌, ◌≤◌, ◌-◌}
 use Rattle.t85_core.specs.Options.{fields_of}
-use Rattle.t85_core.specs.Lent.{walk_over}
+use Rattle.t85_core.specs.Lent.{walk_lent}
 use Rattle.t85_core.specs.Steps.Reading.{ImageSoFar}
 use Rattle.t85_core.specs.Steps.SizedImage.{sized}
 use Rattle.t85_core.specs.Steps.Passage.{passage}
@@ -8,7 +8,7 @@ use Rattle.t85_core.proofs.decoding.decode_image.Given as goal
 
 abbrev pub invariant-rows : goal.invariant-rows
 invariant-rows g l = record {
-  so_far : ImageSoFar (sized (fields_of l.header) l.height) (walk_over l.walk l.window l.learned) (passage (g.S.HeldSource.view l.fn.stream).known (g.S.HeldSource.view l.stream).known (g.P.ByteTarget.view l.fn.target).text (g.P.ByteTarget.view l.target).text) l.row;
+  so_far : ImageSoFar (sized (fields_of l.image.header) l.image.height) (walk_lent l.walk l.lent) (passage (g.S.HeldSource.view l.fn.stream).known (g.S.HeldSource.view l.stream).known (g.P.ByteTarget.view l.fn.target).text (g.P.ByteTarget.view l.target).text) l.row;
   unfailed : (g.S.HeldSource.view l.stream).failures ≡ (g.S.HeldSource.view l.fn.stream).failures;
   unwritten : (g.P.ByteTarget.view l.target).failures ≡ (g.P.ByteTarget.view l.fn.target).failures;
   grows : (g.P.ByteTarget.view l.fn.target).written ≤ (g.P.ByteTarget.view l.target).written;
@@ -17,4 +17,4 @@ invariant-rows g l = record {
 }
 
 abbrev pub decreases-rows : goal.decreases-rows
-decreases-rows g l = (l.height - l.row)
+decreases-rows g l = (l.image.height - l.row)

@@ -1,13 +1,13 @@
 use Rattle.std.proofs.Common.{◌≡◌, []}
 use Rattle.t85_core.specs.Options.{fields_of}
-use Rattle.t85_core.specs.Lent.{walk_over}
+use Rattle.t85_core.specs.Lent.{walk_lent}
 use Rattle.t85_core.specs.Steps.Reading.{ReadsWalk, still_left}
 use Rattle.t85_core.specs.Steps.SizedImage.{sized}
 use Rattle.t85_core.proofs.decoding.next_row.Given as goal
 
 abbrev pub invariant-turns : goal.invariant-turns
 invariant-turns g l = record {
-  on : ReadsWalk (sized (fields_of l.header) l.height) (walk_over l.fn.walk l.fn.window l.fn.learned) (walk_over l.walk l.window l.learned) (g.S.HeldSource.view l.fn.stream).known (g.S.HeldSource.view l.stream).known [];
+  on : ReadsWalk (sized (fields_of l.image.header) l.image.height) (walk_lent l.fn.walk l.fn.lent) (walk_lent l.walk l.lent) (g.S.HeldSource.view l.fn.stream).known (g.S.HeldSource.view l.stream).known [];
   unfailed : (g.S.HeldSource.view l.stream).failures ≡ (g.S.HeldSource.view l.fn.stream).failures;
   same_source : (g.S.HeldSource.view l.stream).source ≡ (g.S.HeldSource.view l.fn.stream).source;
 }

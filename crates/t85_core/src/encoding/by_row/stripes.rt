@@ -3,10 +3,11 @@
 use crate::encoding::by_row::RowEncoder;
 use crate::encoding::learning::Learning;
 use crate::encoding::segments::write_ending;
-use crate::encoding::steps::{code_row, count_row, end_entity, go_on, move_pixel};
+use crate::encoding::steps::{code_row, count_row, end_entity, move_pixel};
 use crate::fault::Fault;
 use crate::laws::writing_laws;
 use crate::output_buffer::ByteTarget;
+use crate::state::next_stripe;
 use qm_core::Encoder;
 use raster_core::Window;
 
@@ -223,7 +224,7 @@ impl RowEncoder {
         let encoder = std::mem::replace(&mut self.encoder, Encoder::start());
         end_entity(encoder, self.reset, target)?;
         self.in_stripe = 0;
-        go_on(self.reset, window, &mut self.kept, &mut learning.learned);
+        next_stripe(self.reset, window, &mut self.kept, &mut learning.learned);
         target.write_held()
     }
 

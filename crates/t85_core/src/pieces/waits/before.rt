@@ -2,14 +2,14 @@
 
 ghost use Rattle.std.specs.Prelude.{◌≡◌, ◌≤◌, ◌<◌, ◌+◌, ◌-◌, ◌^◌, [], Some, min, true, false};
 ghost use Rattle.t85_core.specs.Steps.PieceSteps.{LooksForHeight};
-ghost use Rattle.t85_core.specs.Lent.{KeepsWindow, decoder_over as over};
+ghost use Rattle.t85_core.specs.Lent.{KeepsLent, decoder_lent as over};
 
+use crate::header::SizedImage;
+use crate::lent::Lent;
 use crate::pieces::PieceDecoder;
 use crate::pieces::piece::Piece;
 use crate::pieces::walk::Stage;
 use crate::segments::{Code, Place};
-use qm_core::Learned;
-use raster_core::Window;
 
 impl PieceDecoder {
     ghost use Rattle.t85_core.specs.declared.pieces.walk.Stage.TheVariants as stage;
@@ -65,48 +65,42 @@ impl PieceDecoder {
 
     /// Decodes the next row of the previous stripe if its number is below `limit`, and returns whether it did. The row
     /// was held back because only the end marker determines it.
-    pub(super) fn gives_below(
-        &mut self,
-        window: &mut Window<'_>,
-        learned: &mut Learned,
-        limit: u32,
-    ) -> bool
+    pub(super) fn gives_below(&mut self, lent: &mut Lent<'_, '_>, limit: u32) -> bool
         requires looks { LooksForHeight self.old }
         requires limit { limit ≤ min self.old.walk.left self.old.header.l0 }
-        ensures keeps { KeepsDecoder (over self.old window.old learned.old)
-            (over self.new window.new learned.new) }
-        ensures gives { result ≡ true → SomeStand (over self.old window.old learned.old) →
-            GivesBelow (over self.old window.old learned.old)
-            (over self.new window.new learned.new) limit }
-        ensures stays { result ≡ false → StaysAbove (over self.old window.old learned.old)
-            (over self.new window.new learned.new) limit }
-        ensures window { KeepsWindow window.old window.new }
+        ensures keeps { KeepsDecoder (over self.old lent.old) (over self.new lent.new) }
+        ensures gives { result ≡ true → SomeStand (over self.old lent.old) → GivesBelow (over
+            self.old lent.old) (over self.new lent.new) limit }
+        ensures stays { result ≡ false → StaysAbove (over self.old lent.old)
+            (over self.new lent.new) limit }
+        ensures lent { KeepsLent lent.old lent.new }
     {
         if !self.is_in_code() || self.walk.row >= limit {
             return false;
         }
         let mut none = Piece { rest: &[] };
-        let header = self.header;
+        let image = SizedImage {
+            header: self.header,
+            height: self.header.yd,
+        };
         let _given = self
             .walk
-            .give_row(&header, header.yd, window, learned, &mut none)
+            .give_row(&image, lent, &mut none)
             .is_ok();
         true
     }
 
     /// Ends the previous stripe, if there is one and all its rows have been returned. The marker segments that followed
     /// belong to the next stripe.
-    pub(super) fn enter_head(&mut self, window: &mut Window<'_>, learned: &mut Learned)
+    pub(super) fn enter_head(&mut self, lent: &mut Lent<'_, '_>)
         requires looks { LooksForHeight self.old }
-        requires all { RowsAreGiven (over self.old window.old learned.old) }
-        ensures keeps { KeepsDecoder (over self.old window.old learned.old)
-            (over self.new window.new learned.new) }
-        ensures head { is_last_of self.old ≡ false → SomeStand (over self.old window.old
-            learned.old) → HeadEntered (over self.old window.old learned.old) (over self.new
-            window.new learned.new) }
-        ensures window { KeepsWindow window.old window.new }
+        requires all { RowsAreGiven (over self.old lent.old) }
+        ensures keeps { KeepsDecoder (over self.old lent.old) (over self.new lent.new) }
+        ensures head { is_last_of self.old ≡ false → SomeStand (over self.old lent.old) →
+            HeadEntered (over self.old lent.old) (over self.new lent.new) }
+        ensures lent { KeepsLent lent.old lent.new }
     {
-        self.close_stripe(window, learned);
+        self.close_stripe(lent);
         self.walk.at = self.behind.at;
         let Some(left) = self.behind.comment else {
             return;
@@ -116,41 +110,40 @@ impl PieceDecoder {
     }
 
     /// Ends the previous stripe, if there is one and all its rows have been returned.
-    fn close_stripe(&mut self, window: &mut Window<'_>, learned: &mut Learned)
+    fn close_stripe(&mut self, lent: &mut Lent<'_, '_>)
         requires looks { LooksForHeight self.old }
-        requires all { RowsAreGiven (over self.old window.old learned.old) }
-        ensures keeps { KeepsDecoder (over self.old window.old learned.old)
-            (over self.new window.new learned.new) }
-        ensures closes { is_last_of self.old ≡ false → SomeStand (over self.old window.old
-            learned.old) → StripeClosed (over self.old window.old learned.old) (over self.new
-            window.new learned.new) }
-        ensures window { KeepsWindow window.old window.new }
+        requires all { RowsAreGiven (over self.old lent.old) }
+        ensures keeps { KeepsDecoder (over self.old lent.old) (over self.new lent.new) }
+        ensures closes { is_last_of self.old ≡ false → SomeStand (over self.old lent.old) →
+            StripeClosed (over self.old lent.old) (over self.new lent.new) }
+        ensures lent { KeepsLent lent.old lent.new }
     {
         if !self.is_in_code() {
             return;
         }
-        self.end_stripe(window, learned);
+        self.end_stripe(lent);
     }
 
     /// Ends the previous stripe, all of whose rows have been returned. Its end marker has arrived.
-    pub(super) fn end_stripe(&mut self, window: &mut Window<'_>, learned: &mut Learned)
+    pub(super) fn end_stripe(&mut self, lent: &mut Lent<'_, '_>)
         requires looks { LooksForHeight self.old }
-        requires all { RowsAreGiven (over self.old window.old learned.old) }
-        ensures keeps { KeepsDecoder (over self.old window.old learned.old)
-            (over self.new window.new learned.new) }
-        ensures ends { IsInCode self.old.walk.stage → SomeStand (over self.old window.old
-            learned.old) → StripeLeft (over self.old window.old learned.old) (over
-            self.new window.new learned.new) }
-        ensures window { KeepsWindow window.old window.new }
+        requires all { RowsAreGiven (over self.old lent.old) }
+        ensures keeps { KeepsDecoder (over self.old lent.old) (over self.new lent.new) }
+        ensures ends { IsInCode self.old.walk.stage → SomeStand (over self.old lent.old) →
+            StripeLeft (over self.old lent.old) (over self.new lent.new) }
+        ensures lent { KeepsLent lent.old lent.new }
     {
         let Stage::Code = self.walk.stage else {
             return;
         };
         let mut none = Piece { rest: &[] };
-        let header = self.header;
+        let image = SizedImage {
+            header: self.header,
+            height: self.header.yd,
+        };
         let _ended = self
             .walk
-            .finish_stripe(&header, header.yd, window, learned, &mut none)
+            .finish_stripe(&image, lent, &mut none)
             .is_ok();
     }
 }

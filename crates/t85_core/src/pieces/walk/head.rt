@@ -1,14 +1,13 @@
 //! Reads the head of a stripe: its marker segments, and the first element of its code.
 
 ghost use Rattle.std.specs.Prelude.{◌≡◌, ◌≢◌, false, ◌≤◌, ◌<◌, ◌-◌, ◌⊎◌, ◌∷◌, ℕ, List, None, Ok, true, length, min, OnOk};
-ghost use Rattle.t85_core.specs.Steps.HeightWalk.{MayBeHeight};
 ghost use Rattle.t85_core.specs.declared.fault.Fault.TheVariants.{Truncated, Changed};
 ghost use Rattle.t85_core.specs.declared.pieces.walk.Stage.TheVariants as stage;
 ghost use Rattle.t85_core.specs.Steps.Pieces.{IsOver, Alone, Step};
-ghost use Rattle.t85_core.specs.Steps.SizedImage.{sized_by};
+ghost use Rattle.t85_core.specs.Steps.SizedImage.{sized_of};
 
 use crate::fault::Fault;
-use crate::header::Header;
+use crate::header::SizedImage;
 use crate::laws::coder_laws;
 use crate::pieces::piece::Piece;
 use crate::pieces::walk::{Stage, Walk, is_comment};
@@ -19,20 +18,18 @@ impl Walk {
     /// Reads the marker segments of a stripe, and the first element of its code.
     pub(super) fn read_head(
         &mut self,
-        header: &Header,
-        height: u32,
+        image: &SizedImage,
         piece: &mut Piece<'_>,
     ) -> Result<(), Fault>
-        requires height { MayBeHeight header.now.yd height }
         requires stage { (self.old.stage ≡ stage.Head) ⊎ (self.old.stage ≡ stage.Comment) }
-        ensures step { Alone (λ w w'. Step (sized_by header.now height) w w' piece.old.rest.now
+        ensures step { Alone (λ w w'. Step (sized_of image.now) w w' piece.old.rest.now
             piece.new.rest.now result) self.old self.new }
         ensures stage { OnOk result (IsOver self.new.stage ⊎ (self.new.stage ≡ stage.Code)) }
         ensures row { OnOk result (self.new.stage ≡ stage.Code → self.new.row ≡ 0) }
     {
         'segments: loop {
-            self.leave_comment(header, height, piece)?;
-            self.read_segment(header, height, piece)?;
+            self.leave_comment(image, piece)?;
+            self.read_segment(image, piece)?;
             if !self.is_in_head() {
                 return Ok(());
             }
@@ -56,19 +53,17 @@ impl Walk {
     /// Skips the rest of a comment, if one has begun.
     fn leave_comment(
         &mut self,
-        header: &Header,
-        height: u32,
+        image: &SizedImage,
         piece: &mut Piece<'_>,
     ) -> Result<(), Fault>
-        requires height { MayBeHeight header.now.yd height }
         requires stage { (self.old.stage ≡ stage.Head) ⊎ (self.old.stage ≡ stage.Comment) }
-        ensures step { Alone (λ w w'. Step (sized_by header.now height) w w' piece.old.rest.now
+        ensures step { Alone (λ w w'. Step (sized_of image.now) w w' piece.old.rest.now
             piece.new.rest.now result) self.old self.new }
         ensures stage { OnOk result (self.new.stage ≡ stage.Head) }
         ensures no_more { length piece.new.rest.now ≤ length piece.old.rest.now }
     {
         if let Stage::Comment = self.stage {
-            self.pass_comment(header, height, piece)
+            self.pass_comment(image, piece)
         } else {
             Ok(())
         }
@@ -77,13 +72,11 @@ impl Walk {
     /// Skips the rest of a comment.
     fn pass_comment(
         &mut self,
-        header: &Header,
-        height: u32,
+        image: &SizedImage,
         piece: &mut Piece<'_>,
     ) -> Result<(), Fault>
-        requires height { MayBeHeight header.now.yd height }
         requires stage { self.old.stage ≡ stage.Comment }
-        ensures step { Alone (λ w w'. Step (sized_by header.now height) w w' piece.old.rest.now
+        ensures step { Alone (λ w w'. Step (sized_of image.now) w w' piece.old.rest.now
             piece.new.rest.now result) self.old self.new }
         ensures stage { OnOk result (self.new.stage ≡ stage.Head) }
         ensures no_more { length piece.new.rest.now ≤ length piece.old.rest.now }
@@ -104,13 +97,11 @@ impl Walk {
     /// Reads a marker segment of a stripe, or the first element of its code. Of a comment, it reads the length.
     fn read_segment(
         &mut self,
-        header: &Header,
-        height: u32,
+        image: &SizedImage,
         piece: &mut Piece<'_>,
     ) -> Result<(), Fault>
-        requires height { MayBeHeight header.now.yd height }
         requires stage { self.old.stage ≡ stage.Head }
-        ensures step { Alone (λ w w'. Step (sized_by header.now height) w w' piece.old.rest.now
+        ensures step { Alone (λ w w'. Step (sized_of image.now) w w' piece.old.rest.now
             piece.new.rest.now result) self.old self.new }
         ensures row { OnOk result (self.new.stage ≡ stage.Code → self.new.row ≡ 0) }
         ensures stage { OnOk result (IsOver self.new.stage ⊎ (self.new.stage ≡ stage.Code)
@@ -118,23 +109,21 @@ impl Walk {
         ensures lowers { OnOk result (length piece.new.rest.now < length piece.old.rest.now) }
     {
         if is_comment(piece.rest) {
-            self.enter_comment(header, height, piece)
+            self.enter_comment(image, piece)
         } else {
-            self.pass_segment(header, height, piece)
+            self.pass_segment(image, piece)
         }
     }
 
     /// Reads the length of a comment.
     fn enter_comment(
         &mut self,
-        header: &Header,
-        height: u32,
+        image: &SizedImage,
         piece: &mut Piece<'_>,
     ) -> Result<(), Fault>
-        requires height { MayBeHeight header.now.yd height }
         requires stage { self.old.stage ≡ stage.Head }
         requires comment { (rest : List ℕ) × (piece.old.rest.now ≡ 255 ∷ 7 ∷ rest) }
-        ensures step { Alone (λ w w'. Step (sized_by header.now height) w w' piece.old.rest.now
+        ensures step { Alone (λ w w'. Step (sized_of image.now) w w' piece.old.rest.now
             piece.new.rest.now result) self.old self.new }
         ensures stage { OnOk result (self.new.stage ≡ stage.Comment) }
         ensures lowers { OnOk result (length piece.new.rest.now < length piece.old.rest.now) }
@@ -160,14 +149,12 @@ impl Walk {
     /// Reads a marker segment of a stripe, or the first element of its code.
     fn pass_segment(
         &mut self,
-        header: &Header,
-        height: u32,
+        image: &SizedImage,
         piece: &mut Piece<'_>,
     ) -> Result<(), Fault>
-        requires height { MayBeHeight header.now.yd height }
         requires stage { self.old.stage ≡ stage.Head }
         requires other { (rest : List ℕ) → piece.old.rest.now ≡ 255 ∷ 7 ∷ rest → ⊥ }
-        ensures step { Alone (λ w w'. Step (sized_by header.now height) w w' piece.old.rest.now
+        ensures step { Alone (λ w w'. Step (sized_of image.now) w w' piece.old.rest.now
             piece.new.rest.now result) self.old self.new }
         ensures row { OnOk result (self.new.stage ≡ stage.Code → self.new.row ≡ 0) }
         ensures stage { OnOk result (IsOver self.new.stage ⊎ (self.new.stage ≡ stage.Code)
@@ -178,11 +165,11 @@ impl Walk {
         coder_laws();
         let bytes = piece.rest;
         let place = Place {
-            height,
+            height: image.height,
             entities: self.entities,
             given: self.given,
         };
-        let item = match next_piece(header, place, self.at.is_some(), piece) {
+        let item = match next_piece(&image.header, place, self.at.is_some(), piece) {
             Ok(item) => item,
             Err(fault) => {
                 piece.rest = bytes;
@@ -191,7 +178,7 @@ impl Walk {
         };
         match item {
             segments::Piece::NewLength(other) => {
-                if other == height {
+                if other == image.height {
                     self.given = true;
                     return Ok(());
                 }

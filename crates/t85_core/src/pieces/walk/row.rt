@@ -4,23 +4,23 @@ ghost use Rattle.std.specs.Prelude.{◌≡◌, ◌≢◌, false, ◌≤◌, ◌<
 ghost use Rattle.qm_core.specs.Place.{Estimate};
 ghost use Rattle.raster_core.specs.Packed.{Held};
 ghost use Rattle.raster_core.specs.Window.{held};
-ghost use Rattle.t85_core.specs.Steps.HeightWalk.{MayBeHeight};
 ghost use Rattle.t85_core.specs.declared.fault.Fault.TheVariants.{Truncated};
 ghost use Rattle.t85_core.specs.declared.pieces.walk.Stage.TheVariants as stage;
 ghost use Rattle.t85_core.specs.Steps.Segments.{IsByteOrMarker};
-ghost use Rattle.t85_core.specs.Lent.{KeepsWindow, walk_view, walk_over as over};
+ghost use Rattle.t85_core.specs.Lent.{KeepsWindow, KeepsLent, walk_view, walk_over, walk_lent as over};
 ghost use Rattle.t85_core.specs.Steps.Pieces.{WalkStands, RowFits, RowStep, LeavesRow, KeepsPlace, RowIsLeft, WantsRow};
-ghost use Rattle.t85_core.specs.Steps.SizedImage.{sized_by};
+ghost use Rattle.t85_core.specs.Steps.SizedImage.{sized_of};
 
 use crate::decoding::rows::offset_in;
 use crate::fault::Fault;
-use crate::header::Header;
+use crate::header::{Header, SizedImage};
 use crate::laws::coder_laws;
+use crate::lent::Lent;
 use crate::pieces::piece::Piece;
 use crate::pieces::rows::go_on_in_row;
 use crate::pieces::walk::{Stage, Walk};
 use crate::segments::Code;
-use qm_core::{Decoder, Learned};
+use qm_core::Decoder;
 use raster_core::{RowPlace, Window};
 use std::mem::replace;
 
@@ -37,64 +37,56 @@ impl Walk {
     /// piece has ended.
     pub fn give_row(
         &mut self,
-        header: &Header,
-        height: u32,
-        window: &mut Window<'_>,
-        learned: &mut Learned,
+        image: &SizedImage,
+        lent: &mut Lent<'_, '_>,
         piece: &mut Piece<'_>,
     ) -> Result<(), Fault>
-        requires height { MayBeHeight header.now.yd height }
-        requires wants { RowIsLeft header.now.l0 self.old }
-        ensures step { RowStep (sized_by header.now height) (over self.old window.old learned.old)
-            (over self.new window.new learned.new) piece.old.rest.now piece.new.rest.now result }
-        ensures leaves { LeavesRow (sized_by header.now height)
-            (over self.old window.old learned.old) (over self.new window.new learned.new)
-            piece.old.rest.now piece.new.rest.now result }
+        requires wants { RowIsLeft image.now.header.l0 self.old }
+        ensures step { RowStep (sized_of image.now) (over self.old lent.old)
+            (over self.new lent.new) piece.old.rest.now piece.new.rest.now result }
+        ensures leaves { LeavesRow (sized_of image.now) (over self.old lent.old) (over self.new
+            lent.new) piece.old.rest.now piece.new.rest.now result }
         ensures code { OnOk result (self.new.stage ≡ stage.Code) }
-        ensures window { KeepsWindow window.old window.new }
+        ensures lent { KeepsLent lent.old lent.new }
     {
-        if !self.has_row_that_fits(header, window) {
+        if !self.has_row_that_fits(&image.header, lent.window) {
             piece.rest = &[];
             return Err(Fault::Truncated);
         }
         match self.stage {
-            Stage::Row => self.finish_row::<REST_OF_ROW>(header, height, window, learned, piece),
-            _ => self.read_row(header, height, window, learned, piece),
+            Stage::Row => self.finish_row::<REST_OF_ROW>(image, lent, piece),
+            _ => self.read_row(image, lent, piece),
         }
     }
 
     /// Decodes the next row of a stripe.
     fn read_row(
         &mut self,
-        header: &Header,
-        height: u32,
-        window: &mut Window<'_>,
-        learned: &mut Learned,
+        image: &SizedImage,
+        lent: &mut Lent<'_, '_>,
         piece: &mut Piece<'_>,
     ) -> Result<(), Fault>
-        requires height { MayBeHeight header.now.yd height }
-        requires rows { WantsRow header.now.l0 self.old }
-        requires fits { RowFits header.now.xd self.old (held window.old) }
-        ensures step { RowStep (sized_by header.now height) (over self.old window.old learned.old)
-            (over self.new window.new learned.new) piece.old.rest.now piece.new.rest.now result }
-        ensures leaves { LeavesRow (sized_by header.now height)
-            (over self.old window.old learned.old) (over self.new window.new learned.new)
-            piece.old.rest.now piece.new.rest.now result }
+        requires rows { WantsRow image.now.header.l0 self.old }
+        requires fits { RowFits image.now.header.xd self.old (held lent.old.window.now) }
+        ensures step { RowStep (sized_of image.now) (over self.old lent.old)
+            (over self.new lent.new) piece.old.rest.now piece.new.rest.now result }
+        ensures leaves { LeavesRow (sized_of image.now) (over self.old lent.old) (over self.new
+            lent.new) piece.old.rest.now piece.new.rest.now result }
         ensures code { OnOk result (self.new.stage ≡ stage.Code) }
-        ensures window { KeepsWindow window.old window.new }
+        ensures lent { KeepsLent lent.old lent.new }
     {
-        self.enter_row(header, height, window);
-        self.finish_row::<WHOLE_ROW>(header, height, window, learned, piece)
+        self.enter_row(image, lent.window);
+        self.finish_row::<WHOLE_ROW>(image, lent, piece)
     }
 
     /// Moves down to the next row of a stripe, and performs its move.
-    fn enter_row(&mut self, header: &Header, height: u32, window: &mut Window<'_>)
-        requires rows { WantsRow header.now.l0 self.old }
-        requires fits { RowFits header.now.xd self.old (held window.old) }
+    fn enter_row(&mut self, image: &SizedImage, window: &mut Window<'_>)
+        requires rows { WantsRow image.now.header.l0 self.old }
+        requires fits { RowFits image.now.header.xd self.old (held window.old) }
         ensures enters { (learned : List Estimate) (text out : List ℕ) →
-            WalkStands (sized_by header.now height) (over self.old window.old learned) text out →
-            WalkStands (sized_by header.now height) (over self.new window.new learned) text out }
-        ensures fits { RowFits header.now.xd self.new (held window.new) }
+            WalkStands (sized_of image.now) (walk_over self.old window.old learned) text out →
+            WalkStands (sized_of image.now) (walk_over self.new window.new learned) text out }
+        ensures fits { RowFits image.now.header.xd self.new (held window.new) }
         ensures stage { self.new.stage ≡ stage.Row }
         ensures place { (rows rows' : Held) (learned learned' : List Estimate) →
             KeepsPlace (walk_view self.old rows learned) (walk_view self.new rows' learned') }
@@ -103,7 +95,7 @@ impl Walk {
             (self.new.marker ≡ self.old.marker) }
     {
         // The proof uses this value to show that a row has pixels.
-        let _width = header.xd;
+        let _width = image.header.xd;
         self.kept.offset = offset_in(self.at, self.row, self.kept.offset);
         window.turn();
         self.stage = Stage::Row;
@@ -114,22 +106,18 @@ impl Walk {
     #[inline(always)]
     fn finish_row<const PART: usize>(
         &mut self,
-        header: &Header,
-        height: u32,
-        window: &mut Window<'_>,
-        learned: &mut Learned,
+        image: &SizedImage,
+        lent: &mut Lent<'_, '_>,
         piece: &mut Piece<'_>,
     ) -> Result<(), Fault>
-        requires height { MayBeHeight header.now.yd height }
         requires stage { self.old.stage ≡ stage.Row }
-        requires fits { RowFits header.now.xd self.old (held window.old) }
-        ensures step { RowStep (sized_by header.now height) (over self.old window.old learned.old)
-            (over self.new window.new learned.new) piece.old.rest.now piece.new.rest.now result }
-        ensures leaves { LeavesRow (sized_by header.now height)
-            (over self.old window.old learned.old) (over self.new window.new learned.new)
-            piece.old.rest.now piece.new.rest.now result }
+        requires fits { RowFits image.now.header.xd self.old (held lent.old.window.now) }
+        ensures step { RowStep (sized_of image.now) (over self.old lent.old)
+            (over self.new lent.new) piece.old.rest.now piece.new.rest.now result }
+        ensures leaves { LeavesRow (sized_of image.now) (over self.old lent.old) (over self.new
+            lent.new) piece.old.rest.now piece.new.rest.now result }
         ensures code { OnOk result (self.new.stage ≡ stage.Code) }
-        ensures window { KeepsWindow window.old window.new }
+        ensures lent { KeepsLent lent.old lent.new }
     {
         // The proof uses these laws of the coder.
         coder_laws();
@@ -138,10 +126,10 @@ impl Walk {
         let mut decoder = replace(&mut self.decoder, Decoder::start());
         decoder.resume();
         let went = go_on_in_row::<PART>(
-            header.shape(),
-            window,
+            image.header.shape(),
+            lent.window,
             &mut self.kept,
-            learned,
+            lent.learned,
             &mut decoder,
             &mut place,
             &mut self.first,

@@ -4,18 +4,18 @@ ghost use Rattle.std.specs.Prelude.{◌≡◌, ◌≢◌, false, ◌≤◌, ◌<
 ghost use Rattle.qm_core.specs.Place.{Estimate};
 ghost use Rattle.raster_core.specs.Packed.{Held};
 ghost use Rattle.raster_core.specs.Window.{held};
-ghost use Rattle.t85_core.specs.Steps.HeightWalk.{MayBeHeight};
 ghost use Rattle.t85_core.specs.declared.fault.Fault.TheVariants.{Changed};
 ghost use Rattle.t85_core.specs.declared.pieces.walk.Stage.TheVariants as stage;
 ghost use Rattle.t85_core.specs.Steps.Buffers.{copies};
-ghost use Rattle.t85_core.specs.Lent.{KeepsWindow, walk_view, walk_over as over};
+ghost use Rattle.t85_core.specs.Lent.{KeepsLent, walk_view, walk_over, walk_lent as over};
 ghost use Rattle.t85_core.specs.Steps.Pieces.{WalkStands, SomeStands, Alone, Step, HasAllRows, KeepsPlace, MarkerRead, RowIsLeft, StripesOn};
-ghost use Rattle.t85_core.specs.Steps.SizedImage.{sized_by};
+ghost use Rattle.t85_core.specs.Steps.SizedImage.{sized_of};
 
 use crate::decoding::rows::{is_settled, skip_many};
 use crate::fault::Fault;
-use crate::header::Header;
+use crate::header::{Header, SizedImage};
 use crate::laws::coder_laws;
+use crate::lent::Lent;
 use crate::pieces::code::find_marker;
 use crate::pieces::piece::Piece;
 use crate::pieces::walk::{Stage, Walk};
@@ -52,28 +52,21 @@ impl Walk {
     /// Decodes rows that equal the one before, if the bits already read determine them, and returns how many. The
     /// window contains the last of them.
     #[inline(always)]
-    pub fn repeat_rows(
-        &mut self,
-        header: &Header,
-        height: u32,
-        window: &mut Window<'_>,
-        learned: &Learned,
-    ) -> u32
-        ensures on { (text out : List ℕ) → WalkStands (sized_by header.now height)
-            (over self.old window.old learned.now) text out →
-            WalkStands (sized_by header.now height) (over self.new window.new learned.now) text
-            (out ++ copies result (held window.new).current) }
+    pub fn repeat_rows(&mut self, image: &SizedImage, lent: &mut Lent<'_, '_>) -> u32
+        ensures on { (text out : List ℕ) → WalkStands (sized_of image.now) (over self.old lent.old)
+            text out → WalkStands (sized_of image.now) (over self.new lent.new) text (out ++ copies
+            result (held lent.new.window.now).current) }
         ensures code { 0 < result → self.new.stage ≡ stage.Code }
     {
-        let left = self.rows_left(header);
+        let left = self.rows_left(&image.header);
         if !is_settled(self.at, self.row) {
             return 0;
         }
-        let count = skip_many(header.shape(), self.kept, learned, &mut self.decoder, left);
+        let count = skip_many(image.header.shape(), self.kept, lent.learned, &mut self.decoder, left);
         if count == 0 {
             return 0;
         }
-        window.repeat();
+        lent.window.repeat();
         self.row = self.row.saturating_add(count);
         count
     }
@@ -90,22 +83,20 @@ impl Walk {
     /// Skips the rest of the code of a stripe, after its last row, up to its end marker, and reads the marker ahead.
     pub fn find_end(
         &mut self,
-        header: &Header,
-        height: u32,
+        image: &SizedImage,
         piece: &mut Piece<'_>,
     ) -> Result<(), Fault>
-        requires height { MayBeHeight header.now.yd height }
-        requires rows { HasAllRows header.now.l0 self.old }
+        requires rows { HasAllRows image.now.header.l0 self.old }
         requires unmarked { self.old.marker ≡ None }
-        ensures step { Alone (λ w w'. Step (sized_by header.now height) w w' piece.old.rest.now
+        ensures step { Alone (λ w w'. Step (sized_of image.now) w w' piece.old.rest.now
             piece.new.rest.now result) self.old self.new }
         ensures place { (rows rows' : Held) (learned learned' : List Estimate) →
             KeepsPlace (walk_view self.old rows learned) (walk_view self.new rows' learned') }
         ensures stage { self.new.stage ≡ stage.Code }
         ensures marked { OnOk result (MarkerRead self.new.marker self.new.first) }
         ensures no_more { length piece.new.rest.now ≤ length piece.old.rest.now }
-        ensures other { (rows : Held) (learned : List Estimate) → SomeStands (sized_by header.now
-            height) (walk_view self.old rows learned) → IfErr result (λ f. f ≢ Changed) }
+        ensures other { (rows : Held) (learned : List Estimate) → SomeStands (sized_of
+            image.now) (walk_view self.old rows learned) → IfErr result (λ f. f ≢ Changed) }
     {
         // The proof uses these laws of the coder.
         coder_laws();
@@ -117,35 +108,32 @@ impl Walk {
     /// Skips the rest of the code of a stripe, after its last row, and prepares for the next stripe.
     pub fn finish_stripe(
         &mut self,
-        header: &Header,
-        height: u32,
-        window: &mut Window<'_>,
-        learned: &mut Learned,
+        image: &SizedImage,
+        lent: &mut Lent<'_, '_>,
         piece: &mut Piece<'_>,
     ) -> Result<(), Fault>
-        requires height { MayBeHeight header.now.yd height }
-        requires rows { HasAllRows header.now.l0 self.old }
-        ensures step { Step (sized_by header.now height) (over self.old window.old learned.old)
-            (over self.new window.new learned.new) piece.old.rest.now piece.new.rest.now result }
+        requires rows { HasAllRows image.now.header.l0 self.old }
+        ensures step { Step (sized_of image.now) (over self.old lent.old)
+            (over self.new lent.new) piece.old.rest.now piece.new.rest.now result }
         ensures stage { OnOk result ((self.new.stage ≡ stage.Done)
             ⊎ (self.new.stage ≡ stage.Head)) }
         ensures marked { MarkerRead self.old.marker self.old.first → IsOk result }
-        ensures read { OnOk result (StripesOn (sized_by header.now height)
-            (over self.old window.old learned.old) (over self.new window.new learned.new)
-            piece.old.rest.now piece.new.rest.now) }
-        ensures left { OnOk result (header.now.l0 < self.old.left → self.new.stage ≡ stage.Head) }
-        ensures next { OnOk result ((self.new.left ≡ self.old.left - header.now.l0)
+        ensures read { OnOk result (StripesOn (sized_of image.now) (over self.old lent.old) (over
+            self.new lent.new) piece.old.rest.now piece.new.rest.now) }
+        ensures left { OnOk result (image.now.header.l0 < self.old.left →
+            self.new.stage ≡ stage.Head) }
+        ensures next { OnOk result ((self.new.left ≡ self.old.left - image.now.header.l0)
             × (self.new.given ≡ self.old.given) × (self.new.at ≡ None)) }
-        ensures entities { SomeStands (sized_by header.now height) (over self.old window.old
-            learned.old) → OnOk result (self.new.entities ≡ self.old.entities + 1) }
-        ensures window { KeepsWindow window.old window.new }
+        ensures entities { SomeStands (sized_of image.now) (over self.old lent.old) → OnOk result
+            (self.new.entities ≡ self.old.entities + 1) }
+        ensures lent { KeepsLent lent.old lent.new }
     {
         // The proof uses these laws of the coder.
         coder_laws();
         let reset = find_marker(&mut self.first, self.marker, piece)?;
-        next_stripe(reset, window, &mut self.kept, learned);
+        next_stripe(reset, lent.window, &mut self.kept, lent.learned);
         self.entities = self.entities.saturating_add(1);
-        self.left -= self.left.min(header.l0);
+        self.left -= self.left.min(image.header.l0);
         self.at = None;
         self.first = None;
         self.marker = None;

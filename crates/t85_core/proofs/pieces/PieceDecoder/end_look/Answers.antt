@@ -2,7 +2,7 @@ use Rattle.std.proofs.Common.{◌∙◌, sym, ap, subst, refl, rules, arith}
 use Rattle.t85_core.specs.Options.{fields_of}
 use Rattle.t85_core.specs.Steps.Pieces.{IsInCode}
 use Rattle.t85_core.specs.Steps.PieceSteps.{SomeStand, StripeLeft, EndsWhole}
-use Rattle.t85_core.specs.Lent.{decoder_over, walk_over}
+use Rattle.t85_core.specs.Lent.{decoder_lent, walk_lent}
 use Rattle.t85_core.proofs.Decodings.PieceStood.{leaves_done, row_where, done_where, waits_of}
 use Rattle.t85_core.proofs.Decodings.PieceLook.{in_last, look_whole, own_first}
 use Rattle.t85_core.proofs.Decodings.PieceBelow.{leaves_look}
@@ -10,18 +10,18 @@ use Rattle.t85_core.proofs.pieces.PieceDecoder.end_look.Goals as goal
 
 pub returns-then-gives_below-clause-leaves : goal.returns-then-gives_below-clause-leaves
 returns-then-gives_below-clause-leaves c =
-    row_where c.args.is_all (decoder_over c.args.self.now c.args.window.now c.args.learned.now) (decoder_over c.gives_below.new.self c.gives_below.new.window c.gives_below.new.learned) c.args.piece.now.rest.now c.args.piece.now.rest.now c.gives_below.ensures.keeps.header c.gives_below.ensures.keeps.going
-    (λ some. leaves_look (decoder_over c.args.self.now c.args.window.now c.args.learned.now) (decoder_over c.gives_below.new.self c.gives_below.new.window c.gives_below.new.learned) c.requires.looks.0 c.requires.looks.1 c.min.result (c.gives_below.ensures.gives (search rules) some) c.args.piece.now.rest.now c.args.is_all c.requires.last (c.requires.over some) (let e = c.min.ensures in omega (arith, e)))
+    row_where c.args.is_all (decoder_lent c.args.self.now c.args.lent.now) (decoder_lent c.gives_below.new.self c.gives_below.new.lent) c.args.piece.now.rest.now c.args.piece.now.rest.now c.gives_below.ensures.keeps.header c.gives_below.ensures.keeps.going
+    (λ some. leaves_look (decoder_lent c.args.self.now c.args.lent.now) (decoder_lent c.gives_below.new.self c.gives_below.new.lent) c.requires.looks.0 c.requires.looks.1 c.min.result (c.gives_below.ensures.gives (search rules) some) c.args.piece.now.rest.now c.args.is_all c.requires.last (c.requires.over some) (let e = c.min.ensures in omega (arith, e)))
 
 pub returns-clause-leaves : goal.returns-clause-leaves
 returns-clause-leaves c =
     let above = c.gives_below.ensures.stays (search rules) in
     let keeps = c.end_stripe.ensures.keeps in
-    done_where c.args.is_all (decoder_over c.args.self.now c.args.window.now c.args.learned.now) (decoder_over c.end_stripe.new.self c.end_stripe.new.window c.end_stripe.new.learned) c.args.piece.now.rest.now c.args.piece.now.rest.now (keeps.header ∙ ap (λ z. z.header) above.same) (keeps.going ∙ ap (λ z. z.end) above.same) c.end_stripe.new.self.height refl
+    done_where c.args.is_all (decoder_lent c.args.self.now c.args.lent.now) (decoder_lent c.end_stripe.new.self c.end_stripe.new.lent) c.args.piece.now.rest.now c.args.piece.now.rest.now (keeps.header ∙ ap (λ z. z.header) above.same) (keeps.going ∙ ap (λ z. z.end) above.same) c.end_stripe.new.self.height refl
     (λ some.
-    let w = waits_of (decoder_over c.args.self.now c.args.window.now c.args.learned.now) some.0 some.1 c.requires.looks.0 c.requires.looks.1 some.2 in
-    let code = in_last (fields_of c.args.self.now.header) (walk_over c.args.self.now.walk c.args.window.now c.args.learned.now) w.at c.requires.last in
-    let e = subst (λ z. StripeLeft z (decoder_over c.end_stripe.new.self c.end_stripe.new.window c.end_stripe.new.learned)) above.same (c.end_stripe.ensures.ends (subst (λ z. IsInCode z.walk.stage) (sym above.same) code) (subst SomeStand (sym above.same) some)) in
-    leaves_done c.args.is_all (decoder_over c.args.self.now c.args.window.now c.args.learned.now) (decoder_over c.end_stripe.new.self c.end_stripe.new.window c.end_stripe.new.learned) c.args.piece.now.rest.now c.args.piece.now.rest.now _ e.keeps.header e.keeps.going refl
-    (subst (EndsWhole c.args.is_all (decoder_over c.args.self.now c.args.window.now c.args.learned.now) c.args.piece.now.rest.now) (sym (e.keeps.height ∙ own_first (decoder_over c.args.self.now c.args.window.now c.args.learned.now) c.requires.looks.0 some))
-    (look_whole (decoder_over c.args.self.now c.args.window.now c.args.learned.now) (decoder_over c.end_stripe.new.self c.end_stripe.new.window c.end_stripe.new.learned) c.args.piece.now.rest.now c.args.is_all c.coder_laws.ensures c.requires.looks.0 c.requires.looks.1 c.requires.last (c.requires.over some) e)))
+    let w = waits_of (decoder_lent c.args.self.now c.args.lent.now) some.0 some.1 c.requires.looks.0 c.requires.looks.1 some.2 in
+    let code = in_last (fields_of c.args.self.now.header) (walk_lent c.args.self.now.walk c.args.lent.now) w.at c.requires.last in
+    let e = subst (λ z. StripeLeft z (decoder_lent c.end_stripe.new.self c.end_stripe.new.lent)) above.same (c.end_stripe.ensures.ends (subst (λ z. IsInCode z.walk.stage) (sym above.same) code) (subst SomeStand (sym above.same) some)) in
+    leaves_done c.args.is_all (decoder_lent c.args.self.now c.args.lent.now) (decoder_lent c.end_stripe.new.self c.end_stripe.new.lent) c.args.piece.now.rest.now c.args.piece.now.rest.now _ e.keeps.header e.keeps.going refl
+    (subst (EndsWhole c.args.is_all (decoder_lent c.args.self.now c.args.lent.now) c.args.piece.now.rest.now) (sym (e.keeps.height ∙ own_first (decoder_lent c.args.self.now c.args.lent.now) c.requires.looks.0 some))
+    (look_whole (decoder_lent c.args.self.now c.args.lent.now) (decoder_lent c.end_stripe.new.self c.end_stripe.new.lent) c.args.piece.now.rest.now c.args.is_all c.coder_laws.ensures c.requires.looks.0 c.requires.looks.1 c.requires.last (c.requires.over some) e)))

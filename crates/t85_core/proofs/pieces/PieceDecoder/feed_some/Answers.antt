@@ -2,7 +2,7 @@ use Rattle.std.proofs.Common.{◌≡◌, ◌≤◌, ◌++◌, ◌+◌, ◌-◌, 
 use Rattle.t85_core.specs.Feeds.{held_bytes, IsFeed}
 use Rattle.t85_core.specs.Steps.Feeds.{Settles}
 use Rattle.t85_core.specs.Pieces.{call_of}
-use Rattle.t85_core.specs.Lent.{decoder_over}
+use Rattle.t85_core.specs.Lent.{decoder_lent}
 use Rattle.t85_core.proofs.Decodings.PieceStood.{split_is}
 use Rattle.t85_core.proofs.Decodings.PieceFeeds.{feeds, feeds_on}
 use Rattle.t85_core.proofs.pieces.PieceDecoder.feed_some.Goals as goal
@@ -11,8 +11,8 @@ pub returns-then-not-goes_on-clause-feed : goal.returns-then-not-goes_on-clause-
 returns-then-not-goes_on-clause-feed c =
     let piece_is = split_is c.args.piece.now c.split_at.result.0.now c.split_at.result.1.now c.min.result c.split_at.ensures.front c.split_at.ensures.back in
     let joined : c.split_at-2.result.0.now ≡ held_bytes c.args.held.now ++ c.split_at.result.0.now = c.split_at-2.ensures.front ∙ c.join-len.ensures.joined in
-    subst (λ z. IsFeed (decoder_over c.args.self.now c.args.window.now c.args.learned.now) (held_bytes c.args.held.now) (held_bytes c.settle.new.self) (call_of z c.args.is_all c.settle.result (decoder_over c.take-call.new.self c.take-call.new.window c.take-call.new.learned))) (sym piece_is)
-    (feeds (decoder_over c.args.self.now c.args.window.now c.args.learned.now) (decoder_over c.take-call.new.self c.take-call.new.window c.take-call.new.learned) (held_bytes c.args.held.now) (held_bytes c.settle.new.self) c.split_at.result.0.now c.split_at.result.1.now c.split_at-2.result.0.now c.ends_there.result c.args.is_all c.take-call.result c.settle.result joined c.take-call.ensures.call
+    subst (λ z. IsFeed (decoder_lent c.args.self.now c.args.lent.now) (held_bytes c.args.held.now) (held_bytes c.settle.new.self) (call_of z c.args.is_all c.settle.result (decoder_lent c.take-call.new.self c.take-call.new.lent))) (sym piece_is)
+    (feeds (decoder_lent c.args.self.now c.args.lent.now) (decoder_lent c.take-call.new.self c.take-call.new.lent) (held_bytes c.args.held.now) (held_bytes c.settle.new.self) c.split_at.result.0.now c.split_at.result.1.now c.split_at-2.result.0.now c.ends_there.result c.args.is_all c.take-call.result c.settle.result joined c.take-call.ensures.call
     (subst (λ n. Settles c.split_at-2.result.0.now n c.take-call.result c.settle.result (held_bytes c.settle.new.self)) c.count-count.ensures.count c.settle.ensures)
     c.ends_there.ensures.yes c.ends_there.ensures.no (c.goes_on.ensures.no (search rules)))
 
@@ -27,5 +27,5 @@ returns-clause-feed c =
     let over : length (held_bytes c.args.held.now) ≤ c.take-call.result.taken = omega (arith, few, long, sum, wants.1, c.min.ensures, c.split_at.ensures.front_len, c.split_at.ensures.back_len) in
     let rest : c.split_at-3.result.1.now ≡ drop (c.take-call.result.taken - length (held_bytes c.args.held.now)) (c.split_at.result.0.now ++ c.split_at.result.1.now) =
     c.split_at-3.ensures.back ∙ ap (λ n. drop n c.args.piece.now) (c.saturating_sub.ensures ∙ ap (λ n. c.take-call.result.taken - n) c.count-count.ensures.count) ∙ ap (drop (c.take-call.result.taken - length (held_bytes c.args.held.now))) piece_is in
-    subst (λ z. IsFeed (decoder_over c.args.self.now c.args.window.now c.args.learned.now) (held_bytes c.args.held.now) (held_bytes c.feed_piece-last.new.held) (call_of z c.args.is_all (record { outcome = c.feed_piece-last.result.outcome; taken = length z - length c.split_at-3.result.1.now + c.feed_piece-last.result.taken }) (decoder_over c.feed_piece-last.new.self c.feed_piece-last.new.window c.feed_piece-last.new.learned))) (sym piece_is)
-    (feeds_on (decoder_over c.args.self.now c.args.window.now c.args.learned.now) (decoder_over c.take-call.new.self c.take-call.new.window c.take-call.new.learned) (decoder_over c.feed_piece-last.new.self c.feed_piece-last.new.window c.feed_piece-last.new.learned) (held_bytes c.args.held.now) (held_bytes c.feed_piece-last.new.held) c.split_at.result.0.now c.split_at.result.1.now c.split_at-2.result.0.now c.split_at-3.result.1.now c.ends_there.result c.args.is_all c.take-call.result c.feed_piece-last.result joined c.take-call.ensures.call wants.0 over rest c.feed_piece-last.ensures.feed)
+    subst (λ z. IsFeed (decoder_lent c.args.self.now c.args.lent.now) (held_bytes c.args.held.now) (held_bytes c.feed_piece-last.new.held) (call_of z c.args.is_all (record { outcome = c.feed_piece-last.result.outcome; taken = length z - length c.split_at-3.result.1.now + c.feed_piece-last.result.taken }) (decoder_lent c.feed_piece-last.new.self c.feed_piece-last.new.lent))) (sym piece_is)
+    (feeds_on (decoder_lent c.args.self.now c.args.lent.now) (decoder_lent c.take-call.new.self c.take-call.new.lent) (decoder_lent c.feed_piece-last.new.self c.feed_piece-last.new.lent) (held_bytes c.args.held.now) (held_bytes c.feed_piece-last.new.held) c.split_at.result.0.now c.split_at.result.1.now c.split_at-2.result.0.now c.split_at-3.result.1.now c.ends_there.result c.args.is_all c.take-call.result c.feed_piece-last.result joined c.take-call.ensures.call wants.0 over rest c.feed_piece-last.ensures.feed)

@@ -2,27 +2,27 @@ use Rattle.std.proofs.Common.{Some, refl, subst, rules, arith}
 use Rattle.t85_core.specs.Options.{fields_of}
 use Rattle.t85_core.specs.Steps.Behind.{BehindOn, behind_at}
 use Rattle.t85_core.specs.Steps.PieceStands.{last_behind}
-use Rattle.t85_core.specs.Lent.{decoder_over}
+use Rattle.t85_core.specs.Lent.{decoder_lent}
 use Rattle.t85_core.proofs.Decodings.PieceStood.{leaves_after, leaves_more, fewer_after, leaves_nowhere, waits_few}
 use Rattle.t85_core.specs.declared.fault.Fault.TheVariants.{Truncated}
 use Rattle.t85_core.proofs.Decodings.PieceLook.{passed_on}
 use Rattle.t85_core.proofs.pieces.PieceDecoder.step_behind.Goals as goal
 
 pub returns-in-Ok-clause-leaves : goal.returns-in-Ok-clause-leaves
-returns-in-Ok-clause-leaves c = leaves_after c.args.is_all (decoder_over c.args.self.now c.args.window.now c.args.learned.now) _ (decoder_over c.take_coming.new.self c.take_coming.new.window c.take_coming.new.learned) c.args.piece.now.rest.now c.pass.new.piece.rest.now c.take_coming.new.piece.rest.now refl refl (passed_on (decoder_over c.args.self.now c.args.window.now c.args.learned.now) _ c.pass.new.self c.args.piece.now.rest.now c.pass.new.piece.rest.now c.requires.looks.0 c.requires.looks.1 refl refl refl refl refl refl (subst (λ z. BehindOn (fields_of c.args.self.now.header) (behind_at z (last_behind (fields_of c.args.self.now.header) c.args.self.now.walk.stage c.args.self.now.walk.left)) c.args.self.now.behind c.pass.new.self c.args.piece.now.rest.now c.pass.new.piece.rest.now) c.place_behind-place.ensures (subst (λ l. BehindOn (fields_of c.args.self.now.header) (behind_at c.place_behind-place.result l) c.args.self.now.behind c.pass.new.self c.args.piece.now.rest.now c.pass.new.piece.rest.now) c.is_last-is_last.ensures c.pass.ensures.on))) c.take_coming.result c.take_coming.ensures.leaves
+returns-in-Ok-clause-leaves c = leaves_after c.args.is_all (decoder_lent c.args.self.now c.args.lent.now) _ (decoder_lent c.take_coming.new.self c.take_coming.new.lent) c.args.piece.now.rest.now c.pass.new.piece.rest.now c.take_coming.new.piece.rest.now refl refl (passed_on (decoder_lent c.args.self.now c.args.lent.now) _ c.pass.new.self c.args.piece.now.rest.now c.pass.new.piece.rest.now c.requires.looks.0 c.requires.looks.1 refl refl refl refl refl refl (subst (λ z. BehindOn (fields_of c.args.self.now.header) (behind_at z (last_behind (fields_of c.args.self.now.header) c.args.self.now.walk.stage c.args.self.now.walk.left)) c.args.self.now.behind c.pass.new.self c.args.piece.now.rest.now c.pass.new.piece.rest.now) c.place_behind-place.ensures (subst (λ l. BehindOn (fields_of c.args.self.now.header) (behind_at c.place_behind-place.result l) c.args.self.now.behind c.pass.new.self c.args.piece.now.rest.now c.pass.new.piece.rest.now) c.is_last-is_last.ensures c.pass.ensures.on))) c.take_coming.result c.take_coming.ensures.leaves
 
 pub returns-in-Ok-clause-lowers : goal.returns-in-Ok-clause-lowers
 returns-in-Ok-clause-lowers c = λ is. fewer_after c.args.self.now.waits c.args.self.now.waits c.take_coming.new.self.waits c.args.piece.now.rest.now c.pass.new.piece.rest.now c.take_coming.new.piece.rest.now refl c.pass.ensures.no_more (c.take_coming.ensures.lowers is)
 
 pub returns-then-is_open_end-clause-leaves : goal.returns-then-is_open_end-clause-leaves
-returns-then-is_open_end-clause-leaves c = leaves_more c.args.is_all (decoder_over c.args.self.now c.args.window.now c.args.learned.now) _ c.args.piece.now.rest.now c.pass.new.piece.rest.now refl refl (c.is_open_end.ensures.yes (search rules)).1 c.requires.looks.0 c.requires.looks.1 (passed_on (decoder_over c.args.self.now c.args.window.now c.args.learned.now) _ c.pass.new.self c.args.piece.now.rest.now c.pass.new.piece.rest.now c.requires.looks.0 c.requires.looks.1 refl refl refl refl refl refl (subst (λ z. BehindOn (fields_of c.args.self.now.header) (behind_at z (last_behind (fields_of c.args.self.now.header) c.args.self.now.walk.stage c.args.self.now.walk.left)) c.args.self.now.behind c.pass.new.self c.args.piece.now.rest.now c.pass.new.piece.rest.now) c.place_behind-place.ensures (subst (λ l. BehindOn (fields_of c.args.self.now.header) (behind_at c.place_behind-place.result l) c.args.self.now.behind c.pass.new.self c.args.piece.now.rest.now c.pass.new.piece.rest.now) c.is_last-is_last.ensures c.pass.ensures.on))) (c.in-Err.ensures.err.few (c.is_open_end.ensures.yes (search rules)).0)
+returns-then-is_open_end-clause-leaves c = leaves_more c.args.is_all (decoder_lent c.args.self.now c.args.lent.now) _ c.args.piece.now.rest.now c.pass.new.piece.rest.now refl refl (c.is_open_end.ensures.yes (search rules)).1 c.requires.looks.0 c.requires.looks.1 (passed_on (decoder_lent c.args.self.now c.args.lent.now) _ c.pass.new.self c.args.piece.now.rest.now c.pass.new.piece.rest.now c.requires.looks.0 c.requires.looks.1 refl refl refl refl refl refl (subst (λ z. BehindOn (fields_of c.args.self.now.header) (behind_at z (last_behind (fields_of c.args.self.now.header) c.args.self.now.walk.stage c.args.self.now.walk.left)) c.args.self.now.behind c.pass.new.self c.args.piece.now.rest.now c.pass.new.piece.rest.now) c.place_behind-place.ensures (subst (λ l. BehindOn (fields_of c.args.self.now.header) (behind_at c.place_behind-place.result l) c.args.self.now.behind c.pass.new.self c.args.piece.now.rest.now c.pass.new.piece.rest.now) c.is_last-is_last.ensures c.pass.ensures.on))) (c.in-Err.ensures.err.few (c.is_open_end.ensures.yes (search rules)).0)
 
 pub returns-else-is_open_end-clause-leaves : goal.returns-else-is_open_end-clause-leaves
-returns-else-is_open_end-clause-leaves c = leaves_after c.args.is_all (decoder_over c.args.self.now c.args.window.now c.args.learned.now) _ (decoder_over c.stop_behind.new.self c.stop_behind.new.window c.stop_behind.new.learned) c.args.piece.now.rest.now c.pass.new.piece.rest.now c.pass.new.piece.rest.now refl refl (passed_on (decoder_over c.args.self.now c.args.window.now c.args.learned.now) _ c.pass.new.self c.args.piece.now.rest.now c.pass.new.piece.rest.now c.requires.looks.0 c.requires.looks.1 refl refl refl refl refl refl (subst (λ z. BehindOn (fields_of c.args.self.now.header) (behind_at z (last_behind (fields_of c.args.self.now.header) c.args.self.now.walk.stage c.args.self.now.walk.left)) c.args.self.now.behind c.pass.new.self c.args.piece.now.rest.now c.pass.new.piece.rest.now) c.place_behind-place.ensures (subst (λ l. BehindOn (fields_of c.args.self.now.header) (behind_at c.place_behind-place.result l) c.args.self.now.behind c.pass.new.self c.args.piece.now.rest.now c.pass.new.piece.rest.now) c.is_last-is_last.ensures c.pass.ensures.on))) (Some c.stop_behind.result) c.stop_behind.ensures.leaves
+returns-else-is_open_end-clause-leaves c = leaves_after c.args.is_all (decoder_lent c.args.self.now c.args.lent.now) _ (decoder_lent c.stop_behind.new.self c.stop_behind.new.lent) c.args.piece.now.rest.now c.pass.new.piece.rest.now c.pass.new.piece.rest.now refl refl (passed_on (decoder_lent c.args.self.now c.args.lent.now) _ c.pass.new.self c.args.piece.now.rest.now c.pass.new.piece.rest.now c.requires.looks.0 c.requires.looks.1 refl refl refl refl refl refl (subst (λ z. BehindOn (fields_of c.args.self.now.header) (behind_at z (last_behind (fields_of c.args.self.now.header) c.args.self.now.walk.stage c.args.self.now.walk.left)) c.args.self.now.behind c.pass.new.self c.args.piece.now.rest.now c.pass.new.piece.rest.now) c.place_behind-place.ensures (subst (λ l. BehindOn (fields_of c.args.self.now.header) (behind_at c.place_behind-place.result l) c.args.self.now.behind c.pass.new.self c.args.piece.now.rest.now c.pass.new.piece.rest.now) c.is_last-is_last.ensures c.pass.ensures.on))) (Some c.stop_behind.result) c.stop_behind.ensures.leaves
 
 pub returns-then-self-clause-leaves : goal.returns-then-self-clause-leaves
 returns-then-self-clause-leaves c =
-    leaves_nowhere c.args.is_all (decoder_over c.args.self.now c.args.window.now c.args.learned.now) (decoder_over c.args.self.now c.args.window.now c.args.learned.now) c.args.piece.now.rest.now c.args.piece.now.rest.now refl refl Truncated (λ some. let few = waits_few (decoder_over c.args.self.now c.args.window.now c.args.learned.now) c.requires.looks.0 c.requires.looks.1 some in omega (arith, few, c.if-self.true))
+    leaves_nowhere c.args.is_all (decoder_lent c.args.self.now c.args.lent.now) (decoder_lent c.args.self.now c.args.lent.now) c.args.piece.now.rest.now c.args.piece.now.rest.now refl refl Truncated (λ some. let few = waits_few (decoder_lent c.args.self.now c.args.lent.now) c.requires.looks.0 c.requires.looks.1 some in omega (arith, few, c.if-self.true))
 
 pub returns-then-self-clause-lowers : goal.returns-then-self-clause-lowers
 returns-then-self-clause-lowers c = λ e. absurd (let bot : ⊥ = cc in bot)

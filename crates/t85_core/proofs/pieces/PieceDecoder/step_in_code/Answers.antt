@@ -1,28 +1,28 @@
 use Rattle.std.proofs.Common.{refl, inr, rules}
 use Rattle.t85_core.specs.Options.{fields_of}
 use Rattle.raster_core.specs.Window.{held}
-use Rattle.t85_core.specs.Lent.{decoder_over, walk_over}
+use Rattle.t85_core.specs.Lent.{decoder_lent, walk_lent}
 use Rattle.t85_core.proofs.Decodings.PieceStood.{code_of, put_code, put_waits, waits_first, on_none, leaves_on, leaves_after, leaves_nowhere}
 use Rattle.t85_core.specs.declared.fault.Fault.TheVariants.{Truncated}
 use Rattle.t85_core.proofs.pieces.PieceDecoder.step_in_code.Goals as goal
 
 pub returns-then-not-is_in_code-clause-leaves : goal.returns-then-not-is_in_code-clause-leaves
 returns-then-not-is_in_code-clause-leaves c =
-    leaves_nowhere c.args.is_all (decoder_over c.args.self.now c.args.window.now c.args.learned.now) (decoder_over c.args.self.now c.args.window.now c.args.learned.now) c.args.piece.now.rest.now c.args.piece.now.rest.now refl refl Truncated (λ some. c.is_in_code.ensures.no (search rules) (code_of (decoder_over c.args.self.now c.args.window.now c.args.learned.now) some.0 some.1 c.requires.in_code.0 c.requires.in_code.1 some.2).in_code)
+    leaves_nowhere c.args.is_all (decoder_lent c.args.self.now c.args.lent.now) (decoder_lent c.args.self.now c.args.lent.now) c.args.piece.now.rest.now c.args.piece.now.rest.now refl refl Truncated (λ some. c.is_in_code.ensures.no (search rules) (code_of (decoder_lent c.args.self.now c.args.lent.now) some.0 some.1 c.requires.in_code.0 c.requires.in_code.1 some.2).in_code)
 
 pub returns-then-not-is_in_code-clause-lowers : goal.returns-then-not-is_in_code-clause-lowers
 returns-then-not-is_in_code-clause-lowers c = λ e. absurd (let bot : ⊥ = cc in bot)
 
 pub returns-then-has_marker-clause-leaves : goal.returns-then-has_marker-clause-leaves
-returns-then-has_marker-clause-leaves c = leaves_on c.args.is_all (decoder_over c.args.self.now c.args.window.now c.args.learned.now) _ c.args.piece.now.rest.now c.args.piece.now.rest.now refl refl
-    (on_none (decoder_over c.args.self.now c.args.window.now c.args.learned.now) _ c.args.piece.now.rest.now (λ text out s.
-    let w = code_of (decoder_over c.args.self.now c.args.window.now c.args.learned.now) text out c.requires.in_code.0 c.requires.in_code.1 s in
-    put_waits _ text out c.requires.in_code.0 refl s.height (waits_first (fields_of c.args.self.now.header) (walk_over c.args.self.now.walk c.args.window.now c.args.learned.now) c.start-self.result text out w.walk (inr (w.in_code, c.has_marker.ensures.yes (search rules))) w.ungiven c.start-self.ensures.at c.start-self.ensures.comment)))
+returns-then-has_marker-clause-leaves c = leaves_on c.args.is_all (decoder_lent c.args.self.now c.args.lent.now) _ c.args.piece.now.rest.now c.args.piece.now.rest.now refl refl
+    (on_none (decoder_lent c.args.self.now c.args.lent.now) _ c.args.piece.now.rest.now (λ text out s.
+    let w = code_of (decoder_lent c.args.self.now c.args.lent.now) text out c.requires.in_code.0 c.requires.in_code.1 s in
+    put_waits _ text out c.requires.in_code.0 refl s.height (waits_first (fields_of c.args.self.now.header) (walk_lent c.args.self.now.walk c.args.lent.now) c.start-self.result text out w.walk (inr (w.in_code, c.has_marker.ensures.yes (search rules))) w.ungiven c.start-self.ensures.at c.start-self.ensures.comment)))
 
 pub returns-then-wants_row-clause-leaves : goal.returns-then-wants_row-clause-leaves
-returns-then-wants_row-clause-leaves c = leaves_after c.args.is_all (decoder_over c.args.self.now c.args.window.now c.args.learned.now) _ (decoder_over c.step_in_rows.new.self c.step_in_rows.new.window c.step_in_rows.new.learned) c.args.piece.now.rest.now c.args.piece.now.rest.now c.step_in_rows.new.piece.rest.now refl refl
-    (on_none (decoder_over c.args.self.now c.args.window.now c.args.learned.now) _ c.args.piece.now.rest.now (λ text out s. put_code _ text out c.requires.in_code.0 c.requires.in_code.1 s.height (code_of (decoder_over c.args.self.now c.args.window.now c.args.learned.now) text out c.requires.in_code.0 c.requires.in_code.1 s))) c.step_in_rows.result c.step_in_rows.ensures.leaves
+returns-then-wants_row-clause-leaves c = leaves_after c.args.is_all (decoder_lent c.args.self.now c.args.lent.now) _ (decoder_lent c.step_in_rows.new.self c.step_in_rows.new.lent) c.args.piece.now.rest.now c.args.piece.now.rest.now c.step_in_rows.new.piece.rest.now refl refl
+    (on_none (decoder_lent c.args.self.now c.args.lent.now) _ c.args.piece.now.rest.now (λ text out s. put_code _ text out c.requires.in_code.0 c.requires.in_code.1 s.height (code_of (decoder_lent c.args.self.now c.args.lent.now) text out c.requires.in_code.0 c.requires.in_code.1 s))) c.step_in_rows.result c.step_in_rows.ensures.leaves
 
 pub returns-else-wants_row-clause-leaves : goal.returns-else-wants_row-clause-leaves
-returns-else-wants_row-clause-leaves c = leaves_after c.args.is_all (decoder_over c.args.self.now c.args.window.now c.args.learned.now) _ (decoder_over c.step_to_marker.new.self c.args.window.now c.args.learned.now) c.args.piece.now.rest.now c.args.piece.now.rest.now c.step_to_marker.new.piece.rest.now refl refl
-    (on_none (decoder_over c.args.self.now c.args.window.now c.args.learned.now) _ c.args.piece.now.rest.now (λ text out s. put_code _ text out c.requires.in_code.0 c.requires.in_code.1 s.height (code_of (decoder_over c.args.self.now c.args.window.now c.args.learned.now) text out c.requires.in_code.0 c.requires.in_code.1 s))) c.step_to_marker.result (c.step_to_marker.ensures.leaves (held c.args.window.now) c.args.learned.now)
+returns-else-wants_row-clause-leaves c = leaves_after c.args.is_all (decoder_lent c.args.self.now c.args.lent.now) _ (decoder_lent c.step_to_marker.new.self c.args.lent.now) c.args.piece.now.rest.now c.args.piece.now.rest.now c.step_to_marker.new.piece.rest.now refl refl
+    (on_none (decoder_lent c.args.self.now c.args.lent.now) _ c.args.piece.now.rest.now (λ text out s. put_code _ text out c.requires.in_code.0 c.requires.in_code.1 s.height (code_of (decoder_lent c.args.self.now c.args.lent.now) text out c.requires.in_code.0 c.requires.in_code.1 s))) c.step_to_marker.result (c.step_to_marker.ensures.leaves (held c.args.lent.now.window.now) c.args.lent.now.learned.now)

@@ -3,7 +3,7 @@ use Rattle.t85_core.specs.Options.{fields_of}
 use Rattle.t85_core.specs.Outcomes.{end_in}
 use Rattle.t85_core.specs.Pieces.{HasDecoded, HandsOut, stream_of, row_held}
 use Rattle.t85_core.specs.declared.fault.Fault.TheVariants.{Truncated}
-use Rattle.t85_core.specs.Lent.{decoder_over}
+use Rattle.t85_core.specs.Lent.{decoder_lent}
 use Rattle.t85_core.proofs.Decodings.PieceStood.{call_on}
 use Rattle.t85_core.proofs.pieces.PieceDecoder.take.Goals as goal
 
@@ -14,12 +14,12 @@ returns-clause-call c = record {
   ends = λ all is. absurd (true≢false (sym all ∙ (c.go_on-outcome.ensures.leaves.more (ap Some is)).0));
   few_left = λ is. let few = (c.go_on-outcome.ensures.leaves.more (ap Some is)).3 in let sum = c.saturating_sub.ensures in omega (arith, few, sum);
   again = λ end is. absurd (c.in_default.not-Some end is);
-  row = λ is. call_on (decoder_over c.args.self.now c.args.window.now c.args.learned.now) (decoder_over c.go_on-outcome.new.self c.go_on-outcome.new.window c.go_on-outcome.new.learned) _ c.args.piece.now c.go_on-outcome.new.piece.rest.now (row_held (decoder_over c.go_on-outcome.new.self c.go_on-outcome.new.window c.go_on-outcome.new.learned)) _ c.saturating_sub.ensures refl refl refl refl refl refl (c.end_of-self.ensures ∙ ap end_in is) (c.go_on-outcome.ensures.leaves.row (ap Some is));
+  row = λ is. call_on (decoder_lent c.args.self.now c.args.lent.now) (decoder_lent c.go_on-outcome.new.self c.go_on-outcome.new.lent) _ c.args.piece.now c.go_on-outcome.new.piece.rest.now (row_held (decoder_lent c.go_on-outcome.new.self c.go_on-outcome.new.lent)) _ c.saturating_sub.ensures refl refl refl refl refl refl (c.end_of-self.ensures ∙ ap end_in is) (c.go_on-outcome.ensures.leaves.row (ap Some is));
   waits = λ is late marked text out rest n s follows i. c.go_on-outcome.ensures.leaves.waits (ap Some is) late marked text out rest n s.stands follows i;
   more = λ is text out s.
       let k = c.go_on-outcome.ensures.leaves.more (ap Some is) in (
-        subst (HasDecoded _ _) (append-nil out) (call_on (decoder_over c.args.self.now c.args.window.now c.args.learned.now) (decoder_over c.go_on-outcome.new.self c.go_on-outcome.new.window c.go_on-outcome.new.learned) _ c.args.piece.now c.go_on-outcome.new.piece.rest.now [] _ c.saturating_sub.ensures refl refl refl refl refl refl (c.end_of-self.ensures ∙ ap end_in is) k.1 text out s),
-        (λ waits. subst (λ z. HandsOut (stream_of (decoder_over c.args.self.now c.args.window.now c.args.learned.now)) z c.go_on-outcome.new.self.height Truncated out) (append-nil (text ++ c.args.piece.now)) (k.2 waits text out [] s.stands (λ _. refl))),
+        subst (HasDecoded _ _) (append-nil out) (call_on (decoder_lent c.args.self.now c.args.lent.now) (decoder_lent c.go_on-outcome.new.self c.go_on-outcome.new.lent) _ c.args.piece.now c.go_on-outcome.new.piece.rest.now [] _ c.saturating_sub.ensures refl refl refl refl refl refl (c.end_of-self.ensures ∙ ap end_in is) k.1 text out s),
+        (λ waits. subst (λ z. HandsOut (stream_of (decoder_lent c.args.self.now c.args.lent.now)) z c.go_on-outcome.new.self.height Truncated out) (append-nil (text ++ c.args.piece.now)) (k.2 waits text out [] s.stands (λ _. refl))),
       );
   done = λ n is.
       let k = c.go_on-outcome.ensures.leaves.done n (ap Some is) in (k.0, (λ text out rest s follows. k.1 text out rest s.stands follows));

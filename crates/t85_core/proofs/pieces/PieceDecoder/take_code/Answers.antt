@@ -2,23 +2,23 @@ use Rattle.std.proofs.Common.{◌≡◌, ◌∙◌, refl, ap, sym, subst, false,
 use Rattle.t85_core.specs.Options.{fields_of}
 use Rattle.t85_core.specs.Steps.PieceStands.{last_behind}
 use Rattle.t85_core.specs.Steps.PieceSteps.{SomeStand}
-use Rattle.t85_core.specs.Lent.{decoder_over}
+use Rattle.t85_core.specs.Lent.{decoder_lent}
 use Rattle.t85_core.proofs.Decodings.PieceStood.{leaves_of, leaves_on, code_entered, on_where, row_where}
 use Rattle.t85_core.proofs.Decodings.PieceBelow.{leaves_code}
 use Rattle.t85_core.proofs.pieces.PieceDecoder.take_code.Goals as goal
 
 pub returns-then-gives_below-clause-leaves : goal.returns-then-gives_below-clause-leaves
 returns-then-gives_below-clause-leaves c = λ is_all.
-    row_where is_all (decoder_over c.args.self.now c.args.window.now c.args.learned.now) (decoder_over c.gives_below.new.self c.gives_below.new.window c.gives_below.new.learned) c.args.piece.now.rest.now c.args.piece.now.rest.now c.gives_below.ensures.keeps.header c.gives_below.ensures.keeps.going (λ some.
-    leaves_code (decoder_over c.args.self.now c.args.window.now c.args.learned.now) (decoder_over c.gives_below.new.self c.gives_below.new.window c.gives_below.new.learned) c.requires.looks.0 c.requires.looks.1 c.min.result (c.gives_below.ensures.gives (search rules) some) c.args.code c.args.piece.now.rest.now c.args.rest.now c.requires.between c.requires.more c.requires.code c.requires.comes (let e = c.min.ensures in omega (arith, e)) is_all)
+    row_where is_all (decoder_lent c.args.self.now c.args.lent.now) (decoder_lent c.gives_below.new.self c.gives_below.new.lent) c.args.piece.now.rest.now c.args.piece.now.rest.now c.gives_below.ensures.keeps.header c.gives_below.ensures.keeps.going (λ some.
+    leaves_code (decoder_lent c.args.self.now c.args.lent.now) (decoder_lent c.gives_below.new.self c.gives_below.new.lent) c.requires.looks.0 c.requires.looks.1 c.min.result (c.gives_below.ensures.gives (search rules) some) c.args.code c.args.piece.now.rest.now c.args.rest.now c.requires.between c.requires.more c.requires.code c.requires.comes (let e = c.min.ensures in omega (arith, e)) is_all)
 
 pub returns-clause-leaves : goal.returns-clause-leaves
 returns-clause-leaves c = λ is_all.
     let above = c.gives_below.ensures.stays (search rules) in
     let keeps = c.enter_head.ensures.keeps in
-    on_where is_all (decoder_over c.args.self.now c.args.window.now c.args.learned.now) _ c.args.piece.now.rest.now c.args.rest.now (keeps.header ∙ ap (λ z. z.header) above.same) (keeps.going ∙ ap (λ z. z.end) above.same) (λ some.
+    on_where is_all (decoder_lent c.args.self.now c.args.lent.now) _ c.args.piece.now.rest.now c.args.rest.now (keeps.header ∙ ap (λ z. z.header) above.same) (keeps.going ∙ ap (λ z. z.end) above.same) (λ some.
     let h = c.enter_head.ensures.head (subst (λ z. last_behind (fields_of z.header) z.walk.stage z.walk.left ≡ false) (sym above.same) c.requires.more) (subst SomeStand (sym above.same) some) in
     leaves_of above.same
-    (leaves_on is_all (decoder_over c.gives_below.new.self c.gives_below.new.window c.gives_below.new.learned) _ c.args.piece.now.rest.now c.args.rest.now h.keeps.header h.keeps.going
-    (code_entered (decoder_over c.gives_below.new.self c.gives_below.new.window c.gives_below.new.learned) (decoder_over c.enter_head.new.self c.enter_head.new.window c.enter_head.new.learned) _ c.args.code c.start-self.result c.args.piece.now.rest.now c.args.rest.now (ap (λ z. z.is_open) above.same ∙ c.requires.looks.0) (ap (λ z. z.waits) above.same ∙ c.requires.looks.1) h
+    (leaves_on is_all (decoder_lent c.gives_below.new.self c.gives_below.new.lent) _ c.args.piece.now.rest.now c.args.rest.now h.keeps.header h.keeps.going
+    (code_entered (decoder_lent c.gives_below.new.self c.gives_below.new.lent) (decoder_lent c.enter_head.new.self c.enter_head.new.lent) _ c.args.code c.start-self.result c.args.piece.now.rest.now c.args.rest.now (ap (λ z. z.is_open) above.same ∙ c.requires.looks.0) (ap (λ z. z.waits) above.same ∙ c.requires.looks.1) h
     (ap (λ z. z.behind.comment) above.same ∙ c.requires.between) c.requires.code c.start-self.ensures.stands c.requires.comes refl refl refl refl refl)))

@@ -3,7 +3,7 @@ use Rattle.t85_core.specs.Options.{fields_of}
 use Rattle.t85_core.specs.Steps.Pieces.{IsInCode}
 use Rattle.t85_core.specs.Steps.PieceStands.{last_behind}
 use Rattle.t85_core.specs.Steps.PieceSteps.{SomeStand, HeadEntered}
-use Rattle.t85_core.specs.Lent.{decoder_over, walk_over}
+use Rattle.t85_core.specs.Lent.{decoder_lent, walk_lent}
 use Rattle.t85_core.proofs.Decodings.PieceStood.{leaves_on, leaves_done, on_where, row_where, not_last}
 use Rattle.t85_core.proofs.Decodings.PieceLook.{late_whole, height_over, raised_on}
 use Rattle.t85_core.proofs.Decodings.PieceBelow.{leaves_height}
@@ -11,8 +11,8 @@ use Rattle.t85_core.proofs.pieces.PieceDecoder.take_height.Goals as goal
 
 pub returns-then-gives_below-clause-leaves : goal.returns-then-gives_below-clause-leaves
 returns-then-gives_below-clause-leaves c = λ is_all.
-    row_where is_all (decoder_over c.args.self.now c.args.window.now c.args.learned.now) (decoder_over c.gives_below.new.self c.gives_below.new.window c.gives_below.new.learned) c.args.piece.now.rest.now c.args.piece.now.rest.now c.gives_below.ensures.keeps.header c.gives_below.ensures.keeps.going (λ some.
-    leaves_height (decoder_over c.args.self.now c.args.window.now c.args.learned.now) (decoder_over c.gives_below.new.self c.gives_below.new.window c.gives_below.new.learned) c.requires.looks.0 c.requires.looks.1 c.min.result (c.gives_below.ensures.gives (search rules) some) c.args.height c.args.piece.now.rest.now c.args.rest.now c.requires.between c.requires.comes (let e = c.min.ensures in let left = c.saturating_sub-left.ensures in omega (arith, e, left)) is_all)
+    row_where is_all (decoder_lent c.args.self.now c.args.lent.now) (decoder_lent c.gives_below.new.self c.gives_below.new.lent) c.args.piece.now.rest.now c.args.piece.now.rest.now c.gives_below.ensures.keeps.header c.gives_below.ensures.keeps.going (λ some.
+    leaves_height (decoder_lent c.args.self.now c.args.lent.now) (decoder_lent c.gives_below.new.self c.gives_below.new.lent) c.requires.looks.0 c.requires.looks.1 c.min.result (c.gives_below.ensures.gives (search rules) some) c.args.height c.args.piece.now.rest.now c.args.rest.now c.requires.between c.requires.comes (let e = c.min.ensures in let left = c.saturating_sub-left.ensures in omega (arith, e, left)) is_all)
 
 pub returns-then-ends_in_stripe-clause-leaves : goal.returns-then-ends_in_stripe-clause-leaves
 returns-then-ends_in_stripe-clause-leaves c = λ is_all.
@@ -24,22 +24,22 @@ returns-then-ends_in_stripe-clause-leaves c = λ is_all.
     let fits : c.args.self.now.walk.left - (c.args.self.now.header.yd - c.args.height) ≤ c.args.self.now.header.l0 = omega (arith, low, left) in
     let given = above.all code in
     let few : c.args.self.now.walk.left - (c.args.self.now.header.yd - c.args.height) ≤ c.args.self.now.walk.row = omega (arith, c.min.ensures, left, fits, given) in
-    leaves_done is_all (decoder_over c.args.self.now c.args.window.now c.args.learned.now) _ c.args.piece.now.rest.now c.args.piece.now.rest.now c.args.height (ap (λ z. z.header) above.same) (ap (λ z. z.end) above.same) refl
-    (late_whole (decoder_over c.args.self.now c.args.window.now c.args.learned.now) c.coder_laws.ensures c.args.height c.args.piece.now.rest.now c.args.rest.now c.requires.looks.0 c.requires.looks.1 c.requires.between code c.requires.comes fits few is_all)
+    leaves_done is_all (decoder_lent c.args.self.now c.args.lent.now) _ c.args.piece.now.rest.now c.args.piece.now.rest.now c.args.height (ap (λ z. z.header) above.same) (ap (λ z. z.end) above.same) refl
+    (late_whole (decoder_lent c.args.self.now c.args.lent.now) c.coder_laws.ensures c.args.height c.args.piece.now.rest.now c.args.rest.now c.requires.looks.0 c.requires.looks.1 c.requires.between code c.requires.comes fits few is_all)
 
 pub returns-clause-leaves : goal.returns-clause-leaves
 returns-clause-leaves c = λ is_all.
     let above = c.gives_below.ensures.stays (search rules) in
     let keeps = c.enter_head.ensures.keeps in
-    on_where is_all (decoder_over c.args.self.now c.args.window.now c.args.learned.now) _ c.args.piece.now.rest.now c.args.rest.now (keeps.header ∙ ap (λ z. z.header) above.same) (keeps.going ∙ ap (λ z. z.end) above.same) (λ some.
+    on_where is_all (decoder_lent c.args.self.now c.args.lent.now) _ c.args.piece.now.rest.now c.args.rest.now (keeps.header ∙ ap (λ z. z.header) above.same) (keeps.going ∙ ap (λ z. z.end) above.same) (λ some.
     let left = c.saturating_sub-left.ensures in
     let over : IsInCode c.args.self.now.walk.stage → c.args.self.now.header.l0 < c.args.self.now.walk.left - (c.args.self.now.header.yd - c.args.height) =
     λ code.
     let more : c.args.self.now.header.l0 < c.saturating_sub-left.result = subst (λ z. z.header.l0 < c.saturating_sub-left.result) above.same (c.ends_in_stripe.ensures.no (search rules) (subst (λ z. IsInCode z.walk.stage) (sym above.same) code)) in
     omega (arith, more, left) in
-    let more = not_last (decoder_over c.args.self.now c.args.window.now c.args.learned.now) c.requires.looks.0 c.requires.looks.1 some (λ code. let n = over code in omega (arith, n)) in
-    let h = subst (λ z. HeadEntered z (decoder_over c.enter_head.new.self c.enter_head.new.window c.enter_head.new.learned)) above.same (c.enter_head.ensures.head (subst (λ z. last_behind (fields_of z.header) z.walk.stage z.walk.left ≡ false) (sym above.same) more) (subst SomeStand (sym above.same) some)) in
-    leaves_on is_all (decoder_over c.args.self.now c.args.window.now c.args.learned.now) _ c.args.piece.now.rest.now c.args.rest.now h.keeps.header h.keeps.going
-    (raised_on (decoder_over c.args.self.now c.args.window.now c.args.learned.now) (decoder_over c.enter_head.new.self c.enter_head.new.window c.enter_head.new.learned) _ c.args.height c.args.piece.now.rest.now c.args.rest.now c.requires.looks.0 c.requires.looks.1 h c.requires.between c.requires.comes
-    (height_over (decoder_over c.args.self.now c.args.window.now c.args.learned.now) (decoder_over c.enter_head.new.self c.enter_head.new.window c.enter_head.new.learned) c.args.height c.args.piece.now.rest.now c.args.rest.now c.requires.looks.0 c.requires.looks.1 some h c.requires.comes over)
-    refl refl refl (ap (λ z. record (walk_over c.enter_head.new.self.walk c.enter_head.new.window c.enter_head.new.learned) { left = z; given = true }) c.saturating_sub-self.ensures)))
+    let more = not_last (decoder_lent c.args.self.now c.args.lent.now) c.requires.looks.0 c.requires.looks.1 some (λ code. let n = over code in omega (arith, n)) in
+    let h = subst (λ z. HeadEntered z (decoder_lent c.enter_head.new.self c.enter_head.new.lent)) above.same (c.enter_head.ensures.head (subst (λ z. last_behind (fields_of z.header) z.walk.stage z.walk.left ≡ false) (sym above.same) more) (subst SomeStand (sym above.same) some)) in
+    leaves_on is_all (decoder_lent c.args.self.now c.args.lent.now) _ c.args.piece.now.rest.now c.args.rest.now h.keeps.header h.keeps.going
+    (raised_on (decoder_lent c.args.self.now c.args.lent.now) (decoder_lent c.enter_head.new.self c.enter_head.new.lent) _ c.args.height c.args.piece.now.rest.now c.args.rest.now c.requires.looks.0 c.requires.looks.1 h c.requires.between c.requires.comes
+    (height_over (decoder_lent c.args.self.now c.args.lent.now) (decoder_lent c.enter_head.new.self c.enter_head.new.lent) c.args.height c.args.piece.now.rest.now c.args.rest.now c.requires.looks.0 c.requires.looks.1 some h c.requires.comes over)
+    refl refl refl (ap (λ z. record (walk_lent c.enter_head.new.self.walk c.enter_head.new.lent) { left = z; given = true }) c.saturating_sub-self.ensures)))

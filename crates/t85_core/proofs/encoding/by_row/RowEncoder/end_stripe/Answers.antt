@@ -12,7 +12,7 @@ use Rattle.t85_core.specs.Steps.RowSteps.{StripeBegun}
 use Rattle.t85_core.proofs.Walks.InfoEnds.{exit_all}
 use Rattle.t85_core.proofs.Bytes.Ends.{always, always_err}
 use Rattle.t85_core.proofs.Bytes.Streams.{Appends-keeps, beginning_all}
-use Rattle.t85_core.proofs.Encodings.RowSteps.{stripe_ended, stripe_cut}
+use Rattle.t85_core.proofs.Encodings.RowSteps.{stripe_ended, stripe_cut, held_by_carried, carried_by_held}
 use Rattle.t85_core.proofs.Encodings.FewAppended.{code_ended_few, kept_few}
 use Rattle.t85_core.proofs.encoding.by_row.RowEncoder.end_stripe.Goals as goal
 
@@ -27,9 +27,9 @@ returns-in_err-end_entity-clause-cut g c =
 pub returns-clause-ok : goal.returns-clause-ok
 returns-clause-ok g c = always c.write_held.result (λ image rows origin r.
     let e = c.in_ok-end_entity.ensures.ended (row_start_in image.settings image.width r.at r.part).state.place r.pushed (subst (λ e. EncoderIsAt e (row_start_in image.settings image.width r.at r.part).state.place r.pushed) (sym c.replace-encoder.ensures.value) r.running.codes) in
-    stripe_ended image rows (view_of c.args.self.now c.args.learning.now) (held c.args.window.now) origin _ _ c.requires.some r c.writing_laws.ensures c.replace-encoder.new.dest c.go_on.new.kept c.go_on.new.learned _ _ _ refl
+    stripe_ended image rows (view_of c.args.self.now c.args.learning.now) (held c.args.window.now) origin _ _ c.requires.some r c.writing_laws.ensures c.replace-encoder.new.dest c.next_stripe.new.kept c.next_stripe.new.learned _ _ _ refl
     (subst (λ e. EncoderIsAt e start []) (sym c.replace-encoder.ensures.after) c.start.ensures.codes)
-    (λ last is. subst (λ w. IsHeldBy None 0 (first_row_start (next_stripe_start w c.args.self.now.reset last)) c.go_on.new.kept c.go_on.new.learned (held c.go_on.new.window)) c.requires.lined.1 (c.go_on.ensures.next last is))
+    (λ last is. subst (λ w. IsHeldBy None 0 (first_row_start (next_stripe_start w c.args.self.now.reset last)) c.next_stripe.new.kept c.next_stripe.new.learned (held c.next_stripe.new.window)) c.requires.lined.1 (held_by_carried (c.next_stripe.ensures.next last (carried_by_held is))))
     e.code e.more e.is e.all e.ok c.write_held.ensures.text)
 
 pub returns-clause-cut : goal.returns-clause-cut

@@ -14,7 +14,7 @@ returns-clause-enters c = λ learned text out s.
       at_is = s.at_is;
       code_is = s.code_is;
       behind = s.behind;
-      within = omega (arith, c.start-self.ensures.done, c.args.header.now.some_width);
+      within = omega (arith, c.start-self.ensures.done, c.args.image.now.header.some_width);
       stands = row_entered k (row_in_stripe s c.requires.rows.1) _ _ (record { is_begun = c.start-self.ensures.none; done = c.start-self.ensures.done; past = c.start-self.ensures.past }) refl c.turn.ensures.turned c.offset_in-self.ensures.is refl;
     }
 
@@ -24,7 +24,7 @@ returns-clause-place c = λ rows rows' learned learned'. record { entities = ref
 pub returns-clause-fits : goal.returns-clause-fits
 returns-clause-fits c = record {
   width_is = ap (λ w. w.width) c.turn.ensures.turned ∙ c.requires.fits.width_is;
-  within = omega (arith, c.start-self.ensures.done, c.args.header.now.some_width);
+  within = omega (arith, c.start-self.ensures.done, c.args.image.now.header.some_width);
   offset_is = c.offset_in-self.ensures.bound;
   at_is = c.requires.fits.at_is;
   code_is = c.requires.fits.code_is;

@@ -15,9 +15,9 @@ returns-then-self-gt0-clause-step c =
     sym (append-nil c.args.piece.now.rest.now) ∙ ap (λ (z : List ℕ). c.args.piece.now.rest.now ++ z) (sym (nil_of c.split_at.result.1.now (omega (arith, c.split_at.ensures.back_len, all)))) in
     λ rows learned. record {
       ok = tt;
-      err = λ text out s. comment_off (at_stage c.requires.stage s) c.coder_laws.ensures (in_use c.args.header.now c.args.height c.requires.height.0 c.requires.height.1) c.args.piece.now.rest.now few;
+      err = λ text out s. comment_off (at_stage c.requires.stage s) c.coder_laws.ensures (in_use c.args.image.now) c.args.piece.now.rest.now few;
       more = λ _. (
-        (λ text out s. on_same (fields_of c.args.header.now) c.args.height _ text out c.args.piece.now.rest.now c.split_at.result.1.now c.args.piece.now.rest.now taken (walk_at s s.at_is s.code_is s.behind (put_stage _ _ _ _ _ _ c.requires.stage (comment_more (at_stage c.requires.stage s) c.args.piece.now.rest.now (c.args.self.now.comment - c.min-len.result) (omega (arith, all, few)))))),
+        (λ text out s. on_same (fields_of c.args.image.now.header) c.args.image.now.height _ text out c.args.piece.now.rest.now c.split_at.result.1.now c.args.piece.now.rest.now taken (walk_at s s.at_is s.code_is s.behind (put_stage _ _ _ _ _ _ c.requires.stage (comment_more (at_stage c.requires.stage s) c.args.piece.now.rest.now (c.args.self.now.comment - c.min-len.result) (omega (arith, all, few)))))),
         omega (arith, c.split_at.ensures.back_len, all),
       );
     }
@@ -29,4 +29,4 @@ returns-clause-step c =
     let all : c.min-len.result ≡ c.args.self.now.comment = omega (arith, c.min-len.ensures, c.if-self-gt0.false) in
     let taken : c.args.piece.now.rest.now ≡ take c.min-len.result c.args.piece.now.rest.now ++ c.split_at.result.1.now =
     sym (take-append-drop c.min-len.result c.args.piece.now.rest.now) ∙ ap (λ (z : List ℕ). take c.min-len.result c.args.piece.now.rest.now ++ z) (sym c.split_at.ensures.back) in
-    λ rows learned. step_ok (λ text out s. on_same (fields_of c.args.header.now) c.args.height _ text out c.args.piece.now.rest.now c.split_at.result.1.now (take c.min-len.result c.args.piece.now.rest.now) taken (walk_at s s.at_is s.code_is s.behind (comment_ends (at_stage c.requires.stage s) (take c.min-len.result c.args.piece.now.rest.now) (length-take-le c.min-len.result c.args.piece.now.rest.now within ∙ all))))
+    λ rows learned. step_ok (λ text out s. on_same (fields_of c.args.image.now.header) c.args.image.now.height _ text out c.args.piece.now.rest.now c.split_at.result.1.now (take c.min-len.result c.args.piece.now.rest.now) taken (walk_at s s.at_is s.code_is s.behind (comment_ends (at_stage c.requires.stage s) (take c.min-len.result c.args.piece.now.rest.now) (length-take-le c.min-len.result c.args.piece.now.rest.now within ∙ all))))

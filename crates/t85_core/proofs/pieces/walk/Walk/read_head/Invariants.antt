@@ -10,7 +10,7 @@ use Rattle.t85_core.proofs.pieces.walk.Walk.read_head.Given as goal
 
 abbrev pub invariant-segments : goal.invariant-segments
 invariant-segments l = record {
-  so_far : (rows : Held) (learned : List Estimate) → StepsOn (sized (fields_of l.header) l.height) (walk_view l.fn.self rows learned) (walk_view l.self rows learned) l.fn.piece.rest.now l.piece.rest.now [];
+  so_far : (rows : Held) (learned : List Estimate) → StepsOn (sized (fields_of l.image.header) l.image.height) (walk_view l.fn.self rows learned) (walk_view l.self rows learned) l.fn.piece.rest.now l.piece.rest.now [];
   stage : (l.self.stage ≡ stage.Head) ⊎ (l.self.stage ≡ stage.Comment);
 }
 

@@ -6,14 +6,14 @@ use Rattle.t85_core.proofs.pieces.walk.Walk.start.Goals as goal
 
 pub returns-clause-stands : goal.returns-clause-stands
 returns-clause-stands c = record {
-  left_is = (let z : 0 * c.args.header.now.l0 ≡ 0 = omega arith in omega (arith, z));
-  width_is = c.restart.ensures.window.0 ∙ c.requires.width;
+  left_is = (let z : 0 * c.args.image.now.header.l0 ≡ 0 = omega arith in omega (arith, z));
+  width_is = c.restart.ensures.window.0.0 ∙ c.requires.width;
   offset_is = omega (arith, c.restart.ensures.offset);
   at_is = tt;
   code_is = tt;
   behind = tt;
-  within = omega (arith, c.start-2.ensures.done, c.args.header.now.some_width);
-  stands = head_first (fields_of c.args.header.now) c.args.height _ (carried_by c.restart.new.window c.restart.new.kept c.restart.new.learned) c.requires.from c.args.header.now.some_rows (c.restart.ensures.window.0 ∙ c.requires.width) c.restart.ensures.first;
+  within = omega (arith, c.start-2.ensures.done, c.args.image.now.header.some_width);
+  stands = head_first (fields_of c.args.image.now.header) c.args.image.now.height _ (carried_by c.restart.new.window c.restart.new.kept c.restart.new.learned) c.args.image.now.from c.args.image.now.header.some_rows (c.restart.ensures.window.0.0 ∙ c.requires.width) c.restart.ensures.first;
 }
 
 pub returns-clause-first : goal.returns-clause-first
