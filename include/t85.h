@@ -123,7 +123,8 @@ enum {
 
     /* Images row by row. */
     T85_NO_MORE_ROWS = 54,  /* all rows were passed, or the stream was ended */
-    T85_SHORT_ROW = 55      /* row is shorter than t85_row_bytes(width) */
+    T85_SHORT_ROW = 55,     /* row is shorter than t85_row_bytes(width) */
+    T85_IN_STRIPE = 56      /* an offset is named within a stripe */
 };
 
 #define T85_MOST_WIDTH 1048576
@@ -398,6 +399,20 @@ uint8_t t85_encode_start(t85_encoder *encoder, size_t size, uint32_t width, uint
 T85_NO_NULL((1, 8))
 uint8_t t85_encode_row(t85_encoder *encoder, const uint8_t *row, size_t row_len, uint8_t *window,
                        size_t window_len, uint8_t *stream, size_t stream_room, size_t *written);
+
+/* Names the offset of the adaptive template pixel for the stripe that begins with the next row: 0, or
+   one from 3 (5 with the two-line template) to most_offset. A stripe begins with the first row, and
+   with each row behind a multiple of stripe_rows. Without a name, the encoder chooses the offset by
+   the rows of the stripe before. The last name before a stripe counts. Any choice gives a stream of
+   the same image; a good one gives a shorter stream.
+
+   Returns one of:
+   0: the offset is named.
+   Any other status: nothing is changed. The checks are made in this order: 53; 54 if all rows were
+     passed, or the stream was ended; T85_IN_STRIPE if rows of a stripe were passed, but not all;
+     22 if the offset is another. */
+T85_NO_NULL((1))
+uint8_t t85_encode_offset(t85_encoder *encoder, uint8_t offset);
 
 /* Ends the stream, with a new height if fewer rows were passed than announced.
 

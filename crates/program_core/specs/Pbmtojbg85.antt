@@ -87,6 +87,7 @@ settings_asked job = record {
   announced = job.announced;
   reset = job.reset;
   comment = option_map string_bytes job.comment;
+  named = [];
 }
 
 -- What a run leaves for a job, with this exit status: what the engine leaves with some outcome, of the output besides, and a

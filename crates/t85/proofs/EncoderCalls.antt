@@ -1,6 +1,8 @@
 -- An encoder that a C caller holds.
+use Rattle.t85_core.specs.Steps.RowCalls.{takes_name}
+use Rattle.t85_core.specs.Coding.{has_bit}
 use Rattle.std.proofs.Common.{◌≡◌, ◌≤◌, ◌<◌, ◌+◌, ◌-◌, ◌*◌, ◌%◌, ◌⊎◌, inl, inr, ℕ, zero, suc, ◌==◌, Bool, true, false, not, ◌||◌, nat_lt, nat_le, List, [], ◌∷◌, ◌++◌, length, take, Option, None, Some, Result, Ok, Err, refl, sym, ap, subst, ◌∙◌, arith, append-nil, length-append, length-take, take_all, true≢false}
-use Rattle.std.specs.Prelude.{IfErr, IfSome, IsSomeAnd, MatchOption, OnOk, is_some, is_ok, option_to_list, replicate, unwrap_or, if◌then◌else◌}
+use Rattle.std.specs.Prelude.{IfErr, IfSome, IsSomeAnd, MatchOption, OnOk, is_some, is_ok, option_to_list, replicate, unwrap_or, if◌then◌else◌, ◌&&◌, slice_index_or, ◌/◌, not, ◌==◌, ◌%◌}
 use Rattle.std.specs.Int.{div_ceil}
 use Rattle.std.specs.List.{AllByRecursion}
 use Rattle.std.proofs.lemmas.Bool.Decides.{nat_tests}
@@ -20,8 +22,8 @@ use Rattle.t85_core.specs.Jbg.{AreSettings, Settings, head_of, is_low, jbg, jbg_
 use Rattle.t85_core.specs.Laws.{CodeDenotes}
 use Rattle.t85_core.specs.Options.{refusal_of, settings_of}
 use Rattle.t85_core.specs.RowNumbers.{row_numbers}
-use Rattle.t85_core.specs.Steps.ByRow.{EndsImage, HaveCome, IsPlan, MayGoOn, RowPlan, RowView, Stands, TakesNextRow, plan_of, view_of, encoder_at}
-use Rattle.t85_core.specs.RowImage.{MayCome, Image, image_of}
+use Rattle.t85_core.specs.Steps.ByRow.{EndsImage, HaveCome, IsPlan, MayGoOn, RowPlan, RowView, Stands, TakesNextRow, plan_of, view_of, encoder_at, NamesOffset}
+use Rattle.t85_core.specs.RowImage.{MayCome, Image, image_of, may_name, named_after, with_name}
 use Rattle.t85_core.specs.Steps.RowLaws.{RowFronts, RowsGoElsewhere}
 use Rattle.t85_core.specs.Steps.MostBytes.{AppendsAtMost, most_row_bytes}
 use Rattle.t85_core.specs.Steps.RowSteps.{IsGoing, given_row}
@@ -35,7 +37,7 @@ use Rattle.t85_core.specs.declared.fault.Fault.TheVariants.{AnnouncedLow, MoveLa
 use Rattle.t85.specs.Decoded.{window_bytes}
 use Rattle.t85.specs.Delivered.{lending}
 use Rattle.t85.specs.Encoded.{settings_chosen}
-use Rattle.t85.specs.Encoder.{BeginsStream, EndsStream, HasBeenEnded, HasCome, IsNotBegun, PutsEnd, PutsRow, StartCall, StartsStream, TakesOne, TellsLeft, encoder_hold, end_refusal, numbers_of_encoder, row_refusal, settings_kept, start_refusal, without_comment}
+use Rattle.t85.specs.Encoder.{BeginsStream, EndsStream, HasBeenEnded, HasCome, IsNotBegun, PutsEnd, PutsRow, StartCall, StartsStream, TakesOne, TellsLeft, encoder_hold, end_refusal, numbers_of_encoder, row_refusal, settings_kept, start_refusal, without_comment, TakesName}
 use Rattle.t85.specs.EncoderSteps.{GoesOnFrom, HasBegun, IsIdle, IsOfNone, AwaitsCall, RefusesCall}
 use Rattle.t85.specs.Laws.{SentIsFront}
 use Rattle.t85.specs.declared.encoder.T85Encoder.{T85Encoder}
@@ -67,6 +69,7 @@ plan_bare s width limit p is = record {
   may_end_is = is.may_end_is;
   candidates_are = is.candidates_are;
   reset_is = is.reset_is;
+  most_is = is.most_is;
   width_from = is.width_from;
   width_to = is.width_to;
   limit_to = is.limit_to;
@@ -230,6 +233,71 @@ row_taken law d kept e e' learning memory memory' row room stream n window windo
     (subst (λ b. Stands image (rows ++ pixels_of image.width (take (div_ceil image.width 8) row) ∷ []) (view_of e' learning) (rows_held window') (behind sent (Some [])) (Some (take n b))) same
     (subst (λ r. Stands image (rows ++ r ∷ []) (view_of e' learning) (rows_held window') (behind sent (Some [])) (Some (take n room))) pixels now))
 
+-- ---- a name
+
+-- an offset that is offered is not above the greatest
+offered_within : (closed stripe two_line : Bool) (most t : ℕ) → (closed && (stripe && may_name two_line most t)) ≡ true → t ≤ most
+offered_within true true true most t is = grind (arith, nat_tests)
+offered_within true true false most t is = grind (arith, nat_tests)
+offered_within true false two_line most t is = absurd (let bot : ⊥ = cc in bot)
+offered_within false stripe two_line most t is = absurd (let bot : ⊥ = cc in bot)
+
+-- names in their range are, with one more
+names_within : (most t i : ℕ) (names : List (Option ℕ)) → t ≤ most → ((j : ℕ) → IfSome (slice_index_or names j None) (λ t. t ≤ most)) → (j : ℕ) → IfSome (slice_index_or (with_name t i names) j None) (λ t. t ≤ most)
+names_within most t zero names to all zero = to
+names_within most t zero names to all (suc j) = tt
+names_within most t (suc i) [] to all zero = tt
+names_within most t (suc i) [] to all (suc j) = names_within most t i [] to (λ k. all (suc k)) j
+names_within most t (suc i) (name ∷ names) to all zero = all zero
+names_within most t (suc i) (name ∷ names) to all (suc j) = names_within most t i names to (λ k. all (suc k)) j
+
+-- the offset is named in each stream that a caller may have begun
+pub name_taken : (d kept : T85Encoder) (e e' : RowEncoder) (t : ℕ) → AwaitsCall d e → takes_name e t ≡ true → MayGoOn e' → numbers_of_encoder kept ≡ row_numbers e' → kept.version ≡ d.version → kept.next ≡ d.next → kept.width ≡ d.width → kept.height ≡ d.height → settings_kept kept ≡ settings_kept d → kept.learning ≡ d.learning → kept.place ≡ d.place
+    → ((l : Learning) → NamesOffset t (view_of e l) (view_of e' l)) → (window : List ℕ) → TakesName (encoder_hold d window) (encoder_hold kept window) t
+name_taken d kept e e' t ready may goes numbers version next wide high settings learned place names window = λ image rows sent k.
+    let old : (text : Option (List ℕ)) → Stands image rows (view_of e d.learning) (rows_at d.place image.width (take (window_bytes image.width) window)) (behind sent text) text =
+    λ text. subst (λ v. Stands image rows v (rows_at d.place image.width (take (window_bytes image.width) window)) (behind sent text) text) (sym (ready.goes_on.resumes window image rows sent k d.learning)) (k.stands text) in
+    let now : (text : Option (List ℕ)) → (length rows % image.settings.stripe_rows ≡ 0) × Stands (named_after t (length rows) image) rows (view_of e' d.learning) (rows_at d.place image.width (take (window_bytes image.width) window)) (behind sent text) text =
+    λ text. names d.learning image rows _ _ text (old text) in
+    let most = (plan_in (old None)).most_is in
+    let within = offered_within (not e.is_closed) (e.in_stripe == 0) e.shape.two_line e.most_offset t may in
+    let come = come_in (now None).1 in (
+      (now None).0,
+      record {
+        version_is = version ∙ k.version_is;
+        next_is = next ∙ k.next_is;
+        width_is = wide ∙ k.width_is;
+        limit_is = high ∙ k.limit_is;
+        rows_are = ap (λ n. n.rows) numbers ∙ come.many;
+        settings_are = settings ∙ k.settings_are;
+        proper = record {
+          options_to = k.proper.options_to;
+          no_low_bit = k.proper.no_low_bit;
+          no_layer_bit = k.proper.no_layer_bit;
+          stripe_from = k.proper.stripe_from;
+          stripe_to = k.proper.stripe_to;
+          offset_to = k.proper.offset_to;
+          announced_to = k.proper.announced_to;
+          comment_to = k.proper.comment_to;
+          named_to = names_within image.settings.most_offset t (length rows / image.settings.stripe_rows) image.settings.named (omega (arith, within, most)) k.proper.named_to;
+        };
+        not_low = k.not_low;
+        some = k.some;
+        place_is = place ∙ k.place_is;
+        engine = e';
+        ready = goes;
+        numbers_are = numbers;
+        stands = λ text.
+            subst (λ p. Stands (named_after t (length rows) image) rows (view_of e' kept.learning) (rows_at p image.width (take (window_bytes image.width) window)) (behind sent text) text) (sym place)
+            (subst (λ l. Stands (named_after t (length rows) image) rows (view_of e' l) (rows_at d.place image.width (take (window_bytes image.width) window)) (behind sent text) text) (sym learned) (now text).1);
+      },
+    )
+
+-- what the options offer is what the engine's encoder does
+pub offers_same : (d : T85Encoder) (e : RowEncoder) (t : ℕ) → AwaitsCall d e → may_name e.shape.two_line e.most_offset t ≡ may_name (has_bit d.options 6) d.most_offset t
+offers_same d e t ready =
+    ap (λ m. may_name m.two_line e.most_offset t) ready.goes_on.plan_is.shape_is.mode_is ∙ ap (λ n. may_name (has_bit d.options 6) n t) ready.goes_on.plan_is.most_is
+
 -- ---- the end
 
 announced_to : (o : Option ℕ) (n limit : ℕ) → n ≤ limit → nat_lt (unwrap_or o limit) limit ≡ false → n ≤ unwrap_or o n
@@ -279,7 +347,7 @@ head_sent {s} {width} {limit} {v} {window} {origin} {text} some (inl w) =
     let proper : IsRaster (raster_of width (replicate limit (white_row width))) = record { width_from = plan.width_from; width_to = omega (arith, wide); height_from = omega (arith, some, long); height_to = omega (arith, tall, long); rows = all_white limit width } in
     let may : MayCome (image_of s width limit) [] (raster_of width (replicate limit (white_row width))) = record { proper = proper; width_is = refl; height_to = omega (arith, long); height_is = λ e. long; first = refl } in
     let front_is : w.front ≡ head_of s width limit =
-    w.stripes.front_is (raster_of width (replicate limit (white_row width))) may ∙ ap (λ i. jbg_up_to s (raster_of width (replicate limit (white_row width))) i) none ∙ append-nil (head_of s width (length (replicate limit (white_row width)))) ∙ ap (λ h. head_of s width h) long in
+    (w.stripes.stands s.named (λ j _. refl)).front_is (raster_of width (replicate limit (white_row width))) may ∙ ap (λ i. jbg_up_to s (raster_of width (replicate limit (white_row width))) i) none ∙ append-nil (head_of s width (length (replicate limit (white_row width)))) ∙ ap (λ h. head_of s width h) long in
     subst (λ b. Sends origin text b) front_is w.sent
 head_sent some (inr (r, from, to)) =
     let none : length r.part ≡ 0 = (let all = ap length r.all in let sum = length-append r.whole r.part in omega (arith, all, sum)) in

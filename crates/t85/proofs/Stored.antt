@@ -1,6 +1,6 @@
 -- From what the encoder leaves of a room to what stands in the lent memory.
 use Rattle.std.proofs.Common.{◌≡◌, ◌≤◌, ◌<◌, ◌^◌, ◌==◌, ◌⊎◌, inl, inr, ℕ, true, false, nat_lt, Bor, List, [], ◌∷◌, ◌++◌, length, take, Option, Some, None, Result, Ok, Err, refl, sym, ap, ◌∙◌, subst, arith, append-nil, append_assoc, true≢false}
-use Rattle.std.specs.Prelude.{is_some, option_to_list, option_map, unwrap_or}
+use Rattle.std.specs.Prelude.{is_some, option_to_list, option_map, unwrap_or, IfSome, slice_index_or, zero, suc}
 use Rattle.std.specs.Option.{option_map_or}
 use Rattle.std.specs.Io.KnownBytes.{Consumes}
 use Rattle.std.proofs.lemmas.Bool.Decides.{nat_tests}
@@ -31,6 +31,13 @@ announced_small : (o : Option ℕ) → option_map_or (λ n. n) o 0 < 2 ^ 32 → 
 announced_small None fits = fits
 announced_small (Some n) fits = fits
 
+abbrev no_names : List (Option ℕ)
+no_names = []
+
+none_named : (most i : ℕ) → IfSome (slice_index_or no_names i None) (λ t. t ≤ most)
+none_named most zero = tt
+none_named most (suc i) = tt
+
 -- what options say is in its ranges
 pub are_settings : (o : Options) → AreSettings (settings_of o)
 are_settings o = record {
@@ -42,6 +49,7 @@ are_settings o = record {
   offset_to = o.in_range;
   announced_to = announced_small o.announced o.announced_fits;
   comment_to = comment_fits o.comment o.comment_fits;
+  named_to = none_named o.most_offset;
 }
 
 not_low : (a b : ℕ) → nat_lt a b ≡ false → b ≤ a

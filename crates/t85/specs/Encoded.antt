@@ -1,5 +1,5 @@
 -- What an encoding call answers, and what it leaves in the memory that was lent.
-use Rattle.std.specs.Prelude.{ℕ, ◌≡◌, ◌<◌, ◌⊎◌, ◌==◌, ◌||◌, not, nat_lt, List, length, take, Option, Some, None, option_map, if◌then◌else◌, Bool}
+use Rattle.std.specs.Prelude.{ℕ, ◌≡◌, ◌<◌, ◌⊎◌, ◌==◌, ◌||◌, not, nat_lt, List, [], length, take, Option, Some, None, option_map, if◌then◌else◌, Bool}
 use Rattle.std.specs.Int.{div_ceil}
 use Rattle.pbm_core.specs.declared.form.Form.TheVariants.{Raw}
 use Rattle.pbm_core.specs.declared.fault.PbmFault.TheVariants.{Truncated}
@@ -26,6 +26,7 @@ settings_chosen choice comment = record {
   announced = if choice.announces_height then Some choice.announced_height else None;
   reset = choice.reset;
   comment = comment_chosen choice comment;
+  named = [];
 }
 
 -- this status, or else the next

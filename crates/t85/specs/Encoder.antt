@@ -1,4 +1,5 @@
 -- An encoder that a C caller holds, who hands it the rows of an image one by one.
+use Rattle.t85_core.specs.Coding.{has_bit}
 use Rattle.std.specs.Prelude.{ℕ, ◌+◌, ◌*◌, ◌/◌, ◌%◌, ◌≡◌, ◌≢◌, ◌≤◌, ◌⊎◌, ◌==◌, ◌||◌, ◌&&◌, not, nat_lt, Bool, false, List, [], ◌∷◌, ◌++◌, length, take, Option, Some, None, unwrap_or, if◌then◌else◌}
 use Rattle.std.specs.Int.{div_ceil}
 use Rattle.pbm_core.specs.Image.{pixels_of}
@@ -8,7 +9,7 @@ use Rattle.t85_core.specs.Encode.{raster_of}
 use Rattle.t85_core.specs.Jbg.{AreSettings, Settings, head_of, is_low, jbg}
 use Rattle.t85_core.specs.RowNumbers.{row_numbers}
 use Rattle.t85_core.specs.Steps.ByRow.{MayGoOn, Stands, view_of}
-use Rattle.t85_core.specs.RowImage.{Image, image_of}
+use Rattle.t85_core.specs.RowImage.{Image, image_of, may_name, named_after}
 use Rattle.t85_core.specs.Steps.Sent.{behind}
 use Rattle.t85_core.specs.declared.encoding.by_row.RowEncoder.{RowEncoder}
 use Rattle.t85_core.specs.declared.encoding.by_row.numbers.RowNumbers.{RowNumbers}
@@ -26,6 +27,7 @@ numbers_of_encoder d = record {
   is_counted = not (d.is_counted == 0);
   offset = d.offset;
   is_previous_typical = not (d.is_previous_typical == 0);
+  named = if not (d.has_name == 0) then Some d.named else None;
   encoder = record {
     low = d.low;
     span = d.span;
@@ -39,7 +41,7 @@ numbers_of_encoder d = record {
   };
 }
 
--- the choices that the struct has, which are all but the comment
+-- the choices that the struct has, which are all but the comment and the offsets that were named
 abbrev pub settings_kept : T85Encoder → Settings
 settings_kept d = record {
   options = d.options;
@@ -48,11 +50,12 @@ settings_kept d = record {
   announced = if not (d.announces_height == 0) then Some d.announced_height else None;
   reset = not (d.reset == 0);
   comment = None;
+  named = [];
 }
 
--- the same choices without a comment
+-- the same choices without a comment and names
 abbrev pub without_comment : Settings → Settings
-without_comment s = record s { comment = None }
+without_comment s = record s { comment = None; named = [] }
 
 -- what there is between two calls: the struct, and the bytes of the window
 pub record EncoderHold : Type 0 where
@@ -162,6 +165,27 @@ pub record PutsRow (old new : EncoderHold) (row : List ℕ) (l : Lending) : Type
   pub refused : l.answer ≢ 0 → LeavesAll old new l
   pub taken : l.answer ≡ 0 → TakesOne old new row (take l.written l.new)
   pub within : l.written ≤ length l.new
+
+-- ---- a name
+
+-- the first refusal of an offset that is named: all rows came, a stripe is in progress, or the options don't offer it
+abbrev pub name_refusal : T85Encoder → ℕ → Option ℕ
+name_refusal d offset =
+    or_else (status_if (d.rows == d.height) 54)
+    (or_else (status_if (not (d.in_stripe == 0)) 56)
+    (status_if (not (may_name (has_bit d.options 6) d.most_offset offset)) 22))
+
+-- The offset is named for the stripe that begins with the next row.
+abbrev pub TakesName : EncoderHold → EncoderHold → ℕ → Type 0
+TakesName old new offset = OfEach old (λ image rows sent. (length rows % image.settings.stripe_rows ≡ 0) × HasCome (named_after offset (length rows) image) new rows sent)
+
+-- what `t85_encode_offset` leaves, whatever the window has
+pub record NamesNext (old new : T85Encoder) (offset answer : ℕ) : Type 0 where
+  pub status_is : (window : List ℕ) → OfEach (encoder_hold old window) (λ image rows sent. answer ≡ unwrap_or (name_refusal old offset) 0)
+  pub ended : HasBeenEnded old → answer ≡ 54
+  pub not_begun : IsNotBegun old → answer ≡ 53
+  pub refused : answer ≢ 0 → new ≡ old
+  pub named : answer ≡ 0 → (window : List ℕ) → TakesName (encoder_hold old window) (encoder_hold new window) offset
 
 -- ---- the end
 

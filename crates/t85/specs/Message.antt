@@ -38,6 +38,7 @@ message_of status =
     else if status == 53 then codes "struct was not begun"
     else if status == 54 then codes "no more rows are taken"
     else if status == 55 then codes "row is shorter than its width"
+    else if status == 56 then codes "stripe is in progress"
     else if status == 60 then codes "header was read"
     else if status == 61 then codes "row was decoded"
     else if status == 62 then codes "more bytes are wanted"

@@ -1,6 +1,6 @@
 //! An encoder for an image row by row, in a struct that a C caller owns.
 
-ghost use Rattle.std.specs.Prelude.{◌≡◌, ◌≢◌, ◌≤◌, ◌<◌, ◌⊎◌, length, take, false, true, Some, None, [], MatchOption, MatchResult, IfOk};
+ghost use Rattle.std.specs.Prelude.{ℕ, List, ◌≡◌, ◌≢◌, ◌≤◌, ◌<◌, ◌⊎◌, length, take, false, true, Some, None, [], MatchOption, MatchResult, IfOk};
 ghost use Rattle.std.specs.Int.{div_ceil};
 ghost use Rattle.raster_core.specs.Window.{held as rows_of, width_of};
 ghost use Rattle.t85_core.specs.Jbg.{head_of, is_low};
@@ -9,19 +9,19 @@ ghost use Rattle.t85_core.specs.Options.{refusal_of, settings_of};
 ghost use Rattle.t85_core.specs.Steps.ByRow.{EndsImage, MayGoOn, TakesNextRow, view_of, lent_to};
 ghost use Rattle.t85_core.specs.RowImage.{image_of};
 ghost use Rattle.t85_core.specs.Steps.MostBytes.{most_row_bytes};
-ghost use Rattle.t85_core.specs.Steps.RowCalls.{MayEnd, MayTakeRow};
+ghost use Rattle.t85_core.specs.Steps.RowCalls.{MayEnd, MayTakeRow, takes_name};
 ghost use Rattle.t85_core.specs.Steps.RowSteps.{IsGoing, given_row};
 ghost use Rattle.t85.specs.Decoded.{window_bytes as window_of};
 ghost use Rattle.t85.specs.Delivered.{IsEmptyRoom, lending};
 ghost use Rattle.t85.specs.Encoded.{settings_chosen};
-ghost use Rattle.t85.specs.Encoder.{BeginsStream, EndsStream, HasBeenEnded, PutsEnd, PutsRow, StartsStream, TakesOne, TellsLeft, TellsRoom, encoder_hold, end_refusal, head_length, numbers_of_encoder, row_refusal, settings_kept, start_call, start_refusal, without_comment};
+ghost use Rattle.t85.specs.Encoder.{BeginsStream, EndsStream, HasBeenEnded, PutsEnd, PutsRow, StartsStream, TakesName, NamesNext, name_refusal, TakesOne, TellsLeft, TellsRoom, encoder_hold, end_refusal, head_length, numbers_of_encoder, row_refusal, settings_kept, start_call, start_refusal, without_comment};
 ghost use Rattle.t85.specs.EncoderSteps.{GoesOnFrom, HasBegun, IsIdle, IsOfNone, AwaitsCall, KeepsChoices, RefusesCall};
 
 use crate::devices::Room;
 use crate::encoding::{MOST_WIDTH, judge};
 use crate::options::T85Options;
 use crate::status::{
-    FULL, NO_MORE_ROWS, NOT_BEGUN, OTHER_VERSION, ROWS_MISSING, SHORT_ROW, SHORT_WINDOW,
+    FULL, IN_STRIPE, NO_MORE_ROWS, NOT_BEGUN, OTHER_VERSION, ROWS_MISSING, SHORT_ROW, SHORT_WINDOW,
 };
 use pbm_core::{Size, row_bytes};
 use qm_core::EncoderRegisters;
@@ -68,7 +68,10 @@ pub struct T85Encoder {
     pub has_failed: u8,
     /// The place of the last row in the window: 0, 1 or 2.
     pub place: u8,
-    pub spare: [u8; 7],
+    /// Whether an offset is named for the stripe that begins next, and which.
+    pub has_name: u8,
+    pub named: u8,
+    pub spare: [u8; 5],
     pub low: u64,
     pub zeros: u64,
     pub ones: u64,
@@ -142,6 +145,23 @@ pub extern "C" fn t85_encode_row(
     };
     let (long, needed) = (row_bytes(encoder.width), window_bytes(encoder.width));
     *written = encoder.put(engine, &row[..long], &mut window[..needed], stream);
+    0
+}
+
+/// Names the offset of the adaptive template pixel for the stripe that begins with the next row: 0, or one from 5 (two
+/// lines in the template) or 3 to the greatest offset of the options. Without a name, the encoder chooses.
+///
+/// Returns 0, or the first of these errors that applies, with nothing changed: 53 if the encoder was not initialized; 54
+/// if all rows were passed, or the stream was ended; 56 if a stripe is in progress; 22 if the offset is another.
+#[unsafe(no_mangle)]
+pub extern "C" fn t85_encode_offset(encoder: &mut T85Encoder, offset: u8) -> u8
+    ensures { NamesNext encoder.old encoder.new offset result }
+{
+    let engine = match encoder.judge_name(offset) {
+        Ok(engine) => engine,
+        Err(status) => return status,
+    };
+    encoder.name(engine, offset);
     0
 }
 
@@ -248,6 +268,7 @@ impl T85Encoder {
             is_counted: self.is_counted != 0,
             offset: self.offset,
             is_previous_typical: self.is_previous_typical != 0,
+            named: (self.has_name != 0).then_some(self.named),
             encoder: EncoderRegisters {
                 low: self.low,
                 span: self.span,
@@ -274,6 +295,8 @@ impl T85Encoder {
         self.is_counted = u8::from(numbers.is_counted);
         self.offset = numbers.offset;
         self.is_previous_typical = u8::from(numbers.is_previous_typical);
+        self.has_name = u8::from(numbers.named.is_some());
+        self.named = numbers.named.unwrap_or(0);
         self.low = numbers.encoder.low;
         self.span = numbers.encoder.span;
         self.bits = numbers.encoder.bits;
@@ -304,7 +327,7 @@ impl T85Encoder {
         self.announced_height = options.announced.unwrap_or(0);
         self.announces_height = u8::from(options.announced.is_some());
         self.reset = u8::from(options.reset);
-        self.spare = [0; 7];
+        self.spare = [0; 5];
         self.reserved = [0; 12];
     }
 
@@ -385,6 +408,29 @@ impl T85Encoder {
         }
         if (room as u64) < engine.most_row_bytes() {
             return Err(FULL);
+        }
+        Ok(engine)
+    }
+
+    /// The same for an offset that is named.
+    fn judge_name(&self, offset: u8) -> Result<RowEncoder, u8>
+        ensures ready { MatchResult result (λ e. AwaitsCall self.now e)
+            (λ status. RefusesCall self.now (name_refusal self.now offset) status) }
+        ensures enough { IfOk result (λ _. name_refusal self.now offset ≡ None) }
+        ensures may { IfOk result (λ e. takes_name e offset ≡ true) }
+    {
+        let engine = match self.engine() {
+            Ok(engine) => engine,
+            Err(status) => return Err(status),
+        };
+        if self.height == self.rows {
+            return Err(NO_MORE_ROWS);
+        }
+        if self.in_stripe != 0 {
+            return Err(IN_STRIPE);
+        }
+        if !engine.offers(offset) {
+            return Err(Fault::MoveLarge.number());
         }
         Ok(engine)
     }
@@ -488,6 +534,17 @@ impl T85Encoder {
         let place = window.place();
         self.keep(engine.numbers(), place);
         room.len
+    }
+
+    /// Names an offset that is offered before a stripe.
+    fn name(&mut self, mut engine: RowEncoder, offset: u8)
+        requires ready { AwaitsCall self.old engine }
+        requires may { takes_name engine offset ≡ true }
+        ensures { (window : List ℕ) → TakesName (encoder_hold self.old window)
+            (encoder_hold self.new window) offset }
+    {
+        engine.name_offset(offset).is_ok();
+        self.keep(engine.numbers(), self.place);
     }
 
     /// Ends a stream that fits, with a window of exactly three rows, and returns the number of bytes written.

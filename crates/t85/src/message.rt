@@ -55,6 +55,7 @@ fn message_of(status: u8) -> &'static [u8]
         53 => b"struct was not begun",
         54 => b"no more rows are taken",
         55 => b"row is shorter than its width",
+        56 => b"stripe is in progress",
         60 => b"header was read",
         61 => b"row was decoded",
         62 => b"more bytes are wanted",

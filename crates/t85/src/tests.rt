@@ -662,6 +662,7 @@ fn other_statuses_have_texts(rt: HostRuntime) {
     assert!(rt; says(53, b"struct was not begun"));
     assert!(rt; says(54, b"no more rows are taken"));
     assert!(rt; says(55, b"row is shorter than its width"));
+    assert!(rt; says(56, b"stripe is in progress"));
     assert!(rt; says(60, b"header was read"));
     assert!(rt; says(61, b"row was decoded"));
     assert!(rt; says(62, b"more bytes are wanted"));

@@ -16,6 +16,7 @@ pub mod RowGiven
 pub mod RowsCleared
 pub mod ReadAhead
 pub mod RowCalls
+pub mod RowNames
 pub mod RowNumbers
 pub mod FewAppended
 pub mod ImageByRow

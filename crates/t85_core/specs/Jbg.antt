@@ -1,5 +1,5 @@
 -- The stream that is written for a raster.
-use Rattle.std.specs.Prelude.{ℕ, zero, suc, ◌+◌, ◌≡◌, ◌%◌, ◌≤◌, ◌<◌, ◌^◌, Bool, false, not, ◌&&◌, nat_lt, List, [], ◌++◌, length, map, replicate, if◌then◌else◌, Option, None, is_some, option_map, option_to_list, unwrap_or, flat_map, slice_index_or}
+use Rattle.std.specs.Prelude.{ℕ, zero, suc, ◌+◌, ◌≡◌, ◌%◌, ◌≤◌, ◌<◌, ◌^◌, Bool, false, not, ◌&&◌, nat_lt, List, [], ◌++◌, length, map, replicate, if◌then◌else◌, Option, None, is_some, option_map, option_to_list, unwrap_or, flat_map, slice_index_or, Some, ◌==◌, IfSome}
 use Rattle.qm_core.specs.Code.{code_of}
 use Rattle.raster_core.specs.Raster.{Raster, height}
 use Rattle.raster_core.specs.Lines.{numbers_from, may_be_typical}
@@ -9,7 +9,8 @@ use Rattle.t85_core.specs.Grammar.{Segment, NewLength, Move, Comment, Stripe, se
 use Rattle.t85_core.specs.Coding.{Coding, has_bit, mode_of, rows_of, lines_of, place_of}
 
 -- what a caller chooses for a stream: the options byte, the rows of a stripe, the greatest offset of the adaptive
--- pixel, a height to announce, whether each stripe ends in a reset, and a comment
+-- pixel, a height to announce, whether each stripe ends in a reset, a comment, and the offsets that the caller names: of
+-- each stripe the one to which the pixel is moved at its top, or none, and then the rule chooses
 pub record Settings : Type 0 where
   pub options : ℕ
   pub stripe_rows : ℕ
@@ -17,9 +18,14 @@ pub record Settings : Type 0 where
   pub announced : Option ℕ
   pub reset : Bool
   pub comment : Option (List ℕ)
+  pub named : List (Option ℕ)
 
 abbrev pub settings : ℕ → ℕ → ℕ → Option ℕ → Bool → Option (List ℕ) → Settings
-settings p s m announced reset comment = record { options = p; stripe_rows = s; most_offset = m; announced = announced; reset = reset; comment = comment }
+settings p s m announced reset comment = record { options = p; stripe_rows = s; most_offset = m; announced = announced; reset = reset; comment = comment; named = [] }
+
+-- the offset that is named for stripe i
+abbrev pub named_for : Settings → ℕ → Option ℕ
+named_for s i = slice_index_or s.named i None
 
 -- in their ranges
 pub record AreSettings (s : Settings) : Type 0 where
@@ -31,6 +37,7 @@ pub record AreSettings (s : Settings) : Type 0 where
   pub offset_to : s.most_offset ≤ 127
   pub announced_to : unwrap_or s.announced 0 < 2 ^ 32
   pub comment_to : length (unwrap_or s.comment []) < 2 ^ 32
+  pub named_to : (i : ℕ) → IfSome (named_for s i) (λ t. t ≤ s.most_offset)
 
 -- the options byte as it is written: where a height is announced, the height may change
 abbrev pub written_options : Settings → ℕ
@@ -69,19 +76,29 @@ cut s raster = record {
 abbrev pub canonical_flags : Coding → List Bool
 canonical_flags c = map (λ y. may_be_typical c.mode (lines_of c y)) (numbers_from 0 (height c.raster))
 
--- the offset that the rows of stripe i choose for the next stripe, over this one
-abbrev pub choice_after : Settings → Coding → ℕ → ℕ → Option ℕ
-choice_after s c i current = chosen_offset c.mode.two_line s.most_offset c.raster.width (map (lines_of c) (rows_of c i)) current
+-- where the adaptive pixel moves from the current offset: to the named one, unless that is the current one, or, where
+-- none is named, to the chosen one
+abbrev pub moved_to : Option ℕ → ℕ → Option ℕ → Option ℕ
+moved_to None current chosen = chosen
+moved_to (Some t) current chosen = if t == current then None else Some t
 
--- The offset with which that of stripe i+1 is compared: the nominal one at the top and where each stripe ends in a
--- reset, else that of stripe i.
+-- the offset to which the pixel moves before the first stripe: one that is named, since no rows choose
+abbrev pub first_choice : Settings → Option ℕ
+first_choice s = moved_to (named_for s 0) 0 None
+
+-- the one for the stripe after stripe i: named, or chosen by the rows of stripe i, over this one
+abbrev pub choice_after : Settings → Coding → ℕ → ℕ → Option ℕ
+choice_after s c i current = moved_to (named_for s (suc i)) current (chosen_offset c.mode.two_line s.most_offset c.raster.width (map (lines_of c) (rows_of c i)) current)
+
+-- The offset with which that of stripe i+1 is compared: the nominal one where each stripe ends in a reset, else that of
+-- stripe i.
 abbrev pub current_offset : Settings → Coding → ℕ → ℕ
-current_offset s c zero = 0
+current_offset s c zero = if s.reset then 0 else unwrap_or (first_choice s) 0
 current_offset s c (suc i) = if s.reset then 0 else unwrap_or (choice_after s c i (current_offset s c i)) (current_offset s c i)
 
 -- the move before stripe i, at its row 0
 abbrev pub move_before : Settings → Coding → ℕ → Option (ℕ × ℕ)
-move_before s c zero = None
+move_before s c zero = option_map (λ t. (0, t)) (first_choice s)
 move_before s c (suc i) = option_map (λ t. (0, t)) (choice_after s c i (current_offset s c i))
 
 -- how a raster is coded

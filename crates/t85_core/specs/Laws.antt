@@ -1,6 +1,6 @@
 -- The laws of streams, in which height' is the height in use: from 1 to the header's.
 pub mod Worked
-use Rattle.std.specs.Prelude.{ℕ, ◌≡◌, ◌≤◌, ◌⊎◌, Bool, List, ◌∷◌, ◌++◌, length, take, Option, None, ◌+◌, ◌*◌, unwrap_or, []}
+use Rattle.std.specs.Prelude.{ℕ, ◌≡◌, ◌≤◌, ◌⊎◌, Bool, List, ◌∷◌, ◌++◌, length, take, Option, None, ◌+◌, ◌*◌, unwrap_or, [], suc, Some, map}
 use Rattle.qm_core.specs.Code.{IsBytes}
 use Rattle.raster_core.specs.Raster.{Raster, IsRaster, height}
 use Rattle.t85_core.specs.declared.fault.Fault.{Fault}
@@ -11,8 +11,9 @@ use Rattle.t85_core.specs.Height.{IsHeight}
 use Rattle.t85_core.specs.Denotes.{DenotesAt, Denotes}
 use Rattle.t85_core.specs.Fixed.{Fixes, AreDecided, begun_stripes}
 use Rattle.t85_core.specs.Outcome.{IsOutcome}
-use Rattle.t85_core.specs.Jbg.{Settings, AreSettings, IsAnnounced, jbg}
-use Rattle.t85_core.specs.Coding.{flagged}
+use Rattle.t85_core.specs.Jbg.{Settings, AreSettings, IsAnnounced, named_for, first_choice, choice_after, move_before, jbg}
+use Rattle.raster_core.specs.Offset.{chosen_offset}
+use Rattle.t85_core.specs.Coding.{Coding, rows_of, lines_of, flagged}
 
 -- an accepted header, and a height in use
 pub record IsInUse (h : Fields) (height' : ℕ) : Type 0 where
@@ -97,6 +98,20 @@ abbrev pub CodeDenotes : Type 0
 CodeDenotes =
     (s : Settings) (raster : Raster) → AreSettings s → IsRaster raster → IsAnnounced s (height raster) →
     Denotes (jbg s raster) raster
+
+-- Where no offset is named, none is moved to before the first stripe, and the rule chooses each other one.
+abbrev pub RuleChooses : Type 0
+RuleChooses =
+    (s : Settings) (c : Coding) → s.named ≡ [] →
+    (move_before s c 0 ≡ None) ×
+    ((i current : ℕ) → choice_after s c i current ≡ chosen_offset c.mode.two_line s.most_offset c.raster.width (map (lines_of c) (rows_of c i)) current)
+
+-- A named offset is that of its stripe, whatever it was before: it is moved to, or it is the current one.
+abbrev pub NameIsTaken : Type 0
+NameIsTaken =
+    (s : Settings) (c : Coding) (t : ℕ) →
+    (named_for s 0 ≡ Some t → unwrap_or (first_choice s) 0 ≡ t) ×
+    ((i current : ℕ) → named_for s (suc i) ≡ Some t → unwrap_or (choice_after s c i current) current ≡ t)
 
 -- a body has one height at most
 abbrev pub OneHeight : Type 0

@@ -1,5 +1,5 @@
 -- Which options are refused, and how; a header and options as the definitions see them.
-use Rattle.std.specs.Prelude.{ℕ, ◌≡◌, ◌%◌, ◌==◌, ◌||◌, not, nat_lt, nat_le, Bool, false, List, Option, Some, None, length, option_map, if◌then◌else◌}
+use Rattle.std.specs.Prelude.{ℕ, ◌≡◌, ◌%◌, ◌==◌, ◌||◌, not, nat_lt, nat_le, Bool, false, List, [], Option, Some, None, length, option_map, if◌then◌else◌}
 use Rattle.std.specs.Option.{option_map_or}
 use Rattle.t85_core.specs.declared.fault.Fault.{Fault}
 use Rattle.t85_core.specs.declared.fault.Fault.TheVariants.{OptionBits, StripeZero, MoveLarge, CommentLong}
@@ -31,6 +31,7 @@ settings_of o = record {
   announced = o.announced;
   reset = o.reset;
   comment = option_map (λ c. c.now) o.comment;
+  named = [];
 }
 
 -- options say what was given

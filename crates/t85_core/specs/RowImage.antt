@@ -1,5 +1,5 @@
 -- The image of a row encoder.
-use Rattle.std.specs.Prelude.{ℕ, ◌≡◌, ◌≤◌, Bool, List, None, length, take}
+use Rattle.std.specs.Prelude.{ℕ, zero, suc, ◌≡◌, ◌≤◌, ◌<◌, ◌/◌, ◌==◌, ◌||◌, ◌&&◌, nat_le, if◌then◌else◌, Bool, List, [], ◌∷◌, Option, None, Some, length, take, slice_index_or}
 use Rattle.pbm_core.specs.declared.size.Size.{Size}
 use Rattle.raster_core.specs.Raster.{Raster, IsRaster, height}
 use Rattle.t85_core.specs.declared.options.Options.{Options}
@@ -19,6 +19,28 @@ image_of s width limit = record { settings = s; width = width; limit = limit }
 -- the one of this size, by these options
 abbrev pub image_for : Options → Size → Image
 image_for options size = image_of (settings_of options) size.width size.height
+
+-- the same where the caller names these offsets
+abbrev pub naming : Image → List (Option ℕ) → Image
+naming image names = record image { settings = record image.settings { named = names } }
+
+-- the names with this one for stripe i, and none after it
+abbrev pub with_name : ℕ → ℕ → List (Option ℕ) → List (Option ℕ)
+with_name t zero names = Some t ∷ []
+with_name t (suc i) [] = None ∷ with_name t i []
+with_name t (suc i) (name ∷ names) = name ∷ with_name t i names
+
+-- the image where this offset is named after n rows, for the stripe that begins then
+abbrev pub named_after : ℕ → ℕ → Image → Image
+named_after t n image = naming image (with_name t (n / image.settings.stripe_rows) image.settings.named)
+
+-- the names of the first i stripes are the same
+abbrev pub SameNames : ℕ → List (Option ℕ) → List (Option ℕ) → Type 0
+SameNames i names names' = (j : ℕ) → j < i → slice_index_or names j None ≡ slice_index_or names' j None
+
+-- whether an offset may be named: the nominal one, or one that the rule may choose
+abbrev pub may_name : Bool → ℕ → ℕ → Bool
+may_name two_line most t = (t == 0) || (nat_le (if two_line then 5 else 3) t && nat_le t most)
 
 -- a raster of at most this height that begins with these rows; where no height is announced, of just this height
 pub record MayCome (image : Image) (rows : List (List Bool)) (raster : Raster) : Type 0 where

@@ -1,5 +1,5 @@
 -- A row encoder, as plain numbers.
-use Rattle.std.specs.Prelude.{ℕ, ◌+◌, ◌*◌, ◌≤◌, ◌<◌}
+use Rattle.std.specs.Prelude.{ℕ, ◌+◌, ◌*◌, ◌≤◌, ◌<◌, IfSome}
 use Rattle.qm_core.specs.Encoder.{encoder_registers}
 use Rattle.t85_core.specs.declared.encoding.by_row.RowEncoder.{RowEncoder}
 use Rattle.t85_core.specs.declared.encoding.by_row.numbers.RowNumbers.{RowNumbers}
@@ -12,12 +12,14 @@ row_numbers e = record {
   is_counted = e.is_counted;
   offset = e.kept.offset;
   is_previous_typical = e.kept.previous_typical;
+  named = e.named;
   encoder = encoder_registers e.encoder;
 }
 
 -- an encoder of an image of this size and with so many rows in a stripe may have come so far
 pub record AreWithin (width limit stripe_rows : ℕ) (n : RowNumbers) : Type 0 where
   pub offset : n.offset ≤ 127
+  pub named : IfSome n.named (λ t. t ≤ 127)
   pub fewer : n.in_stripe < stripe_rows
   pub inside : n.in_stripe ≤ n.rows
   pub rows_to : n.rows ≤ limit

@@ -1,6 +1,6 @@
 -- The parts of the stream that is written for a raster.
 use Rattle.std.proofs.Common.{◌≡◌, ℕ, zero, suc, ◌+◌, ◌-◌, ◌*◌, ◌/◌, ◌<◌, ◌≤◌, ◌^◌, Bool, true, false, List, [], ◌∷◌, ◌++◌, length, map, drop, min, refl, sym, ◌∙◌, ap, subst, arith, Option, None, Some, append_assoc}
-use Rattle.std.specs.Prelude.{slice_index_or, if◌then◌else◌, flat_map, unwrap_or, option_map, option_and_then, option_to_list, nat_lt, nat_le, find, count_by, sum_by, is_some, IfSome}
+use Rattle.std.specs.Prelude.{slice_index_or, if◌then◌else◌, flat_map, unwrap_or, option_map, option_and_then, option_to_list, nat_lt, nat_le, find, count_by, sum_by, is_some, IfSome, ◌==◌}
 use Rattle.std.specs.Int.{bytes_high_first}
 use Rattle.std.specs.List.{AllByRecursion, list_all}
 use Rattle.std.proofs.lemmas.Grind.{flat_map-append, div_ceil_times}
@@ -19,7 +19,7 @@ use Rattle.t85_core.specs.Denotes.{Denotes}
 use Rattle.t85_core.specs.Header.{Fields, HeaderOf, long_at}
 use Rattle.t85_core.specs.Height.{IsHeight}
 use Rattle.t85_core.specs.Info.{HasLine, numbers_of, line_text}
-use Rattle.t85_core.specs.Jbg.{Settings, AreSettings, choice_after, coded_stripe, coding_of, current_offset, cut, ending, header_of, jbg, move_before, move_segments}
+use Rattle.t85_core.specs.Jbg.{Settings, AreSettings, named_for, moved_to, first_choice, choice_after, coded_stripe, coding_of, current_offset, cut, ending, header_of, jbg, move_before, move_segments}
 use Rattle.uses.specs.Line.{line_numbers}
 use Rattle.uses.proofs.Headers.{same_fields}
 
@@ -49,6 +49,12 @@ chosen_within two_line most width stripe current =
           IfSome (option_and_then (λ t. if nat_lt (width * length stripe / 8) (agreement stripe t - agreement stripe current) then Some t else None) best) (λ t. t ≤ most)
       gains None within = tt
       gains (Some t) within = elim (nat_lt (width * length stripe / 8) (agreement stripe t - agreement stripe current)) as (λ b. IfSome (if b then Some t else None) (λ t. t ≤ most)) [ true ↦ within | false ↦ tt ]
+
+-- and so is one that is named or chosen
+moved_within : (named : Option ℕ) (most current : ℕ) (chosen : Option ℕ) → IfSome named (λ t. t ≤ most) → IfSome chosen (λ t. t ≤ most) → IfSome (moved_to named current chosen) (λ t. t ≤ most)
+moved_within None most current chosen is within = within
+moved_within (Some t) most current chosen is within =
+    elim (t == current) as (λ b. IfSome (if b then None else Some t) (λ t. t ≤ most)) [ true ↦ tt | false ↦ is ]
 
 -- ---- lists over numbers
 
@@ -212,8 +218,8 @@ module _ (start_is_place : IsPlace start) (keep : EventsKeepPlace) (one_code : O
   move_is i within = get_mapped (move_before s (cut s raster)) 0 n i None within ∙ ap (λ j. move_before s (cut s raster) j) (let e : 0 + i ≡ i = omega arith in e)
 
   begun_before : (i : ℕ) (code : List ℕ) → AllByRecursion (λ b. b < 256) code → IsBegun h (move_segments (move_before s (cut s raster) i)) code
-  begun_before zero code bytes = record { legal = tt; one_move = omega arith; bytes = bytes }
-  begun_before (suc i) code bytes = begun_move h (choice_after s (cut s raster) i (current_offset s (cut s raster) i)) code accepted.stripe_from (chosen_within (cut s raster).mode.two_line s.most_offset raster.width (map (lines_of (cut s raster)) (rows_of (cut s raster) i)) (current_offset s (cut s raster) i)) bytes
+  begun_before zero code bytes = begun_move h (first_choice s) code accepted.stripe_from (moved_within (named_for s 0) s.most_offset 0 None (accepted.named_to 0) tt) bytes
+  begun_before (suc i) code bytes = begun_move h (choice_after s (cut s raster) i (current_offset s (cut s raster) i)) code accepted.stripe_from (moved_within (named_for s (suc i)) s.most_offset (current_offset s (cut s raster) i) _ (accepted.named_to (suc i)) (chosen_within (cut s raster).mode.two_line s.most_offset raster.width (map (lines_of (cut s raster)) (rows_of (cut s raster) i)) (current_offset s (cut s raster) i))) bytes
 
   are : AreStripes h written
   are = all_mapped (λ x. IsBegun h x.segments x.code) (coded_stripe c) 0 n (λ i from to.

@@ -21,6 +21,7 @@ use Rattle.t85_core.specs.Jbg.{Settings, AreSettings, jbg, jbg_up_to, IsAnnounce
 use Rattle.t85_core.specs.Options.{settings_of}
 use Rattle.t85_core.specs.Laws.{CodeDenotes}
 use Rattle.t85_core.specs.Failures.{CountsBoth, CountsWrite}
+use Rattle.t85_core.proofs.Theorems.CodeParts.{none_named}
 use Rattle.t85_core.proofs.Bytes.Ends.{on_ok, map_ok, always}
 use Rattle.t85_core.proofs.Bytes.Held.{Keeps-same}
 use Rattle.t85_core.proofs.Encodings.BufferEncoded.{nothing_short}
@@ -50,6 +51,7 @@ are_settings o = record {
   offset_to = o.in_range;
   announced_to = announced_small o.announced o.announced_fits;
   comment_to = comment_fits o.comment o.comment_fits;
+  named_to = none_named (settings_of o) o.most_offset refl;
 }
 
 not_low : (a b : ℕ) → nat_lt a b ≡ false → b ≤ a

@@ -8,12 +8,12 @@ use Rattle.std.proofs.Math.Nat.{mul-le-mul_right}
 use Rattle.qm_core.specs.Code.{code_of}
 use Rattle.qm_core.specs.Place.{after, fresh}
 use Rattle.raster_core.specs.Raster.{Raster, height, row_above, white_row}
-use Rattle.raster_core.specs.Lines.{numbers_from}
+use Rattle.raster_core.specs.Lines.{Lines, numbers_from}
 use Rattle.raster_core.specs.Offset.{chosen_offset}
 use Rattle.t85_core.specs.Grammar.{Segment, Stripe, stripe_bytes, stripe_count}
 use Rattle.t85_core.specs.Coding.{Coding, fresh_stripe, lines_of, moved_at, last_or, events_of_row, events_of, learned_at, place_of, begun}
 use Rattle.t85_core.specs.Steps.State.{RowStart, first_row_start, next_stripe_start}
-use Rattle.t85_core.specs.Jbg.{Settings, cut, coding_of, choice_after, current_offset, move_before, move_segments, coded_stripe, stripes_up_to}
+use Rattle.t85_core.specs.Jbg.{Settings, cut, coding_of, named_for, moved_to, first_choice, choice_after, current_offset, move_before, move_segments, coded_stripe, stripes_up_to}
 use Rattle.t85_core.specs.Steps.Written.{after_rows, lines_down, EncoderStart, first_encoder_start, next_move, row_start_in, next_stripe, next_encoder_start}
 use Rattle.t85_core.proofs.Theorems.Joined.{row_above_top, numbers_from_last}
 use Rattle.t85_core.proofs.Bytes.Lists.{flat_map_push}
@@ -52,20 +52,25 @@ next_carry c i false last reset_is long k =
       second = k.second ∙ ap (λ j. row_above c.raster (j * c.stripe_rows) y 2) fresh_before;
     }
 
-move_is_before : (s : Settings) (raster : Raster) (i : ℕ) (at : EncoderStart) → at.counted ≡ lines_before s raster i → at.carry.offset ≡ offset_to s raster i →
+move_is_before : (s : Settings) (raster : Raster) (i : ℕ) (at : EncoderStart) → at.stripe ≡ i → at.counted ≡ lines_before s raster i → at.carry.offset ≡ offset_to s raster i →
     next_move s raster.width at ≡ move_before s (cut s raster) i
-move_is_before s raster i at counted offset =
-    ap (λ lines. option_map (λ t. (0, t)) (chosen_offset (cut s raster).mode.two_line s.most_offset raster.width lines at.carry.offset)) counted
-    ∙ ap (λ o. option_map (λ t. (0, t)) (chosen_offset (cut s raster).mode.two_line s.most_offset raster.width (lines_before s raster i) o)) offset
+move_is_before s raster i at stripe counted offset =
+    ap (λ j. move j at.carry.offset at.counted) stripe
+    ∙ ap (move i at.carry.offset) counted
+    ∙ ap (λ o. move i o (lines_before s raster i)) offset
     ∙ chosen i
   where
-    chosen : (i : ℕ) → option_map (λ t. (0, t)) (chosen_offset (cut s raster).mode.two_line s.most_offset raster.width (lines_before s raster i) (offset_to s raster i)) ≡ move_before s (cut s raster) i
-    chosen zero = ap (option_map (λ t. (0, t))) (none_chosen (cut s raster).mode.two_line s.most_offset raster.width 0)
+    move : ℕ → ℕ → List Lines → Option (ℕ × ℕ)
+    move j current lines = option_map (λ t. (0, t)) (moved_to (named_for s j) current (chosen_offset (cut s raster).mode.two_line s.most_offset raster.width lines current))
+
+    chosen : (i : ℕ) → move i (offset_to s raster i) (lines_before s raster i) ≡ move_before s (cut s raster) i
+    chosen zero = ap (λ o. option_map (λ t. (0, t)) (moved_to (named_for s 0) 0 o)) (none_chosen (cut s raster).mode.two_line s.most_offset raster.width 0)
     chosen (suc i) = refl
 
 -- the top of the image
 pub course_begins : (s : Settings) (raster : Raster) → CourseAt s raster 0 (first_encoder_start raster.width)
 course_begins s raster = record {
+  stripe = refl;
   carry = record {
     learned = refl;
     offset = sym (ap (λ n. last_or 0 (filter_map (moved_at (coding_of s raster)) (numbers_from (0 * s.stripe_rows) n))) none);
@@ -75,7 +80,7 @@ course_begins s raster = record {
   };
   counted = refl;
   offset = refl;
-  move = move_is_before s raster 0 (first_encoder_start raster.width) refl refl;
+  move = move_is_before s raster 0 (first_encoder_start raster.width) refl refl refl;
 } where
   none : 0 * s.stripe_rows - 0 * s.stripe_rows ≡ 0
   none = omega arith
@@ -95,9 +100,9 @@ stripe_within n l i some inside =
     let up : (i + 1) * l ≤ stripe_count n l * l = mul-le-mul_right l (omega (arith, inside)) in
     omega (arith, times.1, up)
 
--- the offset that the rows of the stripe before choose for stripe i
+-- the offset that is named for stripe i, or that the rows of the stripe before choose for it
 abbrev choice_before : Settings → Raster → ℕ → Option ℕ
-choice_before s raster zero = None
+choice_before s raster zero = first_choice s
 choice_before s raster (suc i) = choice_after s (cut s raster) i (current_offset s (cut s raster) i)
 
 move_chosen : (s : Settings) (raster : Raster) (i : ℕ) → move_before s (cut s raster) i ≡ option_map (λ t. (0, t)) (choice_before s raster i)
@@ -108,7 +113,7 @@ move_chosen s raster (suc i) = refl
 offset_ends : (s : Settings) (raster : Raster) (i : ℕ) (last : RowStart) → last.offset ≡ unwrap_or (choice_before s raster i) (offset_to s raster i) →
     (next_stripe_start raster.width s.reset last).offset ≡ current_offset s (cut s raster) i
 offset_ends s raster zero last h = went s.reset where
-  went : (b : Bool) → (next_stripe_start raster.width b last).offset ≡ 0
+  went : (b : Bool) → (next_stripe_start raster.width b last).offset ≡ (if b then 0 else unwrap_or (choice_before s raster zero) (offset_to s raster zero))
   went true = refl
   went false = h
 offset_ends s raster (suc i) last h = went s.reset where
@@ -158,10 +163,11 @@ module _ (s : Settings) (raster : Raster) (i : ℕ) (at : EncoderStart) (rows : 
 
   next_is : suc i * s.stripe_rows ≤ height raster → CourseAt s raster (suc i) (next_encoder_start s raster.width at rows)
   next_is long = record {
+    stripe = ap suc h.stripe;
     carry = next_carry (coding_of s raster) i s.reset (row_start_in s raster.width at rows) reset_is long carried;
     counted = counted;
     offset = offset;
-    move = move_is_before s raster (suc i) (next_encoder_start s raster.width at rows) counted offset;
+    move = move_is_before s raster (suc i) (next_encoder_start s raster.width at rows) (ap suc h.stripe) counted offset;
   } where
     counted : lines_down at.carry.above at.carry.second rows ≡ lines_before s raster (suc i)
     counted = down.lines ∙ ap (λ n. map (lines_of (cut s raster)) (numbers_from (i * s.stripe_rows) n)) many

@@ -20,7 +20,7 @@ use Rattle.t85_core.specs.RowImage.{MayCome, Image, image_of}
 use Rattle.t85_core.proofs.Bytes.Sendings.{here_sent}
 use Rattle.t85_core.proofs.Theorems.Joined.{stripe_at}
 use Rattle.t85_core.proofs.Encodings.RowShort.{pushed_begins}
-use Rattle.t85_core.proofs.Encodings.RowStream.{come_first, come_long, part_begins, front_begins, less_or_not}
+use Rattle.t85_core.proofs.Encodings.RowStream.{stands_here, come_first, come_long, part_begins, front_begins, less_or_not}
 use Rattle.t85_core.specs.Steps.Passage.{passage}
 
 -- so many whole stripes are stripes of the image
@@ -41,9 +41,9 @@ module _ (image : Image) (rows : List (List Bool)) (v : RowView) (window : Held)
     bytes = w.front;
     sent = w.sent;
     begun = λ raster b. record {
-      holds = record { rest = []; bytes_are = w.stripes.front_is raster b ∙ sym (ap (jbg_up_to image.settings raster) whole) ∙ sym (append-nil (jbg_up_to image.settings raster (length rows / image.settings.stripe_rows))) };
+      holds = record { rest = []; bytes_are = (stands_here image w.i rows w.at w.front w.stripes).front_is raster b ∙ sym (ap (jbg_up_to image.settings raster) whole) ∙ sym (append-nil (jbg_up_to image.settings raster (length rows / image.settings.stripe_rows))) };
       begins = front_begins image.settings raster w.i w.front (few_stripes (height raster) image.settings.stripe_rows w.i w.plan_is.some (let long = come_long image rows raster b in omega (arith, long, w.stripes.many)))
-          (record { rest = []; bytes_are = sym (w.stripes.front_is raster b) ∙ sym (append-nil w.front) });
+          (record { rest = []; bytes_are = sym ((stands_here image w.i rows w.at w.front w.stripes).front_is raster b) ∙ sym (append-nil w.front) });
     };
   } where
     whole : length rows / image.settings.stripe_rows ≡ w.i
@@ -59,7 +59,7 @@ module _ (image : Image) (rows : List (List Bool)) (v : RowView) (window : Held)
     begun = λ raster b. record {
       holds = record {
         rest = move_bytes image.settings image.width r.at ++ r.pushed;
-        bytes_are = ap (λ z. z ++ (move_bytes image.settings image.width r.at ++ r.pushed)) (r.stripes.front_is raster (first raster b) ∙ sym (ap (jbg_up_to image.settings raster) whole));
+        bytes_are = ap (λ z. z ++ (move_bytes image.settings image.width r.at ++ r.pushed)) ((stands_here image r.i r.whole r.at r.front r.stripes).front_is raster (first raster b) ∙ sym (ap (jbg_up_to image.settings raster) whole));
       };
       begins = part_begins image r.i r.whole r.at r.front r.plan_is.some r.stripes r.part (move_bytes image.settings image.width r.at ++ r.pushed) r.few begins raster (all raster b)
           (let long = come_long image (r.whole ++ r.part) raster (all raster b) in omega (arith, long, length-append r.whole r.part, r.stripes.many, some, r.in_stripe));

@@ -20,6 +20,7 @@ waits_at w on_course sent = record {
   stripes = w.stripes;
   in_stripe = w.in_stripe;
   codes = w.codes;
+  names_to = w.names_to;
   on_course = on_course;
   sent = sent;
 }
@@ -54,6 +55,8 @@ module _ (image : Image) (rows : List (List Bool)) (v : RowView) (window : Held)
       few = r.few;
       pushed = r.pushed;
       running = r.running;
+      names_to = r.names_to;
+      none_named = r.none_named;
       counts = r.counts;
       sent = sent;
     },

@@ -22,12 +22,13 @@ one_plan image a b p q =
       may_end = (p.may_end_is ∙ sym q.may_end_is) i;
       has_candidates = (p.candidates_are ∙ sym q.candidates_are) i;
       reset = (p.reset_is ∙ sym q.reset_is) i;
+      most_offset = (p.most_is ∙ sym q.most_is) i;
     }
 
 -- of one plan, and with the same of all else
 pub one_view : (image : Image) (v w : RowView) → IsPlan image v.plan → IsPlan image w.plan → v.kept.offset ≡ w.kept.offset → v.kept.previous_typical ≡ w.kept.previous_typical → v.learned ≡ w.learned → v.tally ≡ w.tally
-    → v.encoder ≡ w.encoder → v.rows ≡ w.rows → v.in_stripe ≡ w.in_stripe → v.is_counted ≡ w.is_counted → v ≡ w
-one_view image v w p q offset previous learned tally encoder rows in_stripe is_counted =
+    → v.encoder ≡ w.encoder → v.rows ≡ w.rows → v.in_stripe ≡ w.in_stripe → v.is_counted ≡ w.is_counted → v.named ≡ w.named → v ≡ w
+one_view image v w p q offset previous learned tally encoder rows in_stripe is_counted named =
     λ i. record {
       plan = (one_plan image v.plan w.plan p q) i;
       kept = record { offset = offset i; previous_typical = previous i };
@@ -37,4 +38,5 @@ one_view image v w p q offset previous learned tally encoder rows in_stripe is_c
       rows = rows i;
       in_stripe = in_stripe i;
       is_counted = is_counted i;
+      named = named i;
     }

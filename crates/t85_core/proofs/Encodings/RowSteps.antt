@@ -1,6 +1,6 @@
 -- A row encoder, from row to row.
 use Rattle.t85_core.specs.Steps.DecodeRows.{IsCarried}
-use Rattle.std.proofs.Common.{◌≡◌, ℕ, zero, suc, ◌+◌, ◌-◌, ◌*◌, ◌^◌, ◌<◌, ◌≤◌, ◌⊎◌, inl, inr, nat_eq, true, false, Bool, List, [], ◌∷◌, ◌++◌, length, refl, sym, ◌∙◌, ap, subst, arith, Option, None, Some, append_assoc, append-nil, length-append}
+use Rattle.std.proofs.Common.{slice_index_or, ◌≡◌, ℕ, zero, suc, ◌+◌, ◌-◌, ◌*◌, ◌^◌, ◌<◌, ◌≤◌, ◌⊎◌, inl, inr, nat_eq, true, false, Bool, List, [], ◌∷◌, ◌++◌, length, refl, sym, ◌∙◌, ap, subst, arith, Option, None, Some, append_assoc, append-nil, length-append}
 use Rattle.std.specs.Prelude.{if◌then◌else◌, is_some, unwrap_or, IfSome, ◌==◌}
 use Rattle.std.specs.List.{AllByRecursion}
 use Rattle.std.specs.Io.KnownBytes.{Appends}
@@ -8,6 +8,7 @@ use Rattle.std.proofs.lemmas.Bool.Decides.{nat_tests}
 use Rattle.std.proofs.lemmas.Grind.{div_ceil_times}
 use Rattle.std.proofs.Math.Seq.{take-length}
 use Rattle.pbm_core.specs.Device.{AppendsBeginning}
+use Rattle.std.proofs.lemmas.List.{get_or_past}
 use Rattle.qm_core.specs.Place.{Estimate, start, fresh, after}
 use Rattle.qm_core.specs.Code.{code_of, stuffed}
 use Rattle.qm_core.specs.Encoder.{EncoderIsAt, IsStuffedFront, encoder_state}
@@ -23,7 +24,7 @@ use Rattle.raster_core.specs.declared.tally.Tally.{Tally}
 use Rattle.t85_core.specs.Grammar.{marker_bytes, stripe_bytes, stripe_count}
 use Rattle.t85_core.specs.Coding.{mode_of}
 use Rattle.t85_core.specs.Encode.{IsBeginning, raster_of}
-use Rattle.t85_core.specs.Jbg.{Settings, head_of, jbg, jbg_up_to, ending}
+use Rattle.t85_core.specs.Jbg.{Settings, named_for, head_of, jbg, jbg_up_to, ending}
 use Rattle.t85_core.specs.Steps.State.{RowStart, StripeStart, first_row_start, next_stripe_start, offset_at, lines_with, after_row}
 use Rattle.t85_core.specs.Steps.Written.{EncoderStart, first_encoder_start, next_flag, next_move, next_stripe, next_encoder_start, row_start_in, after_rows, lines_down, ending_of}
 use Rattle.t85_core.specs.Steps.CoderLaws.{WritingLaws}
@@ -36,7 +37,7 @@ use Rattle.t85_core.specs.Steps.RowSteps.{MoveMade, MoveCut, RowPut, RowCut, Str
 use Rattle.t85_core.proofs.Bytes.Sendings.{Sends-more, Sends-keeps, sends_after, sends_longer, sent_here}
 use Rattle.t85_core.proofs.Encodings.RowsDown.{after_more, lines_more}
 use Rattle.t85_core.proofs.Encodings.RowShort.{rows_place, fails_begins}
-use Rattle.t85_core.proofs.Encodings.RowStream.{none_whole, same_announced, come_first, come_long, stripe_more, part_begins, whole_more, inside_of, front_begins, less_or_not}
+use Rattle.t85_core.proofs.Encodings.RowStream.{none_whole, stands_here, same_announced, come_first, come_long, stripe_more, part_begins, whole_more, inside_of, front_begins, less_or_not}
 
 -- before the first row of a stripe without a move, what is held is what is carried
 pub carried_by_held : {b : RowStart} {kept : Kept} {learned : List Estimate} {window : Held} → IsHeldBy None 0 b kept learned window → IsCarried b (record { held = window; kept = kept; learned = learned })
@@ -70,10 +71,10 @@ module _ (image : Image) (rows : List (List Bool)) (v : RowView) (before : Held)
   waits_within left = omega (arith, left, w.plan_is.limit_is, w.come.many, w.stripes.many)
 
   pub stripe_begun : v.rows < v.plan.limit → (kept : Kept) (tally : Tally) (is_counted : Bool)
-      → ((s' : Settings) (width' : ℕ) (at : EncoderStart) → v.kept.offset ≡ at.carry.offset → IsTallied s' width' at v.tally → MoveMade (next_move s' width' at) at.carry.offset mid text' v.kept kept)
+      → ((s' : Settings) (width' : ℕ) (at : EncoderStart) → v.kept.offset ≡ at.carry.offset → v.named ≡ named_for s' at.stripe → IsTallied s' width' at v.tally → MoveMade (next_move s' width' at) at.carry.offset mid text' v.kept kept)
       → ((width' current : ℕ) → CountsLines tally width' current []) → is_two_line tally ≡ is_two_line v.tally → most_of tally ≡ most_of v.tally
       → (v.plan.stripe_rows < v.plan.limit - v.rows → v.plan.has_candidates ≡ true → is_counted ≡ true)
-      → Runs image rows (record v { kept = kept; tally = tally; is_counted = is_counted }) before origin text'
+      → Runs image rows (record v { kept = kept; tally = tally; is_counted = is_counted; named = None }) before origin text'
   stripe_begun left kept tally is_counted moves counts two_line most counted = record {
     plan_is = w.plan_is;
     come = w.come;
@@ -101,6 +102,8 @@ module _ (image : Image) (rows : List (List Bool)) (v : RowView) (before : Held)
       most = most ∙ on.is_tallied.most;
       tallied = none_counted image.width _ tally counts;
     };
+    names_to = w.names_to;
+    none_named = refl;
     counts = λ more some. counted
         (let sum : (w.i + 1) * image.settings.stripe_rows ≡ w.i * image.settings.stripe_rows + 1 * image.settings.stripe_rows = Rattle.std.proofs.Math.Nat.add-mul w.i 1 image.settings.stripe_rows in omega (arith, w.plan_is.limit_is, w.come.many, w.stripes.many, w.plan_is.stripe_rows_is, more, sum))
         (w.plan_is.candidates_are ∙ (grind (arith, nat_tests, some)));
@@ -110,11 +113,11 @@ module _ (image : Image) (rows : List (List Bool)) (v : RowView) (before : Held)
     on = w.on_course (waits_within left)
 
     made : MoveMade (next_move image.settings image.width w.at) w.at.carry.offset mid text' v.kept kept
-    made = moves image.settings image.width w.at on.is_held.offset_is on.is_tallied
+    made = moves image.settings image.width w.at on.is_held.offset_is on.named_is on.is_tallied
 
   -- a beginning of the move was written
   pub move_cut : v.rows < v.plan.limit → (row : List Bool)
-      → ((s' : Settings) (width' : ℕ) (at : EncoderStart) → v.kept.offset ≡ at.carry.offset → IsTallied s' width' at v.tally → MoveCut s' width' at mid text')
+      → ((s' : Settings) (width' : ℕ) (at : EncoderStart) → v.kept.offset ≡ at.carry.offset → v.named ≡ named_for s' at.stripe → IsTallied s' width' at v.tally → MoveCut s' width' at mid text')
       → StreamCut image (rows ++ row ∷ []) origin text'
   move_cut left row cuts = record {
     bytes = w.front ++ p.front;
@@ -132,7 +135,7 @@ module _ (image : Image) (rows : List (List Bool)) (v : RowView) (before : Held)
     on = w.on_course (waits_within left)
 
     p : AppendsBeginning mid text' (move_bytes image.settings image.width w.at)
-    p = cuts image.settings image.width w.at on.is_held.offset_is on.is_tallied
+    p = cuts image.settings image.width w.at on.is_held.offset_is on.named_is on.is_tallied
 
 -- ---- a row is coded
 
@@ -226,6 +229,8 @@ module _ (image : Image) (rows : List (List Bool)) (row : List Bool) (v : RowVie
           (subst (λ w. IsCountedTo w (counted_of (record v { kept = kept })) v.tally (lines_down c.above c.second r.part)) (sym r.plan_is.width_is)
           (subst (λ o. IsCountedTo image.width o v.tally (lines_down c.above c.second r.part)) (sym (counted_same kept put.offset_is)) r.running.tallied))));
     };
+    names_to = r.names_to;
+    none_named = r.none_named;
     counts = r.counts;
     sent = subst (Sends origin text') (append_assoc r.front (move_bytes image.settings image.width r.at ++ r.pushed) put.more ∙ ap (λ z. r.front ++ z) (append_assoc (move_bytes image.settings image.width r.at) r.pushed put.more))
         (Sends-more origin mid text' (r.front ++ (move_bytes image.settings image.width r.at ++ r.pushed)) put.more r.sent put.appended);
@@ -371,10 +376,12 @@ module _ (image : Image) (rows : List (List Bool)) (v : RowView) (window : Held)
     few = r.few;
     in_stripe = none;
     codes = codes;
+    names_to = r.names_to;
     on_course = λ more'. record {
       is_held = subst (λ w. IsHeldBy None 0 (first_row_start (next_stripe_start w image.settings.reset last)) kept learned window') r.plan_is.width_is
           (subst (λ b. IsHeldBy None 0 (first_row_start (next_stripe_start v.plan.width b last)) kept learned window') r.plan_is.reset_is (goes last behind));
       is_tallied = tallied more';
+      named_is = r.none_named ∙ sym (get_or_past image.settings.named (suc r.at.stripe) None (let is : r.at.stripe ≡ r.i = r.stripes.stripe_is in omega (arith, is, r.names_to)));
     };
     sent = Sends-keeps origin text' text'' (r.front ++ stripe_bytes (next_stripe image.settings image.width r.at r.part))
         (subst (Sends origin text') (bytes_of laws code more is all) (Sends-more origin mid text' (r.front ++ (move_bytes image.settings image.width r.at ++ r.pushed)) more r.sent put)) keeps;
@@ -410,6 +417,7 @@ module _ (image : Image) (count : ℕ) (rows : List (List Bool)) (v : RowView) (
         (whole_more image e.i e.whole e.at e.front e.plan_is.some e.stripes e.part (e.many ∙ full ∙ e.plan_is.stripe_rows_is));
     in_stripe = e.in_stripe;
     codes = e.codes;
+    names_to = omega (arith, e.names_to);
     on_course = e.on_course;
     sent = e.sent;
   }
@@ -487,7 +495,7 @@ module _ (image : Image) (rows : List (List Bool)) (v : RowView) (plan : IsPlan 
     reset_is = plan.reset_is;
     announced_is = announced_at;
     sent = subst (Sends origin text')
-        (w.stripes.front_is (raster_of image.width rows) itself
+        ((stands_here image w.i rows w.at w.front w.stripes).front_is (raster_of image.width rows) itself
         ∙ ap (jbg_up_to image.settings (raster_of image.width rows)) (sym (count_is (length rows) image.settings.stripe_rows w.i plan.some (omega (arith, w.stripes.many)) (omega (arith, w.stripes.many, plan.some))))) w.sent;
   }
 
@@ -534,10 +542,10 @@ module _ (image : Image) (rows : List (List Bool)) (v : RowView) (origin : Origi
 
 -- ---- an image begins
 
-pub none_stand : (image : Image) (v : RowView) (window : Held) (text text' : Option (List ℕ)) → IsPlan image v.plan → v.rows ≡ 0 → v.in_stripe ≡ 0 → EncoderIsAt v.encoder start [] → v.kept.offset ≡ 0 → v.kept.previous_typical ≡ false → v.learned ≡ fresh
+pub none_stand : (image : Image) (v : RowView) (window : Held) (text text' : Option (List ℕ)) → IsPlan image v.plan → v.rows ≡ 0 → v.in_stripe ≡ 0 → v.named ≡ None → image.settings.named ≡ [] → EncoderIsAt v.encoder start [] → v.kept.offset ≡ 0 → v.kept.previous_typical ≡ false → v.learned ≡ fresh
     → HasLines window (white_lines image.width) → is_two_line v.tally ≡ (mode_of image.settings.options).two_line → most_of v.tally ≡ image.settings.most_offset → ((width' current : ℕ) → CountsLines v.tally width' current []) → Appends text text' (head_of image.settings image.width image.limit)
     → Stands image [] v window (here text) text'
-none_stand image v window text text' plan rows_is none codes offset previous learned white two_line most counts put = inl (record {
+none_stand image v window text text' plan rows_is none nameless unnamed codes offset previous learned white two_line most counts put = inl (record {
   plan_is = plan;
   come = record { many = rows_is; few = omega arith; wide = tt };
   i = 0;
@@ -546,9 +554,11 @@ none_stand image v window text text' plan rows_is none codes offset previous lea
   stripes = none_whole image;
   in_stripe = none;
   codes = codes;
+  names_to = (let none_are : length image.settings.named ≡ 0 = ap length unnamed in omega (arith, none_are));
   on_course = λ _. record {
     is_held = record { at_top = tt; offset_is = offset; previous_is = previous; learned_is = learned; third = white_row image.width; lines_are = white };
     is_tallied = record { two_line = two_line; most = most; lines = []; counts = counts image.width 0; lines_are = λ _. refl };
+    named_is = nameless ∙ sym (ap (λ names. slice_index_or names 0 None) unnamed);
   };
   sent = sent_here text text' _ put;
 })

@@ -1,19 +1,23 @@
 -- What stands of a stream, of each raster that may still come.
 use Rattle.std.proofs.Common.{◌≡◌, ℕ, zero, suc, ◌+◌, ◌-◌, ◌*◌, ◌<◌, ◌≤◌, ◌⊎◌, inl, inr, nat_lt, true, false, Bool, List, [], ◌++◌, length, take, map, refl, sym, ◌∙◌, ap, subst, arith, Option, None, Some, append_assoc, append-nil, length-append, option_to_list}
-use Rattle.std.specs.Prelude.{min, unwrap_or, flat_map}
+use Rattle.std.specs.Prelude.{min, unwrap_or, flat_map, slice_index_or, option_map}
 use Rattle.std.proofs.lemmas.Grind.{div_ceil_times}
 use Rattle.std.proofs.lemmas.Bool.Decides.{nat_tests}
 use Rattle.std.proofs.lemmas.List.{take-take}
 use Rattle.std.proofs.Math.Seq.{take-append_seam}
+use Rattle.qm_core.specs.Code.{code_of}
+use Rattle.raster_core.specs.Offset.{chosen_offset}
+use Rattle.t85_core.specs.Coding.{mode_of}
+use Rattle.t85_core.specs.Steps.State.{first_row_start, next_stripe_start}
 use Rattle.raster_core.specs.Raster.{Raster, height, white_row}
 use Rattle.t85_core.specs.Header.{header_bytes}
-use Rattle.t85_core.specs.Grammar.{Comment, segment_bytes, stripe_bytes, stripe_count}
-use Rattle.t85_core.specs.Jbg.{Settings, coding_of, coded_stripe, head_of, stripes_up_to, jbg_up_to, jbg, ending, written_options}
+use Rattle.t85_core.specs.Grammar.{Comment, Stripe, segment_bytes, stripe_bytes, stripe_count}
+use Rattle.t85_core.specs.Jbg.{Settings, moved_to, move_segments, coding_of, coded_stripe, head_of, stripes_up_to, jbg_up_to, jbg, ending, written_options}
 use Rattle.t85_core.specs.Encode.{IsBeginning}
-use Rattle.t85_core.specs.Steps.Written.{EncoderStart, first_encoder_start, next_stripe, next_encoder_start}
+use Rattle.t85_core.specs.Steps.Written.{EncoderStart, after_rows, lines_down, first_encoder_start, next_stripe, next_encoder_start}
 use Rattle.t85_core.specs.Steps.Looked.{CourseAt}
-use Rattle.t85_core.specs.Steps.ByRow.{StripesWhole}
-use Rattle.t85_core.specs.RowImage.{MayCome, Image}
+use Rattle.t85_core.specs.Steps.ByRow.{FrontStands, StripesWhole}
+use Rattle.t85_core.specs.RowImage.{MayCome, Image, SameNames, naming}
 use Rattle.t85_core.proofs.Encodings.EncoderStarts.{CourseGoes, course_begins, course_step, stripes_more}
 use Rattle.t85_core.proofs.Encodings.RowsOn.{RowsGoOn, front_splits, rows_continue, rows_go_on}
 
@@ -45,11 +49,30 @@ come_head image rows raster b =
     (same_announced image.settings.announced image.limit (height raster) (λ none. sym (b.height_is none)))
 
 -- nothing but the head
+none_stands : (image : Image) → FrontStands image 0 [] (first_encoder_start image.width) (head_of image.settings image.width image.limit)
+none_stands image = record {
+  front_is = λ raster b. come_head image [] raster b ∙ sym (append-nil (head_of image.settings raster.width (height raster)));
+  course = λ raster b _. subst (λ w. CourseAt image.settings raster 0 (first_encoder_start w)) b.width_is (course_begins image.settings raster);
+}
+
 pub none_whole : (image : Image) → StripesWhole image 0 [] (first_encoder_start image.width) (head_of image.settings image.width image.limit)
 none_whole image = record {
   many = omega arith;
-  front_is = λ raster b. come_head image [] raster b ∙ sym (append-nil (head_of image.settings raster.width (height raster)));
-  course = λ raster b _. subst (λ w. CourseAt image.settings raster 0 (first_encoder_start w)) b.width_is (course_begins image.settings raster);
+  stripe_is = refl;
+  stands = λ names _. none_stands (naming image names);
+}
+
+-- where the encoder stands with the names that were given
+pub stands_here : (image : Image) (i : ℕ) (rows : List (List Bool)) (at : EncoderStart) (front : List ℕ) → StripesWhole image i rows at front → FrontStands image i rows at front
+stands_here image i rows at front so = so.stands image.settings.named (λ j _. refl)
+
+-- the same where later stripes get other names
+pub stands_anew : (image : Image) (i : ℕ) (rows : List (List Bool)) (at : EncoderStart) (front : List ℕ) → StripesWhole image i rows at front
+    → (names : List (Option ℕ)) → SameNames i image.settings.named names → StripesWhole (naming image names) i rows at front
+stands_anew image i rows at front so names same = record {
+  many = so.many;
+  stripe_is = so.stripe_is;
+  stands = λ names' same'. so.stands names' (λ j lt. same j lt ∙ same' j lt);
 }
 
 pub less_or_not : (a b : ℕ) → (a < b) ⊎ (b ≤ a)
@@ -114,10 +137,13 @@ module _ (image : Image) (i : ℕ) (whole : List (List Bool)) (at : EncoderStart
   abbrev l : ℕ
   l = image.settings.stripe_rows
 
+  here : FrontStands image i whole at front
+  here = stands_here image i whole at front so
+
   -- the stripe of a raster that begins so
   pub stripe_comes : (part : List (List Bool)) (raster : Raster) → MayCome image (whole ++ part) raster → i * l < height raster → length part ≡ min l (height raster - i * l) → CourseGoes image.settings raster i at part
   stripe_comes part raster b within enough =
-      course_step image.settings raster i at part some (inside_of (height raster) l i some within) (so.course raster (come_first image whole part raster b) within)
+      course_step image.settings raster i at part some (inside_of (height raster) l i some within) (here.course raster (come_first image whole part raster b) within)
       (rows_continue (white_row raster.width) raster.rows whole part (i * l) b.first so.many) enough
 
   next_bytes : (part : List (List Bool)) (raster : Raster) → raster.width ≡ image.width → CourseGoes image.settings raster i at part → stripe_bytes (next_stripe image.settings image.width at part) ≡ stripe_bytes (coded_stripe (coding_of image.settings raster) i)
@@ -126,7 +152,7 @@ module _ (image : Image) (i : ℕ) (whole : List (List Bool)) (at : EncoderStart
   -- the stream up to there, with this stripe
   pub stripe_more : (part : List (List Bool)) (raster : Raster) → MayCome image (whole ++ part) raster → i * l < height raster → length part ≡ min l (height raster - i * l) → front ++ stripe_bytes (next_stripe image.settings image.width at part) ≡ jbg_up_to image.settings raster (i + 1)
   stripe_more part raster b within enough =
-      ap (λ z. z ++ stripe_bytes (next_stripe image.settings image.width at part)) (so.front_is raster (come_first image whole part raster b))
+      ap (λ z. z ++ stripe_bytes (next_stripe image.settings image.width at part)) (here.front_is raster (come_first image whole part raster b))
       ∙ ap (λ z. jbg_up_to image.settings raster i ++ z) (next_bytes part raster b.width_is (stripe_comes part raster b within enough))
       ∙ sym (up_to_more image.settings raster i)
 
@@ -138,7 +164,7 @@ module _ (image : Image) (i : ℕ) (whole : List (List Bool)) (at : EncoderStart
         rest = p.rest;
         bytes_are =
             up_to_more image.settings raster i
-            ∙ ap (λ z. z ++ stripe_bytes (coded_stripe (coding_of image.settings raster) i)) (sym (so.front_is raster first))
+            ∙ ap (λ z. z ++ stripe_bytes (coded_stripe (coding_of image.settings raster) i)) (sym (here.front_is raster first))
             ∙ ap (λ z. front ++ z) (sym (next_bytes (part ++ go.later) raster b.width_is goes) ∙ p.bytes_are)
             ∙ sym (append_assoc front bytes p.rest);
       })
@@ -153,22 +179,21 @@ module _ (image : Image) (i : ℕ) (whole : List (List Bool)) (at : EncoderStart
       go = rows_go_on (white_row raster.width) raster.rows whole part (i * l) l b.first so.many long
 
       goes : CourseGoes image.settings raster i at (part ++ go.later)
-      goes = course_step image.settings raster i at (part ++ go.later) some (inside_of (height raster) l i some within) (so.course raster first within) go.continues (length-append part go.later ∙ go.many)
+      goes = course_step image.settings raster i at (part ++ go.later) some (inside_of (height raster) l i some within) (here.course raster first within) go.continues (length-append part go.later ∙ go.many)
 
       p : IsBeginning bytes (stripe_bytes (next_stripe image.settings image.width at (part ++ go.later)))
       p = begins go.later
 
+  rows_more : (part : List (List Bool)) → length part ≡ l → length (whole ++ part) ≡ (i + 1) * l
+  rows_more part enough = let product : (i + 1) * l ≡ i * l + 1 * l = Rattle.std.proofs.Math.Nat.add-mul i 1 l in omega (arith, length-append whole part, so.many, enough, product)
+
   -- a stripe with all its rows
-  pub whole_more : (part : List (List Bool)) → length part ≡ l → StripesWhole image (i + 1) (whole ++ part) (next_encoder_start image.settings image.width at part) (front ++ stripe_bytes (next_stripe image.settings image.width at part))
-  whole_more part enough = record {
-    many = sum;
+  part_stands : (part : List (List Bool)) → length part ≡ l → FrontStands image (i + 1) (whole ++ part) (next_encoder_start image.settings image.width at part) (front ++ stripe_bytes (next_stripe image.settings image.width at part))
+  part_stands part enough = record {
     front_is = λ raster b. stripe_more part raster b (within raster b) (all raster b);
     course = λ raster b more. subst (λ w. CourseAt image.settings raster (i + 1) (next_encoder_start image.settings w at part)) b.width_is
         ((stripe_comes part raster b (within raster b) (all raster b)).next (inside_of (height raster) l (i + 1) some more));
   } where
-    sum : length (whole ++ part) ≡ (i + 1) * l
-    sum = let product : (i + 1) * l ≡ i * l + 1 * l = Rattle.std.proofs.Math.Nat.add-mul i 1 l in omega (arith, length-append whole part, so.many, enough, product)
-
     long : (raster : Raster) → MayCome image (whole ++ part) raster → i * l + l ≤ height raster
     long raster b = (let has = come_long image (whole ++ part) raster b in omega (arith, has, length-append whole part, so.many, enough))
 
@@ -177,3 +202,35 @@ module _ (image : Image) (i : ℕ) (whole : List (List Bool)) (at : EncoderStart
 
     all : (raster : Raster) → MayCome image (whole ++ part) raster → length part ≡ min l (height raster - i * l)
     all raster b = omega (arith, long raster b, enough)
+
+-- what is written for a stripe is the same where its own name is
+module _ (image : Image) (i : ℕ) (whole : List (List Bool)) (at : EncoderStart) (front : List ℕ) (some : 1 ≤ image.settings.stripe_rows) (so : StripesWhole image i whole at front) (part : List (List Bool)) (enough : length part ≡ image.settings.stripe_rows) where
+  start_with : Option (ℕ × ℕ) → EncoderStart
+  start_with move = record {
+    stripe = suc at.stripe;
+    carry = next_stripe_start image.width image.settings.reset (after_rows (mode_of image.settings.options) move 0 (first_row_start at.carry) part);
+    counted = lines_down at.carry.above at.carry.second part;
+  }
+
+  stripe_with : Option (ℕ × ℕ) → Stripe
+  stripe_with move = record {
+    segments = move_segments move;
+    code = code_of (after_rows (mode_of image.settings.options) move 0 (first_row_start at.carry) part).state.place;
+    reset = image.settings.reset;
+  }
+
+  move_named : Option ℕ → Option (ℕ × ℕ)
+  move_named name = option_map (λ t. (0, t)) (moved_to name at.carry.offset (chosen_offset (mode_of image.settings.options).two_line image.settings.most_offset image.width at.counted at.carry.offset))
+
+  -- with all its rows, whatever is named for the stripes after it
+  pub whole_more : StripesWhole image (i + 1) (whole ++ part) (next_encoder_start image.settings image.width at part) (front ++ stripe_bytes (next_stripe image.settings image.width at part))
+  unfolding start_with stripe_with move_named
+  whole_more = record {
+    many = rows_more image i whole at front some so part enough;
+    stripe_is = (let is : at.stripe ≡ i = so.stripe_is in omega (arith, is));
+    stands = λ names same.
+        let anew = stands_anew image i whole at front so names (λ j lt. same j (omega (arith, lt))) in
+        let name : slice_index_or names at.stripe None ≡ slice_index_or image.settings.named at.stripe None = sym (same at.stripe (let is : at.stripe ≡ i = so.stripe_is in omega (arith, is))) in
+        subst (λ move. FrontStands (naming image names) (i + 1) (whole ++ part) (start_with move) (front ++ stripe_bytes (stripe_with move))) (ap move_named name)
+        (part_stands (naming image names) i whole at front some anew part enough);
+  }

@@ -13,20 +13,21 @@ use Rattle.qm_core.specs.Place.{IsPlace}
 use Rattle.qm_core.specs.Code.{Lies, code_of}
 use Rattle.raster_core.specs.Raster.{Raster, IsRaster, height}
 use Rattle.raster_core.specs.Lines.{Mode, numbers_from, may_be_typical}
+use Rattle.raster_core.specs.Offset.{chosen_offset}
 use Rattle.t85_core.specs.Header.{Fields, HeaderOf, IsAccepted, header_bytes}
 use Rattle.t85_core.specs.Grammar.{Segment, NewLength, Stripe, IsBegun, AreStripes, GiveOnly, segment_bytes, marker_bytes, lengths, all_segments, stripe_bytes, stripe_count}
 use Rattle.t85_core.specs.Coding.{Coding, HasLegalFlags, has_bit, mode_of, move_of, rows_of, lines_of, learned_at, begun, events_of, place_of}
 use Rattle.t85_core.specs.Denotes.{Denotes, EachLies, coding_in}
 use Rattle.t85_core.specs.declared.fault.Fault.TheVariants.{Changed}
 use Rattle.t85_core.specs.Height.{GivesHeight, IsHeight}
-use Rattle.t85_core.specs.Jbg.{Settings, AreSettings, IsAnnounced, written_options, header_of, ending, cut, coding_of, canonical_flags, choice_after, current_offset, move_before, move_segments, coded_stripe, stripes_of, jbg}
+use Rattle.t85_core.specs.Jbg.{Settings, AreSettings, IsAnnounced, written_options, header_of, ending, cut, coding_of, canonical_flags, named_for, first_choice, choice_after, current_offset, move_before, move_segments, coded_stripe, stripes_of, jbg}
 use Rattle.t85_core.specs.Steps.CoderLaws.{WritingLaws}
 use Rattle.t85_core.proofs.Walks.Segments.{row_of}
 use Rattle.t85_core.proofs.Bytes.Lengths.{lengths_append, gives_none, valid_in_use}
 use Rattle.t85_core.proofs.Grammar.Cut.{one_front, parts_or_fault}
 use Rattle.t85_core.proofs.Grammar.Heights.{never_suits, given_breaks}
 use Rattle.t85_core.proofs.Encodings.EncoderRows.{get_mapped, same_lines, flag_is_typical}
-use Rattle.t85_core.proofs.Theorems.CodeParts.{length_mapped, mapped_is, all_mapped, chosen_within, with_first, with_first_bytes, with_first_map, with_first_all, comments, move_behind, move_alone, begun_with_comment, begun_with_move}
+use Rattle.t85_core.proofs.Theorems.CodeParts.{length_mapped, mapped_is, all_mapped, chosen_within, moved_within, with_first, with_first_bytes, with_first_map, with_first_all, comments, move_behind, move_alone, begun_with_comment, begun_with_move}
 
 -- the bytes of a header, with whatever after them
 pub header_begins : (h : Fields) (rest : List ℕ) → IsAccepted h → HeaderOf (header_bytes h ++ rest) h
@@ -225,10 +226,14 @@ module _ (q : WritingLaws) (s : Settings) (raster : Raster) (proper : AreSetting
     bytes i = (q.one_code (place_of c i) (place_is i)).is.bytes
 
     chosen : (i : ℕ) → IsBegun h (move_segments (move_before s (cut s raster) i)) (code_of (place_of c i))
-    chosen zero = begun_with_move h None (code_of (place_of c 0)) proper.stripe_from tt (bytes 0)
+    chosen zero =
+        begun_with_move h (first_choice s) (code_of (place_of c 0)) proper.stripe_from
+        (moved_within (named_for s 0) s.most_offset 0 None (proper.named_to 0) tt)
+        (bytes 0)
     chosen (suc i) =
         begun_with_move h (choice_after s (cut s raster) i (current_offset s (cut s raster) i)) (code_of (place_of c (suc i))) proper.stripe_from
-        (chosen_within (cut s raster).mode.two_line s.most_offset raster.width (map (lines_of (cut s raster)) (rows_of (cut s raster) i)) (current_offset s (cut s raster) i))
+        (moved_within (named_for s (suc i)) s.most_offset (current_offset s (cut s raster) i) (chosen_offset (cut s raster).mode.two_line s.most_offset raster.width (map (lines_of (cut s raster)) (rows_of (cut s raster) i)) (current_offset s (cut s raster) i)) (proper.named_to (suc i))
+        (chosen_within (cut s raster).mode.two_line s.most_offset raster.width (map (lines_of (cut s raster)) (rows_of (cut s raster) i)) (current_offset s (cut s raster) i)))
         (bytes (suc i))
 
   each : AreStripes h stripes

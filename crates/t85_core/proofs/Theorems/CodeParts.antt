@@ -1,6 +1,6 @@
 -- The stripes that are written for a raster, as parts of a body: the comment is a segment of the first.
-use Rattle.std.proofs.Common.{◌≡◌, ℕ, zero, suc, ◌+◌, ◌-◌, ◌*◌, ◌/◌, ◌<◌, ◌≤◌, ◌^◌, Bool, true, false, List, [], ◌∷◌, ◌++◌, length, map, refl, ◌∙◌, ap, subst, arith, Option, None, Some, append_assoc}
-use Rattle.std.specs.Prelude.{slice_index_or, if◌then◌else◌, flat_map, unwrap_or, option_map, option_and_then, option_to_list, nat_lt, nat_le, find, count_by, IfSome}
+use Rattle.std.proofs.Common.{◌≡◌, ℕ, zero, suc, ◌+◌, ◌-◌, ◌*◌, ◌/◌, ◌<◌, ◌≤◌, ◌^◌, Bool, true, false, List, [], ◌∷◌, ◌++◌, length, map, refl, sym, ◌∙◌, ap, subst, arith, Option, None, Some, append_assoc}
+use Rattle.std.specs.Prelude.{slice_index_or, if◌then◌else◌, flat_map, unwrap_or, option_map, option_and_then, option_to_list, nat_lt, nat_le, find, count_by, IfSome, ◌==◌}
 use Rattle.std.specs.List.{AllByRecursion, list_all}
 use Rattle.std.proofs.lemmas.Grind.{flat_map-append}
 use Rattle.qm_core.specs.Code.{stuffed}
@@ -9,7 +9,7 @@ use Rattle.raster_core.specs.Offset.{chosen_offset, best_offset, candidates, agr
 use Rattle.t85_core.specs.Header.{Fields}
 use Rattle.t85_core.specs.Grammar.{Segment, Comment, Stripe, IsBegun, is_move, segment_bytes, stripe_bytes, marker_bytes}
 use Rattle.t85_core.specs.Coding.{move_of}
-use Rattle.t85_core.specs.Jbg.{move_segments}
+use Rattle.t85_core.specs.Jbg.{Settings, named_for, moved_to, move_segments}
 use Rattle.t85_core.proofs.Bytes.Elements.{same_list}
 use Rattle.t85_core.proofs.Encodings.EncoderRows.{get_mapped}
 
@@ -58,6 +58,19 @@ chosen_within two_line most width stripe current =
     gains None h = tt
     gains (Some t) h =
         elim (nat_lt (width * length stripe / 8) (agreement stripe t - agreement stripe current)) as (λ b. IfSome (if b then Some t else None) (λ t. t ≤ most)) [ true ↦ h | false ↦ tt ]
+
+-- and so is one that is named or chosen
+pub moved_within : (named : Option ℕ) (most current : ℕ) (chosen : Option ℕ) → IfSome named (λ t. t ≤ most) → IfSome chosen (λ t. t ≤ most) → IfSome (moved_to named current chosen) (λ t. t ≤ most)
+moved_within None most current chosen is within = within
+moved_within (Some t) most current chosen is within =
+    elim (t == current) as (λ b. IfSome (if b then None else Some t) (λ t. t ≤ most)) [ true ↦ tt | false ↦ is ]
+
+-- no name is out of its range
+pub none_named : (s : Settings) (most : ℕ) → s.named ≡ [] → (i : ℕ) → IfSome (named_for s i) (λ t. t ≤ most)
+none_named s most none i = subst (λ names. IfSome (slice_index_or names i None) (λ t. t ≤ most)) (sym none) (nothing i) where
+  nothing : (i : ℕ) → IfSome (named_for (record s { named = [] }) i) (λ t. t ≤ most)
+  nothing zero = tt
+  nothing (suc i) = tt
 
 -- ---- a comment before the first stripe
 

@@ -1,5 +1,5 @@
 -- What a row encoder holds, and what stands of a stream, after some rows.
-use Rattle.std.specs.Prelude.{ℕ, ◌+◌, ◌*◌, ◌^◌, ◌≡◌, ◌≤◌, ◌<◌, ◌⊎◌, Bool, true, false, List, [], ◌∷◌, ◌++◌, length, nat_lt, flat_map, if◌then◌else◌, Option, None, Some, IfSome, is_some, unwrap_or}
+use Rattle.std.specs.Prelude.{ℕ, ◌+◌, ◌*◌, ◌%◌, ◌^◌, ◌≡◌, ◌≤◌, ◌<◌, ◌⊎◌, Bool, true, false, List, [], ◌∷◌, ◌++◌, length, nat_lt, flat_map, if◌then◌else◌, Option, None, Some, IfSome, is_some, unwrap_or}
 use Rattle.std.specs.List.{AllByRecursion}
 use Rattle.qm_core.specs.Place.{Estimate, Place, start}
 use Rattle.qm_core.specs.Encoder.{EncoderIsAt, event_count, has_failed}
@@ -17,8 +17,8 @@ use Rattle.t85_core.specs.declared.encoding.learning.Learning.{Learning}
 use Rattle.t85_core.specs.Grammar.{segment_bytes}
 use Rattle.t85_core.specs.Coding.{mode_of}
 use Rattle.t85_core.specs.Encode.{IsBeginning, HoldsStripes, raster_of}
-use Rattle.t85_core.specs.Jbg.{Settings, jbg, jbg_up_to, move_segments}
-use Rattle.t85_core.specs.RowImage.{Image, MayCome}
+use Rattle.t85_core.specs.Jbg.{Settings, named_for, jbg, jbg_up_to, move_segments}
+use Rattle.t85_core.specs.RowImage.{Image, MayCome, SameNames, naming, named_after}
 use Rattle.t85_core.specs.Steps.State.{RowStart, first_row_start, offset_at}
 use Rattle.t85_core.specs.Steps.Written.{EncoderStart, next_move, row_start_in, lines_down}
 use Rattle.t85_core.specs.Steps.EncodeRows.{IsShape, IsCountedTo}
@@ -48,6 +48,7 @@ pub record RowPlan : Type 0 where
   pub may_end : Bool
   pub has_candidates : Bool
   pub reset : Bool
+  pub most_offset : ℕ
 
 -- what a row encoder holds, but for whether it is closed, and what it is lent of what was learned
 pub record RowView : Type 0 where
@@ -59,6 +60,7 @@ pub record RowView : Type 0 where
   pub rows : ℕ
   pub in_stripe : ℕ
   pub is_counted : Bool
+  pub named : Option ℕ
 
 abbrev pub plan_of : RowEncoder → RowPlan
 plan_of e = record {
@@ -70,6 +72,7 @@ plan_of e = record {
   may_end = e.may_end;
   has_candidates = e.has_candidates;
   reset = e.reset;
+  most_offset = e.most_offset;
 }
 
 abbrev pub view_of : RowEncoder → Learning → RowView
@@ -82,6 +85,7 @@ view_of e l = record {
   rows = e.rows;
   in_stripe = e.in_stripe;
   is_counted = e.is_counted;
+  named = e.named;
 }
 
 -- the encoder is at some place
@@ -96,6 +100,8 @@ IsLined window = (lines : Lines) × HasLines window lines
 pub record IsAble (e : RowEncoder) : Type 0 where
   pub wide : e.shape.width ≡ e.size.width
   pub offset : e.kept.offset ≤ 127
+  pub named : IfSome e.named (λ t. t ≤ 127)
+  pub most : e.most_offset ≤ 127
   pub few : e.in_stripe ≤ e.stripe_rows
   pub few_rows : e.stripe_rows < 2 ^ 32
   pub rows_to : e.rows ≤ e.size.height
@@ -120,6 +126,7 @@ pub record IsPlan (image : Image) (p : RowPlan) : Type 0 where
   pub may_end_is : p.may_end ≡ is_some image.settings.announced
   pub candidates_are : p.has_candidates ≡ nat_lt 0 (length (candidates (mode_of image.settings.options).two_line image.settings.most_offset))
   pub reset_is : p.reset ≡ image.settings.reset
+  pub most_is : p.most_offset ≡ image.settings.most_offset
   pub width_from : 1 ≤ image.width
   pub width_to : image.width ≤ 1048576
   pub limit_to : image.limit < 2 ^ 32
@@ -130,11 +137,16 @@ pub record HaveCome (width limit : ℕ) (rows : List (List Bool)) (count : ℕ) 
   pub few : length rows ≤ limit
   pub wide : AllByRecursion (λ row. length row ≡ width) rows
 
--- i stripes are whole, and this is the stream up to there and what is carried on
-pub record StripesWhole (image : Image) (i : ℕ) (rows : List (List Bool)) (at : EncoderStart) (front : List ℕ) : Type 0 where
-  pub many : length rows ≡ i * image.settings.stripe_rows
+-- This is the stream up to stripe i and what is carried to it.
+pub record FrontStands (image : Image) (i : ℕ) (rows : List (List Bool)) (at : EncoderStart) (front : List ℕ) : Type 0 where
   pub front_is : (raster : Raster) → MayCome image rows raster → front ≡ jbg_up_to image.settings raster i
   pub course : (raster : Raster) → MayCome image rows raster → i * image.settings.stripe_rows < height raster → CourseAt image.settings raster i at
+
+-- i stripes are whole, and this is the stream up to there and what is carried on, whatever is named for later stripes
+pub record StripesWhole (image : Image) (i : ℕ) (rows : List (List Bool)) (at : EncoderStart) (front : List ℕ) : Type 0 where
+  pub many : length rows ≡ i * image.settings.stripe_rows
+  pub stripe_is : at.stripe ≡ i
+  pub stands : (names : List (Option ℕ)) → SameNames i image.settings.named names → FrontStands (naming image names) i rows at front
 
 -- what is held before row r of a stripe, whose move is made
 pub record IsHeldBy (move : Option (ℕ × ℕ)) (r : ℕ) (b : RowStart) (kept : Kept) (learned : List Estimate) (window : Held) : Type 0 where
@@ -180,6 +192,8 @@ pub record Runs (image : Image) (rows : List (List Bool)) (v : RowView) (window 
   pub few : length part ≤ image.settings.stripe_rows
   pub pushed : List ℕ
   pub running : IsRunning image at part v window pushed
+  pub names_to : length image.settings.named ≤ i + 1
+  pub none_named : v.named ≡ None
   pub counts : CountsForNext image.settings image.limit i v
   pub sent : Sends origin text (front ++ (move_bytes image.settings image.width at ++ pushed))
 
@@ -187,6 +201,7 @@ pub record Runs (image : Image) (rows : List (List Bool)) (v : RowView) (window 
 pub record IsStart (s : Settings) (width : ℕ) (at : EncoderStart) (v : RowView) (window : Held) : Type 0 where
   pub is_held : IsHeldBy None 0 (first_row_start at.carry) v.kept v.learned window
   pub is_tallied : IsTallied s width at v.tally
+  pub named_is : v.named ≡ named_for s at.stripe
 
 -- No stripe runs: some are whole.
 pub record Waits (image : Image) (rows : List (List Bool)) (v : RowView) (window : Held) (origin : Origin) (text : Option (List ℕ)) : Type 0 where
@@ -198,6 +213,7 @@ pub record Waits (image : Image) (rows : List (List Bool)) (v : RowView) (window
   pub stripes : StripesWhole image i rows at front
   pub in_stripe : v.in_stripe ≡ 0
   pub codes : EncoderIsAt v.encoder start []
+  pub names_to : length image.settings.named ≤ i + 1
   pub on_course : i * image.settings.stripe_rows < image.limit → IsStart image.settings image.width at v window
   pub sent : Sends origin text front
 
@@ -228,6 +244,12 @@ abbrev pub TakesNextRow : List Bool → EncoderAt → EncoderAt → Type 0
 TakesNextRow row e e' =
     (image : Image) (rows : List (List Bool)) (origin : Origin) → Stands image rows e.view e.window origin e.text →
     Stands image (rows ++ row ∷ []) e'.view e'.window origin e'.text
+
+-- The offset is named for the stripe that begins, in whatever stream, and the stripes before it stay.
+abbrev pub NamesOffset : ℕ → RowView → RowView → Type 0
+NamesOffset t v v' =
+    (image : Image) (rows : List (List Bool)) (window : Held) (origin : Origin) (text : Option (List ℕ)) → Stands image rows v window origin text →
+    (length rows % image.settings.stripe_rows ≡ 0) × Stands (named_after t (length rows) image) rows v' window origin text
 
 -- no more than a beginning was written
 abbrev pub CutsRow : List Bool → RowView → Held → Option (List ℕ) → Option (List ℕ) → Type 0

@@ -38,8 +38,9 @@ offset_to s raster (suc i) = current_offset s (cut s raster) i
 
 -- what an encoder carries to stripe i of a raster
 pub record CourseAt (s : Settings) (raster : Raster) (i : ℕ) (at : EncoderStart) : Type 0 where
+  pub stripe : at.stripe ≡ i
   pub carry : CarryAt (coding_of s raster) i (i * s.stripe_rows) at.carry
   pub counted : at.counted ≡ lines_before s raster i
   pub offset : at.carry.offset ≡ offset_to s raster i
-  -- the move before stripe i is the one that the rows of the stripe before choose
+  -- the move before stripe i is the named one, or that which the rows of the stripe before choose
   pub move : next_move s raster.width at ≡ move_before s (cut s raster) i

@@ -1,5 +1,6 @@
 -- What the calls of a row encoder ask for, and what they leave of its numbers.
-use Rattle.std.specs.Prelude.{ℕ, ◌+◌, ◌^◌, ◌≡◌, ◌≤◌, ◌<◌, Result, OnOk, IfErr, is_err, true, false}
+use Rattle.std.specs.Prelude.{ℕ, ◌+◌, ◌^◌, ◌≡◌, ◌≤◌, ◌<◌, Result, OnOk, IfErr, is_err, true, false, not, ◌&&◌, ◌==◌, Bool}
+use Rattle.t85_core.specs.RowImage.{may_name}
 use Rattle.pbm_core.specs.declared.size.Size.{Size}
 use Rattle.qm_core.specs.Encoder.{event_count, has_failed}
 use Rattle.qm_core.specs.declared.encoder.Encoder.{Encoder}
@@ -24,6 +25,10 @@ MayTakeRow e = (e.rows < e.size.height) × MayGoOn e
 -- the image may end here
 abbrev pub MayEnd : RowEncoder → Type 0
 MayEnd e = (0 < e.rows) × (e.may_end ≡ false → e.rows ≡ e.size.height)
+
+-- whether an offset may be named now
+abbrev pub takes_name : RowEncoder → ℕ → Bool
+takes_name e t = not e.is_closed && ((e.in_stripe == 0) && may_name e.shape.two_line e.most_offset t)
 
 -- The row that a window has may be coded in this shape.
 abbrev pub MayCode : Shape → Kept → Window → Encoder → Type 0

@@ -104,6 +104,7 @@ pub record StripeEnded (image : Image) (count : ℕ) (rows : List (List Bool)) (
   pub few : length part ≤ image.settings.stripe_rows
   pub in_stripe : e.view.in_stripe ≡ 0
   pub codes : EncoderIsAt e.view.encoder start []
+  pub names_to : length image.settings.named ≤ i + 1
   pub on_course : (i + 1) * image.settings.stripe_rows < image.limit → IsStart image.settings image.width (next_encoder_start image.settings image.width at part) e.view e.window
   pub sent : Sends origin e.text (front ++ stripe_bytes (next_stripe image.settings image.width at part))
 

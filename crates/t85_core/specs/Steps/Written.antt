@@ -1,12 +1,12 @@
 -- The stream of a raster as an encoder sees it, carried from row to row and from stripe to stripe.
-use Rattle.std.specs.Prelude.{ℕ, ◌+◌, ◌≡◌, Bool, nat_lt, if◌then◌else◌, List, [], ◌∷◌, ◌++◌, length, Option, option_map}
+use Rattle.std.specs.Prelude.{ℕ, suc, ◌+◌, ◌≡◌, Bool, nat_lt, if◌then◌else◌, List, [], ◌∷◌, ◌++◌, length, Option, option_map}
 use Rattle.qm_core.specs.Code.{code_of, stuffed}
 use Rattle.raster_core.specs.Lines.{Lines, Mode, may_be_typical}
 use Rattle.raster_core.specs.Offset.{chosen_offset}
 use Rattle.t85_core.specs.Grammar.{NewLength, Stripe, segment_bytes, marker_bytes}
 use Rattle.t85_core.specs.Coding.{mode_of}
 use Rattle.t85_core.specs.Steps.State.{RowStart, StripeStart, first_row_start, image_start, lines_with, after_row, next_stripe_start}
-use Rattle.t85_core.specs.Jbg.{Settings, move_segments}
+use Rattle.t85_core.specs.Jbg.{Settings, named_for, moved_to, move_segments}
 use Rattle.t85_core.specs.Encode.{IsBeginning}
 
 -- the next row is typical wherever it may be
@@ -23,18 +23,21 @@ abbrev pub lines_down : List Bool → List Bool → List (List Bool) → List Li
 lines_down above second [] = []
 lines_down above second (row ∷ rows) = record { row = row; above = above; second = second } ∷ lines_down row above rows
 
--- What goes from stripe to stripe: what is carried, and the rows of the stripe before, which choose the next offset.
+-- What goes from stripe to stripe: how many came, what is carried, and the rows of the stripe before, which choose the
+-- next offset where none is named.
 pub record EncoderStart : Type 0 where
+  pub stripe : ℕ
   pub carry : StripeStart
   pub counted : List Lines
 
 -- at the top of the image
 abbrev pub first_encoder_start : ℕ → EncoderStart
-first_encoder_start width = record { carry = image_start width; counted = [] }
+first_encoder_start width = record { stripe = 0; carry = image_start width; counted = [] }
 
 -- the move before the next stripe
 abbrev pub next_move : Settings → ℕ → EncoderStart → Option (ℕ × ℕ)
-next_move s width at = option_map (λ t. (0, t)) (chosen_offset (mode_of s.options).two_line s.most_offset width at.counted at.carry.offset)
+next_move s width at =
+    option_map (λ t. (0, t)) (moved_to (named_for s at.stripe) at.carry.offset (chosen_offset (mode_of s.options).two_line s.most_offset width at.counted at.carry.offset))
 
 -- after these rows of it
 abbrev pub row_start_in : Settings → ℕ → EncoderStart → List (List Bool) → RowStart
@@ -51,6 +54,7 @@ next_stripe s width at rows = record {
 -- and this goes on to the stripe after it
 abbrev pub next_encoder_start : Settings → ℕ → EncoderStart → List (List Bool) → EncoderStart
 next_encoder_start s width at rows = record {
+  stripe = suc at.stripe;
   carry = next_stripe_start width s.reset (row_start_in s width at rows);
   counted = lines_down at.carry.above at.carry.second rows;
 }

@@ -29,6 +29,8 @@ pub struct RowEncoder {
     may_end: bool,
     /// Whether there are offsets to choose from.
     has_candidates: bool,
+    /// The greatest offset.
+    most_offset: u8,
     reset: bool,
     kept: Kept,
     encoder: Encoder,
@@ -38,6 +40,8 @@ pub struct RowEncoder {
     in_stripe: u32,
     /// Whether the rows of the current stripe are counted in the tally.
     is_counted: bool,
+    /// The offset that the caller named for the stripe that begins next.
+    named: Option<u8>,
     /// Whether the stream was ended, or a write failed.
     is_closed: bool,
 }
@@ -70,12 +74,14 @@ impl RowEncoder {
             announced: options.announced.unwrap_or(size.height),
             may_end: options.announced.is_some(),
             has_candidates: has_candidates(shape, options.most_offset),
+            most_offset: options.most_offset,
             reset: options.reset,
             kept: START,
             encoder: Encoder::start(),
             rows: 0,
             in_stripe: 0,
             is_counted: false,
+            named: None,
             is_closed: false,
         }
     }
@@ -120,7 +126,7 @@ impl RowEncoder {
 }
 
 impl RowEncoder {
-    ghost use Rattle.std.specs.Prelude.{◌≡◌, ◌<◌, ◌-◌, [], ◌⊎◌, OnOk, OnErr, IfOk, IfErr, IsErrOf, length, Err, true};
+    ghost use Rattle.std.specs.Prelude.{◌≡◌, ◌<◌, ◌-◌, [], ◌⊎◌, OnOk, OnErr, IfOk, IfErr, IsErrOf, length, Err, true, is_ok};
     ghost use Rattle.std.specs.Io.KnownBytes.{Keeps};
     ghost use Rattle.pbm_core.specs.Device.{AppendsBeginning};
     ghost use Rattle.pbm_core.specs.Pbm.{bytes_of_row};
@@ -134,10 +140,11 @@ impl RowEncoder {
     ghost use Rattle.t85_core.specs.Steps.RowSteps.{IsGoing, TakesBelow, CutsBelow, given_row};
     ghost use Rattle.t85_core.specs.Steps.Sent.{here};
     ghost use Rattle.t85_core.specs.Steps.Views.{text_taken, WritesBehind};
-    ghost use Rattle.t85_core.specs.Steps.RowCalls.{HasNoRows, LeavesClosed, HasRows, TakesRow, MayEnd, MayTakeRow};
-    ghost use Rattle.t85_core.specs.declared.fault.Fault.TheVariants.{Write, AnnouncedLow};
-    ghost use Rattle.t85_core.specs.Steps.ByRow.{view_of, MayGoOn, Stands, TakesNextRow, CutsRow, EndsImage, CutsImage, lent_to};
-    ghost use Rattle.t85_core.specs.RowImage.{image_for};
+    ghost use Rattle.t85_core.specs.Steps.RowCalls.{HasNoRows, LeavesClosed, HasRows, TakesRow, CodesNothing, MayEnd, MayTakeRow, takes_name};
+    ghost use Rattle.t85_core.specs.declared.encoding.learning.Learning.{Learning};
+    ghost use Rattle.t85_core.specs.declared.fault.Fault.TheVariants.{Write, AnnouncedLow, MoveRefused};
+    ghost use Rattle.t85_core.specs.Steps.ByRow.{view_of, NamesOffset, MayGoOn, Stands, TakesNextRow, CutsRow, EndsImage, CutsImage, lent_to};
+    ghost use Rattle.t85_core.specs.RowImage.{image_for, may_name};
 
     /// Starts a stream: writes its head, makes the window white, and resets the contexts and counts.
     pub fn start<W: Output>(
@@ -167,6 +174,41 @@ impl RowEncoder {
         }
         let mut buffer = OutputBuffer::new(output);
         start_held(size, options, window, learning, &mut buffer)
+    }
+
+    /// Names the offset of the adaptive pixel for the stripe that begins with the next row, in place of the offset that
+    /// the rows before it choose. It may be the nominal one, 0, or one from 5 (two-line template) or 3 (three-line
+    /// template) to the greatest offset of the options. The last name counts. With another offset, within a stripe, and
+    /// after the end or a failed write, nothing changes.
+    pub fn name_offset(&mut self, offset: u8) -> Result<(), Fault>
+        ensures named { OnOk result ((learning : Learning) → NamesOffset offset
+            (view_of self.old learning) (view_of self.new learning)) }
+        ensures taken { is_ok result ≡ takes_name self.old offset }
+        ensures refused { IfErr result (λ f. (f ≡ MoveRefused) × (self.new ≡ self.old)) }
+        ensures keeps { CodesNothing self.old self.new }
+        ensures ready { MayGoOn self.old → MayGoOn self.new }
+    {
+        if self.takes_name(offset) {
+            self.named = Some(offset);
+            Ok(())
+        } else {
+            Err(Fault::MoveRefused)
+        }
+    }
+
+    /// Whether an offset may be named now.
+    fn takes_name(&self, offset: u8) -> bool
+        ensures { result ≡ takes_name self.now offset }
+    {
+        !self.is_closed && self.in_stripe == 0 && self.offers(offset)
+    }
+
+    /// Whether the options allow this offset to be named.
+    pub fn offers(&self, offset: u8) -> bool
+        ensures { result ≡ may_name self.now.shape.two_line self.now.most_offset offset }
+    {
+        let least = if self.shape.two_line { 5 } else { 3 };
+        offset == 0 || (least <= offset && offset <= self.most_offset)
     }
 
     /// Encodes the next row: its pixels, packed, in a whole number of bytes; bits after the last pixel are ignored.

@@ -1,6 +1,6 @@
 //! The steps of an encoder: the head of the stream, the move of a stripe, a row, and the end of a code.
 
-ghost use Rattle.std.specs.Prelude.{[], ◌∷◌, ◌++◌, nat_lt, length, None, IfSome, ◌≡◌, ◌≤◌, ◌<◌, ◌+◌, ◌-◌, ◌^◌, List, ℕ, OnOk, OnErr, IfErr, false};
+ghost use Rattle.std.specs.Prelude.{[], ◌∷◌, ◌++◌, nat_lt, length, None, IfSome, ◌≡◌, ◌≤◌, ◌<◌, ◌+◌, ◌-◌, ◌^◌, List, ℕ, OnOk, OnErr, IfErr, false, option_map};
 ghost use Rattle.qm_core.specs.Place.{Place, state_of};
 ghost use Rattle.raster_core.specs.Tally.{is_two_line, most_of};
 ghost use Rattle.raster_core.specs.Offset.{candidates};
@@ -8,7 +8,7 @@ ghost use Rattle.qm_core.specs.Encoder.{EncoderIsAt, has_failed, encoder_state};
 ghost use Rattle.raster_core.specs.Lines.{Lines};
 ghost use Rattle.raster_core.specs.Packed.{HasLines};
 ghost use Rattle.raster_core.specs.Window.{held, width_of};
-ghost use Rattle.t85_core.specs.Jbg.{Settings, head_of, is_low};
+ghost use Rattle.t85_core.specs.Jbg.{Settings, named_for, head_of, is_low};
 ghost use Rattle.t85_core.specs.Options.{settings_of};
 ghost use Rattle.t85_core.specs.Steps.Written.{EncoderStart, next_move};
 ghost use Rattle.t85_core.specs.Steps.EncodeRows.{IsCountedTo};
@@ -47,25 +47,51 @@ pub fn write_head<P: ByteTarget>(
     }
 }
 
-/// Moves the adaptive pixel if that would have served the previous stripe, and writes the move.
+/// The offset to which the adaptive pixel moves: the named one, unless it is there already, or, where none is named, the
+/// one that would have served the previous stripe, if there is one.
+fn next_offset(named: Option<u8>, current: u8, tally: &Tally) -> Option<u8>
+    requires named { IfSome named (λ t. t ≤ 127) }
+    ensures is { (s : Settings) (width : ℕ) (at : EncoderStart) → current ≡ at.carry.offset →
+        named ≡ named_for s at.stripe → IsTallied s width at tally.now →
+        option_map (λ t. (0, t)) result ≡ next_move s width at }
+    ensures small { IfSome result (λ t. t ≤ 127) }
+{
+    match named {
+        Some(offset) => {
+            if offset == current {
+                None
+            } else {
+                Some(offset)
+            }
+        }
+        None => tally.choose(current),
+    }
+}
+
+/// Moves the adaptive pixel to the named offset or, where none is named, if that would have served the previous stripe,
+/// and writes the move.
 pub fn move_pixel<P: ByteTarget>(
     kept: &mut Kept,
+    named: Option<u8>,
     tally: &Tally,
     target: &mut P,
 ) -> Result<(), Fault>
     requires offset { kept.old.offset ≤ 127 }
+    requires named { IfSome named (λ t. t ≤ 127) }
     ensures offset { kept.new.offset ≤ 127 }
     ensures ok { OnOk result ((s : Settings) (width : ℕ) (at : EncoderStart) →
-        kept.old.offset ≡ at.carry.offset → IsTallied s width at tally.now →
+        kept.old.offset ≡ at.carry.offset → named ≡ named_for s at.stripe →
+        IsTallied s width at tally.now →
         MoveMade (next_move s width at) at.carry.offset (P.view target.old).text
         (P.view target.new).text kept.old kept.new) }
     ensures cut { OnErr result ((s : Settings) (width : ℕ) (at : EncoderStart) →
-        kept.old.offset ≡ at.carry.offset → IsTallied s width at tally.now →
+        kept.old.offset ≡ at.carry.offset → named ≡ named_for s at.stripe →
+        IsTallied s width at tally.now →
         MoveCut s width at (P.view target.old).text (P.view target.new).text) }
     ensures few { AppendsAtMost 8 (P.view target.old).text (P.view target.new).text }
     ensures fails { WritesOrFails (P.view target.old) (P.view target.new) result }
 {
-    match tally.choose(kept.offset) {
+    match next_offset(named, kept.offset, tally) {
         Some(offset) => {
             write_move(offset, target)?;
             kept.offset = offset;

@@ -25,6 +25,8 @@ pub struct RowNumbers {
     pub offset: u8,
     /// Whether the row before was typical.
     pub is_previous_typical: bool,
+    /// The offset that was named for the stripe that begins next.
+    pub named: Option<u8>,
     pub encoder: EncoderRegisters,
 }
 
@@ -37,6 +39,7 @@ impl RowNumbers {
         ensures all { AreWithin size.width size.height stripe_rows self.now → result ≡ true }
     {
         self.offset <= 127
+            && self.named.unwrap_or(0) <= 127
             && self.in_stripe < stripe_rows
             && self.in_stripe <= self.rows
             && self.rows <= size.height
@@ -62,6 +65,7 @@ impl RowEncoder {
             is_counted: self.is_counted,
             offset: self.kept.offset,
             is_previous_typical: self.kept.previous_typical,
+            named: self.named,
             encoder: self.encoder.registers(),
         }
     }
@@ -93,6 +97,7 @@ impl RowEncoder {
         resumed.rows = numbers.rows;
         resumed.in_stripe = numbers.in_stripe;
         resumed.is_counted = numbers.is_counted;
+        resumed.named = numbers.named;
         Some(resumed)
     }
 }

@@ -100,7 +100,9 @@ impl RowEncoder {
         ensures keeps { CodesNothing self.old self.new }
         ensures fails { WritesOrFails (P.view target.old) (P.view target.new) result }
     {
-        move_pixel(&mut self.kept, &learning.tally, target)?;
+        let named = self.named;
+        self.named = None;
+        move_pixel(&mut self.kept, named, &learning.tally, target)?;
         learning.tally.restart();
         self.is_counted = self.is_followed();
         Ok(())

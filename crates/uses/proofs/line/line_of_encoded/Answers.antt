@@ -1,4 +1,4 @@
-use Rattle.std.proofs.Common.{◌≡◌, ◌≢◌, ◌<◌, ◌^◌, ℕ, List, [], length, take, Option, Some, None, Result, Ok, Err, sym, ap, subst, arith}
+use Rattle.std.proofs.Common.{◌≡◌, ◌≢◌, ◌<◌, ◌≤◌, ◌^◌, ℕ, zero, suc, List, [], length, take, Option, Some, None, Result, Ok, Err, sym, ap, subst, arith}
 use Rattle.std.specs.Prelude.{OnOk, IfErr, IfSome, option_map, unwrap_or, ◌==◌}
 use Rattle.std.specs.Borrow.{Bor}
 use Rattle.std.specs.Option.{option_map_or}
@@ -12,7 +12,7 @@ use Rattle.t85_core.specs.Denotes.{Denotes}
 use Rattle.t85_core.specs.ToJbg.{WritesStream}
 use Rattle.t85_core.specs.Height.{StreamFault}
 use Rattle.t85_core.specs.Info.{HasLine, line_text}
-use Rattle.t85_core.specs.Jbg.{Settings, AreSettings}
+use Rattle.t85_core.specs.Jbg.{Settings, AreSettings, named_for}
 use Rattle.t85_core.specs.Options.{settings_of}
 use Rattle.t85_core.specs.Failures.{CountsRead}
 use Rattle.uses.specs.Image.{IsOfImage}
@@ -32,7 +32,12 @@ are_settings o = record {
   offset_to = o.in_range;
   announced_to = announced o.announced o.announced_fits;
   comment_to = comment o.comment o.comment_fits;
+  named_to = none_named;
 } where
+  none_named : (i : ℕ) → IfSome (named_for (settings_of o) i) (λ t. t ≤ o.most_offset)
+  none_named zero = tt
+  none_named (suc i) = tt
+
   announced : (a : Option ℕ) → option_map_or (λ n. n) a 0 < 2 ^ 32 → unwrap_or a 0 < 2 ^ 32
   announced None fits = fits
   announced (Some n) fits = fits

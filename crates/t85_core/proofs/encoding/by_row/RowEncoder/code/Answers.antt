@@ -41,6 +41,8 @@ returns-clause-able g c =
     record {
       wide = able.wide;
       offset = omega (arith, offset, able.offset);
+      named = able.named;
+      most = able.most;
       few = omega (arith, c.requires.ready.1.fewer);
       few_rows = able.few_rows;
       rows_to = omega (arith, c.requires.ready.0);

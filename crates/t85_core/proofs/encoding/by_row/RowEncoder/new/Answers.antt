@@ -23,6 +23,7 @@ returns-clause-plan c =
       may_end_is = c.is_some.ensures;
       candidates_are = c.has_candidates.ensures ∙ ap (λ m. nat_lt 0 (length (candidates m.two_line c.args.options.now.most_offset))) mode;
       reset_is = refl;
+      most_is = refl;
       width_from = c.args.size.some_width;
       width_to = c.args.size.not_too_wide;
       limit_to = search rules;
@@ -31,4 +32,4 @@ returns-clause-plan c =
 pub returns-clause-first : goal.returns-clause-first
 returns-clause-first c learning untaught window text text' white put =
     none_stand (image_of (settings_of c.args.options.now) c.args.size.width c.args.size.height) _ window text text' (returns-clause-plan c)
-    refl refl c.start.ensures.codes refl refl untaught.learned_is white untaught.two_line untaught.most untaught.counts put
+    refl refl refl refl c.start.ensures.codes refl refl untaught.learned_is white untaught.two_line untaught.most untaught.counts put
