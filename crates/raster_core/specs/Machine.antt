@@ -5,7 +5,6 @@ pub mod Lanes
 pub mod Uniform
 pub mod Bytes
 pub mod Rows
-pub mod Reads
 pub mod Decoded
 pub mod Places
 pub mod Goes

@@ -9,7 +9,7 @@ ghost use Rattle.qm_core.specs.declared.source.Pulled.{Pulled};
 ghost use Rattle.raster_core.specs.Lines.{Lines};
 ghost use Rattle.raster_core.specs.Window.{held};
 ghost use Rattle.raster_core.specs.Packed.{HasLines, SameAbove, held_rows, row_placed, rows_at, rows_beside, next_place};
-ghost use Rattle.raster_core.specs.Machine.Reads.{Reads};
+ghost use Rattle.qm_core.specs.Reads.{ReaderReads};
 ghost use Rattle.raster_core.specs.Machine.Goes.{GoesOn, row_held};
 ghost use Rattle.raster_core.specs.Machine.Places.{DecodesCurrent, LeavesPlace, MayCodeRow, MayGoOnIn, MayGoOnRow};
 ghost use Rattle.raster_core.specs.Row.{RowDecoded, IsRowStart, StandsInRow, RowGoesOn, RowPasses, RowsSkipped, CanSkipRows, row_task, row_left};
@@ -24,10 +24,9 @@ use crate::context::flag_context;
 use crate::decode::begin::begin_row;
 use crate::decode::row::decode_pixels;
 use crate::place::RowPlace;
-use crate::reader::Reader;
 use crate::shape::{Kept, Shape};
 use crate::window::Window;
-use qm_core::{CodeBytes, Decoder, Learned, Stop, laws};
+use qm_core::{CodeBytes, Decoder, Learned, Reader, Stop, laws};
 
 /// Decodes the rest of a row, given the two rows above it.
 fn decode_below<S: CodeBytes>(
@@ -42,7 +41,7 @@ fn decode_below<S: CodeBytes>(
     requires goes_on { MayGoOnIn shape kept.old place.old reader.old.decoder.now }
     requires current { length current.old ≡ div_ceil shape.width 8 }
     requires above { length above.now ≡ div_ceil shape.width 8 }
-    ensures reads { Reads S.failed reader.old reader.new result }
+    ensures reads { ReaderReads S.failed reader.old reader.new result }
     ensures place { LeavesPlace shape kept.old kept.new place.new result }
     ensures row { GoesOn S.CodeBytes shape (row_held kept.old place.old (held_rows shape.width
         current.old above.now second.now) reader.old) (row_held kept.new place.new (held_rows
@@ -105,7 +104,7 @@ fn decode_beside<S: CodeBytes>(
     requires row { length row.old ≡ div_ceil shape.width 8 }
     requires tail { length head.now + length tail.now ≡ 2 * div_ceil shape.width 8 }
     requires at { at < 3 }
-    ensures reads { Reads S.failed reader.old reader.new result }
+    ensures reads { ReaderReads S.failed reader.old reader.new result }
     ensures place { LeavesPlace shape kept.old kept.new place.new result }
     ensures above { SameAbove (rows_beside at shape.width head.now row.old tail.now)
         (rows_beside at shape.width head.now row.new tail.now) }
@@ -131,7 +130,7 @@ fn decode_at<S: CodeBytes>(
     requires goes_on { MayGoOnIn shape kept.old place.old reader.old.decoder.now }
     requires long { length rows.old ≡ 3 * div_ceil shape.width 8 }
     requires current { current < 3 }
-    ensures reads { Reads S.failed reader.old reader.new result }
+    ensures reads { ReaderReads S.failed reader.old reader.new result }
     ensures place { LeavesPlace shape kept.old kept.new place.new result }
     ensures above { SameAbove (rows_at current shape.width rows.old)
         (rows_at current shape.width rows.new) }

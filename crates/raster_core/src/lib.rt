@@ -13,7 +13,6 @@ mod decode;
 mod encode;
 mod lanes;
 mod place;
-mod reader;
 mod row_byte;
 mod rows;
 mod shape;

@@ -15,10 +15,10 @@ use Rattle.raster_core.specs.Machine.Registers.{bit, before, past_bits}
 use Rattle.raster_core.specs.Events.{Decodes, Stops}
 use Rattle.raster_core.specs.Packed.{packed_row}
 use Rattle.raster_core.specs.Machine.Lanes.{HasAround}
-use Rattle.raster_core.specs.Machine.Reads.{reader_state}
+use Rattle.qm_core.specs.Reads.{reader_state}
 use Rattle.raster_core.specs.Window.{shape_mode}
 use Rattle.raster_core.specs.declared.place.Pause.{Pause}
-use Rattle.raster_core.specs.declared.reader.Reader.{Reader}
+use Rattle.qm_core.specs.declared.reader.Reader.{Reader}
 use Rattle.raster_core.specs.declared.decode.registers.Registers.{Registers}
 use Rattle.raster_core.specs.declared.place.RowPlace.{RowPlace}
 use Rattle.raster_core.specs.Machine.Uniform.{uniform_event, StaysUniform, AreFilled}

@@ -8,9 +8,9 @@ use Rattle.qm_core.specs.declared.decoder.Stop.{Stop}
 use Rattle.raster_core.specs.Lines.{Lines}
 use Rattle.raster_core.specs.Packed.{Held}
 use Rattle.raster_core.specs.Row.{StandsInRow, RowGoesOn, row_task, row_left}
-use Rattle.raster_core.specs.Machine.Reads.{reader_state}
+use Rattle.qm_core.specs.Reads.{reader_state}
 use Rattle.raster_core.specs.declared.place.RowPlace.{RowPlace}
-use Rattle.raster_core.specs.declared.reader.Reader.{Reader}
+use Rattle.qm_core.specs.declared.reader.Reader.{Reader}
 use Rattle.raster_core.specs.declared.shape.Kept.{Kept}
 use Rattle.raster_core.specs.declared.shape.Shape.{Shape}
 

@@ -7,14 +7,13 @@ ghost use Rattle.qm_core.specs.Place.{Place, state_of};
 ghost use Rattle.qm_core.specs.Decoder.{DecoderIsAt, has_stopped, source_of};
 ghost use Rattle.qm_core.specs.declared.source.Pulled.{Pulled};
 ghost use Rattle.raster_core.specs.Window.{shape_mode};
-ghost use Rattle.raster_core.specs.Machine.Reads.{Reads, SameReader, reader_state};
+ghost use Rattle.qm_core.specs.Reads.{ReaderReads, SameReader, reader_state};
 ghost use Rattle.raster_core.specs.Row.{FirstDecoded, FirstStopped, IsRowStart, FromRowPlace, RowBegins};
 
 use crate::context::flag_context;
 use crate::place::RowPlace;
-use crate::reader::Reader;
 use crate::shape::{Kept, Shape};
-use qm_core::{CodeBytes, Stop};
+use qm_core::{CodeBytes, Reader, Stop};
 
 /// Decodes the pseudo-pixel before a row, unless this has been done, and returns whether the row is typical.
 pub(super) fn begin_row<S: CodeBytes>(
@@ -58,7 +57,7 @@ fn decode_flag<S: CodeBytes>(
     reader: &mut Reader<'_, S>,
 ) -> Result<bool, Stop>
     requires typical { shape.typical ≡ true }
-    ensures reads { Reads S.failed reader.old reader.new result }
+    ensures reads { ReaderReads S.failed reader.old reader.new result }
     ensures ok { IfOk result (λ flag. (p : Place) (answers : List Pulled) →
         DecoderIsAt reader.old.decoder.now p answers →
         FirstDecoded (source_of S.CodeBytes reader.old.source.now answers) (shape_mode shape)

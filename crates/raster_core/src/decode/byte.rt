@@ -1,7 +1,7 @@
 //! Decodes the pixels of a byte.
 
 ghost use Rattle.std.specs.Prelude.{◌≡◌, ◌≤◌, false};
-ghost use Rattle.raster_core.specs.Machine.Reads.{Reads};
+ghost use Rattle.qm_core.specs.Reads.{ReaderReads};
 ghost use Rattle.raster_core.specs.Machine.Decoded.{DecodesPixels, DecodesLanes, around_of, lanes_around};
 ghost use Rattle.raster_core.specs.Machine.Registers.{IsTemplate};
 
@@ -10,9 +10,8 @@ use crate::decode::registers::Registers;
 use crate::decode::runs::skip_byte;
 use crate::lanes::{first_around, has_lanes, last_around};
 use crate::place::Pause;
-use crate::reader::Reader;
 use crate::uniform::past_eight;
-use qm_core::{CodeBytes, Context, Stop};
+use qm_core::{CodeBytes, Context, Reader, Stop};
 
 /// Decodes n pixels of a byte, one after another. The result contains the last pixels of the row.
 #[inline(always)]
@@ -23,7 +22,7 @@ pub(crate) fn decode_byte<S: CodeBytes, const TWO_LINE: bool, const MOVED: bool>
 ) -> Result<u128, Pause>
     requires template { IsTemplate TWO_LINE MOVED registers.shape registers.offset }
     requires few { (1 ≤ n) × (n ≤ 8) }
-    ensures reads { Reads S.failed reader.old reader.new result }
+    ensures reads { ReaderReads S.failed reader.old reader.new result }
     ensures pixels { DecodesPixels S.CodeBytes (around_of registers) n reader.old reader.new
         result }
 {
@@ -50,7 +49,7 @@ fn decode_one<S: CodeBytes>(
     before: u128,
     reader: &mut Reader<'_, S>,
 ) -> Result<u128, Pause>
-    ensures reads { Reads S.failed reader.old reader.new result }
+    ensures reads { ReaderReads S.failed reader.old reader.new result }
     ensures pixels { DecodesLanes S.CodeBytes (lanes_around lanes before) 1 reader.old reader.new
         result }
 {
@@ -72,7 +71,7 @@ fn decode_two<S: CodeBytes>(
     before: u128,
     reader: &mut Reader<'_, S>,
 ) -> Result<u128, Pause>
-    ensures reads { Reads S.failed reader.old reader.new result }
+    ensures reads { ReaderReads S.failed reader.old reader.new result }
     ensures pixels { DecodesLanes S.CodeBytes (lanes_around lanes before) 2 reader.old reader.new
         result }
 {
@@ -90,7 +89,7 @@ fn decode_four<S: CodeBytes>(
     before: u128,
     reader: &mut Reader<'_, S>,
 ) -> Result<u128, Pause>
-    ensures reads { Reads S.failed reader.old reader.new result }
+    ensures reads { ReaderReads S.failed reader.old reader.new result }
     ensures pixels { DecodesLanes S.CodeBytes (lanes_around lanes before) 4 reader.old reader.new
         result }
 {
@@ -110,7 +109,7 @@ fn decode_eight<S: CodeBytes>(
 ) -> Result<u128, Pause>
     requires template { registers.shape.two_line ≡ false }
     requires nominal { registers.offset ≡ 0 }
-    ensures reads { Reads S.failed reader.old reader.new result }
+    ensures reads { ReaderReads S.failed reader.old reader.new result }
     ensures pixels { DecodesPixels S.CodeBytes (around_of registers) 8 reader.old reader.new
         result }
 {
@@ -130,7 +129,7 @@ fn decode_plain<S: CodeBytes, const TWO_LINE: bool, const MOVED: bool>(
     reader: &mut Reader<'_, S>,
 ) -> Result<u128, Pause>
     requires template { IsTemplate TWO_LINE MOVED registers.shape registers.offset }
-    ensures reads { Reads S.failed reader.old reader.new result }
+    ensures reads { ReaderReads S.failed reader.old reader.new result }
     ensures pixels { DecodesPixels S.CodeBytes (around_of registers) 8 reader.old reader.new
         result }
 {
@@ -149,7 +148,7 @@ pub(crate) fn decode_step<S: CodeBytes, const TWO_LINE: bool, const MOVED: bool>
     reader: &mut Reader<'_, S>,
 ) -> Result<u128, Pause>
     requires template { IsTemplate TWO_LINE MOVED registers.shape registers.offset }
-    ensures reads { Reads S.failed reader.old reader.new result }
+    ensures reads { ReaderReads S.failed reader.old reader.new result }
     ensures pixels { DecodesPixels S.CodeBytes (around_of registers) 8 reader.old reader.new
         result }
 {

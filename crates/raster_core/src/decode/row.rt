@@ -2,7 +2,7 @@
 
 ghost use Rattle.std.specs.Prelude.{◌≡◌, ◌+◌, ◌-◌, ◌*◌, ◌%◌, ◌<◌, ◌≤◌, IfOk, IfErr};
 ghost use Rattle.qm_core.specs.Source.{Pulls};
-ghost use Rattle.raster_core.specs.Machine.Reads.{Reads};
+ghost use Rattle.qm_core.specs.Reads.{ReaderReads};
 ghost use Rattle.raster_core.specs.Machine.Places.{IsPartOf};
 ghost use Rattle.raster_core.specs.Machine.Decoded.{ByteEnds, DecodesRow, RowStops, row_around, row_part};
 ghost use Rattle.raster_core.specs.Window.{shape_mode};
@@ -14,9 +14,8 @@ use crate::decode::byte::{decode_byte, decode_step};
 use crate::decode::registers::Registers;
 use crate::decode::runs::skip_filled;
 use crate::place::{RowPlace, around_at, register_at};
-use crate::reader::Reader;
 use crate::shape::Shape;
-use qm_core::CodeBytes;
+use qm_core::{CodeBytes, Reader};
 
 /// Decodes the rest of a partially decoded byte, and stores it.
 #[inline(never)]
@@ -32,7 +31,7 @@ fn end_byte<S: CodeBytes, const TWO_LINE: bool, const MOVED: bool>(
     requires template { IsTemplate TWO_LINE MOVED shape offset }
     requires begun { 1 ≤ place.done % 8 }
     requires part { IsPartOf shape place current.old }
-    ensures reads { Reads S.failed reader.old reader.new result }
+    ensures reads { ReaderReads S.failed reader.old reader.new result }
     ensures whole { IfOk result (λ to. to.done < shape.width → to.done % 8 ≡ 0) }
     ensures within { IfOk result (λ to. to.done ≤ shape.width) }
     ensures inside { IfErr result (λ at. at.done < shape.width) }
@@ -76,7 +75,7 @@ fn decode_bytes<S: CodeBytes, const TWO_LINE: bool, const MOVED: bool>(
     requires template { IsTemplate TWO_LINE MOVED shape offset }
     requires whole { place.done % 8 ≡ 0 }
     requires part { IsPartOf shape place current.old }
-    ensures reads { Reads S.failed reader.old reader.new result }
+    ensures reads { ReaderReads S.failed reader.old reader.new result }
     ensures inside { IfErr result (λ at. at.done < shape.width) }
     ensures leaves { DecodesRow (Pulls S.gives S.failed)
         (row_around (shape_mode shape) offset above.now second.now)
@@ -154,7 +153,7 @@ fn decode_rest<S: CodeBytes, const TWO_LINE: bool, const MOVED: bool>(
 ) -> Result<(), RowPlace>
     requires template { IsTemplate TWO_LINE MOVED shape offset }
     requires part { IsPartOf shape place current.old }
-    ensures reads { Reads S.failed reader.old reader.new result }
+    ensures reads { ReaderReads S.failed reader.old reader.new result }
     ensures inside { IfErr result (λ at. at.done < shape.width) }
     ensures leaves { DecodesRow (Pulls S.gives S.failed)
         (row_around (shape_mode shape) offset above.now second.now)
@@ -190,7 +189,7 @@ pub(crate) fn decode_pixels<S: CodeBytes>(
 ) -> Result<(), RowPlace>
     requires offset { offset ≤ 127 }
     requires part { IsPartOf shape place current.old }
-    ensures reads { Reads S.failed reader.old reader.new result }
+    ensures reads { ReaderReads S.failed reader.old reader.new result }
     ensures inside { IfErr result (λ at. at.done < shape.width) }
     ensures leaves { DecodesRow (Pulls S.gives S.failed)
         (row_around (shape_mode shape) offset above.now second.now)

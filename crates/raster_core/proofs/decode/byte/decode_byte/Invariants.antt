@@ -2,7 +2,7 @@ use Rattle.std.proofs.Common.{◌≡◌, ◌+◌, ◌*◌, ◌/◌, ◌^◌, ◌
 use Rattle.std.specs.Prelude.{IsTrue}
 use Rattle.qm_core.specs.Source.{Pulls}
 use Rattle.qm_core.specs.Decoder.{has_stopped}
-use Rattle.raster_core.specs.Machine.Reads.{SameReader, reader_state}
+use Rattle.qm_core.specs.Reads.{SameReader, reader_state}
 use Rattle.raster_core.specs.Machine.Decoded.{Along, around_of}
 use Rattle.raster_core.proofs.decode.byte.decode_byte.Given as goal
 

@@ -3,7 +3,7 @@ use Rattle.std.specs.Prelude.{IsTrue}
 use Rattle.qm_core.specs.Source.{Pulls}
 use Rattle.qm_core.specs.Decoder.{has_stopped}
 use Rattle.raster_core.specs.Window.{shape_mode}
-use Rattle.raster_core.specs.Machine.Reads.{SameReader, reader_state}
+use Rattle.qm_core.specs.Reads.{SameReader, reader_state}
 use Rattle.raster_core.specs.Machine.Decoded.{BytesAlong, bytes_at, row_around, row_part}
 use Rattle.raster_core.proofs.decode.row.decode_bytes.Given as goal
 
