@@ -6,7 +6,8 @@ use Rattle.raster_core.specs.Lines.{Lines, context_at}
 use Rattle.raster_core.specs.Machine.Registers.{AreAt}
 use Rattle.raster_core.specs.Machine.Lanes.{lane, around, HasAround}
 use Rattle.raster_core.specs.declared.place.Pause.{Pause}
-use Rattle.raster_core.specs.Machine.Decoded.{ByteAround, LanesAround, Along, StopsAlong, AreLanesOf, AlongMore, StopsMore, later, lanes_around}
+use Rattle.raster_core.specs.Machine.Decoded.{ByteAround, Along, StopsAlong}
+use Rattle.raster_core.specs.Machine.DecodedLanes.{LanesAround, AreLanesOf, AlongMore, StopsMore, later, lanes_around}
 use Rattle.raster_core.proofs.Contexts.{three_line_nominal}
 use Rattle.raster_core.proofs.LaneTables.{later_lane}
 

@@ -11,7 +11,7 @@ use Rattle.raster_core.specs.Packed.{packed_row}
 use Rattle.raster_core.specs.Machine.Registers.{before, past_bits}
 use Rattle.raster_core.specs.declared.place.Pause.{Pause}
 use Rattle.raster_core.specs.declared.place.RowPlace.{RowPlace}
-use Rattle.raster_core.specs.Machine.Decoded.{RowAround, RowPart, BytesAt, PlainRow, PixelsSoFar, PixelsHeld, FromPixels, Along, StopsAlong, BytesAlong, ByteEnds, RowAlong, RowStops, byte_around, byte_at, plain_row, bytes_at}
+use Rattle.raster_core.specs.Machine.Decoded.{RowAround, RowPart, BytesAt, PlainRow, PixelsSoFar, PixelsHeld, FromPixels, Along, StopsAlong, BytesAlong, ByteEnds, RowAlong, RowStops, byte_around, next_around, plain_row, bytes_at}
 use Rattle.raster_core.proofs.Causal.{before_front}
 use Rattle.raster_core.proofs.Packed.{packed_byte, packed_is, byte_in, byte_out}
 
@@ -34,8 +34,8 @@ set_bytes current byte i done h is each k l =
 
 pub bytes_next : {S : Type 0} {pull : S → Pulled → S → Type 0} {a : RowAround} {part : RowPart S} {width n byte past' : ℕ} {b : BytesAt} {mid to : DecoderState S} →
     b.left ≡ width - 8 * b.i → 8 * b.i < width → b.i < length b.current → n ≡ min b.left 8 → byte ≡ past' % 256 * 2 ^ (8 - n) % 256 →
-    BytesAlong pull a part width b mid → Along pull (byte_at a b) mid n past' to →
-    BytesAlong pull a part width (bytes_at (b.left - n) (b.i + 1) (byte_at a b).second (byte_at a b).above past' (slice_set b.current b.i byte)) to
+    BytesAlong pull a part width b mid → Along pull (next_around a b) mid n past' to →
+    BytesAlong pull a part width (bytes_at (b.left - n) (b.i + 1) (next_around a b).second (next_around a b).above past' (slice_set b.current b.i byte)) to
 bytes_next {S} {pull} {a} {part} {width} {n} {byte} {past'} {b} left_is inside within n_is byte_is along byte_along = record {
   any = λ from first s answers lines done₀ had so_far a_is s_is.
       let f = along.any from first s answers lines done₀ had so_far a_is s_is in
@@ -44,7 +44,7 @@ bytes_next {S} {pull} {a} {part} {width} {n} {byte} {past'} {b} left_is inside w
       let rest = f.rest in
       let at : 8 * (b.i + 1) + 8 ≡ length f.done + 16 = omega arith in
       let m = byte_along.any from first s answers lines f.done f.so_far
-      (subst (λ z. (byte_at a b).second ≡ before lines.second z 24) at r2) (subst (λ z. (byte_at a b).above ≡ before lines.above z 24) at r1) in
+      (subst (λ z. (next_around a b).second ≡ before lines.second z 24) at r2) (subst (λ z. (next_around a b).above ≡ before lines.above z 24) at r1) in
       let count = m.count in
       let long : length (f.done ++ m.pixels) ≡ length f.done + length m.pixels = length-append f.done m.pixels in
       let here : byte ≡ before (f.done ++ m.pixels) (8 * b.i + 8) 8 = byte_is ∙ byte_out (f.done ++ m.pixels) a.offset past' b.i n m.so_far.past_is (omega arith) (omega arith) in
@@ -61,7 +61,7 @@ bytes_next {S} {pull} {a} {part} {width} {n} {byte} {past'} {b} left_is inside w
 
 pub bytes_stop : {S : Type 0} {pull : S → Pulled → S → Type 0} {a : RowAround} {part : RowPart S} {width : ℕ} {b : BytesAt} {mid to : DecoderState S} {pause : Pause} {place : RowPlace} (n : ℕ) →
     b.left ≡ width - 8 * b.i → 8 * b.i < width → n ≡ min b.left 8 → place.is_begun ≡ true → place.done ≡ 8 * b.i + pause.count → place.past ≡ pause.past →
-    BytesAlong pull a part width b mid → StopsAlong pull (byte_at a b) mid n pause to →
+    BytesAlong pull a part width b mid → StopsAlong pull (next_around a b) mid n pause to →
     RowStops pull a part width (record { place = place; current = b.current; state = to })
 bytes_stop {S} {pull} {a} {part} {width} {b} n left_is inside n_is begun_is done_is past_is along stops = record {
   any = λ from first s answers lines done₀ had so_far a_is s_is.
@@ -71,7 +71,7 @@ bytes_stop {S} {pull} {a} {part} {width} {b} n left_is inside n_is begun_is done
       let rest = f.rest in
       let at : 8 * (b.i + 1) + 8 ≡ length f.done + 16 = omega arith in
       let m = stops.any from first s answers lines f.done f.so_far
-      (subst (λ z. (byte_at a b).second ≡ before lines.second z 24) at r2) (subst (λ z. (byte_at a b).above ≡ before lines.above z 24) at r1) in
+      (subst (λ z. (next_around a b).second ≡ before lines.second z 24) at r2) (subst (λ z. (next_around a b).above ≡ before lines.above z 24) at r1) in
       let few = m.few in
       let many = m.many in
       let long : length (f.done ++ m.pixels) ≡ length f.done + length m.pixels = length-append f.done m.pixels in

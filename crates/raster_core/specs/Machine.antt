@@ -6,5 +6,6 @@ pub mod Uniform
 pub mod Bytes
 pub mod Rows
 pub mod Decoded
+pub mod DecodedLanes
 pub mod Places
-pub mod Goes
+pub mod Continues

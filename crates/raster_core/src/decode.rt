@@ -6,11 +6,11 @@ ghost use Rattle.qm_core.specs.Counts.{one_more};
 ghost use Rattle.qm_core.specs.Place.{Place, State, state_of};
 ghost use Rattle.qm_core.specs.Decoder.{StopsOnce, DecoderIsAt, has_stopped, decoder_state, source_of};
 ghost use Rattle.qm_core.specs.declared.source.Pulled.{Pulled};
+ghost use Rattle.qm_core.specs.Reads.{ReaderReads};
 ghost use Rattle.raster_core.specs.Lines.{Lines};
 ghost use Rattle.raster_core.specs.Window.{held};
 ghost use Rattle.raster_core.specs.Packed.{HasLines, SameAbove, held_rows, row_placed, rows_at, rows_beside, next_place};
-ghost use Rattle.qm_core.specs.Reads.{ReaderReads};
-ghost use Rattle.raster_core.specs.Machine.Goes.{GoesOn, row_held};
+ghost use Rattle.raster_core.specs.Machine.Continues.{RowContinues, row_progress};
 ghost use Rattle.raster_core.specs.Machine.Places.{DecodesCurrent, LeavesPlace, MayCodeRow, MayGoOnIn, MayGoOnRow};
 ghost use Rattle.raster_core.specs.Row.{RowDecoded, IsRowStart, StandsInRow, RowGoesOn, RowPasses, RowsSkipped, CanSkipRows, row_task, row_left};
 
@@ -43,9 +43,9 @@ fn decode_below<S: CodeBytes>(
     requires above { length above.now ≡ div_ceil shape.width 8 }
     ensures reads { ReaderReads S.failed reader.old reader.new result }
     ensures place { LeavesPlace shape kept.old kept.new place.new result }
-    ensures row { GoesOn S.CodeBytes shape (row_held kept.old place.old (held_rows shape.width
-        current.old above.now second.now) reader.old) (row_held kept.new place.new (held_rows
-        shape.width current.new above.now second.now) reader.new) result }
+    ensures row { RowContinues S.CodeBytes shape (row_progress kept.old place.old (held_rows
+        shape.width current.old above.now second.now) reader.old) (row_progress kept.new place.new
+        (held_rows shape.width current.new above.now second.now) reader.new) result }
 {
     // The proof uses these laws of the coder.
     laws::answers();
@@ -108,9 +108,9 @@ fn decode_beside<S: CodeBytes>(
     ensures place { LeavesPlace shape kept.old kept.new place.new result }
     ensures above { SameAbove (rows_beside at shape.width head.now row.old tail.now)
         (rows_beside at shape.width head.now row.new tail.now) }
-    ensures row { GoesOn S.CodeBytes shape (row_held kept.old place.old (rows_beside at shape.width
-        head.now row.old tail.now) reader.old) (row_held kept.new place.new (rows_beside at
-        shape.width head.now row.new tail.now) reader.new) result }
+    ensures row { RowContinues S.CodeBytes shape (row_progress kept.old place.old (rows_beside at
+        shape.width head.now row.old tail.now) reader.old) (row_progress kept.new place.new
+        (rows_beside at shape.width head.now row.new tail.now) reader.new) result }
 {
     let long = shape.width.div_ceil(8) as usize;
     let (above, second) = rows_above(head, tail, long, at);
@@ -134,9 +134,9 @@ fn decode_at<S: CodeBytes>(
     ensures place { LeavesPlace shape kept.old kept.new place.new result }
     ensures above { SameAbove (rows_at current shape.width rows.old)
         (rows_at current shape.width rows.new) }
-    ensures row { GoesOn S.CodeBytes shape (row_held kept.old place.old (rows_at current shape.width
-        rows.old) reader.old) (row_held kept.new place.new (rows_at current shape.width rows.new)
-        reader.new) result }
+    ensures row { RowContinues S.CodeBytes shape (row_progress kept.old place.old
+        (rows_at current shape.width rows.old) reader.old) (row_progress kept.new place.new
+        (rows_at current shape.width rows.new) reader.new) result }
 {
     let long = shape.width.div_ceil(8) as usize;
     let (front, rest) = rows.split_at_mut(current as usize * long);

@@ -10,15 +10,14 @@ use Rattle.qm_core.specs.declared.source.Heard.TheVariants.{More}
 use Rattle.qm_core.specs.declared.source.Pulled.{Pulled}
 use Rattle.qm_core.specs.declared.source.CodeBytes.{Ghosts}
 use Rattle.qm_core.specs.declared.decoder.Decoder.{Decoder}
+use Rattle.qm_core.specs.Reads.{reader_state}
+use Rattle.qm_core.specs.declared.reader.Reader.{Reader}
 use Rattle.raster_core.specs.Lines.{Lines, Mode, pixel_events}
 use Rattle.raster_core.specs.Machine.Registers.{bit, before, past_bits}
 use Rattle.raster_core.specs.Events.{Decodes, Stops}
 use Rattle.raster_core.specs.Packed.{packed_row}
-use Rattle.raster_core.specs.Machine.Lanes.{HasAround}
-use Rattle.qm_core.specs.Reads.{reader_state}
 use Rattle.raster_core.specs.Window.{shape_mode}
 use Rattle.raster_core.specs.declared.place.Pause.{Pause}
-use Rattle.qm_core.specs.declared.reader.Reader.{Reader}
 use Rattle.raster_core.specs.declared.decode.registers.Registers.{Registers}
 use Rattle.raster_core.specs.declared.place.RowPlace.{RowPlace}
 use Rattle.raster_core.specs.Machine.Uniform.{uniform_event, StaysUniform, AreFilled}
@@ -97,39 +96,6 @@ DecodesPixels source b n r r' result =
     IfOk result (λ past. Along (Pulls source.gives source.failed) b (reader_state r) n past (reader_state r'))
     × IfErr result (λ pause. (pause.count < n) × StopsAlong (Pulls source.gives source.failed) b (reader_state r) n pause (reader_state r'))
 
--- the same, counted from n pixels before
-abbrev pub later : ℕ → Pause → Pause
-later n pause = record { count = n + pause.count; past = pause.past }
-
--- What pixels with three lines and a nominal adaptive pixel are decoded with: the lanes of the rows above, the last pixels.
-pub record LanesAround : Type 0 where
-  pub lanes : ℕ
-  pub past : ℕ
-
-abbrev pub lanes_around : (lanes past : ℕ) → LanesAround
-lanes_around lanes past = record { lanes = lanes; past = past }
-
--- these lanes are those of some pixels of a byte, from pixel n on
-pub record AreLanesOf (lanes : ℕ) (b : ByteAround) (n count : ℕ) : Type 0 where
-  pub three_line : b.mode.two_line ≡ false
-  pub nominal : b.offset ≡ 0
-  pub within : n + count ≤ 8
-  pub around_is : HasAround lanes b.second b.above n count
-
--- Pixels more were decoded of a byte, with these lanes.
-pub record AlongMore {S : Type 0} (pull : S → Pulled → S → Type 0) (a : LanesAround) (mid : DecoderState S) (count past' : ℕ) (new : DecoderState S) : Type 0 where
-  pub any : (b : ByteAround) (old : DecoderState S) (n : ℕ) → AreLanesOf a.lanes b n count → Along pull b old n a.past mid → Along pull b old (n + count) past' new
-
--- the source stopped at one of them
-pub record StopsMore {S : Type 0} (pull : S → Pulled → S → Type 0) (a : LanesAround) (mid : DecoderState S) (count : ℕ) (pause : Pause) (new : DecoderState S) : Type 0 where
-  pub any : (b : ByteAround) (old : DecoderState S) (n : ℕ) → AreLanesOf a.lanes b n count → Along pull b old n a.past mid → StopsAlong pull b old 8 (later n pause) new
-
--- What decoding pixels with these lanes leaves.
-abbrev pub DecodesLanes : {S : Type 0} (source : Ghosts S) (a : LanesAround) (count : ℕ) (r r' : Reader S) (result : Result ℕ Pause) → Type 0
-DecodesLanes source a count r r' result =
-    IfOk result (λ past. AlongMore (Pulls source.gives source.failed) a (reader_state r) count past (reader_state r'))
-    × IfErr result (λ pause. (pause.count < count) × StopsMore (Pulls source.gives source.failed) a (reader_state r) count pause (reader_state r'))
-
 -- A byte of one colour was decoded in one step, with no byte asked for: each of its pixels is in the context of that colour.
 pub record SkipsAlong (b : ByteAround) (byte : ℕ) (d : Decoder) (learned : List Estimate) (d' : Decoder) : Type 0 where
   pub colour : Bool
@@ -184,8 +150,8 @@ abbrev pub row_around : Mode → ℕ → (above second : List ℕ) → RowAround
 row_around mode offset above second = record { mode = mode; offset = offset; above = above; second = second }
 
 -- what the pixels of the next byte are decoded with
-abbrev pub byte_at : RowAround → BytesAt → ByteAround
-byte_at a b = byte_around a.mode a.offset (b.second % 65536 * 256 + slice_index a.second (b.i + 1)) (b.above % 65536 * 256 + slice_index a.above (b.i + 1)) b.past
+abbrev pub next_around : RowAround → BytesAt → ByteAround
+next_around a b = byte_around a.mode a.offset (b.second % 65536 * 256 + slice_index a.second (b.i + 1)) (b.above % 65536 * 256 + slice_index a.above (b.i + 1)) b.past
 
 -- The bytes of a row have been decoded up to the next one.
 pub record BytesSoFar {S : Type 0} (old : SourceAt S) (row : PlainRow) (width : ℕ) (b : BytesAt) (new : DecoderState S) : Type 0 where

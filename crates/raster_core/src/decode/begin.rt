@@ -2,13 +2,14 @@
 
 ghost use Rattle.std.specs.Prelude.{◌≡◌, ◌<◌, List, IsTrue, IsErr, OnOk, OnErr, IfOk, false, true};
 ghost use Rattle.qm_core.specs.Counts.{one_more};
-ghost use Rattle.qm_core.specs.Source.{Pulls};
 ghost use Rattle.qm_core.specs.Place.{Place, state_of};
 ghost use Rattle.qm_core.specs.Decoder.{DecoderIsAt, has_stopped, source_of};
 ghost use Rattle.qm_core.specs.declared.source.Pulled.{Pulled};
-ghost use Rattle.raster_core.specs.Window.{shape_mode};
 ghost use Rattle.qm_core.specs.Reads.{ReaderReads, SameReader, reader_state};
-ghost use Rattle.raster_core.specs.Row.{FirstDecoded, FirstStopped, IsRowStart, FromRowPlace, RowBegins};
+ghost use Rattle.qm_core.specs.Source.{Pulls};
+ghost use Rattle.raster_core.specs.Window.{shape_mode};
+ghost use Rattle.raster_core.specs.Machine.Continues.{BeginsRow, StopsBeforeRow};
+ghost use Rattle.raster_core.specs.Row.{FirstDecoded, FirstStopped, FromRowPlace};
 
 use crate::context::flag_context;
 use crate::place::RowPlace;
@@ -36,12 +37,9 @@ pub(super) fn begin_row<S: CodeBytes>(
     ensures typical { IfOk result (λ flag. IsTrue (has_stopped reader.old.decoder.now) →
         flag ≡ false) }
     ensures ok { IfOk result (λ flag. FromRowPlace (Pulls S.gives S.failed) shape kept place
-        (reader_state reader.old) (λ from task window. RowBegins from task
-        place window flag (reader_state reader.new))) }
+        (reader_state reader.old) (BeginsRow place flag reader.new)) }
     ensures err { OnErr result (FromRowPlace (Pulls S.gives S.failed) shape kept place
-        (reader_state reader.old)
-        (λ from task window. IsRowStart place × FirstStopped from (shape_mode shape) task.state
-        (reader_state reader.new))) }
+        (reader_state reader.old) (StopsBeforeRow place reader.new)) }
 {
     if shape.typical && !place.is_begun {
         decode_flag(shape, kept.previous_typical, reader)

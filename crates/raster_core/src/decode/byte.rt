@@ -2,7 +2,8 @@
 
 ghost use Rattle.std.specs.Prelude.{◌≡◌, ◌≤◌, false};
 ghost use Rattle.qm_core.specs.Reads.{ReaderReads};
-ghost use Rattle.raster_core.specs.Machine.Decoded.{DecodesPixels, DecodesLanes, around_of, lanes_around};
+ghost use Rattle.raster_core.specs.Machine.Decoded.{DecodesPixels, around_of};
+ghost use Rattle.raster_core.specs.Machine.DecodedLanes.{DecodesLanes, lanes_around};
 ghost use Rattle.raster_core.specs.Machine.Registers.{IsTemplate};
 
 use crate::context::{context_of, past_and};
