@@ -14,8 +14,8 @@
      them.
    - Each pointer points to at least as many bytes as its length says. No length exceeds
      PTRDIFF_MAX. Structs are aligned as their type requires.
-   - Buffers passed to the same call do not overlap. Memory that a call writes, including structs
-     and `written`, overlaps nothing else that is passed to it.
+   - Buffers passed to the same call do not overlap. Memory that a call writes, including structs,
+     `written`, `taken` and `row`, overlaps nothing else that is passed to it.
    - A `bool` is 0 or 1. (One filled by memcpy from elsewhere may be neither.)
    - During a call, no other thread writes to the memory passed to it, or reads the memory that it
      writes.
@@ -104,7 +104,7 @@ enum {
     /* Invalid arguments of the encoder. */
     T85_OPTION_BITS = 20,   /* options has a bit outside the three below */
     T85_STRIPE_ZERO = 21,   /* stripe_rows is 0 */
-    T85_OFFSET_LARGE = 22,  /* most_offset is above T85_MOST_OFFSET */
+    T85_OFFSET_LARGE = 22,  /* an offset is out of range */
     T85_ANNOUNCED_LOW = 23, /* announced_height is below the image's height */
     T85_COMMENT_LONG = 26,  /* comment has 2^32 bytes or more */
     T85_NO_PIXELS = 33,     /* width or height is 0 */
@@ -124,7 +124,7 @@ enum {
     /* Images row by row. */
     T85_NO_MORE_ROWS = 54,  /* all rows were passed, or the stream was ended */
     T85_SHORT_ROW = 55,     /* row is shorter than t85_row_bytes(width) */
-    T85_IN_STRIPE = 56      /* an offset is named within a stripe */
+    T85_IN_STRIPE = 56      /* offset chosen within a stripe */
 };
 
 #define T85_MOST_WIDTH 1048576
@@ -400,17 +400,17 @@ T85_NO_NULL((1, 8))
 uint8_t t85_encode_row(t85_encoder *encoder, const uint8_t *row, size_t row_len, uint8_t *window,
                        size_t window_len, uint8_t *stream, size_t stream_room, size_t *written);
 
-/* Names the offset of the adaptive template pixel for the stripe that begins with the next row: 0, or
-   one from 3 (5 with the two-line template) to most_offset. A stripe begins with the first row, and
-   with each row behind a multiple of stripe_rows. Without a name, the encoder chooses the offset by
-   the rows of the stripe before. The last name before a stripe counts. Any choice gives a stream of
-   the same image; a good one gives a shorter stream.
+/* Chooses the offset of the adaptive template pixel for the stripe that begins with the next row: 0,
+   or one from 3 (5 with the two-line template) to most_offset. It may be called before the first row,
+   and after each whole stripe. The last call before a stripe counts. Without it, the encoder chooses
+   the offset from the rows of the previous stripe. The stream denotes the same image whatever the
+   choice; a good choice makes it shorter.
 
    Returns one of:
-   0: the offset is named.
+   0: the stripe will be encoded with this offset.
    Any other status: nothing is changed. The checks are made in this order: 53; 54 if all rows were
-     passed, or the stream was ended; T85_IN_STRIPE if rows of a stripe were passed, but not all;
-     22 if the offset is another. */
+     passed, or the stream was ended; T85_IN_STRIPE if only some rows of a stripe were passed; 22 if
+     the offset is not one of these. */
 T85_NO_NULL((1))
 uint8_t t85_encode_offset(t85_encoder *encoder, uint8_t offset);
 

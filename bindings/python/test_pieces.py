@@ -1,4 +1,4 @@
-"""Tests of streams that come in pieces, and of images whose rows come one by one."""
+"""Tests of streams that arrive in pieces, and of images whose rows arrive one by one."""
 import asyncio
 import io
 import itertools
@@ -10,7 +10,7 @@ from samples import LATE, ROWS, STREAM, WORKED, example, head, of_page
 
 
 def in_pieces(stream, size):
-    """The rows of a stream in pieces, and the decoder."""
+    """Decodes a stream in pieces; returns the rows and the decoder."""
     decoder, rows = t85.Decoder(), []
     for at in range(0, len(stream), size):
         rows += decoder.feed(stream[at : at + size])
@@ -39,7 +39,7 @@ class Pieces(unittest.TestCase):
         stream = head(1, 9, 1, 0, 0x20) + b"\xc0\xff\x02\xff\x05\0\0\0\x02\xc0\xff\x02"
         rows, decoder = in_pieces(stream, 1)
         self.assertEqual((rows, decoder.height, decoder.certain), ([b"\x80", b"\x80"], 2, 2))
-        # The header announces nine rows, of which an image has one at least. Then a height of two comes.
+        # The header announces nine rows, of which an image has at least one. Then a height of two arrives.
         decoder = t85.Decoder()
         self.assertEqual(decoder.certain, 0)
         decoder.feed(stream[:23])
@@ -90,7 +90,7 @@ class Pieces(unittest.TestCase):
 
 
 def row_by_row(rows, width, height, **names):
-    """The pieces of the stream of rows that are given one by one."""
+    """Encodes rows one by one, and returns the pieces of the stream."""
     encoder = t85.Encoder(width, height, **names)
     return [*map(encoder.row, rows), encoder.end()]
 
@@ -107,7 +107,7 @@ class RowByRow(unittest.TestCase):
                 self.assertEqual(b"".join(row_by_row(rows, width, len(rows), **names)), stream)
         for rows, names, stream in LATE:
             with self.subTest(**names):
-                # The height is the most rows that may come.
+                # The height is the greatest number of rows.
                 for most in range(len(rows), names["announced_height"] + 1):
                     self.assertEqual(b"".join(row_by_row(rows, 1, most, **names)), stream)
 
@@ -154,7 +154,7 @@ class RowByRow(unittest.TestCase):
         self.assertFalse(encoder.is_done)
         found = first + encoder.row(b"\x5a\x80")
         self.refused(54, encoder.row, b"\0\0")
-        # What is refused changes nothing.
+        # A rejected call changes nothing.
         self.assertEqual(found + encoder.end(), t85.encode(b"\xa5\0\x5a\x80", 9, 2))
         self.refused(54, encoder.end)
         self.refused(54, encoder.row, b"\0\0")
@@ -164,6 +164,37 @@ class RowByRow(unittest.TestCase):
         with late:
             pass
         self.refused(19, late.row, b"\0\0")
+
+    def test_offsets(self):
+        # Two black rows in stripes of one row. The rule moves the adaptive pixel to 3 before the second.
+        moved = b"\xff\x06\0\0\0\0\x03\0\xf8\xff\x02"
+        streams = {
+            (None, None): b"\xf0\xff\x02" + moved,
+            (None, 3): b"\xf0\xff\x02" + moved,
+            (None, 0): b"\xf0\xff\x02\xf4\xff\x02",
+            (3, None): moved + b"\xf8\xff\x02",
+        }
+        for offsets, code in streams.items():
+            with self.subTest(offsets=offsets):
+                encoder = t85.Encoder(8, 2, typical=False, stripe_rows=1, most_offset=3)
+                found = b""
+                for offset in offsets:
+                    if offset is not None:
+                        encoder.offset(offset)
+                    for wrong in (1, 2, 4, 255):
+                        self.refused(22, encoder.offset, wrong)
+                    found += encoder.row(b"\xff")
+                self.refused(54, encoder.offset, 0)
+                self.assertEqual(found + encoder.end(), head(8, 2, 1, 3, 0) + code)
+                self.refused(54, encoder.offset, 0)
+        encoder = t85.Encoder(8, 3, stripe_rows=2, most_offset=127)
+        encoder.row(b"\xff")
+        self.refused(56, encoder.offset, 0)
+        encoder.row(b"\xff")
+        encoder.offset(127)
+        for wrong in (-1, 256):
+            with self.assertRaises(OverflowError):
+                encoder.offset(wrong)
 
     def test_refused(self):
         numbers = {

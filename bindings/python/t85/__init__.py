@@ -83,7 +83,7 @@ Buffer = Union[bytes, bytearray, memoryview, mmap.mmap, "array.array[Any]"]
 Writable = Union[bytearray, memoryview, mmap.mmap, "array.array[Any]"]
 if TYPE_CHECKING:
     _Memory = ctypes.Array[c_char]
-    # Gets memory and the room in it, and gives a status.
+    # Takes memory and its length, and returns a status.
     _Writer = Callable[[_Memory, int], int]
 
 _SONAME = "libt85.so.1"
@@ -92,7 +92,7 @@ _TOO_MANY_ROWS = 24
 _ROWS_MISSING = 36
 _NO_MORE_PARTS = 52
 _HEADER_READ, _ROW, _MORE = 60, 61, 62
-# The bytes of a stream's header, and the most of a PBM's.
+# The length of a stream's header, and the greatest length of a PBM's.
 _HEADER_BYTES, _HEAD_BYTES = 20, 22
 _NO_LIMIT = 0xFFFFFFFF
 _FIRST_ROOM = 1 << 23
@@ -192,6 +192,7 @@ def _load() -> ctypes.CDLL:
         "t85_decode_certain": (word, [POINTER(_Decoder)]),
         "t85_encode_start": (c_uint8, [POINTER(_Encoder), size, word, word, *chosen, *write, *write, POINTER(size)]),
         "t85_encode_row": (c_uint8, [POINTER(_Encoder), *read, *write, *write, POINTER(size)]),
+        "t85_encode_offset": (c_uint8, [POINTER(_Encoder), c_uint8]),
         "t85_encode_end": (c_uint8, [POINTER(_Encoder), *write, *write, POINTER(size)]),
         "t85_encode_rows_left": (word, [POINTER(_Encoder)]),
         "t85_encode_room": (c_uint64, [POINTER(_Encoder)]),
@@ -290,6 +291,12 @@ def _word(name: str, value: int) -> int:
     return value
 
 
+def _byte(name: str, value: int) -> int:
+    if not 0 <= value < 1 << 8:
+        raise OverflowError(f"{name} is not from 0 to 255")
+    return value
+
+
 def _length(name: str, value: int) -> int:
     if not 0 <= value < 1 << 63:
         raise OverflowError(f"{name} is not from 0 to 9223372036854775807")
@@ -375,7 +382,7 @@ def _height_in_use(stream: Buffer, max_rows: int) -> int:
     window, image = _window(fields.width), ctypes.create_string_buffer(_HEAD_BYTES)
     lent = _bytes(stream), _size(stream), max_rows, window, len(window), image, len(image), byref(written)
     status = _LIBRARY.t85_decode(*lent)
-    # What is lent goes back before it is told of a fault: else a map can't be closed.
+    # Buffers are released before an error is raised; otherwise a memory map could not be closed.
     del lent
     if not written.value:
         raise Error(status)
@@ -392,7 +399,7 @@ def _decoded(write: _Writer, extent: _Extent, before: int, max_bytes: Optional[i
     if not extent.whole:
         status, output = _with_room(write, before + _FIRST_ROOM, before + min(extent.length, limit))
     else:
-        # Without room the library still says what else is wrong.
+        # Without a buffer, the library still reports other errors.
         room = before + extent.length if fits else 0
         status, output = _with_room(write, room, room)
     if status == _NO_ROOM and not fits:
@@ -555,8 +562,12 @@ class Encoder:
     options are those of encode. With announced_height, the height is the greatest number of rows, and end writes the
     actual number.
 
-    An Error is raised, and the encoder is unchanged, if a row follows the last one or the end (number 54), if a row is too
-    short (55), or if end is called before all rows or, with announced_height, before the first row (36).
+    offset chooses the offset of the adaptive template pixel for the stripe that begins with the next row. Without it, the
+    encoder chooses one from the rows of the previous stripe.
+
+    An Error is raised, and the encoder is unchanged, if a row or an offset follows the last row or the end (number 54), if a
+    row is too short (55), if an offset is chosen within a stripe (56) or is not allowed (22), or if end is called before all
+    rows or, with announced_height, before the first row (36).
 
     rows_left  how many more rows are accepted
     is_done    whether the stream is complete
@@ -584,7 +595,7 @@ class Encoder:
         self.is_done = False
         self._state = _Encoder()
         self._window = _window(min(width, 1 << 20))
-        # The header and the comment, which go out with the first row.
+        # The header and the comment, which are returned with the first row.
         self._output = ctypes.create_string_buffer(26 + _size(said))
         self._head = b""
         self._head = self._taken(
@@ -606,6 +617,12 @@ class Encoder:
         """Encodes the next packed row, and returns bytes that became certain. Bytes after the row are ignored."""
         _refuse_pixels(data, self.width, 1, None)
         return self._taken(_LIBRARY.t85_encode_row, _bytes(data), _size(data))
+
+    def offset(self, offset: int) -> None:
+        """Chooses the adaptive pixel's offset for the next stripe: 0, or 3 (5 with two_lines) to most_offset."""
+        status = _LIBRARY.t85_encode_offset(byref(self._state), _byte("offset", offset))
+        if status:
+            raise Error(status)
 
     def end(self) -> bytes:
         """Returns the last bytes of the stream, with the height if fewer rows were passed than announced."""
@@ -768,5 +785,5 @@ def decode_into(
     return written.value
 
 
-# At the end, since it stands on what is above.
+# Imported at the end, since they use the definitions above.
 from ._conversion import decode_file, encode_file  # noqa: E402

@@ -649,23 +649,23 @@ fn says(status: u8, text: &[u8]) -> bool {
 #[test]
 fn other_statuses_have_texts(rt: HostRuntime) {
     assert!(rt; says(0, b"done"));
-    assert!(rt; says(18, b"output is longer than its room"));
+    assert!(rt; says(18, b"output does not fit in the buffer"));
     assert!(rt; says(19, b"window is shorter than three rows"));
-    assert!(rt; says(22, b"greatest offset is above 127"));
+    assert!(rt; says(22, b"adaptive pixel offset is out of range"));
     assert!(rt; says(24, b"image has more rows than the limit"));
     assert!(rt; says(33, b"width or height is zero"));
     assert!(rt; says(34, b"image is wider than 1048576"));
     assert!(rt; says(36, b"rows of the image are missing"));
     assert!(rt; says(50, b"struct is of another version"));
     assert!(rt; says(51, b"stride is shorter than a row"));
-    assert!(rt; says(52, b"all parts of the stream were told"));
-    assert!(rt; says(53, b"struct was not begun"));
-    assert!(rt; says(54, b"no more rows are taken"));
+    assert!(rt; says(52, b"stream has no more parts"));
+    assert!(rt; says(53, b"struct is not initialized"));
+    assert!(rt; says(54, b"no more rows are accepted"));
     assert!(rt; says(55, b"row is shorter than its width"));
     assert!(rt; says(56, b"stripe is in progress"));
     assert!(rt; says(60, b"header was read"));
     assert!(rt; says(61, b"row was decoded"));
-    assert!(rt; says(62, b"more bytes are wanted"));
+    assert!(rt; says(62, b"more bytes are needed"));
     assert!(rt; says(27, b"unknown status"));
     assert!(rt; says(255, b"unknown status"));
 }

@@ -2,8 +2,8 @@
 
 use crate::tests::{CODED, Coded, PLAIN};
 use crate::{
-    T85Encoder, T85Options, t85_encode_end, t85_encode_room, t85_encode_row, t85_encode_rows_left,
-    t85_encode_start,
+    T85Encoder, T85Options, t85_encode_end, t85_encode_offset, t85_encode_room, t85_encode_row,
+    t85_encode_rows_left, t85_encode_start,
 };
 use t85_core::Learning;
 
@@ -282,4 +282,60 @@ fn numbers_of_no_encoder_are_told(rt: HostRuntime) {
         assert!(rt; status_with(which) == 53);
     }
     assert!(rt; status_with(8) == 0);
+}
+
+/// Two black rows of eight pixels. The adaptive pixel may move to an offset of 3.
+static TWO_BLACK: Coded = Coded {
+    width: 8,
+    height: 2,
+    rows: b"\xff\xff",
+    stride: 1,
+    options: T85Options {
+        stripe_rows: 1,
+        most_offset: 3,
+        ..PLAIN
+    },
+    status: 0,
+    stream: b"\0\0\x01\0\0\0\0\x08\0\0\0\x02\0\0\0\x01\x03\0\0\0\xf0\xff\x02\xff\x06\0\0\0\0\x03\0\xf8\xff\x02",
+};
+
+/// Whether the two black rows have this stream if an offset is chosen before the first or the second row. The offsets
+/// that the options do not allow are rejected.
+fn codes_with(before: [Option<u8>; 2], stream: &[u8]) -> bool {
+    let mut window = [0xaa; 24];
+    let (mut encoder, mut sent) = begun(&TWO_BLACK, &mut window, 20);
+    for chosen in before {
+        if let Some(offset) = chosen {
+            if t85_encode_offset(&mut encoder, offset) != 0 {
+                return false;
+            }
+        }
+        if t85_encode_offset(&mut encoder, 2) != 22 || t85_encode_offset(&mut encoder, 4) != 22 {
+            return false;
+        }
+        go_on(&mut encoder, Some(b"\xff"), &mut window, 0, &mut sent);
+    }
+    let done = t85_encode_offset(&mut encoder, 0);
+    go_on(&mut encoder, None, &mut window, 0, &mut sent);
+    done == 54 && t85_encode_offset(&mut encoder, 0) == 54 && sent.is(0, stream)
+}
+
+#[test]
+fn chosen_offsets_move_the_adaptive_pixel(rt: HostRuntime) {
+    assert!(rt; codes_with([None, None], TWO_BLACK.stream));
+    assert!(rt; codes_with([None, Some(3)], TWO_BLACK.stream));
+    assert!(rt; codes_with([None, Some(0)], b"\0\0\x01\0\0\0\0\x08\0\0\0\x02\0\0\0\x01\x03\0\0\0\xf0\xff\x02\xf4\xff\x02"));
+    assert!(rt; codes_with([Some(3), None], b"\0\0\x01\0\0\0\0\x08\0\0\0\x02\0\0\0\x01\x03\0\0\0\xff\x06\0\0\0\0\x03\0\xf8\xff\x02\xf8\xff\x02"));
+}
+
+#[test]
+fn offsets_are_chosen_between_stripes(rt: HostRuntime) {
+    let mut window = [0xaa; 24];
+    let (mut encoder, mut sent) = begun(&TWO_OF_NINE, &mut window, 20);
+    assert!(rt; t85_encode_offset(&mut encoder, 3) == 22);
+    encoder.stripe_rows = 2;
+    go_on(&mut encoder, Some(b"\xff"), &mut window, 0, &mut sent);
+    assert!(rt; t85_encode_offset(&mut encoder, 0) == 56);
+    encoder.next = 0;
+    assert!(rt; t85_encode_offset(&mut encoder, 0) == 53);
 }
