@@ -1,14 +1,16 @@
-/* The calls of the library that take a stream in pieces, or an image row by row, beside the calls for the whole and beside
-   libjbig's jbg85_*, in one process and in memory:
+/* Compares the library's functions that decode a stream in pieces, or encode an image row by row,
+   with its functions for whole images and with libjbig's jbg85_*, in one process and in memory:
 
        calls decode IMAGE.pbm BYTES MILLISECONDS      pieces of so many bytes
        calls encode IMAGE.pbm ROWS MILLISECONDS       rows one by one, with stripes of so many rows
        calls sizes IMAGE.pbm 0 0
 
-   with the options -p 8 -m 0, and -s 128 where a stream is decoded. Writes the least microseconds of a call for the whole, of
-   ours and of jbg85_*, all three in turn for so many milliseconds; before that each has to give the same, but for zeros at the end of a code. Under callgrind
-   nothing is timed, and one round of each has a dump with its name. `sizes` writes what decoder and encoder are for a
-   page: the bytes of the struct, of the lines that the caller lends, and the most of the heap; then the same of jbg85_*. */
+   with the options -p 8 -m 0, and -s 128 when decoding. Prints the minimum microseconds of a
+   call for the whole, of ours and of jbg85_*, all three in turn for the given milliseconds;
+   before that, it checks that all results are the same, except for zeros at the end of a code.
+   Under callgrind nothing is timed, and one round of each has a dump with its name. `sizes`
+   prints the memory of decoder and encoder for a page: the bytes of the struct, of the rows that
+   the caller supplies, and the peak of the heap; then the same for jbg85_*. */
 #include "t85.h"
 
 #include <jbig85.h>
@@ -21,7 +23,7 @@
 
 enum { WAYS = 3 };
 
-/* The least microseconds of one way's part of a round. */
+/* The minimum microseconds of one way's part of a round. */
 static const double PART = 2000;
 
 static uint32_t width, height;
@@ -92,7 +94,7 @@ static void whole_encode(void)
         stop("t85_encode");
 }
 
-/* Room that is enough for the next call. */
+/* A buffer that is enough for the next call. */
 static void make_room(const t85_encoder *encoder)
 {
     if (out_room < t85_encode_room(encoder)) {
@@ -156,7 +158,7 @@ static double now(void)
     return (double)time.tv_sec * 1e6 + (double)time.tv_nsec * 1e-3;
 }
 
-/* The microseconds of one call, of as many as take some milliseconds. */
+/* Returns the microseconds of one call, measured over calls that take some milliseconds. */
 static double timed(work *each)
 {
     double begin = now(), spent;
@@ -232,7 +234,7 @@ static void put_sized(unsigned char *start, size_t len, void *file)
     put(start, len, file);
 }
 
-/* Ours takes no memory: t85.h says so. */
+/* Our functions allocate no memory, as t85.h says. */
 static void sizes(void)
 {
     struct jbg85_dec_state decoder;

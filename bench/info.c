@@ -1,5 +1,5 @@
-/* What a walk over code bytes takes at least: info FILE SIZE reads the file, so many bytes a read, and looks for each FF
-   by the C library's memchr. Writes how many there are. */
+/* Measures the minimum cost of a walk over code bytes: info FILE SIZE reads the file, SIZE bytes
+   per read, and finds each FF with the C library's memchr. Prints their number. */
 #include <fcntl.h>
 #include <stdio.h>
 #include <stdlib.h>

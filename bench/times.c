@@ -1,14 +1,15 @@
-/* The work of the library and of both of libjbig's on one image, in one process and in memory:
+/* Compares the library and both halves of libjbig on one image, in one process and in memory:
 
        times IMAGE.pbm P S M MILLISECONDS ROUNDS
 
-   with the options -p P -s S -m M. Each of the three encodes the image, and decodes what the first of them made; before a
-   time is taken, what each encodes by itself has to be the image again. A round is all three in turn, some milliseconds
-   each, so that other work of the machine falls on each alike. Rounds go on for so many milliseconds, and there are ROUNDS
-   at least. Writes two lines, `encode` and `decode`: the least microseconds of ours, of jbg85_* and of jbg_*, and then the
-   median, over the rounds, of ours by each of the others.
-   Under callgrind nothing is timed, and one call of each has a dump of its own, with its name: of a small image the second
-   call, to which the branches are known. */
+   with the options -p P -s S -m M. Each of the three encodes the image, and decodes the stream
+   of the first; before the measurement, each must decode its own stream to the image again. In a
+   round, all three take turns of some milliseconds, so that other load affects each alike.
+   Rounds continue for the given milliseconds, and there are at least ROUNDS. Prints two lines,
+   `encode` and `decode`: the minimum microseconds of ours, of jbg85_* and of jbg_*, and then the
+   median, over the rounds, of the ratios of ours to each of the others. Under callgrind nothing
+   is timed, and one call of each has a dump with its name: for a small image the second call,
+   when its branches are predicted. */
 #include "t85.h"
 
 #include <jbig.h>
@@ -21,7 +22,7 @@
 
 enum { LIBRARIES = 3, MOST_ROUNDS = 999, SMALL = 1 << 16 };
 
-/* The least microseconds of one library's part of a round. */
+/* The minimum microseconds of one library's part of a round. */
 static const double PART = 1000;
 
 static uint32_t width, height;
@@ -29,7 +30,7 @@ static size_t row, size, room, count, rows_seen;
 static uint8_t *rows, *stream, *back, *window;
 static t85_options options = T85_OPTIONS;
 
-/* The stream that each decodes. */
+/* The stream that all three decode. */
 static uint8_t *first_stream;
 static size_t first_count;
 
@@ -129,7 +130,7 @@ static void keep_stream(void)
     first_count = count;
 }
 
-/* Each encodes, and decodes that. At the end what ours encodes is kept for each. */
+/* Each encodes, and decodes its own stream. At the end, our stream is stored for all. */
 static void check(void)
 {
     int at;
@@ -150,7 +151,7 @@ static double now(void)
     return (double)time.tv_sec * 1e6 + (double)time.tv_nsec * 1e-3;
 }
 
-/* The microseconds of one call, of so many. */
+/* Returns the microseconds per call, over `count` calls. */
 static double timed(void (*work)(void), long times)
 {
     double begin = now();
@@ -172,7 +173,7 @@ static double median(double *values, int values_count)
     return (values[values_count / 2] + values[(values_count - 1) / 2]) / 2;
 }
 
-/* How many calls of each take some milliseconds. */
+/* Returns how many calls of each take some milliseconds. */
 static long calls(const direction *way)
 {
     double all = 0;
@@ -224,7 +225,8 @@ static void read_image(const char *name)
     row = t85_row_bytes(width);
     size = row * height;
     room = 2 * size + 8 * (size_t)height + 10000;
-    /* With stripes of one row jbg_enc_out reads the row before the first one: that is white here. */
+    /* With stripes of one row, jbg_enc_out reads the row before the first one, which is white
+       here. */
     rows = calloc(row + size, 1);
     back = malloc(size);
     stream = malloc(room);

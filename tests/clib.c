@@ -1,19 +1,19 @@
-/* Calls the library as a C program does, and compares with files that the commands in bin/ wrote.
+/* Calls the library like a C program, and compares with files that the commands in bin/ wrote.
      clib encode IMAGE.pbm STREAM OPTIONS ROWS OFFSET ANNOUNCED|- RESET COMMENT|-
-                                             as a whole and row by row
-     clib decode STREAM IMAGE.pbm INFO       INFO is what `jbgtopbm85 --info` wrote
-     clib cuts STREAM FOLDER                 FOLDER/N is what `jbgtopbm85` wrote of the first N bytes, FOLDER/N.text its
-                                             message without its name, or `done`; FOLDER/N.line and FOLDER/N.line.text
-                                             with --info
-     clib missing IMAGE.pbm FOLDER           FOLDER/N is what `pbmtojbg85` wrote of the image's first N bytes of rows
-     clib faults IMAGE.pbm                   what each call refuses
-     clib rooms STREAM IMAGE.pbm INFO        as decode, with every room from 0 to the whole
-     clib null STREAM                        null pointers with a length of 0
-     clib far STREAM                         lengths at their ends, as a comment and a height of 2^32 - 1
-     clib pieces STREAM COUNT                COUNT streams that this one is made into by turned bytes and cuts, in pieces
-                                             of any length, beside t85_decode_rows
-   Each buffer that is lent ends at a page that can't be touched, and in a second round begins behind
-   one. An output of fewer than 1,000 bytes is tried with every room, a longer one with some. */
+                                             encodes whole and row by row
+     clib decode STREAM IMAGE.pbm INFO       decodes; INFO is the output of `jbgtopbm85 --info`
+     clib cuts STREAM FOLDER                 decodes prefixes: FOLDER/N is the output of `jbgtopbm85` for the first N bytes,
+                                             FOLDER/N.text its message without its name, or `done`; FOLDER/N.line and
+                                             FOLDER/N.line.text are those with --info
+     clib missing IMAGE.pbm FOLDER           FOLDER/N is the output of `pbmtojbg85` for the image's first N bytes of rows
+     clib faults IMAGE.pbm                   tries the arguments that each call rejects
+     clib rooms STREAM IMAGE.pbm INFO        like decode, with every buffer size from 0 to the whole
+     clib null STREAM                        passes null pointers with a length of 0
+     clib far STREAM                         tries extreme lengths: a comment and a height of 2^32 - 1
+     clib pieces STREAM COUNT                mutates and cuts the stream COUNT times, decodes in pieces of any length, and
+                                             compares with t85_decode_rows
+   Each buffer ends at an inaccessible page, and in a second round begins behind one. An output of fewer than 1,000 bytes is
+   tried with every buffer size, a longer one with some. */
 #ifndef _GNU_SOURCE
 #define _GNU_SOURCE
 #endif

@@ -1,10 +1,11 @@
-/* What the parts of clib have in common, and which file has which part. The head of clib.c says what each does. */
+/* Declarations that the parts of clib share, by the file that defines them. The head of clib.c
+   says what each does. */
 #ifndef CLIB_H
 #define CLIB_H
 
 #include "t85.h"
 
-/* What a buffer holds that is to tell whether it was written to. */
+/* The byte that fills a buffer, so that writes to it are detected. */
 #define FILL 0xA5
 
 typedef struct {
@@ -12,28 +13,29 @@ typedef struct {
     size_t len;
 } buffer;
 
-/* Whether what is lent begins behind a page that can't be touched, and does not end at one. */
+/* Whether buffers begin behind an inaccessible page, instead of ending at one. */
 extern bool at_front;
-/* Outputs of fewer bytes are tried with every room. */
+/* Outputs of fewer bytes are tried with every buffer size. */
 extern size_t most;
 
-/* Says what differs, and ends the program. */
+/* Prints what differs, and ends the program. */
 void fail(const char *format, ...);
 
-/* Bytes between two pages that can't be touched, as an anonymous mapping that takes memory where it is written to. */
+/* Allocates bytes between two inaccessible pages, as an anonymous mapping that uses memory only
+   for the parts that are written. */
 buffer lend(size_t len);
 void give_back(buffer lent);
 buffer copied(const void *bytes, size_t len);
-/* A buffer whose bytes tell whether they were written. */
+/* Allocates a buffer that is filled, so that writes are detected. */
 buffer filled(size_t len);
 
 buffer read_file(const char *name);
-/* The rows of a raw PBM without a comment. */
+/* Reads the rows of a raw PBM without a comment. */
 buffer rows_of(buffer file, uint32_t *width, uint32_t *height);
 
-/* Whether the first bytes of a room are as wanted. */
+/* Checks that a buffer begins with the expected bytes. */
 void is_beginning(const char *call, buffer room, size_t written, buffer whole);
-/* The room to try after this one. */
+/* Returns the buffer size to try after this one. */
 size_t next_room(size_t room, size_t whole);
 
 /* clib_encode.c */

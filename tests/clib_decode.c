@@ -1,4 +1,4 @@
-/* Streams as a whole and in pieces, what their parts are, and what the decoder refuses. */
+/* Tests decoding streams whole and in pieces, listing their parts, and the decoder's errors. */
 #include "clib.h"
 
 #include <stdio.h>
@@ -21,7 +21,8 @@ static void decode_in(buffer stream, size_t window_len, uint8_t wanted, buffer w
     give_back(window);
 }
 
-/* The rows of an image of `width` pixels with a stride, in a room of so many bytes, of which `rows` can be had. */
+/* Decodes the rows of an image of `width` pixels with a stride, into a buffer of this length,
+   which fits `rows` of them. */
 static void decode_rows_in(buffer stream, uint32_t width, uint8_t wanted, buffer rows,
                            size_t stride, size_t room)
 {
@@ -69,7 +70,7 @@ static void is_info(buffer stream, buffer line)
         fail("t85_header: status %d, or other fields than t85_info has", status);
 }
 
-/* The same in pieces of `step` bytes, by a decoder and a window that are elsewhere at each call. */
+/* Decodes in pieces of `step` bytes, with a decoder and a window that move before each call. */
 static void decode_pieces_in(buffer stream, uint32_t width, uint8_t wanted, buffer rows, size_t step)
 {
     size_t row = t85_row_bytes(width), at = 0, given = 0, len, taken, place, turn = 0;
@@ -122,7 +123,7 @@ static void decode_pieces_in(buffer stream, uint32_t width, uint8_t wanted, buff
     }
 }
 
-/* The same in pieces of several lengths. */
+/* Decodes in pieces of several lengths. */
 static void decode_pieces(buffer stream, uint32_t width, uint8_t wanted, buffer rows)
 {
     static const size_t steps[] = {1, 7, 40, 1500};
@@ -131,7 +132,8 @@ static void decode_pieces(buffer stream, uint32_t width, uint8_t wanted, buffer 
         decode_pieces_in(stream, width, wanted, rows, steps[i]);
 }
 
-/* The stream before others, and its parts, of which each begins where the one before ends. */
+/* Decodes the stream when others follow it, and lists its parts, each of which begins where the
+   previous one ends. */
 static void walked(buffer stream)
 {
     buffer more = filled(stream.len + 3);
@@ -181,7 +183,7 @@ void rooms(char **words)
     decode(words);
 }
 
-/* The status with a text, which ends in a line feed. */
+/* Returns the status that has this text, which ends in a line feed. */
 static uint8_t status_of(buffer text)
 {
     unsigned status;
@@ -195,7 +197,7 @@ static uint8_t status_of(buffer text)
     return 0;
 }
 
-/* What the command wrote, and the status with its message. */
+/* The command's output, and the status of its message. */
 static buffer made(uint8_t *status, const char *folder, size_t count, const char *more)
 {
     char name[4096];
@@ -209,7 +211,7 @@ static buffer made(uint8_t *status, const char *folder, size_t count, const char
     return whole;
 }
 
-/* A stream or a beginning of one, beside what the command wrote of it. */
+/* Compares a stream or a prefix of one with the command's output for it. */
 static void cut(buffer stream, const char *folder, size_t count)
 {
     uint8_t wanted, wanted_info, status, refused_as;
@@ -259,14 +261,15 @@ void cuts(char **words)
 
 static uint64_t dice = 85;
 
-/* A number below `count`, from a fixed sequence. */
+/* Returns a number below `count`, from a fixed sequence. */
 static size_t roll(size_t count)
 {
     dice = dice * 6364136223846793005u + 1442695040888963407u;
     return (size_t)(dice >> 33) % count;
 }
 
-/* A stream in pieces beside t85_decode_rows. Images of more than a hundred thousand bytes are passed over. */
+/* Compares a stream in pieces with t85_decode_rows. Images of more than a hundred thousand bytes
+   are skipped. */
 static void cut_anywhere(buffer stream, buffer rows)
 {
     t85_header_fields fields;
@@ -302,7 +305,7 @@ void pieces(char **words)
     free(file.bytes);
 }
 
-/* A call of t85_decode and of t85_decode_rows that have to be refused with nothing written. */
+/* Checks that t85_decode and t85_decode_rows reject their arguments, with nothing written. */
 static void unread(uint8_t wanted, buffer stream, uint32_t max_rows, size_t stride,
                    size_t window_len)
 {
@@ -326,7 +329,7 @@ static void unread(uint8_t wanted, buffer stream, uint32_t max_rows, size_t stri
     give_back(window);
 }
 
-/* A decoder that was not begun. */
+/* A decoder that is not initialized. */
 static void decoder_states(void)
 {
     t85_decoder decoder;

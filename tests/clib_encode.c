@@ -1,4 +1,4 @@
-/* Images as a whole and row by row, and what the encoder refuses. */
+/* Tests encoding images whole and row by row, and the encoder's errors. */
 #include "clib.h"
 
 #include <stdio.h>
@@ -6,7 +6,7 @@
 #include <string.h>
 #include <unistd.h>
 
-/* An image with gaps behind its rows, the last row's left out. */
+/* Returns an image with gaps between its rows, and none after the last. */
 static buffer spread(buffer rows, size_t row, size_t stride)
 {
     size_t count = rows.len / row, y;
@@ -33,7 +33,7 @@ static void encode_in(uint32_t width, uint32_t height, buffer rows, size_t strid
     give_back(window);
 }
 
-/* An encoder of rows and its window, which have two places each, and room for a call. */
+/* A row encoder and its window, with two places for each, and a buffer for a call. */
 typedef struct {
     buffer states[2], windows[2], room;
     size_t turn;
@@ -61,7 +61,7 @@ static void move_on(row_by_row *by)
     by->turn = to;
 }
 
-/* Just so much room, which ends at a page that can't be touched. */
+/* Returns a buffer of exactly this length, which ends at an inaccessible page. */
 static buffer room_of(row_by_row *by, size_t len)
 {
     buffer part;
@@ -81,7 +81,7 @@ static t85_encoder *encoder_of(row_by_row *by)
     return (t85_encoder *)by->states[by->turn].bytes;
 }
 
-/* Takes a row, or ends the stream where there is none. */
+/* Passes a row, or ends the stream if there is none. */
 static uint8_t encode_next(row_by_row *by, const uint8_t *row, size_t row_len, buffer room,
                            size_t *written)
 {
@@ -101,7 +101,7 @@ static void leave(row_by_row *by)
     give_back(by->room);
 }
 
-/* The next bytes of a stream. */
+/* Checks the next bytes of a stream. */
 static void goes_on(buffer whole, size_t *at, buffer room, size_t written)
 {
     if (written > room.len || written > whole.len - *at ||
@@ -110,8 +110,9 @@ static void goes_on(buffer whole, size_t *at, buffer room, size_t written)
     *at += written;
 }
 
-/* A window as it is after the first `count` rows, of which it needs the last two: row n, counted from 1, is at place
-   2 * n % 3, and what is above the image is white; with `reset` what is above the stripe is white, too. */
+/* Rebuilds a window as it is after the first `count` rows, of which it needs the last two: row
+   n, counted from 1, is at place 2 * n % 3, and rows above the image are white; with `reset`,
+   rows above the stripe are white, too. */
 static void make_anew(buffer window, uint32_t width, buffer rows, uint32_t count,
                       const t85_options *options)
 {
@@ -129,8 +130,9 @@ static void make_anew(buffer window, uint32_t width, buffer rows, uint32_t count
     }
 }
 
-/* The same image row by row, where `most_rows` may come: in just the room that is told, by an encoder and a window that
-   are elsewhere at each call; of a tall image they stay now and then. Or the window is made anew for each call. */
+/* Encodes the same image row by row, where at most `most_rows` are allowed, in a buffer of
+   exactly the reported size, with an encoder and a window that move before each call (for a tall
+   image only now and then). Or the window is rebuilt for each call. */
 static void encode_rows_in(uint32_t width, uint32_t height, uint32_t most_rows, buffer rows,
                            const t85_options *options, buffer comment, buffer whole, bool anew)
 {
@@ -233,7 +235,7 @@ void missing(char **words)
     }
 }
 
-/* A call of t85_encode that has to be refused with nothing written. */
+/* Checks that a call of t85_encode is rejected with nothing written. */
 static void refused(uint8_t wanted, uint32_t width, uint32_t height, size_t stride,
                     const t85_options *options, size_t comment_len, size_t window_len, buffer rows)
 {
@@ -275,7 +277,7 @@ static void is_filled(const char *call, buffer lent)
             fail("%s: byte %zu of %zu was touched", call, i, lent.len);
 }
 
-/* A beginning that has to be refused, with nothing written or changed. */
+/* Checks that a start is rejected, with nothing written or changed. */
 static void unstarted(uint8_t wanted, size_t size, uint32_t width, uint32_t height,
                       const t85_options *options, size_t comment_len, size_t window_len,
                       size_t stream_room)
@@ -298,7 +300,7 @@ static void unstarted(uint8_t wanted, size_t size, uint32_t width, uint32_t heig
     give_back(state);
 }
 
-/* What t85_encode_start refuses, with as much of what is judged later wrong as can be. */
+/* Checks the errors of t85_encode_start; everything that is checked later is also wrong. */
 static void starts(uint32_t width, uint32_t height)
 {
     size_t size = sizeof(t85_encoder), three = t85_window_bytes(width), len;
@@ -337,7 +339,7 @@ static void starts(uint32_t width, uint32_t height)
         unstarted(T85_NO_ROOM, size, width, height, &options, 5, three, len);
 }
 
-/* A call with a row, or of the end, that has to be refused, with nothing written or changed. */
+/* Checks that a call with a row, or for the end, is rejected, with nothing written or changed. */
 static void unmoved(uint8_t wanted, row_by_row *by, const uint8_t *row, size_t row_len,
                     size_t window_len, size_t room_len)
 {
@@ -359,7 +361,7 @@ static void unmoved(uint8_t wanted, row_by_row *by, const uint8_t *row, size_t r
     give_back(room);
 }
 
-/* What the next call refuses that may be a row or the end, by what it is lent. */
+/* Checks the errors of the next call, a row or the end, for its arguments. */
 static void lent_little(row_by_row *by, const uint8_t *row, size_t row_len, size_t three)
 {
     size_t told = (size_t)t85_encode_room(encoder_of(by)), len;
@@ -371,7 +373,7 @@ static void lent_little(row_by_row *by, const uint8_t *row, size_t row_len, size
     unmoved(T85_NO_ROOM, by, row, row_len, three, told - 1);
 }
 
-/* An encoder of two rows, at each of its calls. */
+/* Checks each call of an encoder of two rows. */
 static void row_encoder_states(buffer rows, uint32_t width)
 {
     size_t row = t85_row_bytes(width), three = t85_window_bytes(width), at = 0, written, y;

@@ -1,14 +1,15 @@
-/* Lengths at their ends: the longest comment, the most rows, and strides at which no second row can lie in memory. */
+/* Tests extreme lengths: the longest comment, the most rows, and strides for which no second row
+   fits in memory. */
 #include "clib.h"
 
 #include <stdlib.h>
 #include <string.h>
 
-/* The bytes of a stream's header, and where its height is. */
+/* The bytes of a stream's header, and the position of its height. */
 #define HEADER_BYTES 20
 #define HEIGHT_AT 8
 
-/* Bytes that the decoder has to take all at once, without a row. */
+/* Passes bytes that the decoder must consume all at once, without returning a row. */
 static void takes(t85_decoder *decoder, const uint8_t *bytes, size_t len, buffer window)
 {
     size_t taken = 77, row;
@@ -18,8 +19,8 @@ static void takes(t85_decoder *decoder, const uint8_t *bytes, size_t len, buffer
         fail("t85_decode_bytes: status %d and %zu bytes of %zu of a comment", status, taken, len);
 }
 
-/* The stream with a comment of 2^32 - 1 bytes behind its header, in pieces: the image is the same. Of the comment's bytes
-   each two would abort the image, were they not in a comment. */
+/* Decodes the stream with a comment of 2^32 - 1 bytes after its header, in pieces: the image is
+   the same. Outside a comment, every two of the comment's bytes would abort the image. */
 static void longest_comment(buffer stream)
 {
     static const uint8_t front[] = {0xFF, 0x07, 0xFF, 0xFF, 0xFF, 0xFF};
@@ -69,7 +70,7 @@ static void longest_comment(buffer stream)
     give_back(piece);
 }
 
-/* A header that announces 2^32 - 1 rows, and then no more. */
+/* Decodes a header that announces 2^32 - 1 rows, without any rows. */
 static void most_rows(buffer stream)
 {
     buffer header = copied(stream.bytes, HEADER_BYTES), window;
@@ -105,7 +106,8 @@ static void most_rows(buffer stream)
     give_back(header);
 }
 
-/* An encoder of 2^32 - 1 rows that is ended after one, which it may be where they were announced as the most. */
+/* Ends an encoder of 2^32 - 1 rows after one row, which is allowed if they were announced as the
+   most. */
 static void one_of_most(bool announces, uint32_t stripe_rows)
 {
     static const uint8_t row[] = {0x5A, 0xC3, 0x90};
@@ -157,7 +159,7 @@ void far(char **words)
     free(file.bytes);
 }
 
-/* Strides at which no second row can lie in memory. */
+/* Tries strides for which no second row fits in memory. */
 void far_rows(buffer rows, uint32_t width, uint32_t height)
 {
     static const size_t strides[] = {SIZE_MAX, SIZE_MAX / 2 + 1, SIZE_MAX / 4 + 1, (size_t)1 << 33};

@@ -1,4 +1,4 @@
-/* Null pointers with a length of 0, and the macros that see to them. */
+/* Tests null pointers with a length of 0, and the macros that handle them. */
 #include "clib.h"
 
 #include <stdlib.h>
@@ -15,7 +15,7 @@ static void or_nothing(void)
         fail("t85_or_nothing of another pointer");
 }
 
-/* The pointers with a length that came last, in their order. */
+/* The pointers with a length in the last call, in order. */
 static const uint8_t *came[4];
 
 static uint8_t see(const uint8_t *a, const uint8_t *b, const uint8_t *c, const uint8_t *d)
@@ -118,8 +118,8 @@ static void have_come(const char *call, size_t status, unsigned count, const uin
             fail("the macro %s passes another argument %u, or status %zu", call, i, status);
 }
 
-/* What the macros pass on, `a` being null or the first of four pointers. They are used here on
-   functions of the calls' names, which lie in a struct. */
+/* Checks the pointers that the macros pass on, if `a` is null or the first of four pointers.
+   Here the macros call functions of the same names, which are members of a struct. */
 static void passed(uint8_t *a)
 {
     static const calls seen = {see_header,       see_info,        see_encode,
@@ -149,7 +149,7 @@ static void passed(uint8_t *a)
     have_come("t85_encode_end", seen.t85_encode_end(&encoder, a, 1, b, 2, &written), 2, a);
 }
 
-/* Whether arguments are evaluated once: each goes on by one. */
+/* Checks that each argument is evaluated once: each is increased by one. */
 static void once(void)
 {
     uint8_t text[9], *at = text, status = T85_OK;
@@ -163,7 +163,7 @@ static void once(void)
         fail("t85_header evaluates an argument again");
 }
 
-/* Calls that read, with null pointers and 0. */
+/* Calls the reading functions with null pointers and 0. */
 static void read_null(buffer stream, size_t window_len)
 {
     buffer window = lend(window_len);
@@ -202,7 +202,8 @@ static void read_null(buffer stream, size_t window_len)
     give_back(window);
 }
 
-/* A call with no bytes, by a null pointer and by another: it takes none, and answers as wanted. */
+/* Passes no bytes, with a null pointer and with another: the call consumes none, and returns the
+   expected status. */
 static void takes_none(uint8_t wanted, t85_decoder *decoder, buffer window, const uint8_t *bytes)
 {
     const uint8_t *places[] = {NULL, bytes};
@@ -217,7 +218,8 @@ static void takes_none(uint8_t wanted, t85_decoder *decoder, buffer window, cons
     }
 }
 
-/* A stream byte by byte, with no bytes wherever more are wanted, and after the end. There is no window before the rows. */
+/* Decodes a stream byte by byte, with an empty call whenever more bytes are needed, and after
+   the end. There is no window before the rows. */
 static void piece_null(buffer stream, size_t window_len)
 {
     buffer window = {NULL, 0};
@@ -237,7 +239,7 @@ static void piece_null(buffer stream, size_t window_len)
         if (status == T85_HEADER_READ)
             window = lend(window_len);
     }
-    /* Rows that the last byte determines. */
+    /* Returns the rows that the last byte determines. */
     while (status == T85_ROW) {
         status = t85_decode_bytes(&decoder, NULL, 0, window.bytes, window.len, &taken, &row);
         rows += status == T85_ROW;
@@ -248,7 +250,7 @@ static void piece_null(buffer stream, size_t window_len)
     give_back(window);
 }
 
-/* Calls of the encoder with null pointers and 0, for an image of eight pixels. */
+/* Calls the encoder with null pointers and 0, for an image of eight pixels. */
 static void write_null(void)
 {
     buffer window = lend(3), row = filled(1);
@@ -282,7 +284,7 @@ static void write_null(void)
     give_back(window);
 }
 
-/* The encoder of rows with null pointers and 0, for an image of eight pixels. */
+/* Calls the row encoder with null pointers and 0, for an image of eight pixels. */
 static void write_row_null(void)
 {
     buffer window = filled(3), row = filled(1);
@@ -335,7 +337,7 @@ static void write_row_null(void)
     give_back(window);
 }
 
-/* The functions, by their addresses and in parentheses: no macro stands before them. */
+/* Calls the functions by their addresses and in parentheses, without the macros. */
 static void by_address(buffer stream)
 {
     static const calls table = {&t85_header,       &t85_info,        &t85_encode,

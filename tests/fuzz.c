@@ -1,7 +1,7 @@
-/* Calls the library with streams that libFuzzer makes, and stops where a call breaks its word, or where JBIG-KIT's library
-   reads another image than t85_decode, both having accepted the stream. What is read is encoded again, by both, and by an
-   encoder that is given its rows one by one.
-   What the calls are lent lies between pages that can't be touched: at the end of its place, or at the front. */
+/* Calls the library with streams that libFuzzer generates, and stops if a call breaks its
+   promise, or if JBIG-KIT's library decodes another image than t85_decode from a stream that
+   both accept. The image is encoded again, by both, and by an encoder that receives its rows one
+   by one. The buffers of the calls adjoin inaccessible pages, at their end or at their front. */
 #define _GNU_SOURCE
 #include "t85.h"
 
@@ -34,14 +34,14 @@ static void broken(const char *claim, int line)
     abort();
 }
 
-/* A number below `count`, from a sequence that the input fixes. */
+/* Returns a number below `count`, from a sequence that the input determines. */
 static uint32_t roll(uint32_t count)
 {
     dice = dice * 6364136223846793005u + 1442695040888963407u;
     return (uint32_t)(dice >> 33) % count;
 }
 
-/* Lends so many bytes of a place. */
+/* Returns a buffer of this length within a place. */
 static void lend(place *of, size_t len)
 {
     if (!of->base) {
@@ -67,7 +67,7 @@ static uint8_t decode_rows(uint32_t max_rows, size_t stride, uint32_t *count)
                            count);
 }
 
-/* What t85_decode wrote, in a room that is too little. */
+/* Compares the output of t85_decode in a buffer that is too small. */
 static void in_less_room(size_t written)
 {
     size_t less;
@@ -76,7 +76,7 @@ static void in_less_room(size_t written)
     CHECK(less == again.len && !memcmp(again.bytes, image.bytes, less));
 }
 
-/* The rows behind the PBM's header, as t85_decode_rows gives them with a stride. */
+/* Compares the rows behind the PBM's header with those of t85_decode_rows with a stride. */
 static void as_rows(uint8_t status, const uint8_t *packed, size_t row, size_t count)
 {
     size_t stride = row + roll(9), all = count ? (count - 1) * stride + row : 0, fit = count, y, i;
@@ -113,7 +113,7 @@ static int take_row(const struct jbg85_dec_state *state, unsigned char *start, s
     return 0;
 }
 
-/* JBIG-KIT's image, where it accepts the stream, too. */
+/* Decodes the stream with JBIG-KIT, if it also accepts the stream. */
 static void as_theirs(const uint8_t *packed, uint32_t width, uint32_t height)
 {
     static uint8_t lines[3 * T85_MOST_WIDTH / 8];
@@ -128,8 +128,9 @@ static void as_theirs(const uint8_t *packed, uint32_t width, uint32_t height)
         told = jbg85_dec_end(&state);
     if (told != JBG_EOK || getenv("FUZZ_ALONE"))
         return;
-    /* It hands on rows before it has seen the height behind them, and loses some where that follows the last row; and it
-       takes a height behind the last row that follows a move, or a fault, where t85_decode looks no further. */
+    /* JBIG-KIT returns rows before it has read the height behind them, and loses some if the
+       height follows the last row. It also accepts a height behind the last row that follows a
+       move or an error, where t85_decode no longer looks for one. */
     late = stream.bytes[19] & T85_VARIABLE_HEIGHT;
     if (jbg85_dec_getheight(&state) > height ||
         (!late && (jbg85_dec_getheight(&state) < height || taken.count != height)) ||
@@ -148,7 +149,7 @@ static void put(unsigned char *start, size_t len, void *to)
     *count += len;
 }
 
-/* The stream of an image by JBIG-KIT's encoder. */
+/* Returns the stream of an image by JBIG-KIT's encoder. */
 static size_t encoded_by_theirs(const uint8_t *packed, uint32_t width, uint32_t height, const t85_options *options)
 {
     struct jbg85_enc_state state;
@@ -163,7 +164,8 @@ static size_t encoded_by_theirs(const uint8_t *packed, uint32_t width, uint32_t 
     return count;
 }
 
-/* What JBIG-KIT's encoder makes of an image is read as that image, and is no shorter where the adaptive pixel can't move. */
+/* A stream by JBIG-KIT's encoder is decoded to its image, and is no shorter if the adaptive
+   pixel cannot move. */
 static void theirs_again(uint32_t width, uint32_t height, const t85_options *options, size_t written)
 {
     size_t row = t85_row_bytes(width), count = encoded_by_theirs(rows.bytes, width, height, options), back;
@@ -175,7 +177,7 @@ static void theirs_again(uint32_t width, uint32_t height, const t85_options *opt
     CHECK(!memcmp(image.bytes + back - row * height, rows.bytes, row * height));
 }
 
-/* Whether nothing was written to what a call is lent. */
+/* Whether nothing was written to the buffers of a call. */
 static void untouched(const place *of)
 {
     size_t i;
@@ -183,7 +185,7 @@ static void untouched(const place *of)
         CHECK(of->bytes[i] == FILL);
 }
 
-/* A row of the encoder, or the end where there is none, in so much room. */
+/* Passes a row to the encoder, or ends it if there is none, with a buffer of this size. */
 static uint8_t put_row(t85_encoder *encoder, const uint8_t *row, size_t row_len, size_t room, size_t *written)
 {
     lend(&again, room);
@@ -193,7 +195,7 @@ static uint8_t put_row(t85_encoder *encoder, const uint8_t *row, size_t row_len,
                : t85_encode_end(encoder, lines.bytes, lines.len, again.bytes, room, written);
 }
 
-/* What is refused leaves encoder and window as they were, and writes nothing. */
+/* A rejected call leaves encoder and window unchanged, and writes nothing. */
 static void refused(t85_encoder *encoder, const uint8_t *row, size_t row_len, size_t room, uint8_t wanted)
 {
     static uint8_t window_kept[PLACE];
@@ -205,7 +207,8 @@ static void refused(t85_encoder *encoder, const uint8_t *row, size_t row_len, si
     untouched(&again);
 }
 
-/* The same image row by row, in just the room that is told, gives the same stream: `code` has `written` bytes of it. */
+/* Encodes the same image row by row, in buffers of exactly the reported size, and expects the
+   same stream: the `written` bytes of `code`. */
 static void by_rows(uint32_t width, uint32_t height, const t85_options *options, size_t written)
 {
     size_t row = t85_row_bytes(width), at, more, told;
@@ -240,7 +243,8 @@ static void by_rows(uint32_t width, uint32_t height, const t85_options *options,
     refused(encoder, NULL, 0, 100, T85_NO_MORE_ROWS);
 }
 
-/* An encoder of any bytes, or of one's with some turned, over a window of any bytes. */
+/* Makes an encoder of arbitrary bytes, or of a real one's with some inverted, over a window of
+   arbitrary bytes. */
 static void encoder_of_any_bytes(uint32_t width, uint32_t height, const t85_options *options)
 {
     size_t row = t85_row_bytes(width), calls = roll(20), i, written, told;
@@ -255,7 +259,7 @@ static void encoder_of_any_bytes(uint32_t width, uint32_t height, const t85_opti
     CHECK(t85_encode_start(encoder, sizeof *encoder, width, height, options, comment.bytes, comment.len, lines.bytes,
                            lines.len, again.bytes, again.len, &written) == T85_OK);
     if (roll(2)) {
-        /* The fields before what was learned are the first 192 bytes. */
+        /* The fields before the context states are the first 192 bytes. */
         for (i = roll(9); i > 0; i--)
             state.bytes[roll(roll(4) ? 192 : (uint32_t)state.len)] = (uint8_t)(roll(2) ? roll(4) : roll(256));
         if (roll(2))
@@ -279,8 +283,8 @@ static void encoder_of_any_bytes(uint32_t width, uint32_t height, const t85_opti
     }
 }
 
-/* Encodes an image with options of any kind, in a room that is enough, and in one that is too little. Its rows come back,
-   from JBIG-KIT's decoder, too. */
+/* Encodes an image with any options, in a buffer that is large enough, and in one that is too
+   small. Decodes it again, also with JBIG-KIT's decoder. */
 static void encode_again(const uint8_t *packed, uint32_t width, uint32_t height)
 {
     t85_options options = T85_OPTIONS;
@@ -315,7 +319,8 @@ static void encode_again(const uint8_t *packed, uint32_t width, uint32_t height)
         theirs_again(width, height, &options, written);
 }
 
-/* libFuzzer keeps an input that sets a counter which no other did, as if it were a line of code that is new. */
+/* libFuzzer keeps an input that sets a counter for the first time, as if it reached a new line
+   of code. */
 __attribute__((section("__libfuzzer_extra_counters"))) static uint8_t counters[1 << 14];
 
 static unsigned size_class(uint64_t number)
@@ -338,7 +343,8 @@ static void tell(uint8_t info, uint8_t status, size_t count, const t85_summary *
     }
 }
 
-/* The PBM's header that t85_decode wrote, its height being that of the stream. Gives its length. */
+/* Writes the header of the PBM that t85_decode wrote, with the stream's height. Returns its
+   length. */
 static size_t pbm_header(size_t written, const t85_header_fields *fields, uint8_t info, const t85_summary *summary,
                          uint32_t *height)
 {
@@ -359,7 +365,7 @@ static size_t pbm_header(size_t written, const t85_header_fields *fields, uint8_
     return front;
 }
 
-/* The same in pieces of any length: `count` rows, and the height that is told. */
+/* Decodes the same stream in pieces of any length: `count` rows, and the reported height. */
 static void in_pieces(uint8_t status, const uint8_t *packed, size_t row, size_t count, uint32_t height)
 {
     size_t at = 0, given = 0, len, taken, place;
@@ -389,7 +395,8 @@ static void in_pieces(uint8_t status, const uint8_t *packed, size_t row, size_t 
     CHECK(status != T85_OK || t85_decode_height(decoder) == height);
 }
 
-/* A decoder of any bytes, which begin as one's that is among the rows of the stream. */
+/* Makes a decoder of arbitrary bytes, which begin like those of one that is decoding rows of the
+   stream. */
 static void of_any_bytes(size_t row)
 {
     uint32_t front[4] = {1, roll(4), roll(2) ? UINT32_MAX : roll(99), 0};
@@ -415,7 +422,8 @@ static void of_any_bytes(size_t row)
     }
 }
 
-/* The parts lie one behind another, up to the end of the stream or to a part with its fault. */
+/* Checks that the parts follow one another, up to the end of the stream or to a part with its
+   error. */
 static void in_parts(uint8_t info, const t85_summary *summary)
 {
     t85_facts facts = T85_FACTS;
@@ -434,7 +442,8 @@ static void in_parts(uint8_t info, const t85_summary *summary)
         CHECK(part.offset == at && part.stripe == part.entities);
 }
 
-/* A stream with a header: t85_decode says what t85_info says, and each other call what t85_decode says. */
+/* Reads a stream with a header: t85_decode agrees with t85_info, and each other call with
+   t85_decode. */
 static void decoded(const t85_header_fields *fields, uint8_t info, const t85_summary *summary)
 {
     size_t row = t85_row_bytes(fields->width), written, other, front, count;
@@ -499,7 +508,7 @@ int LLVMFuzzerTestOneInput(const uint8_t *data, size_t size)
     return 0;
 }
 
-/* A fresh stream of a small image, some of its rows alike. */
+/* Makes a new stream of a small image, with some equal rows. */
 static size_t fresh(uint8_t *data, size_t most)
 {
     uint32_t width = 1 + roll(roll(3) ? 40 : 300), height = 1 + roll(20), y;
@@ -535,7 +544,7 @@ static size_t insert(uint8_t *data, size_t size, size_t most, size_t at, const u
     return size + count;
 }
 
-/* A segment at the front of the stream's body, behind an end marker, or anywhere. */
+/* Inserts a marker segment at the front of the stream's body, behind an end marker, or anywhere. */
 static size_t with_segment(uint8_t *data, size_t size, size_t most)
 {
     uint8_t segment[12] = {0xff, (uint8_t)(2 + roll(7)), 0, 0, 0, (uint8_t)roll(12), (uint8_t)roll(12), 0};
@@ -566,16 +575,16 @@ size_t LLVMFuzzerCustomMutator(uint8_t *data, size_t size, size_t most, unsigned
         if (size >= 20)
             data[4 + roll(16)] = (uint8_t)(roll(2) ? roll(8) : roll(256));
         return size;
-    case 2: /* the height, or the rows of a stripe, small */
+    case 2: /* the height, or the rows per stripe, small */
         if (size >= 20) {
             size_t at = 8 + 4 * roll(2);
             memset(data + at, 0, 3);
             data[at + 3] = (uint8_t)roll(20);
         }
         return size;
-    case 3: /* the body alone */
+    case 3: /* only the body */
         return size > 20 ? 20 + LLVMFuzzerMutate(data + 20, size - 20, most - 20) : size;
-    case 4: /* an end */
+    case 4: /* an end marker */
         return size > 20 && roll(4) == 0 ? 20 + roll((uint32_t)(size - 20)) : with_segment(data, size, most);
     default:
         return LLVMFuzzerMutate(data, size, most);

@@ -1,17 +1,16 @@
 /* Calls JBIG-KIT's interface for T.85. The program is compiled with JBIG-KIT's own header and library, and with
-   bindings/jbig85, and each reads what the other wrote.
-     jbig85 write FILE SEED COUNT [PAGE.pbm ..]          the streams of the pages, with some sets of options, and of COUNT random
-                                                         images, each behind its length
-     jbig85 read FILE SEED COUNT [PAGE.pbm ..]           whether such streams are those of these images: as a whole, by single
-                                                         bytes and in pieces of any length, with interrupts, and with others
-                                                         behind them
-     jbig85 same OURS THEIRS SEED COUNT [PAGE.pbm ..]    whether streams differ in nothing but what README.md of bindings/jbig85
-                                                         tells
-     jbig85 broken SEED COUNT                            streams that are cut, turned and made up
-     jbig85 odd                                          what no program should do
-     jbig85 differs ours|theirs                          what README.md of bindings/jbig85 tells of both
-   A page is a raw PBM whose header has no comment. Buffers have no byte more than they may have, so that a sanitizer sees what
-   is read or written beyond. */
+   bindings/jbig85, and each reads the streams that the other wrote.
+     jbig85 write FILE SEED COUNT [PAGE.pbm ..]          writes the streams of the pages, with some sets of options, and of COUNT
+                                                         random images, each preceded by its length
+     jbig85 read FILE SEED COUNT [PAGE.pbm ..]           checks that such streams denote these images: whole, in single bytes
+                                                         and in pieces of any length, with interruptions, and with other
+                                                         streams behind them
+     jbig85 same OURS THEIRS SEED COUNT [PAGE.pbm ..]    checks that streams differ only as README.md of bindings/jbig85 says
+     jbig85 broken SEED COUNT                            decodes streams that are cut, mutated or random
+     jbig85 odd                                          makes invalid calls
+     jbig85 differs ours|theirs                          checks the differences that README.md of bindings/jbig85 lists
+   A page is a raw PBM whose header has no comment. Buffers are exactly as long as they must be, so that a sanitizer detects
+   accesses beyond them. */
 #include <jbig85.h>
 #include <limits.h>
 #include <stdio.h>
@@ -19,7 +18,7 @@
 #include <string.h>
 
 #define NEVER ULONG_MAX
-/* Rows after which a stream is given up: a few bytes may tell of billions. */
+/* Rows after which a stream is abandoned: a few bytes may announce billions. */
 #define MOST_ROWS 100000
 #define CHECK(claim) ((claim) ? (void)0 : broken(#claim, __LINE__))
 
@@ -32,7 +31,8 @@ typedef struct {
 
 typedef struct {
     unsigned long width, height;
-    unsigned long announced, known; /* the height in the header, and the rows after which the image's own is told */
+    unsigned long announced, known; /* the height in the header, and the rows after which the
+       actual height is set */
     int options, mx;
     unsigned long l0;
     text comment;
@@ -174,7 +174,7 @@ static void put(byte *start, size_t len, void *file)
     add(file, start, len);
 }
 
-/* The stream of an image, whose rows have anything after their last pixels. */
+/* Encodes an image, with random bits behind the last pixel of each row. */
 static text encode(const image *of)
 {
     struct jbg85_enc_state s;
@@ -215,7 +215,7 @@ static text encode(const image *of)
 typedef struct {
     const image *of; /* or NULL */
     struct jbg85_dec_state *s;
-    unsigned long rows, one_in; /* how often an interrupt is wanted, 0 for never */
+    unsigned long rows, one_in; /* how often an interruption is requested, 0 for never */
     unsigned long height;
 } reading;
 
@@ -226,7 +226,7 @@ static int line_out(const struct jbg85_dec_state *s, byte *start, size_t len, un
     CHECK(jbg85_dec_validwidth(s));
     CHECK(len == (jbg85_dec_getwidth(s) + 7) / 8);
     CHECK(start >= s->linebuf && start + len <= s->linebuf + s->linebuf_len);
-    /* Where a height that comes late is cut off, rows below the image's are decided, too. */
+    /* If a late height cuts rows off, rows below the image are also decoded. */
     CHECK(!now->of || y < now->of->height || now->of->known != NEVER);
     if (now->of && y < now->of->height)
         CHECK(!memcmp(start, now->of->rows + y * now->of->row, len));
@@ -234,8 +234,8 @@ static int line_out(const struct jbg85_dec_state *s, byte *start, size_t len, un
     return now->rows >= MOST_ROWS || (now->one_in && roll(now->one_in) == 0);
 }
 
-/* Has a stream decoded in pieces of `piece` bytes, or of any length where that is 0. What was returned last; *taken bytes were
-   taken before the end was told, or -1 where it was. */
+/* Decodes a stream in pieces of `piece` bytes, or of any length if that is 0. Returns the last
+   result; *taken is the number of bytes consumed when the end was reported, or -1 if it was not. */
 static int decode(reading *now, const text *stream, size_t piece, byte *lines, size_t lines_len, size_t *taken, int *was_ended)
 {
     struct jbg85_dec_state *s = now->s;
@@ -269,13 +269,13 @@ static int decode(reading *now, const text *stream, size_t piece, byte *lines, s
     return result;
 }
 
-/* Whether the stream of an image has an end of its own: none has one whose height may still come. */
+/* Whether the stream of an image has an end: it has none while a height may follow. */
 static int has_end(const image *of)
 {
     return !(of->options & JBG_VLENGTH) || (of->known != NEVER && of->known != 0);
 }
 
-/* Whether a stream is that of an image, with `behind` bytes behind it that are of another. */
+/* Checks that a stream denotes an image, with `behind` bytes of another stream behind it. */
 static void read_back(const image *of, const text *stream, size_t behind, size_t piece, unsigned long one_in)
 {
     struct jbg85_dec_state s;
@@ -307,9 +307,11 @@ static text next_stream(FILE *file)
 }
 
 typedef struct {
-    text all;     /* the header, the comments, the codes without zero bytes at their ends, and the new height */
-    size_t still; /* how long that is up to the first move */
-    unsigned long moves, zeros, is_early; /* moves, zero bytes left out, and whether a height comes before the last stripe */
+    text all;     /* the header, the comments, the codes without zero bytes at their ends, and
+       the new height */
+    size_t still; /* the length of that up to the first move */
+    unsigned long moves, zeros, is_early; /* moves, omitted zero bytes, and whether a height
+       precedes the last stripe */
 } parts;
 
 static size_t length_at(const byte *at)
@@ -343,7 +345,7 @@ static parts parts_of(const text *stream, const image *of)
             last = at;
             at += 2;
             if (stripes == 0) {
-                /* The entity behind a height that comes last. */
+                /* The stripe data entity behind a height that comes last. */
                 CHECK(height && from == height + 6 && from == last && at == end);
                 continue;
             }
@@ -386,9 +388,9 @@ static void compare(const image *of, const text *ours, const text *theirs)
     free(other.all.bytes);
 }
 
-/* Streams that are broken */
+/* Broken streams */
 
-/* Has a stream decoded that may be anything, and asks again after the end. */
+/* Decodes an arbitrary stream, and calls again after the end. */
 static int decode_any(const text *stream, const image *of, byte *lines, size_t lines_len)
 {
     struct jbg85_dec_state s;
@@ -422,7 +424,7 @@ static void break_up(const image *of)
     text whole = encode(of), stream;
     size_t full = 3 * of->row, lines_len, n, cut;
     byte *lines = room(full);
-    /* Of a stream that is cut each row is the image's, and an end that is missing is told. */
+    /* For a cut stream, each row is the image's, and the missing end is reported. */
     for (n = 0; n < 12; n++) {
         cut = n < 3 ? n * 10 : roll(whole.len);
         if (cut >= whole.len)
@@ -443,7 +445,7 @@ static void break_up(const image *of)
         decode_any(&stream, NULL, lines, full);
         free(stream.bytes);
     }
-    /* Noise behind the header, and nothing but noise. */
+    /* Random bytes behind the header, and nothing else. */
     for (n = 0; n < 4; n++) {
         stream.len = whole.len;
         stream.bytes = room(whole.len);
@@ -454,7 +456,7 @@ static void break_up(const image *of)
         free(stream.bytes);
     }
     free(lines);
-    /* Too little room for the rows. */
+    /* A buffer too small for the rows. */
     lines_len = roll(full);
     lines = room(lines_len);
     if (!(of->options & JBG_LRLTWO))
@@ -464,7 +466,7 @@ static void break_up(const image *of)
     free(whole.bytes);
 }
 
-/* What no program should do */
+/* Invalid calls */
 
 static text encode_oddly(unsigned long x0, unsigned long y0, unsigned long l0, unsigned mx, unsigned long comment_len)
 {
@@ -487,7 +489,7 @@ static text encode_oddly(unsigned long x0, unsigned long y0, unsigned long l0, u
     return stream;
 }
 
-/* A stream that is aborted after so many rows. */
+/* Aborts a stream after this number of rows. */
 static void abort_after(const image *of, unsigned long rows)
 {
     struct jbg85_enc_state s;
@@ -540,11 +542,11 @@ static void odd(void)
     }
 }
 
-/* What differs */
+/* Differences */
 
 static int is_ours;
 
-/* What is answered to a stream and its end, but for the four lowest bits. */
+/* The results for a stream and its end, without the four lowest bits. */
 static int answer(const text *stream, size_t lines_len, reading *now)
 {
     struct jbg85_dec_state s;
@@ -558,7 +560,8 @@ static int answer(const text *stream, size_t lines_len, reading *now)
     return result;
 }
 
-/* The stream of the image with a byte of its header changed by bits, and other bytes behind byte `at`. */
+/* The stream of the image with inverted bits in one byte of its header, and other bytes behind
+   byte `at`. */
 static void told(const image *of, int options, size_t changed, byte bits, size_t at, const char *more, size_t more_len,
                  int ours, int theirs)
 {
@@ -570,7 +573,7 @@ static void told(const image *of, int options, size_t changed, byte bits, size_t
     asked.known = options & JBG_VLENGTH ? of->height : NEVER;
     whole = encode(&asked);
     whole.bytes[changed] |= bits;
-    /* Behind all that is before the new height. */
+    /* The bytes before the new height. */
     if (at > whole.len)
         at = whole.len - 8;
     add(&stream, whole.bytes, at);
@@ -624,7 +627,7 @@ static void differs(void)
     of.options = JBG_LRLTWO;
     stream = encode(&of);
     CHECK(answer(&stream, 2 * of.row, &now) == (is_ours ? JBG_ENOMEM : JBG_EOK));
-    /* The row is left as it is, and a comment is taken at the front alone. */
+    /* The row is unchanged, and a comment is consumed only at the front. */
     memset(line, 0xff, sizeof line);
     free(stream.bytes);
     memset(&stream, 0, sizeof stream);
@@ -642,7 +645,7 @@ static void differs(void)
 
 static image any_image(unsigned long seed, int pages, char **names)
 {
-    /* What an image is hangs on its number alone. */
+    /* An image depends only on its number. */
     dice = seed * 1000003u + item;
     roll(2);
     if (item < (unsigned long)pages * SETS)

@@ -1,17 +1,17 @@
-/* Writes and reads bi-level TIFFs of one strip or several by the libtiff that it is linked with.
+/* Writes and reads bi-level TIFF files of one strip or several with the libtiff that it is linked with.
      libtiff write IMAGE.pbm TIFF none|jbig ORDER BLACK ROWS ROOM
-                                   the image, with FillOrder and PhotometricInterpretation of these numbers, in strips of
-                                   ROWS rows, 0 for one strip; libtiff has a buffer of ROOM bytes, 0 for its own choice
-     libtiff short IMAGE.pbm TIFF  the image by JBIG in one strip, of which the last row is not given
+                                   writes the image, with these numbers as FillOrder and PhotometricInterpretation, in strips
+                                   of ROWS rows, 0 for one strip; libtiff's buffer has ROOM bytes, 0 for its own choice
+     libtiff short IMAGE.pbm TIFF  writes the image with JBIG in one strip, without its last row
      libtiff wrap STREAM TIFF ORDER WIDTH HEIGHT ROWS BITS
-                                   a TIFF of that size, in strips of ROWS rows, of BITS bits a pixel, which says that it is
-                                   JBIG; the stream is its first strip
-     libtiff read TIFF IMAGE.pbm   the image, also what there is of it after an error
-     libtiff try TIFF              the same, and the image is not written: where libtiff refuses a TIFF before it calls the
-                                   codec, nothing is written to what it was lent
-     libtiff strip TIFF STREAM     the stream that the one strip of a TIFF has
-   The status is 1 where libtiff tells an error. Each buffer has the length that its call is told, so that valgrind sees what
-   goes beyond. */
+                                   writes a TIFF of that size, in strips of ROWS rows, of BITS bits per pixel, marked as
+                                   JBIG, with the stream as its first strip
+     libtiff read TIFF IMAGE.pbm   reads the image, and after an error the part of it that was decoded
+     libtiff try TIFF              the same without writing the image; if libtiff rejects a TIFF before it calls the codec,
+                                   the buffer must be unchanged
+     libtiff strip TIFF STREAM     extracts the stream of a TIFF's one strip
+   The status is 1 if libtiff reports an error. Each buffer has exactly the length that its call receives, so that valgrind
+   detects accesses beyond it. */
 #include <stdint.h>
 #include <stdio.h>
 #include <stdlib.h>
@@ -24,7 +24,7 @@ static void fail(const char *what)
     exit(2);
 }
 
-/* A file, in memory of its length. */
+/* A file, in memory of exactly its length. */
 static uint8_t *read_file(const char *name, size_t *len)
 {
     FILE *from = fopen(name, "rb");
@@ -41,7 +41,7 @@ static uint8_t *read_file(const char *name, size_t *len)
     return bytes;
 }
 
-/* The rows of a raw PBM without a comment, in memory of their length. */
+/* Reads the rows of a raw PBM without a comment, into memory of exactly their length. */
 static uint8_t *read_rows(const char *name, uint32_t *width, uint32_t *height)
 {
     FILE *from = fopen(name, "rb");
@@ -71,7 +71,7 @@ static TIFF *opened(const char *name, const char *mode)
     return tiff;
 }
 
-/* A new TIFF, whose tags are set. */
+/* Creates a TIFF and sets its tags. */
 static TIFF *begun(const char *name, uint32_t width, uint32_t height, int bits, int compression, int order, int black,
                    uint32_t strip_rows)
 {
@@ -87,14 +87,14 @@ static TIFF *begun(const char *name, uint32_t width, uint32_t height, int bits, 
     return tiff;
 }
 
-/* Strips of a TIFF, or the beginning of its one strip. Gives the status. */
+/* Writes the strips of a TIFF, or a prefix of its one strip. Returns the status. */
 static int write_strips(TIFF *tiff, const uint8_t *rows, size_t row, uint32_t height, uint32_t strip_rows)
 {
     uint32_t y, strip = 0;
     int failed = 0;
     for (y = 0; y < height && !failed; y += strip_rows) {
         size_t len = row * (height - y < strip_rows ? height - y : strip_rows);
-        /* libtiff may turn the bits of what it is given. */
+        /* libtiff may reverse the bits of the caller's buffer. */
         uint8_t *copy = (uint8_t *)malloc(len);
         if (!copy)
             fail("memory");
@@ -132,7 +132,8 @@ static int write_short(char **names)
     return failed;
 }
 
-/* libtiff's codec takes the bytes of a stream as they are where FillOrder is 2, and their bits turned where it is 1. */
+/* libtiff's codec uses the bytes of a stream unchanged if FillOrder is 2, and with reversed bits
+   if it is 1. */
 static int wrap(char **names)
 {
     size_t len;
@@ -166,7 +167,7 @@ static int read_image(char **names)
         uint8_t *rows;
         if (len > most)
             len = most;
-        /* Not set: valgrind tells where a byte of it that the codec didn't write is used. */
+        /* Not initialized: valgrind reports if a byte is used that the codec did not write. */
         rows = (uint8_t *)malloc(len);
         if (!rows)
             fail("memory");

@@ -1,6 +1,7 @@
-/* Refuses one allocation of a program: the one whose number, counted from 1, REFUSE gives. At the end of the program the
-   file that REFUSED names gets the count of all that were asked for. Also refuses one opening of the file that
-   REFUSE_FILE names: the one whose number REFUSE_OPENING gives. */
+/* Makes one allocation of a program fail: the one whose number, counted from 1, is in REFUSE. At
+   the end of the program, the number of all allocations is written to the file in REFUSED. Also
+   makes one open call for the file in REFUSE_FILE fail: the one whose number is in
+   REFUSE_OPENING. */
 #define _GNU_SOURCE
 #include <dlfcn.h>
 #include <errno.h>

@@ -1,4 +1,4 @@
-"""Draws a page, its stream byte by byte, and the page again: pictures.py PAGE.pbm STREAM.jbg AGAIN.pbm PICTURE.png"""
+"""Draws a page, its stream byte by byte, and the decoded page: pictures.py PAGE.pbm STREAM.jbg AGAIN.pbm PICTURE.png"""
 import os
 import sys
 

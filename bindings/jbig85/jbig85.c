@@ -1,4 +1,4 @@
-/* JBIG-KIT's calls for T.85, each by those of libt85. jbig85.h is their header. */
+/* Implements JBIG-KIT's functions for T.85, declared in jbig85.h, with those of libt85. */
 #include "jbig85.h"
 
 #include <stdlib.h>
@@ -14,7 +14,7 @@
 /* Stages of an encoder. */
 enum { NOT_BEGUN, BEGUN, ENDED };
 
-/* A struct of libt85 has just the room that the header has for it. */
+/* A struct of libt85 fits exactly into the space that the header reserves for it. */
 typedef char
     encoder_fits[sizeof(t85_encoder) == sizeof(((struct jbg85_enc_state *)0)->encoder) ? 1 : -1];
 typedef char
@@ -30,7 +30,7 @@ static t85_decoder *decoder_of(struct jbg85_dec_state *s)
     return (t85_decoder *)(void *)s->decoder;
 }
 
-/* A number in 32 bits: the greatest for all that are above it, as for -1. */
+/* Converts a number to 32 bits: values above the greatest, such as -1, become the greatest. */
 static uint32_t word(unsigned long number)
 {
     return number < UINT32_MAX ? (uint32_t)number : UINT32_MAX;
@@ -63,7 +63,7 @@ void jbg85_enc_options(struct jbg85_enc_state *s, int options, unsigned long l0,
         s->mx = (unsigned)mx;
 }
 
-/* Nothing more is written. */
+/* Ends the stream; nothing more is written. */
 static void stop(struct jbg85_enc_state *s)
 {
     s->stage = ENDED;
@@ -77,7 +77,8 @@ void jbg85_enc_abort(struct jbg85_enc_state *s)
     stop(s);
 }
 
-/* No call says that a stream can't go on. What was begun ends as one that was aborted, so that its reader knows. */
+/* No function can report that a stream cannot continue. A started stream is ended as an aborted
+   one, so that its reader notices. */
 static void fail(struct jbg85_enc_state *s, int status)
 {
     s->status = status;
@@ -98,7 +99,8 @@ static t85_options options_of(const struct jbg85_enc_state *s)
     return options;
 }
 
-/* Puts a row into its place of the window, without what is behind its last pixel; where there is none, a white one. */
+/* Copies a row into its place in the window, without the bits behind its last pixel; NULL is a
+   white row. */
 static void put_row(unsigned char *window, uint32_t width, unsigned long place,
                     const unsigned char *row)
 {
@@ -112,8 +114,8 @@ static void put_row(unsigned char *window, uint32_t width, unsigned long place,
     to[len - 1] &= (unsigned char)(0xff << (len * 8 - width));
 }
 
-/* Makes the window as it was left when so many rows had come: the last of them, row n counted from 1, is at place 2 n % 3,
-   and the one above it at the next place in a ring. The third place is written by libt85. */
+/* Rebuilds the window as it was after `rows` rows: row n, counted from 1, is at place 2 n % 3,
+   and the row above it at the next place in the ring. libt85 writes the third place. */
 static void put_rows(unsigned char *window, uint32_t width, unsigned long rows,
                      const unsigned char *above, const unsigned char *second)
 {
@@ -122,7 +124,7 @@ static void put_rows(unsigned char *window, uint32_t width, unsigned long rows,
     put_row(window, width, (place + 1) % 3, rows > 1 ? second : NULL);
 }
 
-/* How long the stream's beginning is, where it is not refused. */
+/* Returns the length of the stream's head, unless it is rejected. */
 static size_t beginning(const struct jbg85_enc_state *s)
 {
     return 26 + (s->comment && s->comment_len <= UINT32_MAX ? s->comment_len : 0);
@@ -130,7 +132,8 @@ static size_t beginning(const struct jbg85_enc_state *s)
 
 typedef enum { START, ROW, END } step;
 
-/* Takes a step of the stream in memory of its own, hands on what that wrote, and says whether it succeeded. */
+/* Runs one step of the stream with memory of its own, passes on the bytes that it wrote, and
+   returns whether it succeeded. */
 static bool take(struct jbg85_enc_state *s, step what, const unsigned char *line,
                  const unsigned char *above, const unsigned char *second)
 {
@@ -196,7 +199,7 @@ void jbg85_enc_newlen(struct jbg85_enc_state *s, unsigned long y0)
 {
     if (s->stage == ENDED || y0 < 1 || y0 >= s->y0 || !(s->options & JBG_VLENGTH))
         return;
-    /* Rows that came are not taken back. */
+    /* Rows that were passed cannot be taken back. */
     s->y0 = y0 > s->y ? y0 : s->y;
     if (s->stage == NOT_BEGUN)
         return;
@@ -226,7 +229,7 @@ static unsigned long number_at(const unsigned char *bytes)
            (unsigned long)bytes[2] << 8 | bytes[3];
 }
 
-/* Keeps of bytes that were taken those of the header, and the last ones. */
+/* Stores the header among the consumed bytes, and the last bytes. */
 static void keep(struct jbg85_dec_state *s, const unsigned char *bytes, size_t len)
 {
     size_t kept = len < sizeof s->last ? len : sizeof s->last, at;
@@ -248,7 +251,7 @@ static void keep(struct jbg85_dec_state *s, const unsigned char *bytes, size_t l
     s->bpl = t85_row_bytes((uint32_t)s->x0);
 }
 
-/* Takes the height in use from libt85. A lower one is the last. */
+/* Copies the height from libt85. If it is lower than before, it is final. */
 static void take_height(struct jbg85_dec_state *s)
 {
     unsigned long height = t85_decode_height(decoder_of(s));
@@ -258,7 +261,7 @@ static void take_height(struct jbg85_dec_state *s)
     s->options &= ~JBG_VLENGTH;
 }
 
-/* What libjbig returns of a header with this fault, or of a stream behind its header. */
+/* Returns libjbig's code for this error of the header, or of the stream behind the header. */
 static int code_of(const struct jbg85_dec_state *s, int status)
 {
     const unsigned char *header = s->buffer;
@@ -286,8 +289,8 @@ static int code_of(const struct jbg85_dec_state *s, int status)
     }
 }
 
-/* How many bytes of `rest` are those of a height behind the last stripe. libt85 has seen it, and has taken but those of its
-   bytes that came in pieces before. */
+/* Returns how many bytes of `rest` belong to a height behind the last stripe. libt85 has read
+   it, and has consumed only those of its bytes that arrived in earlier pieces. */
 static size_t late_height(const struct jbg85_dec_state *s, const unsigned char *rest, size_t len)
 {
     const unsigned char segment[6] = {MARKER_ESC,
@@ -308,7 +311,8 @@ static size_t late_height(const struct jbg85_dec_state *s, const unsigned char *
     return 0;
 }
 
-/* Takes the empty data entity behind such a height, where it comes, so that all bytes of the stream are taken. */
+/* Consumes the empty stripe data entity behind such a height, if there is one, so that all bytes
+   of the stream are consumed. */
 static int take_empty(struct jbg85_dec_state *s, const unsigned char *data, size_t len,
                       size_t *cnt)
 {
@@ -334,7 +338,7 @@ int jbg85_dec_in(struct jbg85_dec_state *s, unsigned char *data, size_t len, siz
     if (s->end_of_bie)
         len = 0;
     for (s->intr = 0; s->ending == 0;) {
-        /* How long the window has to be is known once the header is. */
+        /* The length of the window is known once the header is. */
         unsigned char *window = s->bie_len == sizeof s->buffer ? s->linebuf : NULL;
         unsigned char *rest = *cnt < len ? data + *cnt : NULL;
         size_t window_len = window ? s->linebuf_len : 0, taken = 0;

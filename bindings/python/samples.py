@@ -1,4 +1,4 @@
-"""What the tests of the module share: the page in examples/, and examples that docs/EXAMPLES.md works by hand."""
+"""Samples that the module's tests share: the page in examples/, and examples that docs/EXAMPLES.md works by hand."""
 import os
 import textwrap
 
@@ -18,7 +18,7 @@ def head(width, height, stripe_rows, most_offset, options):
 
 
 def of_page(line):
-    """The lines of an example in docs/PYTHON.md that begins so."""
+    """Returns the lines of an example in docs/PYTHON.md that begins with this line."""
     with open(os.path.join(HERE, "../../docs/PYTHON.md"), encoding="utf-8") as page:
         text = page.read()
     begin = text.index(line)
@@ -29,7 +29,7 @@ PBM, STREAM = example("letter.pbm"), example("letter.jbg")
 ROWS = PBM[-160 * 52 :]
 
 
-# Streams that docs/EXAMPLES.md has worked by hand: the rows, the width, the options, and the stream.
+# Streams that docs/EXAMPLES.md works by hand: the rows, the width, the options, and the stream.
 WORKED = {
     20: ([b"\xff"], 8, dict(typical=False), head(8, 1, 128, 0, 0) + b"\xf0\xff\x02"),
     39: ([b"\0"], 8, dict(typical=False), head(8, 1, 128, 0, 0) + b"\x60\xff\x02"),
@@ -44,7 +44,7 @@ WORKED = {
     ),
     44: ([b"\0"], 8, dict(comment=b"hi"), head(8, 1, 128, 0, 8) + b"\xff\x07\0\0\0\x02hi\xff\x02"),
 }
-# The same with a height that is announced: where it comes late, and where it is the image's.
+# The same with an announced height: one that is replaced later, and one that is the image's.
 LATE = [
     (
         [b"\x80"],

@@ -1,8 +1,8 @@
-"""Arrays and images of other packages: what the module refuses, and what it makes rows of.
+"""Tests arrays and images of other packages: which ones the module rejects, and which rows it makes of the others.
 
     T85_LIBRARY=bin/libt85.so.1 python3 -m unittest discover bindings/python
 
-Where the interpreter has no NumPy or no Pillow, the tests that want it are skipped.
+Tests that need NumPy or Pillow are skipped if the interpreter does not have it.
 """
 import ctypes
 import os
@@ -25,7 +25,7 @@ except ImportError:
 HERE = os.path.dirname(os.path.abspath(__file__))
 EXAMPLES = os.path.join(HERE, "../../examples")
 
-# Five pixels a row, so that three bits of each row are no pixel.
+# Five pixels per row, so three bits of each row are padding.
 PIXELS = [[1, 0, 0, 1, 1], [0, 0, 0, 0, 1]]
 BLACK = t85.Rows(5, 2, 1, b"\x98\x08")
 WHITE = t85.Rows(5, 2, 1, b"\x60\xf0")
@@ -39,7 +39,7 @@ def page():
 
 
 class Alone(unittest.TestCase):
-    """What needs neither package."""
+    """Tests that need neither package."""
 
     def test_not_imported(self):
         lines = [
@@ -72,7 +72,7 @@ class Alone(unittest.TestCase):
                     call(BLACK)
 
     def test_rows_are_taken(self):
-        # Rows in memory that has two dimensions, and all that is as long as an array of pixels but is none.
+        # Rows in two-dimensional memory, and objects that are as long as an array of pixels but are none.
         rows = page()
         self.assertEqual(
             t85.encode(memoryview(rows.data).cast("B", [160, 52]), 416, 160), t85.encode(rows.data, 416, 160)
@@ -116,7 +116,7 @@ class Arrays(unittest.TestCase):
                 for array in (numpy.zeros(shape, kind), numpy.ones(shape, kind)):
                     with self.subTest(kind=kind, shape=shape), self.assertRaisesRegex(TypeError, HINT):
                         t85.encode(array, 24, 16)
-        # More rows than are asked for, views, and arrays that say where rows begin.
+        # More rows than needed, views, and arrays with a row stride.
         array = numpy.ones((20, 48), "uint8")
         wrong = [(array, 48), (array[:, ::2], 24), (numpy.ones((16, 1), "uint8"), 1), (memoryview(array), 48)]
         for array, width in wrong:
@@ -132,14 +132,14 @@ class Arrays(unittest.TestCase):
         self.assertEqual(t85.encode(packed, 416, 160), stream)
         self.assertEqual(t85.encode(packed.reshape(-1), 416, 160), stream)
         self.assertEqual(t85.encode(numpy.pad(packed, ((0, 0), (0, 3))), 416, 160, stride=55), stream)
-        # White pages, and dots that are the lowest bit of a byte, look like zeros and ones.
+        # White pages, and dots in the lowest bit of a byte, look like zeros and ones.
         for array in (numpy.zeros((16, 3), "uint8"), numpy.ones((16, 3), "uint8")):
             self.assertEqual(t85.encode(array, 24, 16), t85.encode(array.tobytes(), 24, 16))
         column = numpy.array([[0x80], [0]], "uint8")
         self.assertEqual(t85.encode(column, 1, 2), t85.encode(b"\x80\0", 1, 2))
 
     def test_lent_in_place(self):
-        # An array is lent where it is, whether it can be written to or not.
+        # An array is passed in place, writable or not.
         rows = page()
         writable, fixed = bytearray(rows.data), numpy.frombuffer(rows.data, "uint8").reshape(160, 52)
         for packed in (numpy.frombuffer(writable, "uint8").reshape(160, 52), fixed):
@@ -186,7 +186,7 @@ class Arrays(unittest.TestCase):
 @unittest.skipUnless(pillow, "Pillow is not installed")
 class Images(unittest.TestCase):
     def test_letter(self):
-        # Pillow reads the page by itself, and turns what a PBM has.
+        # Pillow reads the page itself, and inverts the bits of a PBM.
         with pillow.open(os.path.join(EXAMPLES, "letter.pbm")) as image:
             rows = t85.from_image(image)
             self.assertEqual(rows, page())
@@ -202,7 +202,7 @@ class Images(unittest.TestCase):
         self.assertEqual(t85.from_image(image), BLACK)
         self.assertEqual(t85.to_image(BLACK).tobytes(), image.tobytes())
         self.assertEqual(t85.to_image(t85.Rows(5, 2, 3, b"\x98ab\x08")).tobytes(), image.tobytes())
-        # Bits after the last pixel mean nothing.
+        # Bits after the last pixel are ignored.
         self.assertEqual(t85.from_image(t85.to_image(t85.Rows(5, 2, 1, b"\x9f\x0f"))), BLACK)
 
     def test_empty(self):

@@ -1,4 +1,5 @@
-"""The module beside the commands, byte for byte: images with several options, streams that break off, and every room.
+"""Compares the module with the commands, byte for byte: images with several options, truncated streams, and every
+buffer size.
 
 `tests/python` runs it: T85_PROGRAMS is the folder of the commands, T85_PAGES has images, raw PBM without comments, with `:`
 between them, and T85_STREAMS streams.
@@ -23,13 +24,13 @@ def read(name):
 
 
 def run(program, *words):
-    """What a command writes, and its message without its name."""
+    """Returns the output of a command, and its message without its name."""
     ran = subprocess.run([os.path.join(PROGRAMS, program), *words], capture_output=True)
     return ran.stdout, ran.stderr.decode().strip().removeprefix(program + ": ")
 
 
 def options(height):
-    """Sets of options, as words of a command line and as the module names them."""
+    """Sets of options, as arguments of a command and under the module's names."""
     return [
         ("-m 0", {}),
         ("-m 127 -r", dict(most_offset=127, reset=True)),
@@ -50,7 +51,8 @@ class Commands(unittest.TestCase):
             file.write(stream)
 
     def same_outcome(self, stream):
-        """The module has the image that the command writes, or the same rows and fault; and the same line or fault."""
+        """The module returns the image that the command writes, or the same rows and error; and the same line or
+        error."""
         self.keep(stream)
         image, message = run("jbgtopbm85", self.stream)
         try:
@@ -93,7 +95,7 @@ class Commands(unittest.TestCase):
                     self.same_outcome(stream[:count])
 
     def fills(self, call, whole):
-        """With less room than the whole, a C call writes a beginning, as long as the room."""
+        """With a buffer smaller than the output, a C call writes a prefix of the buffer's length."""
         written = ctypes.c_size_t()
         for room in range(len(whole)):
             output = ctypes.create_string_buffer(b"\xa5" * len(whole), len(whole))

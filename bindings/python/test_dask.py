@@ -1,8 +1,8 @@
-"""Many files over two workers of Dask's `distributed`, of which one is killed on the way: nothing is lost.
+"""Processes many files on two workers of Dask's `distributed`, one of which is killed on the way: nothing is lost.
 
     T85_LIBRARY=bin/libt85.so.1 python3 -m unittest discover bindings/python
 
-Where the interpreter has no `distributed`, no fsspec or no pyftpdlib, the tests are skipped.
+The tests are skipped if the interpreter has no `distributed`, no fsspec or no pyftpdlib.
 """
 import logging
 import os
@@ -30,7 +30,7 @@ except ImportError:
 HERE = os.path.dirname(os.path.abspath(__file__))
 EXAMPLES = os.path.join(HERE, "../../examples")
 COUNT = 300
-# Of a server that runs for a test.
+# Runs a server during a test.
 USER, WORD = "user", "word"
 
 
@@ -43,7 +43,7 @@ PBM, STREAM = read(os.path.join(EXAMPLES, "letter.pbm")), read(os.path.join(EXAM
 
 
 class Deadly(many.Job):
-    """A job that ends the process with which it works, at one name."""
+    """A job that kills its own process at one name."""
 
     def __call__(self, name):
         if name.endswith("deadly.jbg"):
@@ -110,7 +110,7 @@ class Workers(unittest.TestCase):
         self.assertEqual(set(outcomes), set(names))
         self.assertEqual(outcomes[names[7]].state, many.FAILED)
         self.assertIn("KilledWorker", outcomes[names[7]].text)
-        # What was with the worker that was lost may have been lost with it.
+        # Results that were on the lost worker may have been lost with it.
         others = [outcome for name, outcome in outcomes.items() if name != names[7]]
         self.assertGreaterEqual(sum(outcome.state != many.FAILED for outcome in others), 10)
 
@@ -137,7 +137,7 @@ class Objects(unittest.TestCase):
 
 @unittest.skipUnless(fsspec and servers, "fsspec or pyftpdlib is not installed")
 class Server(unittest.TestCase):
-    """Files of another machine, which a server of FTP on this one stands for."""
+    """Files of another machine, for which an FTP server on this machine stands."""
 
     def setUp(self):
         folder = tempfile.TemporaryDirectory()
@@ -181,7 +181,7 @@ class Server(unittest.TestCase):
         self.assertEqual(read(self.path("streams/a.jbg")), STREAM)
         self.assertEqual(os.listdir(self.path("streams")), ["a.jbg"])
         self.assertEqual(job(names[0]).state, many.SKIPPED)
-        # What a worker that was lost has left of a file is made again.
+        # A partial output that a lost worker left is written again.
         with open(self.path("streams/a.jbg"), "wb") as file:
             file.write(STREAM[:100])
         self.assertEqual(job(names[0]).state, many.DONE)

@@ -1,4 +1,4 @@
-"""Tests of what goes from file to file."""
+"""Tests of conversion from file to file."""
 import io
 import itertools
 import os
@@ -15,7 +15,7 @@ from samples import EXAMPLES, HERE, LATE, PBM, ROWS, STREAM, WORKED, head
 
 
 class Dribble(io.RawIOBase):
-    """A file that gives, or takes, a few bytes at a time, and can't be set back."""
+    """A file object that reads or writes a few bytes at a time, and cannot seek."""
 
     def __init__(self, data=b"", step=7):
         self.data, self.step, self.taken = data, step, b""
@@ -29,7 +29,8 @@ class Dribble(io.RawIOBase):
         return len(data[: self.step])
 
 
-# Encodes or decodes standard input to standard output, and says how much memory that took beside Python and the module.
+# Encodes or decodes standard input to standard output, and prints how much memory that took beyond Python and the
+# module.
 POURED = """
 import resource, sys, t85
 
@@ -54,7 +55,7 @@ class FromFileToFile(unittest.TestCase):
         return path
 
     def encoded(self, image, **names):
-        """The stream of an image by each way that it may come and go."""
+        """Encodes an image by each kind of source and target, and returns the stream."""
         stream = io.BytesIO()
         count = t85.encode_file(io.BytesIO(image), stream, **names)
         self.assertEqual(count, len(stream.getvalue()))
@@ -67,7 +68,8 @@ class FromFileToFile(unittest.TestCase):
         return stream.getvalue()
 
     def decoded(self, stream, **names):
-        """The image of a stream in the same ways, and its height: also where the stream would be kept in a file."""
+        """Decodes a stream in the same ways, and returns its image and height; also with the stream stored in a
+        file."""
         found = self.decoded_once(stream, **names)
         with mock.patch("t85._conversion._MOST_KEPT", 30):
             self.assertEqual(self.decoded_once(stream, **names), found)
@@ -88,7 +90,8 @@ class FromFileToFile(unittest.TestCase):
         return image.getvalue(), height
 
     def fault(self, call, source, **names):
-        """The fault of a call, and what a file object has then. A file with a name is not there."""
+        """Returns the error of a call, and the contents of the target then. A file given by name does not exist
+        then."""
         target, name = io.BytesIO(), self.path("broken")
         with self.assertRaises(t85.Error) as caught:
             call(io.BytesIO(source), target, **names)
@@ -104,7 +107,7 @@ class FromFileToFile(unittest.TestCase):
         self.assertEqual(self.decoded(STREAM), (PBM, 160))
 
     def test_worked(self):
-        # Numbers of docs/EXAMPLES.md, and streams before others.
+        # Numbers of docs/EXAMPLES.md, and streams followed by others.
         for number, (rows, width, names, stream) in WORKED.items():
             with self.subTest(number=number):
                 image = b"P4\n%d %d\n" % (width, len(rows)) + b"".join(rows)
@@ -114,7 +117,7 @@ class FromFileToFile(unittest.TestCase):
             image = b"P4\n1 %d\n" % len(rows) + b"".join(rows)
             self.assertEqual(self.encoded(image, **names), stream)
             self.assertEqual(self.decoded(stream + b"more"), (image, len(rows)))
-        # Rows beyond a late height were given before it: 5 of docs/EXAMPLES.md has one of five.
+        # Rows beyond a late height were returned before it: example 5 of docs/EXAMPLES.md has one of five.
         stream = head(1, 5, 128, 0, 0x20) + b"\xc0\xff\x02\xff\x05\0\0\0\x01\xff\x02"
         self.assertEqual(self.decoded(stream), (b"P4\n1 1\n\x80", 1))
 
@@ -157,7 +160,7 @@ class FromFileToFile(unittest.TestCase):
                 self.assertEqual([part.kind for part in itertools.islice(t85.parts(written), 8)], ["header", *["data entity"] * 7])
 
     def test_late_height(self):
-        # More than is kept in memory.
+        # More than is stored in memory.
         noise = random.Random(5).randbytes(1700000)
         stream = t85.encode(noise, 8000, 1700, announced_height=1800)
         self.assertGreater(len(stream), 3 << 19)
@@ -193,7 +196,7 @@ class FromFileToFile(unittest.TestCase):
                 self.assertEqual((error.number, written), (fault, image))
 
     def test_turned(self):
-        # Streams of turned bytes and cuts, as decode has them.
+        # Mutated and cut streams give the results of decode.
         dice = random.Random(7)
         late = t85.encode(ROWS, 416, 160, announced_height=200, stripe_rows=20, most_offset=127)
         for _ in range(600):
@@ -212,7 +215,7 @@ class FromFileToFile(unittest.TestCase):
                 found = 0, image.getvalue()
             except t85.Error as error:
                 found = error.number, image.getvalue()
-            # An image that announces too many bytes is refused, whether its rows come or not.
+            # An image that announces too many bytes is rejected, whether or not its rows arrive.
             if found[0] != 18:
                 self.assertEqual(found, wanted)
             else:
@@ -235,7 +238,8 @@ class FromFileToFile(unittest.TestCase):
             t85.decode_file(io.BytesIO(STREAM), io.BytesIO(), max_rows=-1)
 
     def test_names(self):
-        # A file that is there stays as it is until the other is whole; what is no regular file is written in its place.
+        # An existing file is unchanged until the new one is complete; a target that is not a regular file is written in
+        # place.
         name = self.path("there", b"kept")
         with self.assertRaises(t85.Error):
             t85.decode_file(self.path("from", STREAM[:500]), name)
@@ -250,13 +254,13 @@ class FromFileToFile(unittest.TestCase):
             t85.decode_file(self.path("none"), self.path("to"))
 
     def piped(self, call, first, rest, most, **names):
-        """What comes out of a pipe, of which `most` bytes come before the rest of the source does."""
+        """Returns the output of a process, of which `most` bytes arrive before the rest of the source is written."""
         (from_source, to_call), (from_call, to_target) = os.pipe(), os.pipe()
         thread = threading.Thread(target=self.closing, args=(call, from_source, to_target), kwargs=names)
         thread.start()
         with os.fdopen(from_call, "rb") as target, os.fdopen(to_call, "wb", buffering=0) as source:
             source.write(first)
-            # If they do not come, the source ends.
+            # If they do not arrive, the source ends.
             timer = threading.Timer(60, source.close)
             timer.start()
             found = target.read(most)
@@ -272,7 +276,7 @@ class FromFileToFile(unittest.TestCase):
             call(file, output, **names)
 
     def test_pipes(self):
-        # What is certain goes out before more comes: of the page the first of two stripes, and its rows.
+        # Certain bytes are written before more input arrives: the first of the page's two stripes, and its rows.
         first = list(itertools.islice(t85.parts(STREAM), 2))[1]
         end = first.offset + first.length
         cut = len(PBM) - 32 * 52
@@ -280,14 +284,14 @@ class FromFileToFile(unittest.TestCase):
         self.assertEqual(self.piped(t85.decode_file, STREAM[:end], STREAM[end:], cut), PBM)
 
     def poured(self, call, source, **names):
-        """What a process writes that has this on standard input, by a pipe, and the kilobytes that it took."""
+        """Returns the output of a process with this standard input, through a pipe, and the kilobytes that it took."""
         environment = {**os.environ, "PYTHONPATH": HERE}
         command = [sys.executable, "-c", POURED, call, repr(names)]
         ran = subprocess.run(command, env=environment, input=source, capture_output=True, timeout=300)
         self.assertEqual(ran.returncode, 0, ran.stderr)
         return ran.stdout, int(ran.stderr)
 
-    # 54 MB of rows, by pipes, with a height in time and a late one.
+    # 54 MB of rows, through pipes, with a height in the header and a late one.
     MANY = 1 << 18
     HEIGHTS = ({}, dict(announced_height=1 << 19))
 

@@ -1,4 +1,5 @@
-"""Many files by one command: what is written, skipped and reported, by the page in examples/ and by examples of docs/PBM.md.
+"""Tests the command for many files: written, skipped and failed files, with the page in examples/ and examples of
+docs/PBM.md.
 
     T85_LIBRARY=bin/libt85.so.1 python3 -m unittest discover bindings/python
 """
@@ -62,7 +63,7 @@ class Folder(unittest.TestCase):
         return self.path(name)
 
     def ran(self, *words, status=0):
-        """What the command writes to standard output and to standard error."""
+        """Returns the command's standard output and standard error."""
         output, messages = io.StringIO(), io.StringIO()
         with contextlib.redirect_stdout(output), contextlib.redirect_stderr(messages):
             try:
@@ -73,7 +74,7 @@ class Folder(unittest.TestCase):
         return output.getvalue(), messages.getvalue()
 
     def counts(self, *words, status=0):
-        """How many files were done, skipped and failed."""
+        """Returns how many files were done, skipped and failed."""
         told = json.loads(self.ran(*words, "--json", "-", status=status)[0])
         return told["done"], told["skipped"], told["failed"]
 
@@ -102,7 +103,7 @@ class Commands(Folder):
         for number in range(count):
             width, height = bits.randrange(1, 80), bits.randrange(1, 80)
             row = (width + 7) // 8
-            # Bits after the last pixel are 0, as they are written.
+            # Bits after the last pixel are written as 0.
             mask = ((1 << width) - 1) << (8 * row - width)
             rows = b"".join((bits.getrandbits(8 * row) & mask).to_bytes(row, "big") for _ in range(height))
             names.append(self.keep(f"{number}.pbm", b"P4\n%d %d\n" % (width, height) + rows))
@@ -137,7 +138,7 @@ class Commands(Folder):
         stream = self.path("letter.jbg")
         self.assertEqual(self.counts("encode", name), (0, 1, 0))
         self.assertEqual(self.counts("encode", "--again", name), (1, 0, 0))
-        # What is cut, of another size, or older than its input is made again.
+        # An output that is truncated, of another size, or older than its input is written again.
         whole = read(stream)
         for other in (whole[:-1], b"", t85.encode(b"\0", 8, 1)):
             self.keep("letter.jbg", other)
@@ -226,7 +227,7 @@ class Commands(Folder):
         for words in (["encode"], ["encode", "-j", "0", name], ["lost", name], [], ["encode", "-o", self.folder, name, other],
                       ["check", "--names", self.path("none")], ["encode", "-o", name, name]):
             self.ran(*words, status=2)
-        # An output that would be its input.
+        # An output that would be its own input.
         self.assertEqual(self.counts("encode", self.keep("b.jbg", PBM), status=1), (0, 0, 1))
         self.assertEqual(read(self.path("b.jbg")), PBM)
 
@@ -247,7 +248,7 @@ class Commands(Folder):
         self.assertEqual(told["files"][0]["summary"]["image_height"], 160)
 
     def test_progress(self):
-        # A terminal is shown a bar, with tqdm or without it.
+        # A terminal shows a progress bar, with tqdm or without it.
         names = [self.keep(f"{number}.jbg", STREAM) for number in range(30)] + [self.path("none.jbg")]
         for module in ({}, {"tqdm": None}):
             messages = io.StringIO()
@@ -259,17 +260,17 @@ class Commands(Folder):
 
 
 def heed_interrupts():
-    """A shell that runs the tests in the background has them ignore interrupts."""
+    """A shell that runs the tests in the background makes them ignore interrupts."""
     signal.signal(signal.SIGINT, signal.SIG_DFL)
 
 
 class Stopped(Folder):
-    """A run that is ended in the middle, and another that does what is left."""
+    """Interrupts a run in the middle, and lets another complete it."""
 
     BEFORE, ALL = 304, 1000
 
     def started(self, pipes, *words):
-        """A run that waits at pipes, behind 304 files, and has some 700 behind them; and the names."""
+        """Returns a run that blocks at pipes, after 304 files and before some 700 others; and the names."""
         names = [self.keep(f"{number}.jbg", STREAM) for number in range(self.ALL)]
         for number in range(self.BEFORE, self.BEFORE + 8 * pipes, 8):
             os.unlink(names[number])
@@ -297,7 +298,7 @@ class Stopped(Folder):
             self.assertEqual(read(self.path(name)), PBM)
         os.unlink(names[self.BEFORE])
         self.keep(f"{self.BEFORE}.jbg", STREAM)
-        # A file that was being written has another name, and means nothing.
+        # A file that was being written has another name, and is ignored.
         self.keep(".999.pbm.0123456789ab.part", PBM[:100])
         self.assertEqual(self.counts("decode", *names), (self.ALL - self.BEFORE, self.BEFORE, 0))
         for name in names:
@@ -314,7 +315,7 @@ class Stopped(Folder):
         self.assertEqual(running.returncode, 130, messages)
         self.assertRegex(messages, r"(?m)^done +[\d,]+$")
         self.assertNotIn("Traceback", messages)
-        # What had begun was ended, and nothing else was begun.
+        # Files in progress were finished, and no others were begun.
         self.assertEqual((len(self.made()), self.left()), (self.BEFORE + 16, []))
         for name in self.made():
             self.assertEqual(read(self.path(name)), PBM)

@@ -1,8 +1,8 @@
-"""Pillow with the module t85.pillow: streams that are opened, loaded and saved, and those that are broken.
+"""Tests Pillow with the module t85.pillow: streams that are opened, loaded and saved, and broken ones.
 
     T85_LIBRARY=bin/libt85.so.1 python3 -m unittest discover bindings/python
 
-Where the interpreter has no Pillow, the tests are skipped.
+The tests are skipped if the interpreter has no Pillow.
 """
 import io
 import os
@@ -33,7 +33,7 @@ def read(path):
 
 LETTER = os.path.join(EXAMPLES, "letter.pbm")
 STREAM = read(os.path.join(EXAMPLES, "letter.jbg"))
-# An icon of one image of 32 by 32 pixels: the same four bytes at its front.
+# An icon of one image of 32 by 32 pixels, which begins with the same four bytes.
 ICON = bytes.fromhex("0000010001002020000001002000") + (40).to_bytes(4, "little") + (22).to_bytes(4, "little") + bytes(40)
 
 
@@ -111,7 +111,7 @@ class Images(unittest.TestCase):
             pillow.open(io.BytesIO(tall))
 
     def test_beside_icons(self):
-        # Whichever plugin is asked first, a stream is a stream and an icon an icon.
+        # A stream is opened as a stream and an icon as an icon, whichever plugin is asked first.
         lines = [
             "import io, sys",
             "from PIL import Image",

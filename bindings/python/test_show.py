@@ -1,4 +1,4 @@
-"""Pictures of streams: where their parts lie, by the examples of docs/EXAMPLES.md, and what is drawn.
+"""Tests pictures of streams: the places of their parts, in the examples of docs/EXAMPLES.md, and the drawing.
 
     T85_LIBRARY=bin/libt85.so.1 python3 -m unittest discover bindings/python
 """
@@ -50,7 +50,7 @@ class Walks(unittest.TestCase):
                 self.assertEqual((found.height, found.stripes), (height, stripes))
 
     def test_beginnings(self):
-        # Whatever is cut off, no part lies outside of what is there.
+        # However much is cut off, no part extends beyond the end.
         with open(os.path.join(EXAMPLES, "letter.jbg"), "rb") as file:
             stream = file.read()
         for count in range(20, len(stream) + 1):
@@ -89,7 +89,7 @@ class Pictures(unittest.TestCase):
         with contextlib.redirect_stderr(messages):
             self.assertEqual(command.main(["show", path]), 1)
         self.assertEqual(messages.getvalue(), f"{path}: No such file or directory\n")
-        # A page of which Pillow would make half a petabyte.
+        # A page for which Pillow would need half a petabyte.
         with open(path, "wb") as file:
             file.write(head(1 << 20, (1 << 32) - 1, (1 << 32) - 1, 0, 8) + b"\xff\x02")
         with contextlib.redirect_stderr(messages):

@@ -1,4 +1,4 @@
-"""Tests of the module t85: by the page in examples/, and by examples that docs/EXAMPLES.md works by hand.
+"""Tests of the module t85, with the page in examples/ and examples that docs/EXAMPLES.md works by hand.
 
     T85_LIBRARY=bin/libt85.so.1 python3 -m unittest discover bindings/python
 """
@@ -94,7 +94,7 @@ class Whole(unittest.TestCase):
 
 
 class Counted:
-    """Stands in for the library, and counts the calls of each name."""
+    """Replaces the library, and counts the calls of each function."""
 
     def __init__(self, library):
         self.library, self.counts = library, {}
@@ -108,7 +108,7 @@ class Counted:
 
 
 class Once(unittest.TestCase):
-    """An image is coded by one call of the library, and decoded by one."""
+    """Each image is encoded by one call of the library, and decoded by one."""
 
     SIZE = 1728, 2200
 
@@ -119,7 +119,7 @@ class Once(unittest.TestCase):
         self.addCleanup(patch.stop)
 
     def counting(self, name, call, *words, **names):
-        """What a call of the module gives, which calls the library by this name once."""
+        """Returns the result of a call of the module, which calls the library's function of this name once."""
         self.counted.counts = {}
         try:
             return call(*words, **names)
@@ -161,7 +161,7 @@ class Once(unittest.TestCase):
         self.both_ways(bytes(8), 8, 8, comment=b"x" * 200000)
 
     def test_little_rows(self):
-        # Rows that are missing want no room.
+        # Missing rows need no buffer.
         self.counting("t85_encode", t85.encode, b"", 1 << 20, (1 << 32) - 1, stripe_rows=1)
 
     def test_room_grows(self):
@@ -177,7 +177,7 @@ class Once(unittest.TestCase):
         self.assertEqual((grown.exception.number, grown.exception.partial), (9, whole.exception.partial))
 
 
-# Decodes a stream in 64 MiB beside what Python and the module take, and says what came of it.
+# Decodes a stream with 64 MiB beyond the memory of Python and the module, and prints the result.
 LIMITED = """
 import resource, sys, t85
 
@@ -196,12 +196,12 @@ for call in (t85.decode, t85.decode_rows):
 
 
 class Hostile(unittest.TestCase):
-    """Streams of few bytes that have, or announce, very large images."""
+    """Streams of a few bytes that contain, or announce, very large images."""
 
     TALL = (1 << 32) - 1
 
     def limited(self, stream):
-        """What decode and decode_rows say of a stream, in a process with little memory."""
+        """Returns the results of decode and decode_rows for a stream, in a process with little memory."""
         environment = {**os.environ, "PYTHONPATH": HERE}
         command = [sys.executable, "-c", LIMITED, stream.hex()]
         ran = subprocess.run(command, env=environment, capture_output=True, text=True, timeout=300)
@@ -225,7 +225,7 @@ class Hostile(unittest.TestCase):
                 self.assertEqual(self.limited(stream), [text] * 2)
 
     def test_memory_grows_with_rows(self):
-        # A header that announces all rows that there can be, before the code of few, which are broken off.
+        # A header that announces the greatest number of rows, before the truncated code of a few.
         stream = head(416, self.TALL, self.TALL, 127, 8) + STREAM[20:-200]
         for first in (1 << 10, 1 << 23):
             with self.subTest(first=first), mock.patch.object(t85, "_FIRST_ROOM", first):
@@ -369,7 +369,7 @@ class Faults(unittest.TestCase):
         self.assertEqual(self.fault(t85.decode, tall, max_rows=100000).number, 24)
 
     def test_tall(self):
-        # A fault that is known before the room that the header asks for is wanted.
+        # An error that is found before the buffer that the header implies is allocated.
         self.assertEqual(self.fault(t85.decode, head(1 << 20, (1 << 32) - 1, 128, 0, 8)).number, 9)
 
     def test_encoder(self):

@@ -1,4 +1,4 @@
-"""The types of the module t85, by mypy: those of the module itself, and as a program sees them that uses the module.
+"""Checks the types of the module t85 with mypy: in the module itself, and in a program that uses it.
 
     T85_LIBRARY=bin/libt85.so.1 python3 -m unittest discover bindings/python
 """
@@ -64,7 +64,7 @@ def has_mypy(interpreter):
 
 
 def found_interpreter():
-    """The words that run an interpreter which has mypy: this one, else the one that the command `mypy` names, if any."""
+    """The words that run an interpreter with mypy: this one, or else the one that the command `mypy` names, if any."""
     if has_mypy([sys.executable]):
         return [sys.executable]
     program = shutil.which("mypy")
@@ -82,7 +82,7 @@ PYTHON = found_interpreter()
 
 class Package(unittest.TestCase):
     def test_names(self):
-        # What the module had as one file it has as a package.
+        # The module as one file has the same interface as a package.
         self.assertTrue(os.path.isfile(os.path.join(os.path.dirname(t85.__file__), "py.typed")))
         names = ["Error", "Header", "Rows", "Summary", "decode", "decode_rows", "encode", "header", "info", "version"]
         self.assertLessEqual(set(names), set(t85.__all__))
@@ -98,7 +98,7 @@ class Types(unittest.TestCase):
         self.folder = folder.name
 
     def checked(self, *words):
-        """What mypy says, and its status."""
+        """Returns the output of mypy, and its status."""
         environment = {name: value for name, value in os.environ.items() if name != "MYPYPATH"}
         command = [*PYTHON, "-m", "mypy", *STRICT, *words]
         ran = subprocess.run(command, cwd=self.folder, env=environment, capture_output=True, text=True)
@@ -110,7 +110,7 @@ class Types(unittest.TestCase):
         self.assertEqual(status, 0, said)
 
     def test_user(self):
-        # A program finds the types of the package where it is installed.
+        # A program finds the types of the installed package.
         place = os.path.join(self.folder, "place")
         subprocess.run([*PYTHON, "-m", "venv", "--without-pip", place], check=True)
         python = os.path.join(place, "bin", "python")

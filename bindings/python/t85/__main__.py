@@ -1,7 +1,8 @@
-"""Many files by one command: python3 -m t85 encode|decode|info|check FILE.., and python3 -m t85 show FILE for a picture.
+"""Processes many files with one command, python3 -m t85 encode|decode|info|check FILE.., or draws one, with python3 -m
+t85 show FILE.
 
-Exit status: 0 where every file was done or skipped, 1 where one failed, 2 where the command line was refused, and 130 where
-it was stopped from the keyboard.
+Exit status: 0 if every file was done or skipped, 1 if one failed, 2 if the command line was rejected, and 130 if the
+command was interrupted from the keyboard.
 """
 from __future__ import annotations
 
@@ -21,7 +22,7 @@ from .many import FAILED, Job, Outcome, Total, run
 
 
 class Progress:
-    """How many files are through, on standard error where that is a terminal: by tqdm, or as one line without it."""
+    """Shows progress on standard error, if that is a terminal: with tqdm, or else as one line."""
 
     def __init__(self, total: int, quiet: bool) -> None:
         self._shown = not quiet and sys.stderr.isatty()
@@ -42,7 +43,7 @@ class Progress:
             print(f"\r{self._count} of {self._total}", end="", file=sys.stderr, flush=True)
 
     def say(self, line: str) -> None:
-        """A line that stands above the bar."""
+        """Prints a line above the bar."""
         if self._bar is not None:
             self._bar.clear()
         elif self._shown:
@@ -115,7 +116,7 @@ def _listed(path: str) -> Iterator[str]:
 
 
 def _names(parser: argparse.ArgumentParser, words: argparse.Namespace) -> List[str]:
-    """Each name once, in the order of the command line and of the list."""
+    """Returns each name once, in the order of the command line and of the list."""
     try:
         more = list(_listed(words.names)) if words.names else []
     except OSError as error:
@@ -127,7 +128,7 @@ def _names(parser: argparse.ArgumentParser, words: argparse.Namespace) -> List[s
 
 
 def _clash(job: Job, names: Sequence[str]) -> Optional[Tuple[str, str, str]]:
-    """Two names whose outputs would be one file, and that file's name."""
+    """Returns two names whose outputs would be the same file, and that file's name."""
     seen: Dict[str, str] = {}
     for name in names:
         output = job.output(name)
@@ -141,7 +142,7 @@ def _report(outcome: Outcome) -> Dict[str, Any]:
 
 
 def _write_json(path: str, total: Total, kept: List[Outcome]) -> bool:
-    """Writes the summary, and says whether it could."""
+    """Writes the summary, and returns whether that succeeded."""
     summary = {**dataclasses.asdict(total), "files": [_report(outcome) for outcome in kept]}
     text = json.dumps(summary, indent=2) + "\n"
     if path == "-":
@@ -205,7 +206,7 @@ def main(arguments: Optional[Sequence[str]] = None) -> int:
         except OSError as error:
             parser.error(f"{job.folder}: {error.strerror}")
     if isinstance(sys.stdout, io.TextIOWrapper):
-        # A name need not be text.
+        # A name may contain bytes that are not text.
         sys.stdout.reconfigure(errors="surrogateescape")
     try:
         return _work(job, names, words)

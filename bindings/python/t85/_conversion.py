@@ -15,18 +15,18 @@ from ._pbm import PageReader, head_of
 from ._rows import row_bytes
 
 _HEADER_BYTES = 20
-# Bytes of a stream that are read at once, and of an output that are written at once; and of a stream that is kept in memory.
+# The bytes of a stream per read, and of an output per write; and the bytes of a stream that are stored in memory.
 _PIECE, _HELD, _MOST_KEPT = 1 << 12, 1 << 16, 1 << 20
 
 
 class Readable(Protocol):
-    """What is asked of a file object that is read."""
+    """The methods that a source needs."""
 
     def read(self, size: int = ..., /) -> Optional[bytes]: ...
 
 
 class Writable(Protocol):
-    """What is asked of a file object that is written."""
+    """The methods that a target needs."""
 
     def write(self, data: bytes, /) -> Optional[int]: ...
 
@@ -119,7 +119,7 @@ def decode_file(
         output.put(head_of(width, height))
         count = 0
         for row in stream.rows():
-            # A late height cuts off rows that were given before it.
+            # A late height cuts off rows that were returned before it.
             if count < height:
                 output.put(row)
                 count += 1
@@ -142,7 +142,7 @@ def _reading(source: Source) -> Iterator[Readable]:
 
 
 class _Output:
-    """Bytes on their way to a file object: those of many rows go there at once."""
+    """Buffers bytes for a file object: those of many rows are written together."""
 
     def __init__(self, file: Writable) -> None:
         self._file, self._held, self.length = file, bytearray(), 0
@@ -154,7 +154,7 @@ class _Output:
             self.send()
 
     def send(self) -> None:
-        """Writes what is held. A file object without a buffer may take a part of it at a time."""
+        """Writes the buffered bytes. An unbuffered file object may accept a part of them at a time."""
         rest = bytes(self._held)
         self._held.clear()
         while rest:
@@ -166,7 +166,7 @@ class _Output:
 
 @contextlib.contextmanager
 def _writing(target: Target) -> Iterator[_Output]:
-    """What is written to a target: up to a fault, too."""
+    """Opens a target for writing; it is also written if an error follows."""
     with contextlib.ExitStack() as stack:
         if _is_name(target):
             file: Writable = stack.enter_context(writing(os.fspath(cast(str, target))))
@@ -182,7 +182,8 @@ def _writing(target: Target) -> Iterator[_Output]:
 
 
 def _more_of(file: Readable, output: _Output) -> Callable[[int], bytes]:
-    """A call that gives up to so many bytes of a file: those that are there, if it tells. All that is held goes out before."""
+    """Returns a function that reads up to a number of bytes of a file: those that are available, if the file can
+    say. Buffered output is written before each read."""
     read = getattr(file, "read1", file.read)
 
     def more(size: int) -> bytes:
@@ -196,7 +197,8 @@ def _more_of(file: Readable, output: _Output) -> Callable[[int], bytes]:
 
 
 class _Stream:
-    """A stream of which the header has been read, by a call that gives up to so many bytes, and none at the end."""
+    """A stream whose header has been read, with a function that returns up to a number of bytes, and none at the
+    end."""
 
     def __init__(self, more: Callable[[int], bytes]) -> None:
         self._more, self._decoder, self.front = more, Decoder(), b""
@@ -209,7 +211,7 @@ class _Stream:
         self.header: Header = self._decoder.header
 
     def rows(self) -> Iterator[bytes]:
-        """The rows, one after another."""
+        """Yields the rows in order."""
         piece = self.front[_HEADER_BYTES:]
         while True:
             yield from self._decoder._fed(piece)
@@ -222,12 +224,12 @@ class _Stream:
 
     @property
     def status(self) -> int:
-        """0 where all rows came, or the stream's fault."""
+        """Returns 0 if all rows arrived, or the stream's error."""
         return self._decoder._status
 
 
 def _kept(front: bytes, more: Callable[[int], bytes], stack: contextlib.ExitStack) -> Union[bytes, mmap.mmap]:
-    """All bytes of a stream; where they are many, in a temporary file."""
+    """Stores all bytes of a stream; if there are many, in a temporary file."""
     held = bytearray(front)
     while len(held) < _MOST_KEPT:
         piece = more(_HELD)

@@ -1,4 +1,4 @@
-"""Files that are read whole, and written under another name until they are whole. A name with `://` is fsspec's."""
+"""Reads whole files, and writes files under a temporary name until they are complete. A name with `://` is fsspec's."""
 from __future__ import annotations
 
 import contextlib
@@ -13,7 +13,7 @@ def is_remote(name: str) -> bool:
 
 
 def _located(name: str) -> tuple[Any, str]:
-    """The file system of fsspec that a name belongs to, and the name in it."""
+    """Returns the file system of fsspec for a name, and the name in it."""
     system, path = importlib.import_module("fsspec.core").url_to_fs(name)
     return system, path
 
@@ -28,7 +28,7 @@ def read(name: str) -> bytes:
 
 
 def front(name: str, count: int) -> tuple[bytes, int]:
-    """The first bytes of a file, `count` at most, and its size."""
+    """Returns the first bytes of a file, at most `count`, and its size."""
     if is_remote(name):
         system, path = _located(name)
         return bytes(system.cat_file(path, start=0, end=count)), int(system.size(path))
@@ -37,7 +37,7 @@ def front(name: str, count: int) -> tuple[bytes, int]:
 
 
 def is_current(output: str, name: str) -> bool:
-    """Whether the output is there, and is no older than the file that it is made of."""
+    """Whether the output exists, and is no older than its input."""
     if is_remote(output) or is_remote(name):
         return _is_current_remote(output, name)
     try:
@@ -57,9 +57,9 @@ def _is_current_remote(output: str, name: str) -> bool:
 
 
 def write(name: str, data: bytes) -> None:
-    """Writes a file that others see when it is whole: under another name in its folder, which is then renamed.
+    """Writes a file that appears only when it is complete: under a temporary name in its folder, which is then renamed.
 
-    A file system of fsspec is given all bytes at once: a store of objects shows none that is not whole.
+    A file system of fsspec receives all bytes at once: an object store shows no partial object.
     """
     if is_remote(name):
         system, path = _located(name)
@@ -73,9 +73,9 @@ def write(name: str, data: bytes) -> None:
 
 @contextlib.contextmanager
 def writing(name: str) -> Iterator[io.FileIO]:
-    """A file under another name in the folder where it belongs, which is renamed when it is whole, and else removed.
+    """Opens a file under a temporary name in its folder; it is renamed when it is complete, and otherwise removed.
 
-    What is there and is no regular file, as a pipe or a terminal, is written as it is.
+    An existing target that is not a regular file, such as a pipe or a terminal, is written in place.
     """
     if os.path.exists(name) and not os.path.isfile(name):
         with open(name, "wb", buffering=0) as special:

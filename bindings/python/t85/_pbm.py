@@ -12,16 +12,16 @@ _SPACE = rb"(?:[ \t-\r]|#[^\r\n]*[\r\n])"
 _HEADER = re.compile(rb"P([14])%b+0*(\d{1,10})%b+0*(\d{1,10})%b" % (_SPACE, _SPACE, _SPACE))
 _WHITE = b" \t\n\v\f\r"
 _NO_PBM, _BAD_DIGIT = 31, 38
-# What a header may have that says no more than one white space, also with the zeros of a number behind it.
+# Parts of a header that mean no more than one white-space byte, and a number's leading zeros.
 _SAYS_NOTHING = re.compile(rb"(?:#[^\r\n]*[\r\n]|[ \t-\r])+(?:0+(?=\d))?")
 _OPEN_COMMENT = re.compile(rb"#[^\r\n]+\Z")
-# Bytes that are read at once, of the header and then; and the most of a header without what says nothing.
+# The bytes per read, for the header and afterwards; and the greatest length of a header without those parts.
 _FRONT, _PIECE, _MOST_HEADER = 1 << 12, 1 << 16, 64
 
 
 @dataclass(frozen=True)
 class Page:
-    """An image: its rows are close together, as many as the file has."""
+    """An image: its rows are adjacent, as many as the file has."""
 
     width: int
     height: int
@@ -29,7 +29,7 @@ class Page:
 
 
 def read_page(data: bytes) -> Page:
-    """The image of a PBM. Where rows are missing, it has fewer than its height says."""
+    """Reads the image of a PBM. If rows are missing, it has fewer than its height."""
     found = _HEADER.match(data)
     if not found:
         raise _no_pbm()
@@ -41,7 +41,7 @@ def read_page(data: bytes) -> Page:
 
 
 def _packed(text: bytes, width: int, height: int) -> bytes:
-    """The rows of a plain PBM, packed: as many as there are digits for."""
+    """Packs the rows of a plain PBM, as many as there are digits for."""
     digits = text.translate(None, _WHITE)[: width * height]
     if digits.strip(b"01"):
         raise Error(_BAD_DIGIT, text="PBM raster has a byte that is no digit")
@@ -52,7 +52,8 @@ def _packed(text: bytes, width: int, height: int) -> bytes:
 
 
 class PageReader:
-    """Reads a PBM row by row, by a call that gives up to so many bytes, and none at the end. It may read beyond the image."""
+    """Reads a PBM row by row, with a function that returns up to a number of bytes, and none at the end. It may read
+    beyond the image."""
 
     def __init__(self, more: Callable[[int], bytes]) -> None:
         self._more = more
@@ -61,7 +62,7 @@ class PageReader:
             found = _HEADER.match(front)
             if found:
                 break
-            # All of this is of the header.
+            # All of this belongs to the header.
             front = _OPEN_COMMENT.sub(b"#", _SAYS_NOTHING.sub(b"\n", front))
             bytes_more = more(_FRONT)
             if not bytes_more or len(front) > _MOST_HEADER:
@@ -74,7 +75,7 @@ class PageReader:
         self._held = front[found.end() :]
 
     def rows(self) -> Iterator[bytes]:
-        """The rows, packed, one after another: as many as there are bytes or digits for."""
+        """Yields the packed rows, as many as there are bytes or digits for."""
         row = row_bytes(self.width)
         if self._is_raw:
             yield from self._parts(row, b"")
@@ -87,7 +88,7 @@ class PageReader:
             yield int(digits + padding, 2).to_bytes(row, "big")
 
     def _parts(self, length: int, left_out: bytes) -> Iterator[bytes]:
-        """So many bytes for each row, without those that are left out, as long as there are any."""
+        """Yields the bytes of each row, without those that are left out, as long as there are any."""
         held, at = self._held, 0
         for _ in range(self.height):
             while len(held) - at < length:
@@ -104,5 +105,5 @@ def _no_pbm() -> Error:
 
 
 def head_of(width: int, height: int) -> bytes:
-    """The header that is written before the rows of an image."""
+    """Returns the header of a PBM."""
     return b"P4\n%d %d\n" % (width, height)

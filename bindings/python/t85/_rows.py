@@ -20,7 +20,7 @@ class Rows:
 
 
 class PillowImage(Protocol):
-    """What is asked of an image of Pillow."""
+    """The methods of a Pillow image that are used."""
 
     @property
     def mode(self) -> str: ...
@@ -90,7 +90,7 @@ def to_image(rows: Rows) -> Any:
 
 
 def refuse_pixels(rows: Any, width: int, height: int, stride: Optional[int]) -> None:
-    """Raises TypeError for what is no packed rows, but an image of Pillow, or an array with an item a pixel."""
+    """Raises TypeError unless the data are packed rows: for a Pillow image, or an array with one item per pixel."""
     if hasattr(rows, "mode") and hasattr(rows, "tobytes"):
         raise TypeError("rows are packed bytes, with 1 for black: from_image(image) makes them of an image in mode 1")
     if _has_pixels(rows, width, height, stride):
@@ -101,7 +101,7 @@ def refuse_pixels(rows: Any, width: int, height: int, stride: Optional[int]) -> 
 
 
 def _has_pixels(rows: Any, width: int, height: int, stride: Optional[int]) -> bool:
-    """Whether an array has an item a pixel, by its kind and shape. What is no array has none, as bytes."""
+    """Whether an array has one item per pixel, by its kind and shape. Bytes and other objects are no array."""
     view = memoryview(rows)
     if view.format.endswith("?"):
         return True
@@ -112,7 +112,7 @@ def _has_pixels(rows: Any, width: int, height: int, stride: Optional[int]) -> bo
     if stride is not None:
         return False
     if width == 1:
-        # Packed rows are as long, but have another bit.
+        # Packed rows have the same length, but another bit.
         data = view.tobytes()
         return 1 in data and data.count(0) + data.count(1) == len(data)
     shape = view.shape or ()

@@ -1,4 +1,4 @@
-"""The stripes of a stream, as the library tells its parts."""
+"""The stripes of a stream, from the parts that the library lists."""
 from __future__ import annotations
 
 from dataclasses import dataclass, field
@@ -9,7 +9,8 @@ from . import BrokenPart, Header, header, parts
 
 @dataclass(frozen=True)
 class Stripe:
-    """A stripe: its first row, its bytes from its segments to its end marker, and where the adaptive pixel goes in it."""
+    """A stripe: its first row, its bytes from its marker segments to its end marker, and the offset of the adaptive
+    pixel in it."""
 
     row: int
     begin: int
@@ -19,7 +20,7 @@ class Stripe:
 
 @dataclass
 class Walk:
-    """The stripes of a stream as far as they can be told, and the height that it gives."""
+    """Returns the readable stripes of a stream, and its height."""
 
     fields: Header
     height: int
@@ -30,7 +31,7 @@ class Walk:
 
 
 def walk(stream: bytes) -> Walk:
-    """What is behind the stripes that are whole is one more, which is broken."""
+    """The bytes behind the whole stripes are one more, broken stripe."""
     fields = header(stream)
     found, begin, move = Walk(fields, fields.height), 0, None
     try:

@@ -29,6 +29,6 @@ def run(client: Any, job: Job, names: Iterable[str]) -> Iterator[Outcome]:
         if isinstance(found, Outcome):
             yield found
         else:
-            # No outcome but an exception: the workers of this file were lost again and again.
+            # An exception instead of an outcome: the workers of this file were lost repeatedly.
             kind, error = found[:2]
             yield Outcome(name_of[task.key], FAILED, text=f"{kind.__name__}: {error}")

@@ -29,7 +29,7 @@ from ._pbm import head_of, read_page
 from ._rows import row_bytes
 
 DONE, SKIPPED, FAILED = "done", "skipped", "failed"
-# What a name of an input may end in, and what the outputs of a command end in.
+# The suffixes of input names, and those of the outputs of a command.
 _ENDINGS = (".pbm", ".jbg", ".jbig")
 _ENDING = {"encode": ".jbg", "decode": ".pbm"}
 _BATCH = 8

@@ -19,9 +19,9 @@ _WIDTH, _HEIGHT = 720, 940
 _MARGIN, _LEFT, _TOP, _BARS, _BOTTOM = 28, 86, 78, 300, 60
 _INK, _FAINT, _BOUND, _MOVE, _BAR, _BROKEN = "#1f2933", "#616e7c", "#2f6f9f", "#b8460e", "#7fa8c9", "#b3261e"
 _LETTERS = 17
-# Pillow has a byte a pixel, so that this is a quarter of a gigabyte there.
+# Pillow stores one byte per pixel, so this is a quarter of a gigabyte there.
 _MOST_BYTES = 1 << 25
-# Room that a label wants from top to bottom.
+# The height of a label.
 _LINE = 20
 
 
@@ -41,7 +41,7 @@ def _rows(stream: bytes) -> Tuple[Rows, str]:
 
 
 def draw_stream(stream: bytes, title: str) -> Any:
-    """The picture of a stream, as an image of Pillow."""
+    """Returns the picture of a stream, as a Pillow image."""
     parts = walk(stream)
     rows, fault = _rows(stream)
     return _Picture(parts, rows, fault, len(stream), title).drawn()
@@ -73,7 +73,7 @@ class _Picture:
         return self.image
 
     def _at(self, row: int) -> int:
-        """How far down a row begins."""
+        """Returns the vertical position of a row."""
         return _TOP + row * self.page[1] // max(self.height, 1)
 
     def _text(self, x: float, y: float, text: str, fill: str = _INK, anchor: str = "l") -> None:
@@ -94,7 +94,7 @@ class _Picture:
         self.draw.rectangle((left - 1, _TOP - 1, right, self._at(self.height)), outline=_FAINT)
 
     def _hatch(self, top: int, bottom: int) -> None:
-        """Slanted lines over the rows that can't be had."""
+        """Hatches the rows that cannot be recovered."""
         tile = self.pillow.new("RGB", (self.page[0], max(bottom - top, 1)), "#fdecea")
         pen = importlib.import_module("PIL.ImageDraw").Draw(tile)
         for x in range(-tile.height, tile.width, 14):

@@ -1,8 +1,8 @@
--- Std's readers as inputs.
+-- The view of a reader of std as an input.
 use Rattle.std.specs.Prelude.{ℕ, List, [], Option}
 use Rattle.pbm_core.specs.declared.adapters.FromRead.{FromRead}
 use Rattle.pbm_core.specs.Device.{InputView}
 
--- by the bytes that the reader has left
+-- the input of an adapter: its bytes are those that the reader has left
 abbrev pub reader_view : {R : Type 0} → (R → Option (List ℕ)) → FromRead R → InputView
 reader_view remaining s = record { remaining = remaining s.reader; held = []; left = s.left; failures = s.failures; source = 0 }
