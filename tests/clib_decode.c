@@ -317,14 +317,14 @@ static void unread(uint8_t wanted, buffer stream, uint32_t max_rows, size_t stri
         status = t85_decode(stream.bytes, stream.len, max_rows, window.bytes, window.len,
                             image.bytes, image.len, &written);
         if (status != wanted || written)
-            fail("t85_decode: status %d and %zu bytes where %d was wanted", status, written,
+            fail("t85_decode: status %d and %zu bytes, expected status %d", status, written,
                  wanted);
         stride = 100000;
     }
     status = t85_decode_rows(stream.bytes, stream.len, max_rows, stride, window.bytes, window.len,
                              image.bytes, image.len, &rows);
     if (status != wanted || rows)
-        fail("t85_decode_rows: status %d and %u rows where %d was wanted", status, rows, wanted);
+        fail("t85_decode_rows: status %d and %u rows, expected status %d", status, rows, wanted);
     give_back(image);
     give_back(window);
 }

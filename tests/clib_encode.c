@@ -245,7 +245,7 @@ static void refused(uint8_t wanted, uint32_t width, uint32_t height, size_t stri
         t85_encode(width, height, rows.bytes, rows.len, stride, options, comment.bytes, comment.len,
                    window.bytes, window.len, stream.bytes, stream.len, &written);
     if (status != wanted || written)
-        fail("t85_encode: status %d and %zu bytes where %d was wanted", status, written, wanted);
+        fail("t85_encode: status %d and %zu bytes, expected status %d", status, written, wanted);
     give_back(comment);
     give_back(stream);
     give_back(window);
@@ -274,7 +274,7 @@ static void is_filled(const char *call, buffer lent)
     size_t i;
     for (i = 0; i < lent.len; i++)
         if (lent.bytes[i] != FILL)
-            fail("%s: byte %zu of %zu was touched", call, i, lent.len);
+            fail("%s: byte %zu of %zu was changed", call, i, lent.len);
 }
 
 /* Checks that a start is rejected, with nothing written or changed. */
@@ -289,7 +289,7 @@ static void unstarted(uint8_t wanted, size_t size, uint32_t width, uint32_t heig
                                       comment.bytes, comment.len, window.bytes, window.len,
                                       stream.bytes, stream.len, &written);
     if (status != wanted || written)
-        fail("t85_encode_start: status %d and %zu bytes where %d was wanted", status, written,
+        fail("t85_encode_start: status %d and %zu bytes, expected status %d", status, written,
              wanted);
     is_filled("t85_encode_start", state);
     is_filled("t85_encode_start", window);
@@ -351,7 +351,7 @@ static void unmoved(uint8_t wanted, row_by_row *by, const uint8_t *row, size_t r
     status = encode_next(by, row, row_len, room, &written);
     by->windows[by->turn] = window;
     if (status != wanted || written)
-        fail("t85_encode_row: status %d and %zu bytes where %d was wanted", status, written,
+        fail("t85_encode_row: status %d and %zu bytes, expected status %d", status, written,
              wanted);
     if (memcmp(kept.bytes, state.bytes, state.len) || memcmp(lines.bytes, window.bytes, window_len))
         fail("t85_encode_row: changes something at status %d", status);
@@ -416,7 +416,7 @@ static void row_encoder_states(buffer rows, uint32_t width)
     room = room_of(&by, 20);
     if (t85_encode_start(encoder_of(&by), sizeof(t85_encoder), width, 5, &options, NULL, 0,
                          by.windows[0].bytes, three, room.bytes, room.len, &written))
-        fail("t85_encode_start where one was ended");
+        fail("t85_encode_start after an end");
     unmoved(T85_ROWS_MISSING, &by, NULL, 0, 0, 0);
     if (t85_encode_rows_left(encoder_of(&by)) != 5)
         fail("t85_encode_rows_left: %u of 5", t85_encode_rows_left(encoder_of(&by)));

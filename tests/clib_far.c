@@ -138,7 +138,7 @@ static void one_of_most(bool announces, uint32_t stripe_rows)
     if (announces && (t85_encode(width, 1, row, sizeof row, sizeof row, &options, NULL, 0,
                                  window.bytes, window.len, whole.bytes, whole.len, &written) ||
                       written != at || memcmp(stream.bytes, whole.bytes, at)))
-        fail("t85_encode: another stream of one row where 2^32 - 1 are announced");
+        fail("t85_encode: a different stream of one row if 2^32 - 1 are announced");
     give_back(whole);
     give_back(stream);
     give_back(window);

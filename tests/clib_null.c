@@ -213,7 +213,7 @@ static void takes_none(uint8_t wanted, t85_decoder *decoder, buffer window, cons
         taken = 77;
         status = t85_decode_bytes(decoder, places[i], 0, window.bytes, window.len, &taken, &row);
         if (status != wanted || taken)
-            fail("t85_decode_bytes: status %d and %zu bytes of none where %d was wanted", status,
+            fail("t85_decode_bytes: status %d and %zu bytes of none, expected status %d", status,
                  taken, wanted);
     }
 }

@@ -20,7 +20,7 @@
 
 static void fail(const char *what)
 {
-    fprintf(stderr, "%s can't be opened, read or written\n", what);
+    fprintf(stderr, "%s cannot be opened, read or written\n", what);
     exit(2);
 }
 

@@ -179,7 +179,7 @@ class Commands(Folder):
         with self.assertRaises(t85.Error) as caught:
             t85.decode_rows(STREAM[:500])
         rows = caught.exception.partial.count
-        self.assertIn(f"cut.jbg: input ends too early; {rows} rows can be had\n", messages)
+        self.assertIn(f"cut.jbg: input ends too early; {rows} rows can be recovered\n", messages)
         self.assertEqual(sorted(os.listdir(self.folder)), ["a.jbg", "cut.jbg"])
 
     def test_limit(self):

@@ -107,7 +107,7 @@ def _check(job: Job, name: str) -> Outcome:
     try:
         decode_rows(stream, max_bytes=job.max_bytes)
     except Error as error:
-        rows = f"; {error.partial.count} rows can be had" if isinstance(error.partial, Rows) else ""
+        rows = f"; {error.partial.count} rows can be recovered" if isinstance(error.partial, Rows) else ""
         return Outcome(name, FAILED, len(stream), number=error.number, text=error.text + rows)
     return Outcome(name, DONE, len(stream), summary=info(stream))
 

@@ -84,7 +84,7 @@ class _Picture:
         size = f"{self.rows.width} by {self.height} pixels, {self.length:,} bytes, {len(self.parts.stripes)} stripes"
         self._text(_MARGIN, 18, f"{self.title}: {size}")
         if self.fault:
-            self._text(_MARGIN, 42, f"{self.fault}: {self.rows.count} rows can be had", _BROKEN)
+            self._text(_MARGIN, 42, f"{self.fault}: {self.rows.count} rows can be recovered", _BROKEN)
 
     def _rows_that_are_there(self) -> None:
         left, right, bottom = _LEFT, _LEFT + self.page[0], self._at(self.rows.count)

@@ -1,11 +1,12 @@
-//! An input that reads ahead: what it holds, and what it asks for.
+//! An input that reads ahead: its buffered bytes, and its reads.
 
 ghost use Rattle.std.specs.Prelude.{◌<◌, ◌≤◌};
 
 use pbm_core::trial::Pieces;
 use pbm_core::{Buffered, DeviceFailed, Form, Input, PbmFault, read_header, read_row};
 
-/// What a read of so many bytes gives of these, which come three at a time, and what is held then and can be passed.
+/// The result of a read of this many of these bytes, which arrive three at a time, and the bytes that are then buffered
+/// and can be passed.
 fn held_after(
     count: usize,
     pass: usize,
@@ -23,10 +24,10 @@ fn held_after(
 #[test]
 fn what_came_is_held(rt: HostRuntime) {
     assert!(rt; held_after(1, 2, None) == (Ok(1), 2, true, 4, 0));
-    // More than is held isn't passed, and nothing is asked for it.
+    // More than is buffered is not passed, and nothing is read for it.
     assert!(rt; held_after(1, 3, None) == (Ok(1), 2, false, 6, 0));
     assert!(rt; held_after(8, 0, None) == (Ok(3), 0, true, 4, 0));
-    // No byte is wanted.
+    // No byte is needed.
     assert!(rt; held_after(0, 1, Some(1)) == (Ok(0), 0, false, 7, 0));
     assert!(rt; held_after(1, 0, Some(1)) == (Err(DeviceFailed), 0, true, 7, 1));
 }
@@ -37,10 +38,11 @@ fn other_inputs_hold_nothing(rt: HostRuntime) {
     assert!(rt; (input.held().len(), input.pass(1), input.rest) == (0, false, b"ab".as_slice()));
 }
 
-/// The bytes of a plain image of one row of twelve pixels, 1011 0000 1111, from where a comment of so many letters begins.
+/// The bytes of a plain image of one row of twelve pixels, 1011 0000 1111, from the start of a comment of this many
+/// letters.
 const TAIL: &[u8] = b"\n12 1\n1 01 1\t00001 111";
 
-/// The fault, or the row, of an image whose header has a comment of so many letters.
+/// The error, or the row, of an image whose header has a comment of this many letters.
 fn row_behind(comment: usize, most: usize, failing: Option<u64>) -> Result<[u8; 2], PbmFault>
     requires fits { comment ≤ 4200 }
     requires some { 0 < most }
@@ -60,7 +62,7 @@ fn row_behind(comment: usize, most: usize, failing: Option<u64>) -> Result<[u8; 
     Ok(row)
 }
 
-/// The array ends at each byte of the header and of the row.
+/// The buffer ends at each byte of the header and of the row.
 #[test]
 fn the_array_ends_anywhere(rt: HostRuntime) {
     for comment in 4060..4100usize {
@@ -71,7 +73,7 @@ fn the_array_ends_anywhere(rt: HostRuntime) {
     }
 }
 
-/// A second read comes only where bytes are wanted.
+/// A second read is made only if bytes are needed.
 #[test]
 fn the_second_read_fails(rt: HostRuntime) {
     for comment in 4060..4100usize {

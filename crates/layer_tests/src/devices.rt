@@ -7,8 +7,7 @@ use pbm_core::{
 };
 use std::io;
 
-/// A reader and a writer that is interrupted at its first call, and moves nothing at its second. Its
-/// first flush fails.
+/// A reader and a writer that is interrupted at its first call, and moves nothing at its second. Its first flush fails.
 #[derive(Drop)]
 struct Fitful {
     calls: u32,
@@ -54,7 +53,7 @@ impl io::Write for Fitful {
     }
 }
 
-/// What a read gives: its answer, the buffer, the count of failures, and how many bytes are left.
+/// The effect of a read: its result, the buffer, the count of failures, and the number of bytes left.
 fn read<R: Input, const N: usize>(
     input: &mut R,
     mut buf: [u8; N],
@@ -63,7 +62,7 @@ fn read<R: Input, const N: usize>(
     (answer, buf, input.failures(), input.left())
 }
 
-/// How many reads give what these rows report, from the first on.
+/// The number of reads that give the results of these rows, from the first on.
 fn reads<R: Input, const N: usize>(
     input: &mut R,
     buf: [u8; N],
@@ -87,8 +86,8 @@ fn flush<W: Output>(output: &mut W) -> Result<usize, DeviceFailed> {
     output.flush().and(Ok(0))
 }
 
-/// What a call gives: how many bytes were taken, and the count of failures. Bytes are written; with
-/// none the output is flushed.
+/// The effect of a call: the number of bytes accepted, and the count of failures. Bytes are written; without bytes the
+/// output is flushed.
 fn done<W: Output>(output: &mut W, call: Option<&[u8]>) -> (Result<usize, DeviceFailed>, u64) {
     let answer = match call {
         Some(bytes) => write(output, bytes),
@@ -125,7 +124,7 @@ const WIDE: Size = Size {
     height: 1,
 };
 
-/// What the read of a row of nine pixels answers, the row, and how many bytes are left.
+/// The result of reading a row of nine pixels, the row, and the number of bytes left.
 fn row_of_nine<R: Input>(input: &mut R) -> (Result<(), PbmFault>, [u8; 2], u64) {
     let mut row = [0; 2];
     let answer = read_row(input, WIDE, Form::Raw, &mut row);
@@ -141,12 +140,11 @@ fn readers_of_std_are_read(rt: HostRuntime) {
     assert!(rt; row == (Ok(()), *b"\xff\x80", u64::MAX - 9));
 }
 
-/// Calls of an output over `Fitful`, their answers, and how often writes and flushes of it were
-/// called and one of them failed.
+/// Calls of an output over `Fitful`, their results, and the numbers of writes and flushes, and of those that failed.
 static FITFUL: [(Option<&[u8]>, Result<usize, DeviceFailed>, u32, u32, u64); 5] = [
     // Nothing is tried again.
     (Some(b"ab"), Err(DeviceFailed), 1, 0, 1),
-    // Nothing was taken.
+    // Nothing was accepted.
     (Some(b"ab"), Err(DeviceFailed), 2, 0, 2),
     (Some(b"ab"), Ok(2), 3, 0, 2),
     // A flush reaches the writer.
@@ -193,7 +191,7 @@ fn a_slice_is_written_until_it_is_full(rt: HostRuntime) {
     assert!(rt; (answer, failures, held) == (Err(WriteFault), 1, *b"P4\n9"));
 }
 
-/// Reads of five bytes, two at a time, of which the third read fails.
+/// Reads of five bytes, two at a time, of which the third fails.
 static READS: [(Result<usize, DeviceFailed>, [u8; 4], u64, u64); 6] = [
     (Ok(2), *b"ab..", 0, 3),
     (Ok(2), *b"cd..", 0, 1),
@@ -211,8 +209,8 @@ fn pieces_are_small_and_one_read_fails(rt: HostRuntime) {
     assert!(rt; reads(&mut whole, *b"...", &[(Ok(3), *b"abc", 0, 2)]) == 1);
 }
 
-/// Calls of an output with room for five bytes, whose second write and each flush fail: the answers,
-/// what is written, and the count of failures.
+/// Calls of an output with space for five bytes, whose second write and each flush fail: the results, the output, and
+/// the count of failures.
 static DRIPS: [(Option<&[u8]>, Result<usize, DeviceFailed>, &[u8], u64); 8] = [
     (Some(b"abc"), Ok(2), b"ab", 0),
     (Some(b"abc"), Err(DeviceFailed), b"ab", 1),

@@ -1,4 +1,4 @@
-//! Coders that are taken apart into numbers between any two pixels, and put together again.
+//! Coders that are exported as numbers between any two pixels, and rebuilt.
 
 use crate::coder::{
     DECODED, Room, STANDARD_ANSWERS, STANDARD_CODE, Script, finish, next, put, standard_events,
@@ -8,7 +8,7 @@ use qm_core::{
     Stop,
 };
 
-/// What the next pixel in context n gives, for the decoder of these numbers, and its numbers then.
+/// The result of the next pixel in context n for the decoder of these numbers, and its numbers then.
 fn next_of(
     numbers: DecoderRegisters,
     learned: &mut Learned,
@@ -20,7 +20,7 @@ fn next_of(
     Some((answer, decoder.registers()))
 }
 
-/// Whether the decoders of numbers give these pixels in these contexts, and how often the source is then asked.
+/// Whether the decoders of numbers return these pixels in these contexts, and how often the source is asked then.
 fn decodes(answers: &[Pulled], events: &[(u16, bool)]) -> (bool, u64) {
     let mut source = Script::new(answers);
     let mut learned = Learned::new();
@@ -55,7 +55,7 @@ fn put_of(
     Some(encoder.registers())
 }
 
-/// Whether the encoders of numbers code these events, and end the code.
+/// Whether the encoders of numbers encode these events, and end the code.
 fn codes(events: &[(u16, bool)], out: &mut Room) -> bool {
     let mut learned = Learned::new();
     let mut numbers = Encoder::start().registers();
@@ -132,7 +132,7 @@ fn first_numbers_by_hand(rt: HostRuntime) {
     assert!(rt; first_numbers() == ([before, DECODER], [empty, ENCODER]));
 }
 
-/// Whether numbers are those of a decoder, which then has them.
+/// Whether numbers are those of a decoder, which then exports them.
 fn is_decoder(numbers: DecoderRegisters) -> bool {
     match Decoder::from_registers(numbers) {
         Some(decoder) => decoder.registers() == numbers,
@@ -140,7 +140,7 @@ fn is_decoder(numbers: DecoderRegisters) -> bool {
     }
 }
 
-/// Numbers, and whether a decoder has them.
+/// Numbers, and whether they are a decoder's.
 static DECODERS: [(&str, DecoderRegisters, bool); 11] = [
     ("as they were", DECODER, true),
     (
@@ -228,7 +228,7 @@ fn decoders_of_any_numbers(rt: HostRuntime) {
     }
 }
 
-/// Whether numbers are those of an encoder, which then has them.
+/// Whether numbers are those of an encoder, which then exports them.
 fn is_encoder(numbers: EncoderRegisters) -> bool {
     match Encoder::from_registers(numbers) {
         Some(encoder) => encoder.registers() == numbers,
@@ -246,7 +246,7 @@ const HOLDS: EncoderRegisters = EncoderRegisters {
     ..ENCODER
 };
 
-/// Numbers, and whether an encoder has them.
+/// Numbers, and whether they are an encoder's.
 static ENCODERS: [(&str, EncoderRegisters, bool); 19] = [
     ("as they were", ENCODER, true),
     ("with bytes held back", HOLDS, true),
@@ -384,8 +384,8 @@ fn encoders_of_any_numbers(rt: HostRuntime) {
     }
 }
 
-/// What the first two pixels of a code give where the second asks a source that fails, and what the second gives when
-/// the decoder is made anew of the numbers that it then has.
+/// The results of the first two pixels of a code if the second asks a source that fails, and of the second pixel for
+/// the decoder rebuilt from its numbers then.
 fn decodes_after_a_stop() -> [Option<Result<bool, Stop>>; 3] {
     let answers = [
         Pulled::Byte(0xF0),

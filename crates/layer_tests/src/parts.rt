@@ -1,4 +1,4 @@
-//! Rows whose code comes in parts, by a decoder that is made of its numbers for each part.
+//! Rows whose code arrives in parts, with a decoder that is rebuilt from its numbers for each part.
 
 use crate::rows::{Course, Given, code_of_model, is_row, over_8, row_of, shape};
 use qm_core::{CodeBytes, Decoder, DecoderRegisters, Pulled, Stop};
@@ -6,7 +6,7 @@ use raster_core::{RowPlace, RowPlaceNumbers, Window, go_on_row, window_bytes};
 use std::process::Abort;
 use std::test::Fail;
 
-/// A source that fails before each byte but the first, and then gives it.
+/// A source that fails before each byte but the first, and then returns it.
 #[derive(Drop)]
 struct Halting<'a> {
     given: Given<'a>,
@@ -37,7 +37,7 @@ impl CodeBytes for Halting<'_> {
     }
 }
 
-/// Where the decoder of a row has come, as numbers.
+/// The state of a row's decoder, as numbers.
 #[derive(Clone, Copy, PartialEq, Debug)]
 struct Numbers {
     decoder: DecoderRegisters,
@@ -53,8 +53,7 @@ fn before_row() -> Numbers {
 }
 
 impl Course {
-    /// Goes on with the current row of a window, by what is made of numbers, which then become those of where it has
-    /// come.
+    /// Continues with the current row of a window, from the numbers, and replaces them by those of the new state.
     fn go_on<S: CodeBytes>(
         &mut self,
         rt: &impl Abort,
@@ -86,7 +85,8 @@ impl Course {
     }
 }
 
-/// Of the second row five pixels are decided, white, white, black, black and white; the place is made of its numbers.
+/// Five pixels of the second row are determined: white, white, black, black and white; the place is rebuilt from its
+/// numbers.
 #[test]
 fn numbers_of_a_place_by_hand(rt: HostRuntime) {
     let mut bytes = [0; 3];
@@ -123,7 +123,7 @@ fn a_place_of_any_numbers(rt: HostRuntime) {
     }
 }
 
-/// Whether a code gives the current row of a window, and in how many steps, where each begins with numbers.
+/// Whether a code gives the current row of a window, and in how many steps, each of which begins with numbers.
 fn goes_on(
     rt: &impl Abort,
     course: &mut Course,
@@ -141,7 +141,7 @@ fn goes_on(
     (false, 0)
 }
 
-/// Rows of which each byte of the code comes alone, with pixels of the context far behind the current one.
+/// Rows whose code arrives byte by byte, with context pixels far behind the current one.
 #[test]
 fn rows_go_on_from_their_numbers(rt: HostRuntime) -> Result<(), Fail> {
     let alloc = rt.alloc();

@@ -1,4 +1,5 @@
-//! How often a decoder asks its source, event by event, beside a count by the definition alone.
+//! The number of times that a decoder asks its source, decision by decision, compared with a count by the definition
+//! alone.
 
 ghost use Rattle.std.specs.Prelude.{◌+◌, ◌<◌};
 
@@ -23,7 +24,7 @@ static SIZES: [u32; 113] = [
     0x5597, 0x504F, 0x5A10, 0x5522, 0x59EB,
 ];
 
-/// The size of a place, and how often it was doubled.
+/// The size of a coding interval, and its number of doublings.
 #[derive(Drop)]
 struct Narrowing {
     size: u32,
@@ -31,7 +32,7 @@ struct Narrowing {
 }
 
 impl Narrowing {
-    /// Goes to the part of a pixel, doubled until it is large enough.
+    /// Takes the part of a pixel, doubled until it is large enough.
     fn go(&mut self, upper: u32, is_favoured: bool) {
         let lower = self.size.saturating_sub(upper);
         let is_lower = (lower < upper) != is_favoured;
@@ -44,13 +45,13 @@ impl Narrowing {
         }
     }
 
-    /// How many bytes decide an event here: those of 16 bits and one more for each doubling.
+    /// The number of bytes that determine an event here: those of 16 bits, and one bit per doubling.
     fn wanted(&self) -> u64 {
         self.doublings.saturating_add(23) / 8
     }
 }
 
-/// A pixel in its context, and how many bytes of a code that goes on decide it.
+/// A pixel in its context, and the number of bytes of a continuing code that determine it.
 #[derive(Clone, Copy, Drop)]
 struct Counted {
     context: u16,
@@ -58,7 +59,7 @@ struct Counted {
     wanted: u64,
 }
 
-/// Codes a pixel, and counts what it wants.
+/// Encodes a pixel, and counts the bytes that it needs.
 fn put_counted(
     rt: &impl Abort,
     narrowing: &mut Narrowing,
@@ -124,7 +125,7 @@ fn events_of(
     Ok((events, out.bytes))
 }
 
-/// How often a source is asked until it answers that there is no further byte.
+/// The number of times that a source is asked until it reports its end.
 fn whole(code: &[u8]) -> u64 {
     let mut source = Given::new(code, true);
     for _i in 0..=code.len() {
@@ -135,7 +136,7 @@ fn whole(code: &[u8]) -> u64 {
     source.asked
 }
 
-/// How often an event comes in a row from here on, up to 64 times.
+/// The number of equal events in a row from here on, up to 64.
 fn run_at(events: &[Counted], at: usize) -> u32 {
     let mut count = 0u32;
     let Some(first) = events.get(at) else {
@@ -164,8 +165,8 @@ fn is_next(
     decoder.next(learned, Context::of(event.context % 1024), source) == Ok(event.black)
 }
 
-/// Decodes events, as many at once as can be, with the source asked after each as often as it
-/// wants. The result is how many were decoded at once with others.
+/// Decodes events, as many at once as possible, and compares the number of pulls after each. Returns how many were
+/// decoded together with others.
 fn pulls_of(rt: &impl Abort, events: &[Counted], code: &[u8]) -> u64 {
     let all = whole(code);
     let mut source = Given::new(code, true);
@@ -192,7 +193,7 @@ fn pulls_of(rt: &impl Abort, events: &[Counted], code: &[u8]) -> u64 {
     many
 }
 
-/// Decodes the rows of a code, with the source asked after each as often as its last event wants.
+/// Decodes the rows of a code, and compares the number of pulls after each with that of its last event.
 fn pulls_of_rows(
     rt: &impl Abort,
     alloc: Global,
@@ -218,8 +219,8 @@ fn pulls_of_rows(
     Ok(())
 }
 
-/// Whether a pixel is black, in an image of a kind: white or black with a few others, blocks, or
-/// half black without order.
+/// Whether a pixel is black, in an image of some kind: white or black with a few others, blocks, or half black at
+/// random.
 fn is_black(kind: u32, x: u32, y: u32, noise: u32) -> bool {
     match kind {
         0 => noise < 1,
@@ -230,7 +231,7 @@ fn is_black(kind: u32, x: u32, y: u32, noise: u32) -> bool {
     }
 }
 
-/// The rows of an image of a kind. Each ends in white padding.
+/// The rows of an image of some kind. Each ends in white padding.
 fn rows_of_kind(
     alloc: Global,
     width: u32,
@@ -254,8 +255,8 @@ fn rows_of_kind(
     Ok(rows)
 }
 
-/// The pulls for an image of a kind are those that its events want. The result is how many events
-/// were decoded at once with others.
+/// The pulls for an image of some kind are those that its events need. Returns how many events were decoded together
+/// with others.
 fn wants_of(
     rt: &impl Abort,
     alloc: Global,
@@ -269,7 +270,7 @@ fn wants_of(
     Ok(pulls_of(rt, events.as_slice(), code.as_slice()))
 }
 
-/// No pixel pulls a byte early, and none goes without one that it wants, whether alone or in a run.
+/// No pixel pulls a byte early, and none misses one that it needs, whether alone or in a run.
 #[test]
 fn pulls_are_those_wanted(rt: HostRuntime) -> Result<(), Fail> {
     for kind in 0..5u32 {

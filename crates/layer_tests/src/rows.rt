@@ -1,5 +1,4 @@
-//! Codes of rasters worked out by hand, and rows of every kind against a model that goes by
-//! coordinates.
+//! Codes of rasters worked out by hand, and all kinds of rows compared with a model that uses coordinates.
 
 ghost use Rattle.std.specs.Prelude.{◌≡◌, ◌+◌, ◌<◌};
 
@@ -12,7 +11,7 @@ use std::alloc::{AllocError, Global};
 use std::process::Abort;
 use std::test::Fail;
 
-/// A sink that keeps what it takes.
+/// A sink that stores its bytes.
 #[derive(Drop)]
 pub struct Taken {
     pub bytes: Vec<u8>,
@@ -35,7 +34,7 @@ impl CodeSink for Taken {
     }
 }
 
-/// A source of stuffed bytes. After them it answers End, or a fault.
+/// A source of stuffed bytes. After them it reports its end, or a failure.
 #[derive(Drop)]
 pub struct Given<'a> {
     bytes: &'a [u8],
@@ -97,7 +96,7 @@ const START: Kept = Kept {
     previous_typical: false,
 };
 
-/// How rows are coded, and what is kept from one to the next.
+/// The row-coding parameters, and the state carried from row to row.
 #[derive(Drop)]
 pub struct Course {
     pub shape: Shape,
@@ -117,7 +116,7 @@ impl Course {
         }
     }
 
-    /// Codes a row below those of a window.
+    /// Encodes a row below those of a window.
     fn encode<W: CodeSink>(
         &mut self,
         rt: &impl Abort,
@@ -250,7 +249,7 @@ fn gives(
     Ok(gives_below(rt, &mut course, &mut window, code, rows))
 }
 
-/// Whether rows in one stripe have this code, and come back from it.
+/// Whether rows in one stripe have this code, and are decoded from it.
 fn is_code(
     rt: &impl Abort,
     alloc: Global,
@@ -296,7 +295,7 @@ fn codes_by_hand(rt: HostRuntime) -> Result<(), Fail> {
     Ok(())
 }
 
-/// Codes a pixel.
+/// Encodes a pixel.
 pub fn put(
     rt: &impl Abort,
     encoder: &mut Encoder,
@@ -323,7 +322,7 @@ fn code_in(rt: &impl Abort, alloc: Global, contexts: &[u16]) -> Vec<u8> {
     out.bytes
 }
 
-/// Whether rows in one stripe have the code of black pixels in these contexts, and come back from it.
+/// Whether rows in one stripe have the code of black pixels in these contexts, and are decoded from it.
 fn is_code_in(
     rt: &impl Abort,
     alloc: Global,
@@ -379,7 +378,7 @@ fn contexts_by_hand(rt: HostRuntime) -> Result<(), Fail> {
     Ok(())
 }
 
-/// What a tally chooses after the current row, of 8, alone.
+/// The choice of a tally after only the current row, of 8 pixels.
 fn chosen(rt: &impl Abort, tally: &mut Tally, window: &Window, offset: u8) -> Option<u8> {
     tally.restart();
     assert!(rt; window.width() == 8 && offset <= 127);
@@ -387,8 +386,7 @@ fn chosen(rt: &impl Abort, tally: &mut Tally, window: &Window, offset: u8) -> Op
     tally.choose(offset)
 }
 
-/// Whether a black row of 8 below those of a window has this code, and what the tally chooses after
-/// it.
+/// Whether a black row of 8 below those of a window has this code, and the tally's choice after it.
 fn moves(
     rt: &impl Abort,
     alloc: Global,
@@ -414,7 +412,7 @@ fn moves_between_stripes(rt: HostRuntime) {
     let mut course = Course::new(shape(8, false, false), 0);
     let mut tally = Tally::new(false, 3);
     assert!(rt; tally.choose(0) == None);
-    // Five pixels of each row have a black one 3 to the left.
+    // Five pixels of each row have a black pixel 3 to the left.
     let first = moves(&rt, rt.alloc(), &mut course, &mut window, &mut tally, 0xf0);
     assert!(rt; first == (true, Some(3)));
     course.kept.offset = 3;
@@ -422,7 +420,7 @@ fn moves_between_stripes(rt: HostRuntime) {
     assert!(rt; second == (true, None));
 }
 
-/// What a tally chooses after one row of 8 below another.
+/// The choice of a tally after one row of 8 below another.
 fn choice(rt: &impl Abort, two_line: bool, most: u8, above: u8, row: u8, offset: u8) -> Option<u8> {
     let mut bytes = [0; 3];
     let mut window = over_8(&mut bytes);
@@ -435,19 +433,18 @@ fn choice(rt: &impl Abort, two_line: bool, most: u8, above: u8, row: u8, offset:
     tally.choose(offset)
 }
 
-/// Whether there are two lines, the greatest lag, the row above, the row, the offset, and what is
-/// chosen.
+/// Whether there are two lines, the greatest lag, the row above, the row, the offset, and the choice.
 static CHOICES: [(bool, u8, u8, u8, u8, Option<u8>); 9] = [
-    // Five pixels agree at lag 3 and none in the nominal place.
+    // Five pixels agree at lag 3 and none at the nominal position.
     (false, 127, 0x00, 0xff, 0, Some(3)),
-    // Below a black row six agree in the nominal place.
+    // Below a black row six agree at the nominal position.
     (false, 127, 0xff, 0xff, 0, None),
     // At lag 5, the least with two lines, three agree.
     (true, 127, 0x00, 0xff, 0, Some(5)),
     // No lag is within reach.
     (false, 2, 0x00, 0xff, 0, None),
     (true, 4, 0x00, 0xff, 0, None),
-    // Seven agree in the nominal place, and no more at any lag.
+    // Seven agree at the nominal position, and no more at any lag.
     (false, 127, 0x00, 0x80, 0, None),
     // Six agree at lag 4, and three at lag 3.
     (false, 4, 0x33, 0xcc, 3, Some(4)),
@@ -465,7 +462,7 @@ fn offsets_by_hand(rt: HostRuntime) {
     }
 }
 
-/// Codes that no row is coded to, their shape, and the rows that they give.
+/// Codes that are no row's code, their shape, and the rows that they denote.
 static DECODED: [((u32, bool, bool), &[u8], &[&[u8]]); 2] = [
     // Zeros follow the end of a code: the second row is not white.
     ((8, false, false), &[0xf0], &[&[0xff], &[0x32]]),
@@ -482,7 +479,7 @@ fn other_codes_are_decoded(rt: HostRuntime) -> Result<(), Fail> {
     Ok(())
 }
 
-/// What decoding the current row answers, whether row k is black, and how often the source failed.
+/// The result of decoding the current row, whether row k is black, and how often the source failed.
 fn decoded(
     rt: &impl Abort,
     course: &mut Course,
@@ -495,7 +492,7 @@ fn decoded(
     (answer, is_row(window, k, &[0xff]), source.failures())
 }
 
-/// Three bytes decide the first row, and the sixth pixel of the second wants a fourth.
+/// Three bytes determine the first row, and the sixth pixel of the second needs a fourth.
 #[test]
 fn stops_in_the_second_row(rt: HostRuntime) {
     let mut bytes = [0; 3];
@@ -512,7 +509,7 @@ fn stops_in_the_second_row(rt: HostRuntime) {
     assert!(rt; third == (Err(Stop), true, 1));
 }
 
-/// Codes row n, whatever was kept of those before it.
+/// Encodes row n, whatever state was carried from those before it.
 fn code_anew(
     rt: &impl Abort,
     course: &mut Course,
@@ -525,7 +522,7 @@ fn code_anew(
     course.encode(rt, window, &[n.wrapping_mul(37)], encoder, out)
 }
 
-/// A sink that takes nothing is met once: from then on the encoder has failed.
+/// A sink that accepts nothing is called once: then the encoder has failed.
 #[test]
 fn fails_once(rt: HostRuntime) {
     let mut bytes = [0; 3];
@@ -570,8 +567,7 @@ fn turns_and_clears(rt: HostRuntime) {
     assert!(rt; has_rows(&window, [[0, 0]; 3]));
 }
 
-/// The pixel of a row that stands this far to the right of x, or this far to the left; white outside of
-/// it.
+/// The pixel of a row this far to the right of x, or this far to the left; white outside of the row.
 pub fn pixel(row: &[u8], width: u32, x: u32, right: u32, left: u32) -> bool {
     let at = x.wrapping_add(right).wrapping_sub(left);
     match row.get((at / 8) as usize) {
@@ -623,7 +619,7 @@ pub fn context_by_coordinates(shape: Shape, offset: u8, rows: [&[u8]; 3], x: u32
     number % 1024
 }
 
-/// A row of pixels without order, that ends in white padding.
+/// A row of random pixels, with white padding.
 pub fn row_of(alloc: Global, width: u32, seed: u32) -> Result<Vec<u8>, AllocError> {
     let mut bytes = Vec::new(alloc);
     let mut state = seed;
@@ -640,7 +636,7 @@ pub fn row_of(alloc: Global, width: u32, seed: u32) -> Result<Vec<u8>, AllocErro
     Ok(bytes)
 }
 
-/// Codes a row below two others by the model.
+/// Encodes a row below two others with the model.
 fn put_row(
     rt: &impl Abort,
     shape: Shape,
@@ -657,7 +653,7 @@ fn put_row(
     }
 }
 
-/// The code that the model gives three rows.
+/// The code of three rows by the model.
 pub fn code_of_model(
     rt: &impl Abort,
     alloc: Global,
@@ -691,8 +687,7 @@ pub fn code_of_model(
     out.bytes
 }
 
-/// Whether three rows have the code that the model gives, and come back from it, with three lines
-/// and with two.
+/// Whether three rows have the model's code, and are decoded from it, with three lines and with two.
 fn meets_model(
     rt: &impl Abort,
     alloc: Global,
@@ -710,7 +705,7 @@ fn meets_model(
     Ok(true)
 }
 
-/// Rows of this width without order meet the model.
+/// Random rows of this width agree with the model.
 fn meet_model(rt: &impl Abort, alloc: Global, width: u32, offset: u8) -> Result<(), AllocError> {
     let first = row_of(alloc, width, 1)?;
     let second = row_of(alloc, width, 2)?;
@@ -723,7 +718,7 @@ fn meet_model(rt: &impl Abort, alloc: Global, width: u32, offset: u8) -> Result<
     Ok(())
 }
 
-/// Widths about a byte's edges, in the nominal place and a moved one.
+/// Widths around a byte's boundaries, with the nominal position and a moved one.
 #[test]
 fn widths_meet_the_model(rt: HostRuntime) -> Result<(), Fail> {
     for &width in &[1, 2, 7, 8, 9, 15, 16, 17] {
@@ -748,7 +743,7 @@ fn offsets_meet_the_model(rt: HostRuntime) -> Result<(), Fail> {
     Ok(())
 }
 
-/// A black row with one white pixel, if that lies in it, and white padding.
+/// A black row with one white pixel, if it is within the row, and white padding.
 fn black_row(alloc: Global, width: u32, white: u32) -> Result<Vec<u8>, AllocError> {
     let mut bytes = vec![in alloc; 0u8; width.div_ceil(8) as usize]?;
     for x in 0..width {
@@ -761,8 +756,8 @@ fn black_row(alloc: Global, width: u32, white: u32) -> Result<Vec<u8>, AllocErro
     Ok(bytes)
 }
 
-/// Three black rows, long enough for runs of 64, and the same with a white pixel in the middle of
-/// one of them; in the nominal place and in moved ones.
+/// Three black rows, long enough for runs of 64, and the same with a white pixel in the middle of one of them; with the
+/// nominal position and with moved ones.
 #[test]
 fn black_rows_meet_the_model(rt: HostRuntime) -> Result<(), Fail> {
     for &(width, offset) in &[(1203, 0), (1200, 9), (1203, 127)] {

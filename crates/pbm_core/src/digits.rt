@@ -13,7 +13,7 @@ const SAME_BITS: u64 = 0xfefe_fefe_fefe_fefe;
 /// Multiplying a word of eight bytes 0 or 1 by this gathers their bits in the highest byte.
 const GATHER: u64 = 0x0102_0408_1020_4080;
 
-/// Where pixels end among bytes, and the byte into which they are packed.
+/// The place where pixels end among bytes, and the byte into which they are packed.
 #[derive(Clone, Copy)]
 pub(crate) struct Found {
     pub(crate) end: usize,

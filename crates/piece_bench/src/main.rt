@@ -1,7 +1,7 @@
-//! Decodes the stream on standard input again and again, whole or in pieces, to count what pieces cost.
+//! Decodes the stream on standard input repeatedly, whole or in pieces, to measure the cost of pieces.
 //!
-//! The words of the command line are how often, and the bytes of a piece: 0 gives the whole stream to `decode`. The
-//! number that is printed is that of all bytes of the images.
+//! The arguments are the number of repetitions, and the bytes per piece: 0 passes the whole stream to `decode`. Prints
+//! the number of bytes of all images.
 #![tactic(auto)]
 
 ghost use Rattle.std.specs.Prelude.{◌≡◌};
@@ -15,7 +15,7 @@ use std::alloc::Global;
 use std::io::{self, Read};
 use t85_core::{Header, Outcome, PieceDecoder, decode};
 
-/// Decodes a body in pieces of so many bytes, each given with what was left of the one before.
+/// Decodes a body in pieces of this many bytes, each preceded by the bytes that the previous call left.
 fn in_pieces(header: Header, body: &[u8], window: &mut Window<'_>, size: usize, rows: &mut Vec<u8>)
     requires { width_of window.old ≡ header.xd }
 {
@@ -43,7 +43,7 @@ fn in_pieces(header: Header, body: &[u8], window: &mut Window<'_>, size: usize, 
     }
 }
 
-/// Decodes a body by one call, which writes a PBM.
+/// Decodes a body in one call, which writes a PBM.
 fn whole(header: &Header, body: &[u8], window: &mut Window<'_>, rows: &mut Vec<u8>)
     requires { width_of window.old ≡ header.now.xd }
 {
@@ -52,7 +52,7 @@ fn whole(header: &Header, body: &[u8], window: &mut Window<'_>, rows: &mut Vec<u
     decode(header, header.yd, window, &mut input, &mut output).ok();
 }
 
-/// The word with this index as a number.
+/// The argument with this index as a number.
 fn number(words: &[String], i: usize, otherwise: u32) -> u32 {
     match words.get(i) {
         Some(word) => word.as_str().parse().unwrap_or(otherwise),
@@ -60,7 +60,7 @@ fn number(words: &[String], i: usize, otherwise: u32) -> u32 {
     }
 }
 
-/// Decodes a stream so many times, and counts the bytes of its images.
+/// Decodes a stream this many times, and counts the bytes of its images.
 fn run(alloc: Global, bytes: &[u8], times: u32, size: u32) -> io::Result<u64> {
     let mut sum = 0u64;
     let mut input = Pieces::new(bytes, 1 << 20, None);

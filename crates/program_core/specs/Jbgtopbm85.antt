@@ -1,4 +1,4 @@
--- The command of `jbgtopbm85`, as clap's contracts see one, what the arguments say by it, and what `run` does for a job.
+-- The command of `jbgtopbm85` in terms of clap's contracts, the job for its arguments, and the effect of `run`.
 use Rattle.std.specs.Prelude.{◌≡◌, ◌-◌, ◌^◌, ℕ, Bool, true, false, List, Result, Some, codes, option_map, string_bytes, unwrap_or}
 use Rattle.t85_core.specs.Change.{Change}
 use Rattle.t85_core.specs.Failures.{FlushesOnce}
@@ -25,32 +25,32 @@ max_rows_rule = long_number_rule (codes "max-rows") (codes "max-rows")
 abbrev pub decode_command : App
 decode_command = with_version (with_rule (with_rule (with_rule (with_rule (new_app (codes "jbgtopbm85")) info_rule) max_rows_rule) (new_rule (codes "input"))) (new_rule (codes "output")))
 
--- the matches that clap's walk over the arguments gives the command
+-- the matches of the command that clap's walk over the arguments returns
 unfoldable pub decode_matches : List Text → List Row
 decode_matches words = matches_of decode_command words
 
--- the job that has the values of these matches
+-- the job with the values of these matches
 pub record IsDecodeJobOf (rows : List Row) (job : Job) : Type 0 where
   pub info : job.info ≡ flag_in (codes "info") rows
   pub max_rows : job.max_rows ≡ number_in (codes "max-rows") rows
   pub input : option_map string_bytes job.input ≡ first_of (codes "input") rows
   pub output : option_map string_bytes job.output ≡ first_of (codes "output") rows
 
--- the kinds of refusal that clap's walk over the arguments gives the command, none where it takes them
+-- the kinds of refusal that clap's walk over the arguments returns, none if it accepts them
 unfoldable pub decode_refusals : List Text → Kinds
 decode_refusals words = fault_of decode_command words
 
--- the most rows that a job takes; without a number of its own there is no limit, since no height is above this one
+-- the greatest number of rows of a job; without an option there is no limit, since no height exceeds this value
 abbrev pub limit_of : Job → ℕ
 limit_of job = unwrap_or job.max_rows (2 ^ 32 - 1)
 
--- What a job asks of the engine, with or without `--info`, under this limit of the rows.
+-- The effect of the engine for a job, with or without `--info`, under this limit of the rows.
 abbrev pub Does : Bool → ℕ → Change → SecondReading → Delivery → Result (Unit {0}) Fault → Type 0
 Does true limit input again out outcome = Info input out.change out.flushed outcome × again.untouched
 Does false limit input again out outcome = ToPbm limit input again out outcome
 
--- What a run leaves for a job, with this exit status: what the engine leaves with some outcome, of the output besides, and a
--- report of that outcome.
+-- The effect of a run for a job, with this exit status: the engine's effect with some outcome on input and output, and a report
+-- of that outcome.
 pub record RunsDecoding (job : Job) (input : Change) (again : SecondReading) (output messages : Written) (status : ℕ) : Type 0 where
   pub outcome : Result (Unit {0}) Fault
   pub status_is : status ≡ exit_status outcome

@@ -1,4 +1,4 @@
--- What arguments say to a command, and what a run does.
+-- The meaning of a command's arguments, and the effect of a run.
 pub mod Line
 pub mod Options
 pub mod Jbgtopbm85

@@ -1,4 +1,4 @@
--- What arguments say to a command, as clap's contracts see one.
+-- The meaning of a command's arguments, in terms of clap's contracts.
 use Rattle.std.specs.Prelude.{◌≡◌, ◌≢◌, ◌⊎◌, ⊤, ℕ, Bool, List, false, codes}
 use Rattle.std.specs.Option.{option_map_or}
 use Rattle.std.specs.Str.{bytes_eq}
@@ -9,11 +9,11 @@ use Rattle.t85_core.specs.declared.fault.Fault.TheVariants as fault
 use Rattle.program_core.specs.declared.line_fault.LineFault.{LineFault}
 use Rattle.program_core.specs.declared.line_fault.LineFault.TheVariants as line_fault
 
--- whether the matches say that a flag is set
+-- whether the matches contain a flag
 abbrev pub flag_in : Text → List Row → Bool
 flag_in id rows = option_map_or (λ text. bytes_eq text (codes "true")) (one_of id rows) false
 
--- the status that a fault of the arguments ends the program with
+-- the exit status for an error of the arguments
 abbrev pub status_of : LineFault → ℕ
 status_of (line_fault.Help text) = 0
 status_of (line_fault.Usage text) = 2
@@ -26,13 +26,13 @@ IsHelp (line_fault.Help text) = ⊤
 IsHelp (line_fault.Usage text) = ⊥
 IsHelp (line_fault.Fault f) = ⊥
 
--- what is answered for an error of clap of this kind
+-- the result for an error of clap of this kind
 abbrev pub Tells : ErrorKind → LineFault → Type 0
 Tells k (line_fault.Help text) = (k ≡ kind.DisplayHelp) ⊎ (k ≡ kind.DisplayVersion)
 Tells k (line_fault.Usage text) = (k ≢ kind.DisplayHelp) × (k ≢ kind.DisplayVersion) × (k ≢ kind.OutOfMemory)
 Tells k (line_fault.Fault f) = f ≡ fault.OutOfMemory
 
--- the help or the version where that is among the refusals, a mistake where another is, or lack of memory
+-- the help or the version if it is among the refusals, a usage error if another refusal is, or lack of memory
 abbrev pub IsRefusal : Kinds → LineFault → Type 0
 IsRefusal kinds (line_fault.Help text) = IsAmong kind.DisplayHelp kinds ⊎ IsAmong kind.DisplayVersion kinds
 IsRefusal kinds (line_fault.Usage text) = (k : ErrorKind) × IsAmong k kinds × (k ≢ kind.DisplayHelp) × (k ≢ kind.DisplayVersion)

@@ -1,4 +1,4 @@
--- Options of one letter, as clap's contracts see them.
+-- Options of one letter, in terms of clap's contracts.
 use Rattle.std.specs.Prelude.{◌≡◌, ◌^◌, ◌&&◌, ℕ, List, Option, Some, None, true, pos, if◌then◌else◌, nat_lt, option_and_then}
 use Rattle.std.specs.Str.Parse.{digits_value, without_leading_plus}
 use Rattle.clap.specs.ValueTests.{is_numeral}
@@ -7,7 +7,7 @@ use Rattle.clap.specs.declared.builder.command.Command.{Command}
 use Rattle.clap.specs.declared.builder.ArgAction.TheVariants.{Set, SetTrue}
 use Rattle.clap.specs.declared.builder.value_parser.ValueParser.TheVariants as parser
 
--- an option of one letter with a number, and with a default where there is one
+-- an option of one letter with a number, and possibly with a default
 abbrev pub number_rule : Text → ℕ → List Text → Rule
 number_rule id letter defaults = record (new_rule id) {
   short = Some letter;
@@ -17,7 +17,7 @@ number_rule id letter defaults = record (new_rule id) {
   defaults = defaults;
 }
 
--- an option of a long name with a number
+-- an option with a long name and a number
 abbrev pub long_number_rule : Text → Text → Rule
 long_number_rule id name = record (new_rule id) {
   long = Some name;
@@ -30,11 +30,11 @@ long_number_rule id name = record (new_rule id) {
 abbrev pub text_rule : Text → ℕ → Rule
 text_rule id letter = record (new_rule id) { short = Some letter; value_names = 1 }
 
--- an option of one letter alone
+-- an option of one letter without a value
 abbrev pub flag_rule : Text → ℕ → Rule
 flag_rule id letter = record (new_rule id) { short = Some letter; action = Some SetTrue }
 
--- a command has a rule more than another
+-- a command has one more rule than another
 abbrev pub HasAlso : Command → Rule → Command → Type 0
 HasAlso c rule more = app_of more ≡ with_rule (app_of c) rule
 
@@ -43,7 +43,7 @@ abbrev pub decimal : Text → Option ℕ
 decimal text = let digits = without_leading_plus text in
     if is_numeral digits && nat_lt (digits_value 10 digits) (2 ^ 32) then Some (digits_value 10 digits) else None
 
--- the number that the matches give an option
+-- the number of an option in the matches
 abbrev pub number_in : Text → List Row → Option ℕ
 number_in id rows = option_and_then decimal (one_of id rows)
 

@@ -1,4 +1,4 @@
--- The command of `pbmtojbg85`, which job the arguments ask for, and what the job asks of the engine.
+-- The command of `pbmtojbg85`, the job for its arguments, and the engine's options for the job.
 use Rattle.std.specs.Prelude.{◌≡◌, ◌⊎◌, ℕ, List, [], ◌∷◌, Some, Result, is_some, true, codes, option_map, string_bytes}
 use Rattle.clap.specs.Words.{App, Kinds, Row, fault_of, Text, first_of, matches_of, new_app, new_rule, with_rule}
 use Rattle.t85_core.specs.Change.{Change}
@@ -16,7 +16,7 @@ use Rattle.program_core.specs.declared.line_fault.LineFault.TheVariants as line_
 use Rattle.program_core.specs.Options.{with_version, number_rule, text_rule, flag_rule, number_in}
 use Rattle.program_core.specs.declared.pbmtojbg85.work.Job.{Job}
 
--- the options that have a number
+-- the options with a number
 abbrev pub encode_numbers : App
 encode_numbers = with_rule (with_rule (with_rule (with_rule
     (new_app (codes "pbmtojbg85"))
@@ -33,15 +33,15 @@ encode_command = with_version (with_rule (with_rule (with_rule (with_rule encode
     (new_rule (codes "input")))
     (new_rule (codes "output")))
 
--- the matches that clap's walk over the arguments gives the command
+-- the matches of the command that clap's walk over the arguments returns
 unfoldable pub encode_matches : List Text → List Row
 encode_matches words = matches_of encode_command words
 
--- the kinds of refusal that clap's walk over the arguments gives the command, none where it takes them
+-- the kinds of refusal that clap's walk over the arguments returns, none if it accepts them
 unfoldable pub encode_refusals : List Text → Kinds
 encode_refusals words = fault_of encode_command words
 
--- the job that has the values of these matches
+-- the job with the values of these matches
 pub record IsEncodeJobOf (rows : List Row) (job : Job) : Type 0 where
   pub p : number_in (codes "options") rows ≡ Some job.p
   pub s : number_in (codes "stripe") rows ≡ Some job.s
@@ -52,7 +52,7 @@ pub record IsEncodeJobOf (rows : List Row) (job : Job) : Type 0 where
   pub input : option_map string_bytes job.input ≡ first_of (codes "input") rows
   pub output : option_map string_bytes job.output ≡ first_of (codes "output") rows
 
--- the values of these matches are refused as options by f
+-- the values of these matches are rejected as options with error f
 pub record RefusesOptions (rows : List Row) (f : Fault) : Type 0 where
   pub p : ℕ
   pub s : ℕ
@@ -62,13 +62,13 @@ pub record RefusesOptions (rows : List Row) (f : Fault) : Type 0 where
   pub has_m : number_in (codes "move") rows ≡ Some m
   pub refused : refusal_of p s m (first_of (codes "comment") rows) ≡ Some f
 
--- lack of memory, or values that are refused as options
+-- lack of memory, or values that are rejected as options
 abbrev pub IsOptionFault : List Row → LineFault → Type 0
 IsOptionFault rows (line_fault.Help text) = ⊥
 IsOptionFault rows (line_fault.Usage text) = ⊥
 IsOptionFault rows (line_fault.Fault f) = (f ≡ fault.OutOfMemory) ⊎ RefusesOptions rows f
 
--- the refusals of the arguments, or of the options that they give
+-- the refusals of the arguments, or of the options in them
 abbrev pub IsFaultOf : List Text → LineFault → Type 0
 IsFaultOf words fault = IsRefusal (encode_refusals words) fault ⊎ IsOptionFault (encode_matches words) fault
 
@@ -78,7 +78,7 @@ pub record HasDefaults (rows : List Row) : Type 0 where
   pub s : is_some (number_in (codes "stripe") rows) ≡ true
   pub m : is_some (number_in (codes "move") rows) ≡ true
 
--- the options that a job asks for
+-- the options of a job
 abbrev pub settings_asked : Job → Settings
 settings_asked job = record {
   options = job.p;
@@ -90,8 +90,8 @@ settings_asked job = record {
   named = [];
 }
 
--- What a run leaves for a job, with this exit status: what the engine leaves with some outcome, of the output besides, and a
--- report of that outcome.
+-- The effect of a run for a job, with this exit status: the engine's effect with some outcome on input and output, and a report
+-- of that outcome.
 pub record RunsEncoding (job : Job) (input : Change) (output messages : Written) (status : ℕ) : Type 0 where
   pub outcome : Result (Unit {0}) Fault
   pub status_is : status ≡ exit_status outcome

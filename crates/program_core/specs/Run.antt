@@ -1,4 +1,4 @@
--- What a run begins with and how it ends: what the name of a file stands for, what kind of file it is, and the exit status.
+-- The start and the end of a run: the file for a name, the type of the file, and the exit status.
 use Rattle.std.specs.Prelude.{ℕ, Bool, true, false, not, List, Option, Some, None, codes, Result, Ok, Err}
 use Rattle.std.specs.Fs.{IsFile}
 use Rattle.std.specs.Str.{bytes_eq}
@@ -11,7 +11,7 @@ use Rattle.pbm_core.specs.Device.{OutputView}
 use Rattle.t85_core.specs.Change.{between}
 use Rattle.t85_core.specs.ToPbm.{Delivery, delivery}
 
--- whether there is a name, and it isn't `-`
+-- whether there is a name other than `-`
 abbrev pub names_file : Option (List ℕ) → Bool
 names_file None = false
 names_file (Some name) = not (bytes_eq name (codes "-"))
@@ -20,7 +20,7 @@ abbrev pub reads_file : Readable → Bool
 reads_file (readable.Stream stream) = false
 reads_file (readable.File file type) = true
 
--- a named file that is a regular one, so that its bytes can be read again
+-- a named regular file, whose bytes can be read again
 abbrev pub IsRegular : Readable → Type 0
 IsRegular (readable.Stream stream) = ⊥
 IsRegular (readable.File file None) = ⊥
@@ -35,7 +35,7 @@ abbrev pub exit_status : Result (Unit {0}) Fault → ℕ
 exit_status (Ok u) = 0
 exit_status (Err f) = 1
 
--- An output before a run and after it.
+-- An output before and after a run.
 pub record Written : Type 0 where
   pub old : OutputView
   pub new : OutputView
@@ -43,6 +43,6 @@ pub record Written : Type 0 where
 abbrev pub written : {W : Type 0} → (W → OutputView) → W → W → Written
 written view old new = record { old = view old; new = view new }
 
--- what the engine says of it
+-- the engine's view of it
 abbrev pub delivered : Written → Delivery
 delivered w = delivery (between w.old.contents w.new.contents w.old.failures w.new.failures) w.new.flushed

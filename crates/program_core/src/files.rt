@@ -35,7 +35,7 @@ impl Readable {
 }
 
 impl Readable {
-    /// The same file with its type, if that is wanted: determining the type takes as long as opening the file.
+    /// The same file with its type, if requested: determining the type takes as long as opening the file.
     pub(crate) fn with_type(self, is_wanted: bool) -> Readable
         ensures { reads_file result ≡ reads_file self }
     {

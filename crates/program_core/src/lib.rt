@@ -1,4 +1,4 @@
-//! What the two programs do between their arguments and the engine. Each program itself is only a `main`.
+//! The work of the two programs between their arguments and the engine. Each program itself is only a `main`.
 #![tactic(auto)]
 
 mod args;

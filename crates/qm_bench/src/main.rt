@@ -1,7 +1,7 @@
-//! Codes and decodes pixels in pseudo-random contexts, to time the coder.
+//! Encodes and decodes pixels in pseudo-random contexts, to time the coder.
 //!
-//! The words of the command line are the number of pixels and what is done: 0 draws them alone, 1 codes them too, and
-//! any other number, as none, also decodes them.
+//! The arguments are the number of pixels and a mode: 0 only generates them, 1 also encodes them, and any other number,
+//! or none, also decodes them.
 #![tactic(auto)]
 
 ghost use Rattle.std.specs.Prelude.{◌≡◌, ◌+◌, ◌<◌};
@@ -10,7 +10,7 @@ use qm_core::{CodeBytes, CodeSink, Context, Decoder, Encoder, Learned, Pulled, S
 use std::alloc::Global;
 use std::io;
 
-/// A linear congruential generator. In context k black comes with probability 2^(k mod 8) / 256.
+/// A linear congruential generator. In context k, black has probability 2^(k mod 8) / 256.
 #[derive(Drop)]
 struct Draws {
     seed: u32,
@@ -21,7 +21,7 @@ impl Draws {
         Draws { seed: 1 }
     }
 
-    /// A context and the pixel that stands there.
+    /// A context and its pixel.
     #[inline(always)]
     fn next_pixel(&mut self) -> (Context, bool) {
         self.seed = self
@@ -34,7 +34,7 @@ impl Draws {
     }
 }
 
-/// A sink that keeps its bytes.
+/// A sink that stores its bytes.
 #[derive(Drop)]
 struct MemorySink {
     bytes: Vec<u8>,
@@ -119,7 +119,7 @@ fn number(words: &[String], i: usize, otherwise: u32) -> u32 {
     }
 }
 
-/// Draws pixels, and adds up what was drawn.
+/// Generates pixels, and adds them up.
 fn draw(count: u32) -> u32 {
     let mut draws = Draws::new();
     let mut sum = 0u32;
@@ -130,7 +130,7 @@ fn draw(count: u32) -> u32 {
     sum
 }
 
-/// Codes pixels, and reports whether the sink took all bytes.
+/// Encodes pixels, and returns whether the sink accepted all bytes.
 fn encode(count: u32, sink: &mut MemorySink) -> bool {
     let mut encoder = Encoder::start();
     let mut learned = Learned::new();
@@ -144,7 +144,7 @@ fn encode(count: u32, sink: &mut MemorySink) -> bool {
     encoder.finish(sink).is_ok()
 }
 
-/// Decodes pixels, and counts those that differ from what was drawn.
+/// Decodes pixels, and counts those that differ from the generated ones.
 fn decode(count: u32, source: &mut MemorySource) -> u32 {
     let mut decoder = Decoder::start();
     let mut learned = Learned::new();

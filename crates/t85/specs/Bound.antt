@@ -1,4 +1,4 @@
--- How long a stream may come to be.
+-- The greatest length of a stream.
 use Rattle.std.specs.Prelude.{ℕ, ◌+◌, ◌*◌, ◌==◌, ◌||◌, nat_lt, if◌then◌else◌, ◌≡◌, ◌≤◌, ◌<◌, ◌^◌, List, [], length, unwrap_or}
 use Rattle.raster_core.specs.Raster.{Raster, IsRaster, height}
 use Rattle.t85_core.specs.Grammar.{stripe_count}
@@ -6,11 +6,11 @@ use Rattle.t85_core.specs.Jbg.{jbg}
 use Rattle.t85.specs.declared.options.T85Options.{T85Options}
 use Rattle.t85.specs.Encoded.{comment_chosen, settings_chosen}
 
--- the bytes of the comment that is asked for
+-- the bytes of the requested comment
 abbrev pub comment_length : T85Options → ℕ → ℕ
 comment_length choice comment_len = if choice.has_comment then comment_len else 0
 
--- what is answered: 0 for what an encoding call refuses, else the most bytes that a stream may have
+-- the result: 0 if an encoding call would reject the arguments, otherwise the greatest length of a stream
 abbrev pub bound_told : T85Options → ℕ → ℕ → ℕ → ℕ
 bound_told choice width height' held =
     if (width == 0) || ((height' == 0) || (nat_lt 1048576 width || ((choice.stripe_rows == 0) || nat_lt 4294967295 held))) then 0

@@ -1,4 +1,4 @@
--- What `t85_decode_rows` answers, and what it leaves in the memory that was lent.
+-- The result of `t85_decode_rows`, and its effect on the caller's memory.
 use Rattle.std.specs.Prelude.{ℕ, ◌+◌, ◌*◌, ◌≡◌, ◌≤◌, ◌<◌, ◌⊎◌, Bool, List, length, take, drop, flat_map, None}
 use Rattle.std.specs.Int.{div_ceil}
 use Rattle.std.specs.List.{AllByRecursion}
@@ -11,13 +11,13 @@ use Rattle.t85.specs.declared.lined_output.LinedOutput.{LinedOutput}
 use Rattle.t85.specs.Decoded.{Opens, window_bytes, RefusesByHeader, RefusesHeight}
 use Rattle.t85.specs.Delivered.{Lending, RefusesLending, fault_status, lined, outside}
 
--- `fit` rows have room, each `stride` bytes after the one before: all that are wanted, or no more would have.
+-- `fit` rows fit, each `stride` bytes after the one before: all of the image's, or one more would not fit.
 pub record HaveRoom (wanted row stride room fit : ℕ) : Type 0 where
   pub to : fit ≤ wanted
   pub each : (y : ℕ) → y < fit → y * stride + row ≤ room
   pub most : fit < wanted → room < fit * stride + row
 
--- An output of rows that has taken nothing of an image of this size.
+-- An output of rows to which nothing of an image of this size has been written.
 pub record HasTakenNothing (h : Fields) (height : ℕ) (s : LinedOutput) : Type 0 where
   pub row : s.row ≡ div_ceil h.xd 8
   pub head : s.skip ≡ length (header_text h.xd height)
@@ -28,28 +28,28 @@ pub record HasTakenNothing (h : Fields) (height : ℕ) (s : LinedOutput) : Type 
   pub unspilled : s.spilled ≡ None
   pub room : HaveRoom height s.row s.stride (length s.bytes.now) s.fit
 
--- how many rows have room, and how they lie
+-- the number of rows that fit, and their layout
 pub record Placing : Type 0 where
   pub fit : ℕ
   pub row : ℕ
   pub stride : ℕ
 
--- The rows have room, and were written, and the status is this one.
+-- The rows fit and were written, and the status is this one.
 pub record FitsRows (rows : List (List Bool)) (status : ℕ) (p : Placing) (memory : List ℕ) (written answer : ℕ) : Type 0 where
   pub fits : length rows ≤ p.fit
   pub written_is : written ≡ length rows
   pub stands : lined (length rows) p.row p.stride memory ≡ flat_map packed_row rows
   pub answer_is : answer ≡ status
 
--- There are more rows than have room, and the first of them were written.
+-- There are more rows than fit, and the first of them were written.
 pub record IsFullOfRows (rows : List (List Bool)) (p : Placing) (memory : List ℕ) (written answer : ℕ) : Type 0 where
   pub more : p.fit < length rows
   pub written_is : written ≡ p.fit
   pub stands : lined p.fit p.row p.stride memory ≡ flat_map packed_row (take p.fit rows)
   pub answer_is : answer ≡ 18
 
--- The rows of the outcome of a body are written: of the image that it denotes, or those that it fixes before its fault.
--- What is outside of the rows that have room is as before.
+-- The rows of the outcome of a body are written: of the image that it denotes, or those that it determines before its error.
+-- Bytes outside of the rows that fit are unchanged.
 pub record DeliversRows (h : Fields) (height : ℕ) (body : List ℕ) (stride : ℕ) (l : Lending) : Type 0 where
   pub outcome : HasOutcome h height body
   pub rows : List (List Bool)
@@ -75,7 +75,7 @@ pub record RefusesRowsWindow (stream : List ℕ) (limit stride window : ℕ) (l 
   pub short : window < window_bytes opens.header.xd
   pub refuses : RefusesLending 19 l
 
--- the rows of a stream that is not refused
+-- the effect for the rows of a stream that is not rejected
 pub record DeliversOutcomeRows (stream : List ℕ) (limit stride window : ℕ) (l : Lending) : Type 0 where
   pub opens : Opens stream
   pub within : opens.height ≤ limit
@@ -83,7 +83,7 @@ pub record DeliversOutcomeRows (stream : List ℕ) (limit stride window : ℕ) (
   pub enough : window_bytes opens.header.xd ≤ window
   pub writes : DeliversRows opens.header opens.height (drop 20 stream) stride l
 
--- what `t85_decode_rows` leaves
+-- the effect of `t85_decode_rows`
 abbrev pub DecodesRows : List ℕ → ℕ → ℕ → ℕ → Lending → Type 0
 DecodesRows stream limit stride window l =
     RefusesByHeader stream l ⊎ RefusesHeight stream limit l ⊎ RefusesStride stream limit stride l ⊎ RefusesRowsWindow stream limit stride window l ⊎ DeliversOutcomeRows stream limit stride window l

@@ -1,4 +1,4 @@
--- A decoder that a C caller holds, and what its calls leave.
+-- A decoder in a C caller's struct, and the effect of its calls.
 use Rattle.std.specs.Prelude.{ℕ, ◌≡◌, ◌≢◌, ◌≤◌, ◌<◌, ◌⊎◌, ◌==◌, ◌||◌, ◌&&◌, not, if◌then◌else◌, Bool, true, false, List, [], ◌++◌, length, take, drop, Some}
 use Rattle.std.specs.Int.{div_ceil}
 use Rattle.raster_core.specs.Packed.{rows_at}
@@ -18,7 +18,7 @@ use Rattle.t85.specs.declared.decoder.T85Decoder.{T85Decoder}
 use Rattle.t85.specs.declared.decoder.Answer.{Answer}
 use Rattle.t85.specs.declared.decoder.Answer.TheVariants as answer
 
--- the numbers of the engine's decoder that the struct has
+-- the numbers of the engine's decoder in the struct
 abbrev pub numbers_of_decoder : T85Decoder → PieceNumbers
 numbers_of_decoder d = record {
   height = d.height;
@@ -42,15 +42,15 @@ numbers_of_decoder d = record {
   decoder = record { code = d.code; span = d.span; bits = d.bits; has_ended = not (d.has_ended == 0) };
 }
 
--- what was taken and is not decoded yet
+-- the bytes that were consumed and are not decoded yet
 abbrev pub bytes_held_by : T85Decoder → List ℕ
 bytes_held_by d = take d.held_len d.held
 
--- the height that is told
+-- the reported height
 abbrev pub height_of_decoder : T85Decoder → ℕ
 height_of_decoder d = if not (d.version == 1) || (d.next == 0) then 0 else d.height
 
--- what there is between two calls: the struct, and the bytes of the window
+-- the state between two calls: the struct, and the bytes of the window
 pub record Hold : Type 0 where
   pub decoder : T85Decoder
   pub window : List ℕ
@@ -58,7 +58,7 @@ pub record Hold : Type 0 where
 abbrev pub hold_of : T85Decoder → List ℕ → Hold
 hold_of decoder window = record { decoder = decoder; window = window }
 
--- a call: the bytes, whether they are the last, how many of them were taken, and where the window has the row
+-- a call: the bytes, whether they are the last, the number of consumed bytes, and the place of the row in the window
 pub record BytesCall : Type 0 where
   pub bytes : List ℕ
   pub is_all : Bool
@@ -71,7 +71,7 @@ bytes_call bytes is_all taken row = record { bytes = bytes; is_all = is_all; tak
 abbrev pub bytes_of_call : BytesCall → List ℕ
 bytes_of_call call = take call.taken call.bytes
 
--- ---- where a decoder stands that was given this stream so far, and has given these rows, packed
+-- ---- the states of a decoder that has consumed these bytes of a stream, and has returned these rows, packed
 
 -- in the header
 pub record InHeader (d : T85Decoder) (stream out : List ℕ) : Type 0 where
@@ -81,7 +81,7 @@ pub record InHeader (d : T85Decoder) (stream out : List ℕ) : Type 0 where
   pub stream_is : stream ≡ take d.header_len d.header
   pub out_is : out ≡ []
 
--- behind the header, of which no more rows are announced than the caller takes
+-- behind the header, which announces no more rows than the limit
 pub record BehindHeader (d : T85Decoder) (stream out : List ℕ) : Type 0 where
   pub version_is : d.version ≡ 1
   pub next_is : d.next ≡ 1
@@ -92,7 +92,7 @@ pub record BehindHeader (d : T85Decoder) (stream out : List ℕ) : Type 0 where
   pub stream_is : stream ≡ d.header
   pub out_is : out ≡ []
 
--- among the rows: what is kept are the numbers of a decoder that has decoded so far, but for the last bytes
+-- among the rows: the struct contains the numbers of a decoder that has decoded these bytes except the last ones
 pub record InRows (hold : Hold) (stream out : List ℕ) : Type 0 where
   pub version_is : hold.decoder.version ≡ 1
   pub next_is : hold.decoder.next ≡ 2
@@ -104,11 +104,11 @@ pub record InRows (hold : Hold) (stream out : List ℕ) : Type 0 where
   pub stream_is : stream ≡ hold.decoder.header ++ text
   pub has : HasFed (decoder_view decoder (rows_at hold.decoder.place decoder.header.xd (take (window_bytes decoder.header.xd) hold.window)) hold.decoder.learned) (bytes_held_by hold.decoder) text out
 
--- The struct and the window are as calls leave them that were given this stream so far, and have given these rows, packed.
+-- The struct and the window are as calls leave them that consumed these bytes of a stream, and returned these rows, packed.
 abbrev pub HasRead : Hold → List ℕ → List ℕ → Type 0
 HasRead hold stream out = InHeader hold.decoder stream out ⊎ BehindHeader hold.decoder stream out ⊎ InRows hold stream out
 
--- ---- what a call leaves
+-- ---- the effect of a call
 
 -- the stream has ended, with this status
 pub record HasEnded (d : T85Decoder) (status : ℕ) : Type 0 where
@@ -116,32 +116,32 @@ pub record HasEnded (d : T85Decoder) (status : ℕ) : Type 0 where
   pub next_is : d.next ≡ 3
   pub status_is : d.status ≡ status
 
--- nothing was taken or changed
+-- nothing was consumed or changed
 pub record KeepsHold (old new : Hold) (call : BytesCall) : Type 0 where
   pub same : new ≡ old
   pub none : call.taken ≡ 0
 
--- bytes stand in others behind so many of them
+-- bytes are part of others, after this many of them
 pub record StandAt (place : ℕ) (bytes others : List ℕ) : Type 0 where
   pub front : List ℕ
   pub back : List ℕ
   pub others_are : others ≡ front ++ (bytes ++ back)
   pub place_is : length front ≡ place
 
--- A row more was given. It stands in the window, packed.
+-- One more row was returned. It is in the window, packed.
 pub record GivesRowAt (new : Hold) (call : BytesCall) (stream out : List ℕ) : Type 0 where
   pub row : List ℕ
   pub stands : StandAt call.row row new.window
   pub has : InRows new stream (out ++ row)
   pub whole : length row ≡ div_ceil has.decoder.header.xd 8
 
--- a stream whose image is whole, with this height and these rows
+-- a stream with a whole image, of this height and with these rows
 pub record IsImageOf (stream : List ℕ) (height : ℕ) (out : List ℕ) : Type 0 where
   pub header : Fields
   pub header_of : HeaderOf stream header
   pub holds : HoldsImage header (drop 20 stream) height out
 
--- A stream that is broken or ends too early, in its header or behind it. These are the rows that it fixes.
+-- A stream that is broken or ends too early, in its header or after it. These are the rows that it determines.
 pub record BreaksBehindHeader (stream : List ℕ) (height : ℕ) (fault : Fault) (out : List ℕ) : Type 0 where
   pub header : Fields
   pub header_of : HeaderOf stream header
@@ -150,7 +150,7 @@ pub record BreaksBehindHeader (stream : List ℕ) (height : ℕ) (fault : Fault)
 abbrev pub IsBrokenStream : List ℕ → ℕ → Fault → List ℕ → Type 0
 IsBrokenStream stream height fault out = ((header_fault stream ≡ Some fault) × (out ≡ [])) ⊎ BreaksBehindHeader stream height fault out
 
--- a stream's header announces more rows than these
+-- a stream's header announces more rows than the limit
 pub record AnnouncesMore (stream : List ℕ) (rows : ℕ) : Type 0 where
   pub header : Fields
   pub header_of : HeaderOf stream header
@@ -173,11 +173,11 @@ status_told answer.Row = 61
 status_told answer.More = 62
 status_told (answer.Ended status) = status
 
--- whether what stands behind an end marker is waited for, or a height before the first stripe
+-- whether the decoder needs the bytes behind an end marker, or a height before the first stripe
 abbrev pub is_waiting : T85Decoder → Bool
 is_waiting d = not (d.is_open == 0) && not (d.waits == 0)
 
--- What an answer says, where `Has` holds of each stream that a decoder may have been given, and the rows that it gave.
+-- The meaning of a result, where `Has` holds for each stream that the decoder may have consumed, and the rows that it returned.
 abbrev pub TellsAnswer : (Has : List ℕ → List ℕ → Type 0) → Hold → Hold → BytesCall → Answer → Type 0
 TellsAnswer Has old new call answer.Header = (stream out : List ℕ) → Has stream out → BehindHeader new.decoder (stream ++ bytes_of_call call) out
 TellsAnswer Has old new call answer.Row = (stream out : List ℕ) → Has stream out → GivesRowAt new call (stream ++ bytes_of_call call) out
@@ -193,16 +193,16 @@ TellsAnswer Has old new call answer.ShortWindow = KeepsHold old new call × ((st
 TellsAnswer Has old new call answer.NotBegun = KeepsHold old new call × ((stream out : List ℕ) → Has stream out → ⊥)
 TellsAnswer Has old new call (answer.Ended status) = KeepsHold old new call × HasEnded old.decoder status
 
--- what a call leaves that answers so
+-- the effect of a call with this result
 pub record Answers (Has : List ℕ → List ℕ → Type 0) (old new : Hold) (call : BytesCall) (what : Answer) : Type 0 where
   pub bound : call.taken ≤ length call.bytes
   pub tells : TellsAnswer Has old new call what
 
--- no decoder was begun here, as is seen at once
+-- the struct was not initialized, as its first numbers show
 abbrev pub IsNotBegun : T85Decoder → Type 0
 IsNotBegun d = (d.version ≢ 1) ⊎ (3 < d.next)
 
--- what a call leaves, and its status
+-- the effect of a call, and its status
 pub record IsAnswered (old new : Hold) (call : BytesCall) (status : ℕ) : Type 0 where
   pub what : Answer
   pub status_is : status ≡ status_told what
@@ -210,13 +210,13 @@ pub record IsAnswered (old new : Hold) (call : BytesCall) (status : ℕ) : Type 
   pub not_begun : IsNotBegun old.decoder → what ≡ answer.NotBegun
   pub ended : old.decoder.version ≡ 1 → old.decoder.next ≡ 3 → what ≡ answer.Ended old.decoder.status
 
--- So many rows are certain: no height that can still come is below that, and one is just that.
+-- This many rows are certain: no height that can still arrive is lower, and one is equal.
 abbrev pub TellsCertain : T85Decoder → ℕ → Type 0
 TellsCertain d rows = (window stream out : List ℕ) (k : InRows (hold_of d window) stream out) → IsLeastHeight (fields_of k.decoder.header) k.has.decoded rows
 
--- ---- the beginning
+-- ---- the start
 
--- It has read nothing yet.
+-- Nothing has been consumed.
 pub record BeginsDecoder (max_rows : ℕ) (new : T85Decoder) (status : ℕ) : Type 0 where
   pub status_is : status ≡ 0
   pub limit_is : new.max_rows ≡ max_rows

@@ -1,4 +1,4 @@
--- What the steps of a decoder leave that a C caller holds.
+-- The effects of the steps of a decoder in a C caller's struct.
 use Rattle.std.specs.Prelude.{ℕ, ◌+◌, ◌-◌, ◌≡◌, ◌*◌, ◌<◌, ◌++◌, ⊤, length, min, take, ◌⊎◌, Bool, true, false, List, [], Some}
 use Rattle.std.specs.Int.{div_ceil}
 use Rattle.t85_core.specs.declared.fault.Fault.TheVariants.{ShortHeader}
@@ -14,7 +14,7 @@ use Rattle.t85.specs.declared.decoder.Answer.{Answer}
 use Rattle.t85.specs.declared.decoder.Told.{Told}
 use Rattle.t85.specs.declared.decoder.Answer.TheVariants as answer
 
--- all but the numbers of the engine, the place of the row, and what is held
+-- everything but the numbers of the engine, the place of the row, and the stored bytes
 pub record KeepsRest (d d' : T85Decoder) : Type 0 where
   pub version : d'.version ≡ d.version
   pub next : d'.next ≡ d.next
@@ -22,7 +22,7 @@ pub record KeepsRest (d d' : T85Decoder) : Type 0 where
   pub header : d'.header ≡ d.header
   pub learned : d'.learned ≡ d.learned
 
--- What twenty bytes are judged to be.
+-- The result of parsing twenty bytes as a header.
 abbrev pub IsJudged : T85Decoder → T85Decoder → Answer → Type 0
 IsJudged d d' answer.Header = BehindHeader d' d.header []
 IsJudged d d' answer.TooManyRows = HasEnded d' 24 × AnnouncesMore d.header d'.max_rows
@@ -34,20 +34,20 @@ IsJudged d d' answer.ShortWindow = ⊥
 IsJudged d d' answer.NotBegun = ⊥
 IsJudged d d' (answer.Ended status) = ⊥
 
--- A decoder among the rows of the stream that has this header, where it may be that rows are taken.
+-- A decoder among the rows of the stream with this header, which may return rows.
 pub record MayTakeRows (header : Header) (d : T85Decoder) : Type 0 where
   pub version_is : d.version ≡ 1
   pub next_is : d.next ≡ 2
   pub place_to : d.place < 3
   pub header_of : HeaderOf d.header (fields_of header)
 
--- It is behind the header, or there.
+-- The decoder is behind the header, or among the rows.
 pub record MayEnterRows (header : Header) (d : T85Decoder) : Type 0 where
   pub version_is : d.version ≡ 1
   pub next_is : (d.next ≡ 1) ⊎ ((d.next ≡ 2) × (d.place < 3))
   pub header_of : HeaderOf d.header (fields_of header)
 
--- The header has not come as a whole.
+-- The header is incomplete.
 abbrev pub IsAwaited : T85Decoder → T85Decoder → Bool → Answer → Type 0
 IsAwaited d d' is_all answer.More = (is_all ≡ false) × (d' ≡ d)
 IsAwaited d d' is_all (answer.Broken fault) = (is_all ≡ true) × (fault ≡ ShortHeader) × HasEnded d' (fault_number fault)
@@ -59,14 +59,14 @@ IsAwaited d d' is_all answer.ShortWindow = ⊥
 IsAwaited d d' is_all answer.NotBegun = ⊥
 IsAwaited d d' is_all (answer.Ended status) = ⊥
 
--- What is told of an answer of the engine. After an end the height stays.
+-- The report for a result of the engine. After an end, the height stays.
 abbrev pub IsToldOf : Outcome → Header → T85Decoder → T85Decoder → Told → Type 0
 IsToldOf outcome.Row h d d' told = (told.answer ≡ answer.Row) × (d' ≡ d) × (told.row ≡ d.place * div_ceil h.xd 8)
 IsToldOf outcome.More h d d' told = (told.answer ≡ answer.More) × (d' ≡ d)
 IsToldOf (outcome.Done height) h d d' told = (told.answer ≡ answer.Done) × HasEnded d' 0 × (d'.height ≡ d.height)
 IsToldOf (outcome.Broken fault) h d d' told = (told.answer ≡ answer.Broken fault) × HasEnded d' (fault_number fault) × (d'.height ≡ d.height)
 
--- so many of these bytes were added to those of the header
+-- this many of these bytes were added to those of the header
 pub record IsFilled (d d' : T85Decoder) (bytes : List ℕ) (count : ℕ) : Type 0 where
   pub version_is : d'.version ≡ d.version
   pub next_is : d'.next ≡ d.next
@@ -76,7 +76,7 @@ pub record IsFilled (d d' : T85Decoder) (bytes : List ℕ) (count : ℕ) : Type 
   pub long : length d'.header ≡ 20
   pub filled : take d'.header_len d'.header ≡ take d.header_len d.header ++ take count bytes
 
--- an answer that the engine has
+-- a result of the engine
 abbrev pub IsOfEngine : Answer → Type 0
 IsOfEngine answer.Row = ⊤
 IsOfEngine answer.More = ⊤

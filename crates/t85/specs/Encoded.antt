@@ -1,4 +1,4 @@
--- What an encoding call answers, and what it leaves in the memory that was lent.
+-- The result of an encoding call, and its effect on the caller's memory.
 use Rattle.std.specs.Prelude.{ℕ, ◌≡◌, ◌<◌, ◌⊎◌, ◌==◌, ◌||◌, not, nat_lt, List, [], length, take, Option, Some, None, option_map, if◌then◌else◌, Bool}
 use Rattle.std.specs.Int.{div_ceil}
 use Rattle.pbm_core.specs.declared.form.Form.TheVariants.{Raw}
@@ -14,7 +14,7 @@ use Rattle.t85.specs.declared.options.T85Options.{T85Options}
 use Rattle.t85.specs.Decoded.{window_bytes}
 use Rattle.t85.specs.Delivered.{Lending, RefusesLending, Delivers, Fits, lined}
 
--- what a caller asks for
+-- the arguments of the caller
 abbrev pub comment_chosen : T85Options → List ℕ → Option (List ℕ)
 comment_chosen choice comment = if choice.has_comment then Some comment else None
 
@@ -34,11 +34,11 @@ abbrev pub or_else : Option ℕ → Option ℕ → Option ℕ
 or_else (Some status) next = Some status
 or_else None next = next
 
--- a status where a test holds
+-- a status if a test holds
 abbrev pub status_if : Bool → ℕ → Option ℕ
 status_if test status = if test then Some status else None
 
--- the first refusal, in this order: the version, the options, the size, the stride, the announced height, the window
+-- the first error, in this order: the version, the options, the size, the stride, the announced height, the window
 abbrev pub refusal_told : T85Options → List ℕ → ℕ → ℕ → ℕ → ℕ → Option ℕ
 refusal_told choice comment width height stride window =
     or_else (status_if (not (choice.version == 1)) 50)
@@ -49,7 +49,7 @@ refusal_told choice comment width height stride window =
     (or_else (status_if (is_low (settings_chosen choice comment) height) 23)
     (status_if (nat_lt window (window_bytes width)) 19))))))
 
--- what is to be coded so: an image of this size
+-- the image of this size to be encoded
 pub record Asked : Type 0 where
   pub settings : Settings
   pub width : ℕ
@@ -58,7 +58,7 @@ pub record Asked : Type 0 where
 abbrev pub asked : Settings → ℕ → ℕ → Asked
 asked s width height = record { settings = s; width = width; height = height }
 
--- All rows were there: the code of their raster is written, and it denotes them.
+-- All rows were present: the stream of their raster is written, and denotes it.
 pub record DeliversAll (a : Asked) (body memory : List ℕ) (written answer : ℕ) : Type 0 where
   pub rows : List (List Bool)
   pub rest : List ℕ
@@ -67,13 +67,13 @@ pub record DeliversAll (a : Asked) (body memory : List ℕ) (written answer : �
   pub denotes : Denotes (jbg a.settings (raster_of a.width rows)) (raster_of a.width rows)
   pub delivers : Delivers (jbg a.settings (raster_of a.width rows)) 0 memory written answer
 
--- A beginning of the code of each raster that begins with these rows is written, with each stripe whose rows all came.
+-- A prefix of the stream of each raster that begins with these rows is written, with each stripe whose rows are all present.
 pub record FitsBegun (a : Asked) (rows : List (List Bool)) (memory : List ℕ) (written answer : ℕ) : Type 0 where
   pub text : List ℕ
   pub begun : (raster : Raster) → BeginsWith a.width a.height rows raster → HoldsStripes a.settings raster (length rows) text
   pub fits : Fits text 36 memory written answer
 
--- The memory is full of a beginning of the code of each raster that begins with these rows, and shorter than each.
+-- The buffer is full of a prefix of the stream of each raster that begins with these rows, and shorter than each.
 pub record IsFullOfEach (a : Asked) (rows : List (List Bool)) (memory : List ℕ) (written answer : ℕ) : Type 0 where
   pub longer : (raster : Raster) → BeginsWith a.width a.height rows raster → length memory < length (jbg a.settings raster)
   pub stands : (raster : Raster) → BeginsWith a.width a.height rows raster → memory ≡ take (length memory) (jbg a.settings raster)
@@ -89,11 +89,11 @@ pub record DeliversSome (a : Asked) (body memory : List ℕ) (written answer : �
   pub part : HasRowFault Raw a.width rest Truncated
   pub writes : FitsBegun a rows memory written answer ⊎ IsFullOfEach a rows memory written answer
 
--- so it is of rows that follow one another
+-- the effect for adjacent rows
 abbrev pub DeliversCode : Asked → List ℕ → List ℕ → ℕ → ℕ → Type 0
 DeliversCode a body memory written answer = DeliversAll a body memory written answer ⊎ DeliversSome a body memory written answer
 
--- a call, but for its rows, and how much memory it is lent for the window
+-- a call without its rows, and the length of the window
 pub record EncodingCall : Type 0 where
   pub choice : T85Options
   pub comment : List ℕ
@@ -108,17 +108,17 @@ encoding_call choice comment width height stride window = record { choice = choi
 abbrev pub refusal : EncodingCall → Option ℕ
 refusal call = refusal_told call.choice call.comment call.width call.height call.stride call.window
 
--- what a refused call leaves
+-- the effect of a rejected call
 pub record RefusesJob (call : EncodingCall) (l : Lending) : Type 0 where
   pub status : ℕ
   pub is : refusal call ≡ Some status
   pub refuses : RefusesLending status l
 
--- and one that is not refused
+-- the effect of an accepted call
 pub record DeliversStream (call : EncodingCall) (rows : List ℕ) (l : Lending) : Type 0 where
   pub accepted : refusal call ≡ None
   pub writes : DeliversCode (asked (settings_chosen call.choice call.comment) call.width call.height) (lined call.height (div_ceil call.width 8) call.stride rows) l.new l.written l.answer
 
--- what `t85_encode` leaves
+-- the effect of `t85_encode`
 abbrev pub EncodesImage : EncodingCall → List ℕ → Lending → Type 0
 EncodesImage call rows l = RefusesJob call l ⊎ DeliversStream call rows l

@@ -1,4 +1,4 @@
--- An encoder that a C caller holds, who hands it the rows of an image one by one.
+-- An encoder in a C caller's struct, which receives the rows of an image one by one.
 use Rattle.t85_core.specs.Coding.{has_bit}
 use Rattle.std.specs.Prelude.{ℕ, ◌+◌, ◌*◌, ◌/◌, ◌%◌, ◌≡◌, ◌≢◌, ◌≤◌, ◌⊎◌, ◌==◌, ◌||◌, ◌&&◌, not, nat_lt, Bool, false, List, [], ◌∷◌, ◌++◌, length, take, Option, Some, None, unwrap_or, if◌then◌else◌}
 use Rattle.std.specs.Int.{div_ceil}
@@ -19,7 +19,7 @@ use Rattle.t85.specs.Encoded.{or_else, refusal_told, settings_chosen, status_if}
 use Rattle.t85.specs.declared.encoder.T85Encoder.{T85Encoder}
 use Rattle.t85.specs.declared.options.T85Options.{T85Options}
 
--- the numbers of the engine's encoder that the struct has
+-- the numbers of the engine's encoder in the struct
 abbrev pub numbers_of_encoder : T85Encoder → RowNumbers
 numbers_of_encoder d = record {
   rows = d.rows;
@@ -41,7 +41,7 @@ numbers_of_encoder d = record {
   };
 }
 
--- the choices that the struct has, which are all but the comment and the offsets that were named
+-- the settings in the struct, which are all but the comment and the chosen offsets
 abbrev pub settings_kept : T85Encoder → Settings
 settings_kept d = record {
   options = d.options;
@@ -53,11 +53,11 @@ settings_kept d = record {
   named = [];
 }
 
--- the same choices without a comment and names
+-- the same settings without a comment and chosen offsets
 abbrev pub without_comment : Settings → Settings
 without_comment s = record s { comment = None; named = [] }
 
--- what there is between two calls: the struct, and the bytes of the window
+-- the state between two calls: the struct, and the bytes of the window
 pub record EncoderHold : Type 0 where
   pub encoder : T85Encoder
   pub window : List ℕ
@@ -65,7 +65,8 @@ pub record EncoderHold : Type 0 where
 abbrev pub encoder_hold : T85Encoder → List ℕ → EncoderHold
 encoder_hold encoder window = record { encoder = encoder; window = window }
 
--- The struct and the window are as calls leave them that began the stream of an image, took these rows of it, and wrote these bytes.
+-- The struct and the window are as calls leave them that started the stream of an image, received these rows of it, and wrote
+-- these bytes.
 pub record HasCome (image : Image) (hold : EncoderHold) (rows : List (List Bool)) (sent : List ℕ) : Type 0 where
   pub version_is : hold.encoder.version ≡ 1
   pub next_is : hold.encoder.next ≡ 1
@@ -84,7 +85,7 @@ pub record HasCome (image : Image) (hold : EncoderHold) (rows : List (List Bool)
   pub stands : (text : Option (List ℕ)) →
       Stands image rows (view_of engine hold.encoder.learning) (rows_at hold.encoder.place image.width (take (window_bytes image.width) hold.window)) (behind sent text) text
 
--- what is said of each image whose stream a caller may have begun, of the rows that it handed, and of the bytes that were written
+-- a statement about each image whose stream the caller may have started, the rows passed, and the bytes written
 abbrev pub OfEach : EncoderHold → (Image → List (List Bool) → List ℕ → Type 0) → Type 0
 OfEach hold Q = (image : Image) (rows : List (List Bool)) (sent : List ℕ) → HasCome image hold rows sent → Q image rows sent
 
@@ -93,27 +94,28 @@ pub record HasBeenEnded (d : T85Encoder) : Type 0 where
   pub version_is : d.version ≡ 1
   pub next_is : d.next ≡ 2
 
--- no encoder was begun here, as is seen at once
+-- the struct was not initialized, as its first numbers show
 abbrev pub IsNotBegun : T85Encoder → Type 0
 IsNotBegun d = (d.version ≢ 1) ⊎ ((d.next ≢ 1) × (d.next ≢ 2))
 
--- How many bytes the next call writes at most: twice the bytes of the code that wait, for stuffing may double them; four for each pixel of a row, and for the one before it; and ten for a move or a new height, and end markers.
+-- The greatest number of bytes that the next call writes: twice the code bytes held back, since stuffing may double them; four
+-- for each pixel of a row, and for the SLNTP pseudo-pixel; and ten for a move or a new height, and end markers.
 abbrev pub room_told : T85Encoder → ℕ
 room_told d = 2 * ((d.zeros + ((if not (d.has_held == 0) then 1 else 0) + d.ones)) + (d.bits + 7) / 8) + 4 * (d.width + 1) + 10
 
--- What a call leaves that is refused: all that it was lent.
+-- The effect of a rejected call: all memory is unchanged.
 pub record LeavesAll (old new : EncoderHold) (l : Lending) : Type 0 where
   pub same : new ≡ old
   pub nothing : l.written ≡ 0
   pub stream : l.new ≡ l.old
 
--- ---- the beginning
+-- ---- the start
 
--- how many bytes come before the first stripe: the header, and the comment with its length
+-- the number of bytes before the first stripe: the header, and the comment with its length
 abbrev pub head_length : T85Options → ℕ → ℕ
 head_length choice comment_len = if choice.has_comment then 26 + comment_len else 20
 
--- what is begun: the size of the caller's struct, the image, the choices and the comment
+-- the arguments of a start: the size of the caller's struct, the image, the options and the comment
 pub record StartCall : Type 0 where
   pub size : ℕ
   pub width : ℕ
@@ -124,19 +126,20 @@ pub record StartCall : Type 0 where
 abbrev pub start_call : ℕ → ℕ → ℕ → T85Options → List ℕ → StartCall
 start_call size width height choice comment = record { size = size; width = width; height = height; choice = choice; comment = comment }
 
--- the first refusal, in this order: the size of the struct, those of an encoding call, and the room for what is written at once
+-- the first error, in this order: the size of the struct, the errors of an encoding call, and the length of the buffer for the
+-- head
 abbrev pub start_refusal : StartCall → ℕ → ℕ → Option ℕ
 start_refusal call window room =
     or_else (status_if (not (call.size == 5360)) 50)
     (or_else (refusal_told call.choice call.comment call.width call.height (div_ceil call.width 8) window)
     (status_if (nat_lt room (head_length call.choice (length call.comment))) 18))
 
--- The head of an image's stream was written, and no row has come.
+-- The head of an image's stream was written, and no row has been received.
 pub record BeginsStream (image : Image) (new : EncoderHold) (bytes : List ℕ) : Type 0 where
   pub head : bytes ≡ head_of image.settings image.width image.limit
   pub come : HasCome image new [] bytes
 
--- what `t85_encode_start` leaves
+-- the effect of `t85_encode_start`
 pub record StartsStream (call : StartCall) (old new : EncoderHold) (l : Lending) : Type 0 where
   pub status_is : l.answer ≡ unwrap_or (start_refusal call (length old.window) (length l.old)) 0
   pub refused : l.answer ≢ 0 → LeavesAll old new l
@@ -145,7 +148,7 @@ pub record StartsStream (call : StartCall) (old new : EncoderHold) (l : Lending)
 
 -- ---- a row
 
--- the first refusal of a row of so many bytes: all rows came, it is short, so is the window, or the room
+-- the first error for a row of this length: all rows were received, the row is short, so is the window, or the buffer
 abbrev pub row_refusal : T85Encoder → ℕ → ℕ → ℕ → Option ℕ
 row_refusal d row window room =
     or_else (status_if (d.rows == d.height) 54)
@@ -153,11 +156,11 @@ row_refusal d row window room =
     (or_else (status_if (nat_lt window (window_bytes d.width)) 19)
     (status_if (nat_lt room (room_told d)) 18)))
 
--- A row was taken, and the next bytes of the stream were written.
+-- A row was received, and the next bytes of the stream were written.
 abbrev pub TakesOne : EncoderHold → EncoderHold → List ℕ → List ℕ → Type 0
 TakesOne old new row bytes = OfEach old (λ image rows sent. HasCome image new (rows ++ pixels_of image.width (take (div_ceil image.width 8) row) ∷ []) (sent ++ bytes))
 
--- what `t85_encode_row` leaves
+-- the effect of `t85_encode_row`
 pub record PutsRow (old new : EncoderHold) (row : List ℕ) (l : Lending) : Type 0 where
   pub status_is : OfEach old (λ image rows sent. l.answer ≡ unwrap_or (row_refusal old.encoder (length row) (length old.window) (length l.old)) 0)
   pub ended : HasBeenEnded old.encoder → l.answer ≡ 54
@@ -166,20 +169,20 @@ pub record PutsRow (old new : EncoderHold) (row : List ℕ) (l : Lending) : Type
   pub taken : l.answer ≡ 0 → TakesOne old new row (take l.written l.new)
   pub within : l.written ≤ length l.new
 
--- ---- a name
+-- ---- an offset
 
--- the first refusal of an offset that is named: all rows came, a stripe is in progress, or the options don't offer it
+-- the first error for an offset: all rows were received, a stripe is in progress, or the options do not allow the offset
 abbrev pub name_refusal : T85Encoder → ℕ → Option ℕ
 name_refusal d offset =
     or_else (status_if (d.rows == d.height) 54)
     (or_else (status_if (not (d.in_stripe == 0)) 56)
     (status_if (not (may_name (has_bit d.options 6) d.most_offset offset)) 22))
 
--- The offset is named for the stripe that begins with the next row.
+-- The offset is chosen for the stripe that begins with the next row.
 abbrev pub TakesName : EncoderHold → EncoderHold → ℕ → Type 0
 TakesName old new offset = OfEach old (λ image rows sent. (length rows % image.settings.stripe_rows ≡ 0) × HasCome (named_after offset (length rows) image) new rows sent)
 
--- what `t85_encode_offset` leaves, whatever the window has
+-- the effect of `t85_encode_offset`, whatever the window contains
 pub record NamesNext (old new : T85Encoder) (offset answer : ℕ) : Type 0 where
   pub status_is : (window : List ℕ) → OfEach (encoder_hold old window) (λ image rows sent. answer ≡ unwrap_or (name_refusal old offset) 0)
   pub ended : HasBeenEnded old → answer ≡ 54
@@ -189,11 +192,11 @@ pub record NamesNext (old new : T85Encoder) (offset answer : ℕ) : Type 0 where
 
 -- ---- the end
 
--- whether an image may not end after so many rows
+-- whether an image may not end after this many rows
 abbrev pub are_missing : T85Encoder → Bool
 are_missing d = (d.rows == 0) || ((d.announces_height == 0) && not (d.rows == d.height))
 
--- the first refusal of the end: rows are missing, the window is short, or the room
+-- the first error of the end: rows are missing, the window is short, or the buffer
 abbrev pub end_refusal : T85Encoder → ℕ → ℕ → Option ℕ
 end_refusal d window room =
     or_else (status_if (are_missing d) 36)
@@ -209,7 +212,7 @@ pub record IsStreamOfRows (image : Image) (rows : List (List Bool)) (bytes : Lis
 abbrev pub EndsStream : EncoderHold → List ℕ → Type 0
 EndsStream old bytes = OfEach old (λ image rows sent. IsStreamOfRows image rows (sent ++ bytes))
 
--- what `t85_encode_end` leaves
+-- the effect of `t85_encode_end`
 pub record PutsEnd (old new : EncoderHold) (l : Lending) : Type 0 where
   pub status_is : OfEach old (λ image rows sent. l.answer ≡ unwrap_or (end_refusal old.encoder (length old.window) (length l.old)) 0)
   pub was_ended : HasBeenEnded old.encoder → l.answer ≡ 54
@@ -219,12 +222,12 @@ pub record PutsEnd (old new : EncoderHold) (l : Lending) : Type 0 where
   pub ended : l.answer ≡ 0 → HasBeenEnded new.encoder
   pub within : l.written ≤ length l.new
 
--- ---- what is told
+-- ---- the reports
 
--- how many rows may still come
+-- how many more rows are accepted
 abbrev pub TellsLeft : T85Encoder → ℕ → Type 0
 TellsLeft d left = (window : List ℕ) → OfEach (encoder_hold d window) (λ image rows sent. left + length rows ≡ image.limit)
 
--- how many bytes of room are enough for the next call
+-- the buffer length that is enough for the next call
 abbrev pub TellsRoom : T85Encoder → ℕ → Type 0
 TellsRoom d room = (window : List ℕ) → OfEach (encoder_hold d window) (λ image rows sent. room ≡ room_told d)

@@ -1,4 +1,4 @@
--- What the steps of an encoder leave that a C caller holds.
+-- The effects of the steps of an encoder in a C caller's struct.
 use Rattle.std.specs.Prelude.{ℕ, ◌≡◌, ◌≢◌, ◌<◌, Bool, List, [], Option, Some}
 use Rattle.pbm_core.specs.declared.size.Size.{Size}
 use Rattle.raster_core.specs.Window.{current_place, held}
@@ -14,7 +14,7 @@ use Rattle.t85_core.specs.declared.encoding.learning.Learning.{Learning}
 use Rattle.t85.specs.Encoder.{HasBeenEnded, HasCome, IsNotBegun, OfEach, encoder_hold, numbers_of_encoder, settings_kept, without_comment}
 use Rattle.t85.specs.declared.encoder.T85Encoder.{T85Encoder}
 
--- what is chosen for the stream, and what was learned of the image
+-- the settings of the stream, and the context states and counts for the image
 pub record KeepsChoices (d d' : T85Encoder) : Type 0 where
   pub version : d'.version ≡ d.version
   pub next : d'.next ≡ d.next
@@ -23,11 +23,11 @@ pub record KeepsChoices (d d' : T85Encoder) : Type 0 where
   pub settings : settings_kept d' ≡ settings_kept d
   pub learning : d'.learning ≡ d.learning
 
--- The engine's encoder is the one whose numbers the struct has, whatever image is encoded.
+-- The engine's encoder is the one whose numbers are in the struct, whatever image is encoded.
 abbrev pub ResumesEach : T85Encoder → RowEncoder → Type 0
 ResumesEach d e = (window : List ℕ) (image : Image) (rows : List (List Bool)) (sent : List ℕ) (k : HasCome image (encoder_hold d window) rows sent) (l : Learning) → view_of e l ≡ view_of k.engine l
 
--- The engine's encoder goes on from the numbers of the struct.
+-- The engine's encoder continues from the numbers in the struct.
 pub record GoesOnFrom (d : T85Encoder) (e : RowEncoder) : Type 0 where
   pub ready : MayGoOn e
   pub going : IsGoing e
@@ -37,7 +37,7 @@ pub record GoesOnFrom (d : T85Encoder) (e : RowEncoder) : Type 0 where
   pub numbers_are : row_numbers e ≡ numbers_of_encoder d
   pub resumes : ResumesEach d e
 
--- no image is encoded by a struct
+-- no calls for an image leave the struct like this
 abbrev pub IsOfNone : T85Encoder → Type 0
 IsOfNone d = (window : List ℕ) → OfEach (encoder_hold d window) (λ image rows sent. ⊥)
 
@@ -48,21 +48,21 @@ pub record AwaitsCall (d : T85Encoder) (e : RowEncoder) : Type 0 where
   pub place_to : d.place < 3
   pub goes_on : GoesOnFrom d e
 
--- It doesn't, and this is its status.
+-- It does not, and this is its status.
 pub record IsIdle (d : T85Encoder) (status : ℕ) : Type 0 where
   pub some : status ≢ 0
   pub none : IsOfNone d
   pub ended : HasBeenEnded d → status ≡ 54
   pub not_begun : IsNotBegun d → status ≡ 53
 
--- a call is refused with this status, where that is its first refusal of a struct that takes rows
+-- a call is rejected with this status, if that is its first error for a struct that accepts rows
 pub record RefusesCall (d : T85Encoder) (refusal : Option ℕ) (status : ℕ) : Type 0 where
   pub some : status ≢ 0
   pub first : (window : List ℕ) → OfEach (encoder_hold d window) (λ image rows sent. refusal ≡ Some status)
   pub ended : HasBeenEnded d → status ≡ 54
   pub not_begun : IsNotBegun d → status ≡ 53
 
--- The numbers of an encoder that has begun are in a struct, and these bytes were written, which are the head of the stream.
+-- The numbers of a started encoder are in a struct, and these bytes were written, which are the head of the stream.
 pub record HasBegun (s : Settings) (size : Size) (d : T85Encoder) (window : Window) (bytes : List ℕ) : Type 0 where
   pub version_is : d.version ≡ 1
   pub next_is : d.next ≡ 1

@@ -1,4 +1,4 @@
--- What `t85_stream_facts` answers and leaves.
+-- The result and the effect of `t85_stream_facts`.
 use Rattle.std.specs.Prelude.{ℕ, ◌≡◌, ◌≢◌, ◌⊎◌, List, [], ◌∷◌}
 use Rattle.t85_core.specs.declared.fault.Fault.{Fault}
 use Rattle.t85_core.specs.Fault.{fault_number}
@@ -24,7 +24,7 @@ pub record TellsFacts (stream : List ℕ) (old new : T85Facts) (answer : ℕ) : 
   pub answer_is : answer ≡ 0
   pub facts : HasFacts stream new
 
--- It has this fault, and nothing is reported.
+-- It has this error, and nothing is reported.
 pub record KeepsFacts (stream : List ℕ) (old new : T85Facts) (answer : ℕ) : Type 0 where
   pub version_is : old.version ≡ 1
   pub fault : Fault
@@ -32,12 +32,12 @@ pub record KeepsFacts (stream : List ℕ) (old new : T85Facts) (answer : ℕ) : 
   pub answer_is : answer ≡ fault_number fault
   pub kept : new ≡ old
 
--- The struct is of another version, and stays as it was.
+-- The struct is of another version, and is unchanged.
 pub record RefusesFacts (old new : T85Facts) (answer : ℕ) : Type 0 where
   pub other : old.version ≢ 1
   pub answer_is : answer ≡ 50
   pub kept : new ≡ old
 
--- what `t85_stream_facts` leaves
+-- the effect of `t85_stream_facts`
 abbrev pub FactsTold : List ℕ → T85Facts → T85Facts → ℕ → Type 0
 FactsTold stream old new answer = TellsFacts stream old new answer ⊎ KeepsFacts stream old new answer ⊎ RefusesFacts old new answer

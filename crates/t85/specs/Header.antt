@@ -1,4 +1,4 @@
--- What `t85_header` answers and leaves.
+-- The result and the effect of `t85_header`.
 use Rattle.std.specs.Prelude.{ℕ, ◌≡◌, ◌⊎◌, List, Some}
 use Rattle.t85_core.specs.declared.fault.Fault.{Fault}
 use Rattle.t85_core.specs.Fault.{fault_number}
@@ -13,13 +13,13 @@ pub record TellsHeader (stream : List ℕ) (new : T85Header) (answer : ℕ) : Ty
   pub answer_is : answer ≡ 0
   pub header_of : HeaderOf stream (fields_told new)
 
--- It is refused, by this fault, and nothing is reported.
+-- It is rejected with this error, and nothing is reported.
 pub record KeepsHeader (stream : List ℕ) (old new : T85Header) (answer : ℕ) : Type 0 where
   pub fault : Fault
   pub is : header_fault stream ≡ Some fault
   pub answer_is : answer ≡ fault_number fault
   pub kept : new ≡ old
 
--- what `t85_header` leaves
+-- the effect of `t85_header`
 abbrev pub HeaderTold : List ℕ → T85Header → T85Header → ℕ → Type 0
 HeaderTold stream old new answer = TellsHeader stream new answer ⊎ KeepsHeader stream old new answer

@@ -1,4 +1,4 @@
--- What the answer 0 means, in the words of the engine's definitions.
+-- The meaning of status 0, in terms of the engine's definitions.
 use Rattle.std.specs.Prelude.{ℕ, ◌≡◌, Bool, List, length, take, flat_map}
 use Rattle.std.specs.Int.{div_ceil}
 use Rattle.pbm_core.specs.Image.{HoldsRows}
@@ -34,8 +34,8 @@ DecodedAreRows =
     → (raster : Raster) × IsOnly stream raster × (written ≡ height raster)
     × (lined (height raster) (div_ceil raster.width 8) stride new ≡ flat_map packed_row raster.rows)
 
--- The stream is the code of the rows that were lent, and these are the one raster that it denotes: so it is decoded as them
--- again, whatever the limit, the window and the room are that let it.
+-- The stream is the code of the caller's rows, and these are the one raster that it denotes: so decoding returns them again,
+-- for every limit, window and buffer that allow it.
 pub record IsStreamOf (call : EncodingCall) (rows stream : List ℕ) : Type 0 where
   pub raster : Raster
   pub rest : List ℕ
@@ -50,8 +50,8 @@ EncodedIsStream =
     (call : EncodingCall) (rows old new : List ℕ) (written : ℕ) → EncodesImage call rows (lending old new written 0)
     → IsStreamOf call rows (take written new)
 
--- What was written of an image whose rows come one by one is a beginning of the stream of each image that may still come,
--- and has each stripe whose rows all came.
+-- The bytes written for an image whose rows are passed one by one are a prefix of the stream of each image that is still
+-- possible, and include each stripe whose rows were all received.
 abbrev pub SentIsFront : Type 0
 SentIsFront =
     (image : Image) (hold : EncoderHold) (rows : List (List Bool)) (sent : List ℕ) (raster : Raster) → HasCome image hold rows sent → MayCome image rows raster

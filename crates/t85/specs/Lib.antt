@@ -1,4 +1,4 @@
--- What each call answers, and what it leaves in lent memory.
+-- The result of each call, and its effect on the caller's memory.
 pub mod Delivered
 pub mod Facts
 pub mod Header
@@ -11,9 +11,9 @@ pub mod Encoder
 pub mod Bound
 pub mod Message
 pub mod Parts
--- Laws: what the answer 0 means.
+-- Laws: the meaning of status 0.
 pub mod Laws
--- How it is proved.
+-- Definitions that only serve the proofs.
 pub mod LinedOutput
 pub mod DecoderSteps
 pub mod EncoderSteps

@@ -1,8 +1,8 @@
 -- The texts of the statuses.
 use Rattle.std.specs.Prelude.{ℕ, ◌==◌, List, codes, if◌then◌else◌}
 
--- Those of a stream are the texts that the engine shows of its faults. The others say what a caller of the library lent
--- or asked for. A number that no call answers has no text of its own.
+-- Texts about a stream are those that the engine displays for its errors. The others are about the arguments of a caller of the
+-- library. A number that no call returns has no text of its own.
 abbrev pub message_of : ℕ → List ℕ
 message_of status =
     if status == 0 then codes "done"

@@ -1,4 +1,4 @@
--- What `t85_info` answers and leaves.
+-- The result and the effect of `t85_info`.
 use Rattle.std.specs.Prelude.{ℕ, ◌≡◌, ◌⊎◌, List, [], ◌∷◌}
 use Rattle.t85_core.specs.declared.fault.Fault.{Fault}
 use Rattle.t85_core.specs.Fault.{fault_number}
@@ -15,13 +15,13 @@ pub record TellsNumbers (stream : List ℕ) (new : T85Summary) (answer : ℕ) : 
   pub answer_is : answer ≡ 0
   pub numbers : HasNumbers stream (numbers_told new)
 
--- It has this fault, and nothing is reported.
+-- It has this error, and nothing is reported.
 pub record KeepsNumbers (stream : List ℕ) (old new : T85Summary) (answer : ℕ) : Type 0 where
   pub fault : Fault
   pub has : StreamFault stream fault
   pub answer_is : answer ≡ fault_number fault
   pub kept : new ≡ old
 
--- what `t85_info` leaves
+-- the effect of `t85_info`
 abbrev pub InfoTold : List ℕ → T85Summary → T85Summary → ℕ → Type 0
 InfoTold stream old new answer = TellsNumbers stream new answer ⊎ KeepsNumbers stream old new answer

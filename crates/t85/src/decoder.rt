@@ -26,7 +26,7 @@ const VERSION: u32 = 1;
 const SIZE: usize = 1280;
 /// The number of bytes in a header.
 const HEADER_LEN: usize = 20;
-/// What comes next: the header, the first row, another row, or nothing more.
+/// The next event: the header, the first row, another row, or nothing more.
 const HEADER: u32 = 0;
 
 const FIRST_ROW: u32 = 1;
@@ -40,7 +40,7 @@ const ENDED: u32 = 3;
 #[derive(Drop)]
 pub struct T85Decoder {
     pub version: u32,
-    /// What comes next: `HEADER`, `FIRST_ROW`, `ROWS` or `ENDED`.
+    /// The next event: `HEADER`, `FIRST_ROW`, `ROWS` or `ENDED`.
     pub next: u32,
     /// The greatest number of rows that a header may announce.
     pub max_rows: u32,

@@ -33,7 +33,7 @@ use t85_core::{Fault, Learning, Options, RowEncoder, RowNumbers};
 const VERSION: u32 = 1;
 
 const SIZE: usize = 5360;
-/// What comes next: a row or the end, or nothing more.
+/// The next call: a row or the end, or nothing more.
 const ROWS: u32 = 1;
 
 const ENDED: u32 = 2;
@@ -43,7 +43,7 @@ const ENDED: u32 = 2;
 #[derive(Drop)]
 pub struct T85Encoder {
     pub version: u32,
-    /// What comes next: `ROWS` or `ENDED`.
+    /// The next call: `ROWS` or `ENDED`.
     pub next: u32,
     /// The size of the image. Its height is the greatest number of rows.
     pub width: u32,

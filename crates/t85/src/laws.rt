@@ -4,7 +4,7 @@ ghost use Rattle.t85.specs.Laws.{DecodedAreRows, DecodedIsImage, EncodedIsStream
 
 use t85_core::laws::{fronts, rasters};
 
-/// What status 0 means.
+/// The meaning of status 0.
 pub fn answers()
     // `t85_decode` has written the image of the one raster that the stream denotes.
     ensures image { DecodedIsImage }
@@ -16,7 +16,7 @@ pub fn answers()
     rasters();
 }
 
-/// What has been written of an image that is encoded row by row.
+/// The bytes written so far of an image that is encoded row by row.
 pub fn sent_rows()
     ensures { SentIsFront }
 {

@@ -1,4 +1,4 @@
--- What `decode` and `find_height` leave of their input and output.
+-- The effect of `decode` and `find_height` on their input and output.
 use Rattle.std.specs.Prelude.{ℕ, ◌≡◌, ◌≢◌, Bool, List, ◌++◌, Option, IfSome, Result, OnOk, IfErr, IsErrOf, ◌≤◌, false, IfOk}
 use Rattle.std.specs.Io.KnownBytes.{Appends, Consumes, Keeps}
 use Rattle.pbm_core.specs.Device.{AppendsBeginning}
@@ -21,43 +21,42 @@ pub record WritesRaster (h : Fields) (height : ℕ) (body : List ℕ) (old new :
   pub only : (other : Raster) → DenotesAt h height body other → other ≡ raster
   pub appends : Appends old new (pbm_text raster)
 
--- The header and the rows that a broken body fixes were written, and it fixes no other fault or rows.
+-- The header and the rows that a broken body fixes were written, and it fixes no other error or rows.
 pub record WritesRows (h : Fields) (height : ℕ) (body : List ℕ) (fault : Fault) (old new : Option (List ℕ)) : Type 0 where
   pub rows : List (List Bool)
   pub fixes : Fixes h height body fault rows
   pub only : (other : Fault) (others : List (List Bool)) → Fixes h height body other others → (other ≡ fault) × (others ≡ rows)
   pub appends : Appends old new (pbm_rows h.xd height rows)
 
--- What was written is a beginning of what is to be written for each body that begins with what was taken, however it goes on.
+-- The output is a prefix of the text for each body that begins with the consumed bytes, however it continues.
 pub record WritesImageFront (h : Fields) (height : ℕ) (in_old in_new out_old out_new : Option (List ℕ)) : Type 0 where
   pub given : List ℕ
   pub taken : Consumes in_old in_new given
   pub appends : (rest : List ℕ) (fault : Option Fault) (text : List ℕ) → IsOutcome h height (given ++ rest) fault text → AppendsBeginning out_old out_new text
 
--- What `decode` leaves for a header and a height. Of each device are given the known bytes and the count of failures,
--- before the call and after it.
+-- The effect of `decode` for a header and a height, on the known bytes and the count of failures of each device.
 pub record Decode (h : Fields) (height : ℕ) (input output : Change) (answer : Result (Unit {0}) Fault) : Type 0 where
   pub whole : OnOk answer (IfSome input.old.bytes (λ body. WritesRaster h height body output.old.bytes output.new.bytes))
   pub broken : IfErr answer (λ f. f ≢ Read → f ≢ Write → IfSome input.old.bytes (λ body. WritesRows h height body f output.old.bytes output.new.bytes))
-  -- a read failed, and what came up to there breaks at its end
+  -- a read failed, and the bytes up to there are a body that breaks at its end
   pub unread : IsErrOf answer Read → (given : List ℕ) × Consumes input.old.bytes input.new.bytes given × WritesRows h height given Truncated output.old.bytes output.new.bytes
-  -- whatever the answer: where a write failed, too, and a read before it
+  -- for every result: a write failed, possibly after a failed read
   pub front : WritesImageFront h height input.old.bytes input.new.bytes output.old.bytes output.new.bytes
   pub among : IfErr answer (λ f. f ≢ Write → IsBodyFault f)
   pub reads : CountsBoth input.old.failures input.new.failures answer
   pub writes : CountsWrite output.old.failures output.new.failures answer
 
--- What `find_height` leaves of the input after this header.
+-- The effect of `find_height` on the input after this header.
 pub record FindHeight (h : Fields) (input : Change) (answer : Result ℕ Fault) : Type 0 where
   -- the height of the body
   pub found : IfOk answer (λ height. IfSome input.old.bytes (λ body. IsHeight h body height))
-  -- it may be decoded at, whatever the bytes are
+  -- the height is valid for decoding, whatever the bytes are
   pub from : IfOk answer (λ height. 1 ≤ height)
   pub to : IfOk answer (λ height. height ≤ h.yd)
   pub fixed : IfOk answer (λ height. is_variable h ≡ false → height ≡ h.yd)
-  -- nothing else is reported than that a read failed, where what came up to there doesn't decide the height
+  -- the only error is a failed read, if the bytes up to there do not determine the height
   pub among : IfErr answer (λ f. f ≡ Read)
   pub unread : IsErrOf answer Read → (given : List ℕ) × Consumes input.old.bytes input.new.bytes given × IsOpen h given
   pub counts : CountsRead input.old.failures input.new.failures answer
-  -- where the height doesn't change nothing is read
+  -- if the height cannot change, nothing is read
   pub idle : is_variable h ≡ false → Keeps input.old.bytes input.new.bytes

@@ -1,4 +1,4 @@
--- What `encode` leaves of its input and output.
+-- The effect of `encode` on its input and output.
 use Rattle.std.specs.Prelude.{ℕ, ◌≡◌, Bool, List, ◌++◌, length, Option, ◌/◌, ◌≢◌, ◌≤◌, ◌<◌, ⊤, true, take, IfSome, Result, OnOk, IfErr, IsErrOf, false}
 use Rattle.t85_core.specs.Jbg.{Settings, is_low, jbg, jbg_up_to}
 use Rattle.std.specs.Io.KnownBytes.{Appends, Consumes, Keeps}
@@ -14,7 +14,7 @@ use Rattle.t85_core.specs.Denotes.{Denotes}
 use Rattle.t85_core.specs.Failures.{CountsBoth, CountsWrite}
 use Rattle.pbm_core.specs.declared.size.Size.{Size}
 
--- How the rows of an image come: in which form, how wide, and how many.
+-- The rows of an image in an input: their form, width and number.
 pub record Layout : Type 0 where
   pub form : Form
   pub width : ℕ
@@ -23,11 +23,11 @@ pub record Layout : Type 0 where
 abbrev pub layout_of : Form → ℕ → ℕ → Layout
 layout_of form width height = record { form = form; width = width; height = height }
 
--- of an image of this size
+-- those of an image of this size
 abbrev pub layout_for : Form → Size → Layout
 layout_for form size = layout_of form size.width size.height
 
--- a beginning of bytes
+-- a prefix of bytes
 pub record IsBeginning (front bytes : List ℕ) : Type 0 where
   pub rest : List ℕ
   pub bytes_are : bytes ≡ front ++ rest
@@ -36,7 +36,7 @@ pub record IsBeginning (front bytes : List ℕ) : Type 0 where
 abbrev pub raster_of : ℕ → List (List Bool) → Raster
 raster_of width rows = record { width = width; rows = rows }
 
--- the faults of rows that are missing, and of a failed write
+-- the errors of missing rows, and of a failed write
 abbrev pub IsEncodeFault : Fault → Type 0
 IsEncodeFault (Pbm pbm.Truncated) = ⊤
 IsEncodeFault (Pbm pbm.Read) = ⊤
@@ -51,7 +51,7 @@ pub record BeginsWith (width height' : ℕ) (rows : List (List Bool)) (raster : 
   pub height_is : height raster ≡ height'
   pub first : take (length rows) raster.rows ≡ rows
 
--- the whole code of these rows was written, and it denotes them
+-- the whole stream of these rows was written, and denotes them
 pub record WritesCode (s : Settings) (layout : Layout) (body : List ℕ) (old new : Option (List ℕ)) : Type 0 where
   pub rows : List (List Bool)
   pub rest : List ℕ
@@ -60,13 +60,13 @@ pub record WritesCode (s : Settings) (layout : Layout) (body : List ℕ) (old ne
   pub appends : Appends old new (jbg s (raster_of layout.width rows))
   pub denotes : Denotes (jbg s (raster_of layout.width rows)) (raster_of layout.width rows)
 
--- The text holds the header, the comment and each stripe whose rows all came, and is a beginning of the whole.
+-- The text contains the header, the comment and each stripe whose rows were all read, and is a prefix of the whole stream.
 pub record HoldsStripes (s : Settings) (raster : Raster) (count : ℕ) (text : List ℕ) : Type 0 where
   pub holds : IsBeginning (jbg_up_to s raster (count / s.stripe_rows)) text
   pub begins : IsBeginning text (jbg s raster)
 
--- The rows have this fault: the input ended, could not be read, or has a byte that is no digit. What is written is a
--- beginning of the code of each raster that begins with the rows that came.
+-- The rows have this error: the input ended, could not be read, or has a byte that is not a digit. The output is a prefix of
+-- the stream of each raster that begins with the rows read.
 pub record WritesCodeBegun (s : Settings) (layout : Layout) (body : List ℕ) (fault : PbmFault) (old new : Option (List ℕ)) : Type 0 where
   pub rows : List (List Bool)
   pub rest : List ℕ
@@ -77,8 +77,8 @@ pub record WritesCodeBegun (s : Settings) (layout : Layout) (body : List ℕ) (f
   pub begun : (raster : Raster) → BeginsWith layout.width layout.height rows raster → HoldsStripes s raster (length rows) text
   pub appends : Appends old new text
 
--- What was written is a beginning of the code of each raster that begins with the rows in these bytes. What
--- is after them ends within a row.
+-- The output is a prefix of the stream of each raster that begins with the rows in these bytes. The bytes behind these rows end
+-- within a row.
 pub record WritesCodeFront (s : Settings) (layout : Layout) (body : List ℕ) (old new : Option (List ℕ)) : Type 0 where
   pub rows : List (List Bool)
   pub rest : List ℕ
@@ -90,25 +90,25 @@ pub record WritesCodeFront (s : Settings) (layout : Layout) (body : List ℕ) (o
   pub begins : (raster : Raster) → BeginsWith layout.width layout.height rows raster → IsBeginning text (jbg s raster)
   pub appends : Appends old new text
 
--- The bytes are all rows of an image, and nothing after them.
+-- The bytes are exactly the rows of an image.
 pub record AreAllRows (form : Form) (width height' : ℕ) (bytes : List ℕ) : Type 0 where
   pub rows : List (List Bool)
   pub are_rows : AreRows form width bytes rows
   pub many : length rows ≡ height'
 
--- What `encode` leaves for these settings and an image whose rows come so. Of each device are given the known bytes and the
--- count of failures, before the call and after it.
+-- The effect of `encode` for these settings and an image whose rows are in the input, on the known bytes and the count of
+-- failures of each device.
 pub record Encode (s : Settings) (layout : Layout) (input output : Change) (answer : Result (Unit {0}) Fault) : Type 0 where
-  -- an announced height that is too low is reported before all else, with nothing read and nothing written
+  -- an announced height that is too low is reported before anything else, with nothing read and nothing written
   pub low : IsErrOf answer AnnouncedLow → (is_low s layout.height ≡ true) × Keeps input.old.bytes input.new.bytes × Keeps output.old.bytes output.new.bytes
   pub not_low : OnOk answer (is_low s layout.height ≡ false)
   pub told_if_low : IfErr answer (λ f. f ≢ AnnouncedLow → is_low s layout.height ≡ false)
   pub whole : OnOk answer (IfSome input.old.bytes (λ body. WritesCode s layout body output.old.bytes output.new.bytes))
   pub taken : OnOk answer ((given : List ℕ) × Consumes input.old.bytes input.new.bytes given × AreAllRows layout.form layout.width layout.height given)
   pub short : (fault : PbmFault) → fault ≢ pbm.Read → IsErrOf answer (Pbm fault) → IfSome input.old.bytes (λ body. WritesCodeBegun s layout body fault output.old.bytes output.new.bytes)
-  -- a read failed, and what came up to there ends within the rows
+  -- a read failed, and the bytes up to there end within the rows
   pub unread : IsErrOf answer (Pbm pbm.Read) → (given : List ℕ) × Consumes input.old.bytes input.new.bytes given × WritesCodeBegun s layout given pbm.Truncated output.old.bytes output.new.bytes
-  -- whatever the answer, of just the bytes that were taken: where a write failed, too, and a read before it
+  -- for every result, with exactly the consumed bytes: a write failed, possibly after a failed read
   pub front : (given : List ℕ) × Consumes input.old.bytes input.new.bytes given × WritesCodeFront s layout given output.old.bytes output.new.bytes
   pub among : IfErr answer (λ f. f ≢ AnnouncedLow → IsEncodeFault f)
   pub reads : CountsBoth input.old.failures input.new.failures answer

@@ -1,4 +1,4 @@
--- The numbers under which the faults are documented.
+-- The documented numbers of the errors.
 use Rattle.std.specs.Prelude.{ℕ, ◌+◌}
 use Rattle.pbm_core.specs.Fault.{pbm_fault_number as number_of_pbm}
 use Rattle.t85_core.specs.declared.fault.Fault.{Fault}

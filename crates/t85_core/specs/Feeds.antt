@@ -1,40 +1,40 @@
--- What a decoder leaves that is fed: it takes all that comes, and holds what it can't decode yet.
+-- The effect of `feed` on a decoder: it consumes all bytes, and stores those that it cannot decode yet.
 use Rattle.std.specs.Prelude.{⊤, ℕ, ◌≡◌, List, [], ◌∷◌, ◌++◌, length, take, flat_map, IfSome}
 use Rattle.t85_core.specs.Lent.{PieceView}
 use Rattle.t85_core.specs.Pieces.{HasDecoded, Call, IsCallBy, StreamGoesOn, bytes_taken, row_given}
 use Rattle.t85_core.specs.declared.pieces.Outcome.TheVariants as outcome
 use Rattle.t85_core.specs.declared.pieces.held.HeldBytes.{HeldBytes}
 
--- the bytes that are held
+-- the stored bytes
 abbrev pub held_bytes : HeldBytes → List ℕ
 held_bytes h = take h.len h.bytes
 
--- A decoder goes on that was fed these bytes: it has decoded all of them but the last ones, which are held, and has given
--- these rows, packed.
+-- The state of a decoder that was fed these bytes: it has decoded all of them but the last ones, which are stored, and has
+-- returned these rows, packed.
 pub record HasFed (d : PieceView) (held text out : List ℕ) : Type 0 where
   pub decoded : List ℕ
   pub text_is : text ≡ decoded ++ held
   pub has : HasDecoded d decoded out
 
--- what a call of `feed` or `feed_last` leaves: what one with a piece does, of all bytes that came
+-- the effect of a call of `feed` or `feed_last`: that of a call with a piece, for all bytes so far
 pub record IsFeed (old : PieceView) (held held' : List ℕ) (call : Call) : Type 0 where
   pub fed : IsCallBy (HasFed old held) (HasFed call.new held') old call
-  -- what more bytes are wanted for is taken, and held
+  -- if more bytes are needed, all are consumed and stored
   pub all : call.answer ≡ outcome.More → call.taken ≡ length call.piece
-  -- after an end all stays as it is
+  -- after an end nothing changes
   pub stays : IfSome old.end (λ _. held' ≡ held)
 
--- a call that feeds, and what is held after it
+-- a call of `feed`, and the bytes stored after it
 pub record Feed : Type 0 where
   pub call : Call
   pub held : List ℕ
 
--- calls one after another, whatever their pieces are, up to the end
+-- successive calls, with any pieces, up to the end
 abbrev pub AreFeeds : PieceView → List ℕ → List Feed → Type 0
 AreFeeds d held [] = ⊤
 AreFeeds d held (feed ∷ feeds) = IsFeed d held feed.held feed.call × StreamGoesOn feed.call.answer × AreFeeds feed.call.new feed.held feeds
 
--- the decoder after them, and what is held
+-- the decoder after them, and the stored bytes
 abbrev pub decoder_fed : PieceView → List Feed → PieceView
 decoder_fed d [] = d
 decoder_fed d (feed ∷ feeds) = decoder_fed feed.call.new feeds
@@ -43,8 +43,7 @@ abbrev pub held_after : List ℕ → List Feed → List ℕ
 held_after held [] = held
 held_after held (feed ∷ feeds) = held_after feed.held feeds
 
--- However a stream is cut: after any calls a decoder that is fresh was fed all bytes that they took, and has given their
--- rows.
+-- However a stream is cut: after any calls, a new decoder was fed all bytes that they consumed, and has returned their rows.
 abbrev pub FeedsTaken : Type 0
 FeedsTaken =
     (d : PieceView) (feeds : List Feed) → HasDecoded d [] [] → AreFeeds d [] feeds →

@@ -1,4 +1,4 @@
--- The height of a stream (T.82, 6.2.6.2): the header's, or one that is given later, where the header allows that.
+-- The height of a stream (T.82, 6.2.6.2): the header's, or, with VLENGTH, that of a later NEWLEN.
 use Rattle.std.specs.Prelude.{ℕ, ◌≡◌, ◌≤◌, ◌<◌, ◌⊎◌, not, List, [], ◌++◌, length, drop, flat_map, count_by, Some, IsTrue}
 use Rattle.std.specs.List.{AllByRecursion}
 use Rattle.qm_core.specs.Code.{stuffed}
@@ -8,8 +8,8 @@ use Rattle.t85_core.specs.Header.{Fields, HeaderOf, header_fault, is_variable}
 use Rattle.t85_core.specs.Grammar.{Segment, NewLength, segment_bytes, is_move, is_comment, lengths, Stripe, stripe_bytes, all_segments, stripe_count, is_nil, is_valid_length, IsBegun, AreStripes}
 use Rattle.t85_core.specs.Refusal.{rest_fault, BodyFault}
 
--- A valid height is given after whole stripes and legal segments, and is the first that is given. After the last
--- stripe that the header's height makes only comments are looked at.
+-- A valid height follows whole stripes and legal segments, and is the first NEWLEN. After the last stripe of the header's
+-- height, only comments may precede it.
 pub record GivesHeight (h : Fields) (body : List ℕ) (height : ℕ) : Type 0 where
   pub variable : IsTrue (is_variable h)
   pub stripes : List Stripe
@@ -23,12 +23,12 @@ pub record GivesHeight (h : Fields) (body : List ℕ) (height : ℕ) : Type 0 wh
   pub behind : length stripes ≡ stripe_count h.yd h.l0 → AllByRecursion (λ s. IsTrue (is_comment s)) segments
   pub valid : IsTrue (is_valid_length h (length stripes) height)
 
--- the height of the image: the one that is given, or else the header's
+-- the height of the image: that of the valid NEWLEN, or else the header's
 abbrev pub IsHeight : Fields → List ℕ → ℕ → Type 0
 IsHeight h body height = GivesHeight h body height ⊎ ((height ≡ h.yd) × ((other : ℕ) → GivesHeight h body other → ⊥))
 
--- The bytes end before it is known whether they give a height: within one of the stripes that the header's height
--- makes, or after these within a comment or a height. There a move isn't looked at, as in a stripe that had one.
+-- The bytes end before it is known whether they contain a height: within one of the stripes of the header's height, or behind
+-- these within a comment or a height. There, a move does not count, as in a stripe that had one.
 pub record IsOpen (h : Fields) (body : List ℕ) : Type 0 where
   pub variable : IsTrue (is_variable h)
   pub stripes : List Stripe
@@ -45,7 +45,7 @@ pub record IsOpen (h : Fields) (body : List ℕ) : Type 0 where
   pub moves_are : ((length stripes < stripe_count h.yd h.l0) × (moves ≡ count_by is_move segments)) ⊎ ((length stripes ≡ stripe_count h.yd h.l0) × (moves ≡ 1))
   pub cut : rest_fault h (record { height = h.yd; entities = length stripes; heights = 0 }) moves (not (is_nil code)) rest ≡ Some Truncated
 
--- the height of a stream, and its fault there
+-- the height of a stream, and its error at that height
 pub record StreamFaultBehind (bytes : List ℕ) (fault : Fault) : Type 0 where
   pub header : Fields
   pub header_of : HeaderOf bytes header
@@ -53,6 +53,6 @@ pub record StreamFaultBehind (bytes : List ℕ) (fault : Fault) : Type 0 where
   pub height_is : IsHeight header (drop 20 bytes) height
   pub broken : BodyFault header height (drop 20 bytes) fault
 
--- a header that is refused, or a body without its parts
+-- a header that is rejected, or a body without its parts
 abbrev pub StreamFault : List ℕ → Fault → Type 0
 StreamFault bytes fault = (header_fault bytes ≡ Some fault) ⊎ StreamFaultBehind bytes fault

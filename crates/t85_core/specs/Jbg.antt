@@ -1,4 +1,4 @@
--- The stream that is written for a raster.
+-- The stream of a raster.
 use Rattle.std.specs.Prelude.{ℕ, zero, suc, ◌+◌, ◌≡◌, ◌%◌, ◌≤◌, ◌<◌, ◌^◌, Bool, false, not, ◌&&◌, nat_lt, List, [], ◌++◌, length, map, replicate, if◌then◌else◌, Option, None, is_some, option_map, option_to_list, unwrap_or, flat_map, slice_index_or, Some, ◌==◌, IfSome}
 use Rattle.qm_core.specs.Code.{code_of}
 use Rattle.raster_core.specs.Raster.{Raster, height}
@@ -8,9 +8,9 @@ use Rattle.t85_core.specs.Header.{Fields, header_bytes}
 use Rattle.t85_core.specs.Grammar.{Segment, NewLength, Move, Comment, Stripe, segment_bytes, marker_bytes, stripe_bytes, stripe_count}
 use Rattle.t85_core.specs.Coding.{Coding, has_bit, mode_of, rows_of, lines_of, place_of}
 
--- what a caller chooses for a stream: the options byte, the rows of a stripe, the greatest offset of the adaptive
--- pixel, a height to announce, whether each stripe ends in a reset, a comment, and the offsets that the caller names: of
--- each stripe the one to which the pixel is moved at its top, or none, and then the rule chooses
+-- the caller's settings for a stream: the options byte, the rows per stripe, the greatest offset of the adaptive pixel, a
+-- height to announce, whether each stripe ends in a reset, a comment, and the chosen offsets: for each stripe the offset to
+-- which the pixel is moved at its top, or none, and then the rule chooses
 pub record Settings : Type 0 where
   pub options : ℕ
   pub stripe_rows : ℕ
@@ -23,7 +23,7 @@ pub record Settings : Type 0 where
 abbrev pub settings : ℕ → ℕ → ℕ → Option ℕ → Bool → Option (List ℕ) → Settings
 settings p s m announced reset comment = record { options = p; stripe_rows = s; most_offset = m; announced = announced; reset = reset; comment = comment; named = [] }
 
--- the offset that is named for stripe i
+-- the offset that the caller chose for stripe i
 abbrev pub named_for : Settings → ℕ → Option ℕ
 named_for s i = slice_index_or s.named i None
 
@@ -39,11 +39,11 @@ pub record AreSettings (s : Settings) : Type 0 where
   pub comment_to : length (unwrap_or s.comment []) < 2 ^ 32
   pub named_to : (i : ℕ) → IfSome (named_for s i) (λ t. t ≤ s.most_offset)
 
--- the options byte as it is written: where a height is announced, the height may change
+-- the options byte in the header: with an announced height, VLENGTH is set
 abbrev pub written_options : Settings → ℕ
 written_options s = if is_some s.announced && not (has_bit s.options 5) then s.options + 32 else s.options
 
--- the header of an image of this width and height
+-- the header for an image of this width and height
 abbrev pub header_of : Settings → ℕ → ℕ → Fields
 header_of s width height' = record {
   xd = width;
@@ -53,7 +53,7 @@ header_of s width height' = record {
   options = written_options s;
 }
 
--- a height that is announced is not below the image's
+-- an announced height is not below the image's
 abbrev pub IsAnnounced : Settings → ℕ → Type 0
 IsAnnounced s height' = height' ≤ unwrap_or s.announced height'
 
@@ -61,7 +61,7 @@ IsAnnounced s height' = height' ≤ unwrap_or s.announced height'
 abbrev pub is_low : Settings → ℕ → Bool
 is_low s height' = nat_lt (unwrap_or s.announced height') height'
 
--- the raster in its stripes, each ended alike, before moves and flags are chosen
+-- the raster in its stripes, which all end alike, before moves and flags are chosen
 abbrev pub cut : Settings → Raster → Coding
 cut s raster = record {
   raster = raster;
@@ -72,25 +72,25 @@ cut s raster = record {
   flags = [];
 }
 
--- each row is typical that may be
+-- each row is typical if it may be
 abbrev pub canonical_flags : Coding → List Bool
 canonical_flags c = map (λ y. may_be_typical c.mode (lines_of c y)) (numbers_from 0 (height c.raster))
 
--- where the adaptive pixel moves from the current offset: to the named one, unless that is the current one, or, where
--- none is named, to the chosen one
+-- the offset to which the adaptive pixel moves from the current one: the caller's, unless that is the current one; or, without
+-- a choice of the caller, the rule's
 abbrev pub moved_to : Option ℕ → ℕ → Option ℕ → Option ℕ
 moved_to None current chosen = chosen
 moved_to (Some t) current chosen = if t == current then None else Some t
 
--- the offset to which the pixel moves before the first stripe: one that is named, since no rows choose
+-- the offset to which the pixel moves before the first stripe: only the caller may choose one, since no rows precede it
 abbrev pub first_choice : Settings → Option ℕ
 first_choice s = moved_to (named_for s 0) 0 None
 
--- the one for the stripe after stripe i: named, or chosen by the rows of stripe i, over this one
+-- the offset for the stripe after stripe i: the caller's, or the rule's for the rows of stripe i, compared with this one
 abbrev pub choice_after : Settings → Coding → ℕ → ℕ → Option ℕ
 choice_after s c i current = moved_to (named_for s (suc i)) current (chosen_offset c.mode.two_line s.most_offset c.raster.width (map (lines_of c) (rows_of c i)) current)
 
--- The offset with which that of stripe i+1 is compared: the nominal one where each stripe ends in a reset, else that of
+-- The offset with which that of stripe i+1 is compared: the nominal one if each stripe ends in a reset, otherwise that of
 -- stripe i.
 abbrev pub current_offset : Settings → Coding → ℕ → ℕ
 current_offset s c zero = if s.reset then 0 else unwrap_or (first_choice s) 0
@@ -111,7 +111,7 @@ coding_of s raster =
 abbrev pub move_segments : Option (ℕ × ℕ) → List Segment
 move_segments move = map (λ to. Move to.0 to.1) (option_to_list move)
 
--- stripe i as it is written
+-- stripe i in the stream
 abbrev pub coded_stripe : Coding → ℕ → Stripe
 coded_stripe c i = record {
   segments = move_segments (slice_index_or c.moves i None);
@@ -119,7 +119,7 @@ coded_stripe c i = record {
   reset = slice_index_or c.resets i false;
 }
 
--- what comes before the first stripe
+-- the bytes before the first stripe
 abbrev pub head_of : Settings → ℕ → ℕ → List ℕ
 head_of s width height' = header_bytes (header_of s width height') ++ flat_map segment_bytes (map Comment (option_to_list s.comment))
 
@@ -131,11 +131,11 @@ stripes_up_to s raster n = flat_map (λ i. stripe_bytes (coded_stripe (coding_of
 abbrev pub stripes_of : Settings → Raster → List ℕ
 stripes_of s raster = stripes_up_to s raster (stripe_count (height raster) s.stripe_rows)
 
--- the stream up to, not including, stripe n
+-- the stream before stripe n
 abbrev pub jbg_up_to : Settings → Raster → ℕ → List ℕ
 jbg_up_to s raster n = head_of s raster.width (height raster) ++ stripes_up_to s raster n
 
--- what comes after the last stripe: the height and an empty data entity, where a greater height was announced
+-- the bytes after the last stripe: with a greater announced height, the height and an empty stripe data entity
 abbrev pub ending : Settings → ℕ → List ℕ
 ending s height' = if nat_lt height' (unwrap_or s.announced height') then segment_bytes (NewLength height') ++ marker_bytes s.reset else []
 

@@ -1,4 +1,4 @@
--- The laws of streams, in which height' is the height in use: from 1 to the header's.
+-- The laws of streams, in which height' is the actual height: from 1 to the header's.
 pub mod Worked
 use Rattle.std.specs.Prelude.{ℕ, ◌≡◌, ◌≤◌, ◌⊎◌, Bool, List, ◌∷◌, ◌++◌, length, take, Option, None, ◌+◌, ◌*◌, unwrap_or, [], suc, Some, map}
 use Rattle.qm_core.specs.Code.{IsBytes}
@@ -15,24 +15,24 @@ use Rattle.t85_core.specs.Jbg.{Settings, AreSettings, IsAnnounced, named_for, fi
 use Rattle.raster_core.specs.Offset.{chosen_offset}
 use Rattle.t85_core.specs.Coding.{Coding, rows_of, lines_of, flagged}
 
--- an accepted header, and a height in use
+-- an accepted header, and an actual height
 pub record IsInUse (h : Fields) (height' : ℕ) : Type 0 where
   pub accepted : IsAccepted h
   pub from : 1 ≤ height'
   pub to : height' ≤ h.yd
 
--- The first twenty bytes decide whether they are a header, and of which fields, and how they are refused.
+-- The first twenty bytes determine whether they are a header, its fields, and otherwise its error.
 pub record HeaderLaws : Type 0 where
   pub stands : (bytes more : List ℕ) (h : Fields) → HeaderOf bytes h → HeaderOf (bytes ++ more) h
   pub refusal_stands : (bytes more : List ℕ) → 20 ≤ length bytes → header_fault (bytes ++ more) ≡ header_fault bytes
-  -- what is a header is not refused
+  -- a header is not rejected
   pub not_refused : (bytes : List ℕ) (h : Fields) → HeaderOf bytes h → header_fault bytes ≡ None
-  -- bytes are the header of one list of fields at most
+  -- bytes are the header of at most one list of fields
   pub one : (bytes : List ℕ) (h other : Fields) → HeaderOf bytes h → HeaderOf bytes other → h ≡ other
-  -- the header that is written is that of its fields
+  -- the twenty bytes written for fields are a header with these fields
   pub written : (h : Fields) → IsAccepted h → HeaderOf (header_bytes h) h
 
--- a body denotes one raster at most
+-- a body denotes at most one raster
 abbrev pub OneRaster : Type 0
 OneRaster =
     (h : Fields) (height' : ℕ) (body : List ℕ) (one other : Raster) → IsInUse h height' →
@@ -44,35 +44,35 @@ SomeRaster =
     (h : Fields) (height' : ℕ) (body : List ℕ) → IsInUse h height' → Parts h height' body →
     (raster : Raster) × DenotesAt h height' body raster
 
--- a stream denotes one raster at most
+-- a stream denotes at most one raster
 abbrev pub OneRasterOfStream : Type 0
 OneRasterOfStream = (bytes : List ℕ) (one other : Raster) → Denotes bytes one → Denotes bytes other → other ≡ one
 
--- a body that has its parts has no fault
+-- a body that has its parts has no error
 abbrev pub WholeOrBroken : Type 0
 WholeOrBroken =
     (h : Fields) (height' : ℕ) (body : List ℕ) (fault : Fault) → IsInUse h height' →
     Parts h height' body → BodyFault h height' body fault → ⊥
 
--- a body of bytes has its parts or a fault
+-- a body of bytes has its parts or an error
 abbrev pub PartsOrFault : Type 0
 PartsOrFault =
     (h : Fields) (height' : ℕ) (body : List ℕ) → IsBytes body →
     Parts h height' body ⊎ ((fault : Fault) × BodyFault h height' body fault)
 
--- a body with a fault fixes rows: there is a longest list that is decided
+-- a body with an error fixes rows: there is a longest list that is decided
 abbrev pub SomeFixed : Type 0
 SomeFixed =
     (h : Fields) (height' : ℕ) (body : List ℕ) (fault : Fault) → IsInUse h height' →
     BodyFault h height' body fault → (rows : List (List Bool)) × Fixes h height' body fault rows
 
--- a body fixes one fault at most, and one list of rows
+-- a body fixes at most one error, and at most one list of rows
 abbrev pub OneFixed : Type 0
 OneFixed =
     (h : Fields) (height' : ℕ) (body : List ℕ) (fault other : Fault) (rows others : List (List Bool)) → IsInUse h height' →
     Fixes h height' body fault rows → Fixes h height' body other others → (fault ≡ other) × (rows ≡ others)
 
--- Rows that are decided are the first rows of each raster that the stream may still come to denote.
+-- Rows that are decided at a height are the first rows of each raster that a continuation denotes at this height.
 abbrev pub DecidedStays : Type 0
 DecidedStays =
     (h : Fields) (height' : ℕ) (stripes : List Stripe) (segments : List Segment) (code more : List ℕ) (reset : Bool) (later : List Stripe)
@@ -89,31 +89,32 @@ pub record HasOutcome (h : Fields) (height' : ℕ) (body : List ℕ) : Type 0 wh
   pub is : IsOutcome h height' body fault text
   pub only : (other : Option Fault) (other_text : List ℕ) → IsOutcome h height' body other other_text → (other ≡ fault) × (other_text ≡ text)
 
--- For each body of bytes there is one answer and one text: its raster's, or a fault and the rows that are fixed.
+-- For each body of bytes there is one result and one text: its raster's, or an error and the rows that are fixed.
 abbrev pub OneOutcome : Type 0
 OneOutcome = (h : Fields) (height' : ℕ) (body : List ℕ) → IsInUse h height' → IsBytes body → HasOutcome h height' body
 
--- the stream that is written for a raster denotes it
+-- the stream of a raster denotes the raster
 abbrev pub CodeDenotes : Type 0
 CodeDenotes =
     (s : Settings) (raster : Raster) → AreSettings s → IsRaster raster → IsAnnounced s (height raster) →
     Denotes (jbg s raster) raster
 
--- Where no offset is named, none is moved to before the first stripe, and the rule chooses each other one.
+-- If the caller chooses no offset, there is no move before the first stripe, and the rule chooses every other offset.
 abbrev pub RuleChooses : Type 0
 RuleChooses =
     (s : Settings) (c : Coding) → s.named ≡ [] →
     (move_before s c 0 ≡ None) ×
     ((i current : ℕ) → choice_after s c i current ≡ chosen_offset c.mode.two_line s.most_offset c.raster.width (map (lines_of c) (rows_of c i)) current)
 
--- A named offset is that of its stripe, whatever it was before: it is moved to, or it is the current one.
+-- An offset that the caller chose is that of its stripe, whatever it was before: the stripe moves to it, or it is the current
+-- one.
 abbrev pub NameIsTaken : Type 0
 NameIsTaken =
     (s : Settings) (c : Coding) (t : ℕ) →
     (named_for s 0 ≡ Some t → unwrap_or (first_choice s) 0 ≡ t) ×
     ((i current : ℕ) → named_for s (suc i) ≡ Some t → unwrap_or (choice_after s c i current) current ≡ t)
 
--- a body has one height at most
+-- a body has at most one height
 abbrev pub OneHeight : Type 0
 OneHeight =
     (h : Fields) (body : List ℕ) (one other : ℕ) → IsAccepted h → IsHeight h body one → IsHeight h body other → other ≡ one
@@ -122,12 +123,12 @@ OneHeight =
 abbrev pub SomeHeight : Type 0
 SomeHeight = (h : Fields) (body : List ℕ) → IsAccepted h → IsBytes body → (height' : ℕ) × IsHeight h body height'
 
--- it is in use, from 1 to the header's
+-- it is from 1 to the header's
 abbrev pub HeightWithin : Type 0
 HeightWithin = (h : Fields) (body : List ℕ) (height' : ℕ) → IsAccepted h → IsHeight h body height' → IsInUse h height'
 
--- How many bytes the stream of an image of this size has at most: a header, a comment and a new height, and for each
--- stripe a move, an end marker and the code, in which a pixel fills four bytes at most.
+-- The greatest length of the stream of an image of this size: a header, a comment and a new height, and for each stripe a move,
+-- an end marker and the code, in which a pixel takes at most four bytes.
 abbrev pub most_bytes : Settings → ℕ → ℕ → ℕ
 most_bytes s width height' =
     34 + length (unwrap_or s.comment []) + 14 * stripe_count height' s.stripe_rows + 4 * (height' * (width + 1))

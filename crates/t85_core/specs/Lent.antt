@@ -1,4 +1,4 @@
--- What decoders are seen as: what they hold, and what they are lent.
+-- The view of a decoder: its own numbers, and the memory that it borrows.
 use Rattle.std.specs.Prelude.{ℕ, ◌≡◌, Bool, ◌&&◌, List, Option}
 use Rattle.qm_core.specs.declared.decoder.Decoder.{Decoder}
 use Rattle.qm_core.specs.Place.{Estimate}
@@ -25,15 +25,15 @@ KeepsWindow old new = (width_of new ≡ width_of old) × (memory_of new ≡ memo
 abbrev pub StaysWindow : Window → Window → Type 0
 StaysWindow old new = KeepsWindow old new × (current_place new ≡ current_place old)
 
--- a row further: the current row of before is above the one at the current place
+-- one row further: the previous current row is above the row at the current place
 abbrev pub TurnsWindow : Window → Window → Type 0
 TurnsWindow old new = KeepsWindow old new × (current_place new ≡ next_place (next_place (current_place old)))
 
--- the same two are lent: the same contexts, and the same window, which keeps its width and its memory
+-- the same two are borrowed: the same contexts, and the same window, which keeps its width and its memory
 abbrev pub KeepsLent : Lent → Lent → Type 0
 KeepsLent old new = (new.window.ghost_name ≡ old.window.ghost_name) × (new.learned.ghost_name ≡ old.learned.ghost_name) × KeepsWindow old.window.now new.window.now
 
--- what is carried from row to row and from stripe to stripe
+-- the state carried from row to row and from stripe to stripe
 pub record Carried : Type 0 where
   pub held : Held
   pub kept : Kept
@@ -42,7 +42,7 @@ pub record Carried : Type 0 where
 abbrev pub carried_by : Window → Kept → List Estimate → Carried
 carried_by window kept learned = record { held = held window; kept = kept; learned = learned }
 
--- how far a stream has been decoded, with the rows and the contexts that it was lent
+-- how far a stream has been decoded, with the rows and the contexts that were borrowed
 pub record WalkView : Type 0 where
   pub carried : Carried
   pub decoder : Decoder
@@ -89,7 +89,7 @@ pub record PieceView : Type 0 where
   pub behind : Behind
   pub end : Option End
 
--- whether it waits for what comes behind an end marker, or for a height before the first stripe
+-- whether it waits for the bytes behind an end marker, or for a height before the first stripe
 abbrev pub waits_behind : PieceView → Bool
 waits_behind d = d.is_open && d.waits
 

@@ -1,4 +1,5 @@
--- The standard: the header, the grammar of a body, what it denotes or fixes, and the stream of a raster.
+-- The standard: the header, the grammar of a body, the raster that it denotes or the rows that it fixes, and the stream of a
+-- raster.
 pub mod Header
 pub mod Grammar
 pub mod Refusal
@@ -8,7 +9,7 @@ pub mod Denotes
 pub mod Fixed
 pub mod Outcome
 pub mod Jbg
--- What public calls promise.
+-- The effects of public calls.
 pub mod Fault
 pub mod Change
 pub mod Failures
@@ -28,5 +29,5 @@ pub mod Encode
 pub mod ToJbg
 -- Laws.
 pub mod Laws
--- How it is proved.
+-- Definitions that only serve the proofs.
 pub mod Steps

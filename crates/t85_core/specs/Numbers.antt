@@ -29,7 +29,7 @@ abbrev pub marker_number : Option Bool → ℕ
 marker_number None = 0
 marker_number (Some reset) = reset_number reset
 
--- that of what was read ahead of a code
+-- the number of the bytes read ahead of a code
 abbrev pub code_number : Option Code → ℕ
 code_number None = 0
 code_number (Some (code.Marker reset)) = reset_number reset
@@ -39,7 +39,7 @@ abbrev pub move_numbers : Option Move → MoveNumbers
 move_numbers None = record { is_there = false; row = 0; offset = 0 }
 move_numbers (Some to) = record { is_there = true; row = to.row; offset = to.offset }
 
--- the numbers of a decoder, but for how it has ended
+-- the numbers of a decoder, without its end
 abbrev pub piece_numbers : PieceDecoder → PieceNumbers
 piece_numbers d = record {
   height = d.height;
@@ -63,7 +63,7 @@ piece_numbers d = record {
   decoder = decoder_registers d.walk.decoder;
 }
 
--- A walk that stands where this one does. Its decoder is the same if that one goes on.
+-- A parser state at the same place. Its decoder is the same if the other one continues.
 pub record IsWalkAs (w w' : Walk) : Type 0 where
   pub decoder_is : has_stopped w.decoder ≡ false → w'.decoder ≡ w.decoder
   pub same : w' ≡ record w { decoder = w'.decoder }

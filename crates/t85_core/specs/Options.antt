@@ -1,4 +1,4 @@
--- Which options are refused, and how; a header and options as the definitions see them.
+-- Which options are rejected, and with which error; and the header and the settings for options.
 use Rattle.std.specs.Prelude.{ℕ, ◌≡◌, ◌%◌, ◌==◌, ◌||◌, not, nat_lt, nat_le, Bool, false, List, [], Option, Some, None, length, option_map, if◌then◌else◌}
 use Rattle.std.specs.Option.{option_map_or}
 use Rattle.t85_core.specs.declared.fault.Fault.{Fault}
@@ -9,11 +9,11 @@ use Rattle.t85_core.specs.Jbg.{Settings}
 use Rattle.t85_core.specs.declared.header.Header.{Header}
 use Rattle.t85_core.specs.Header.{Fields}
 
--- a bit beside LRLTWO, VLENGTH and TPBON: one of the three lowest, bit 4, or bit 7 and above
+-- a bit other than LRLTWO, VLENGTH and TPBON: one of the three lowest, bit 4, or bit 7 and above
 abbrev pub has_other_bit : ℕ → Bool
 has_other_bit p = not (p % 8 == 0) || has_bit p 4 || nat_le 128 p
 
--- the first refusal, in this order
+-- the first error, in this order
 abbrev pub refusal_of : ℕ → ℕ → ℕ → Option (List ℕ) → Option Fault
 refusal_of p s m comment =
     if has_other_bit p then Some OptionBits
@@ -22,7 +22,7 @@ refusal_of p s m comment =
     else if option_map_or (λ c. nat_lt 4294967295 (length c)) comment false then Some CommentLong
     else None
 
--- what options say
+-- the settings of options
 abbrev pub settings_of : Options → Settings
 settings_of o = record {
   options = o.options;
@@ -34,7 +34,7 @@ settings_of o = record {
   named = [];
 }
 
--- options say what was given
+-- options have the given values
 abbrev pub Holds : Settings → Options → Type 0
 Holds s o = settings_of o ≡ s
 

@@ -1,4 +1,4 @@
--- What a stream is made of, part by part: the header, segments and data entities.
+-- The parts of a stream: the header, marker segments and stripe data entities.
 use Rattle.std.specs.Prelude.{ℕ, ◌≢◌, ◌+◌, ◌≡◌, ◌≤◌, ◌<◌, ◌⊎◌, Bool, true, false, not, List, [], ◌∷◌, ◌++◌, length, take, drop, flat_map, count_by, Some, if◌then◌else◌, IsTrue}
 use Rattle.std.specs.List.{AllByRecursion}
 use Rattle.qm_core.specs.Code.{stuffed}
@@ -16,32 +16,32 @@ use Rattle.t85_core.specs.Refusal.{rest_fault}
 use Rattle.t85_core.specs.Height.{GivesHeight, IsHeight, StreamFault}
 use Rattle.t85_core.specs.Info.{numbers_of, HasNumbers, IsWalkFault}
 
--- The parts that were passed: none, or the header, whole stripes and segments of the next stripe.
+-- The parts that were returned: none, or the header, whole stripes and segments of the next stripe.
 pub data Passed : Type 0 where
   Nothing : Passed
   Behind : (header : Fields) (stripes : List Stripe) (segments : List Segment) → Passed
 
--- the data entities among them
+-- the stripe data entities among them
 abbrev pub entities_in : Passed → ℕ
 entities_in Nothing = 0
 entities_in (Behind h stripes segments) = length stripes
 
--- the bytes behind the header of these stripes and segments
+-- the bytes of these stripes and segments, behind the header
 abbrev pub passed_bytes : List Stripe → List Segment → List ℕ
 passed_bytes stripes segments = flat_map stripe_bytes stripes ++ flat_map segment_bytes segments
 
--- what gives this height, where it came last, or nothing
+-- the segment with this height, if it came last, or nothing
 abbrev pub EndsInHeight : Bool → ℕ → List Segment → Type 0
 EndsInHeight true height segments = (front : List Segment) × (segments ≡ front ++ NewLength height ∷ [])
 EndsInHeight false height segments = segments ≡ []
 
--- an empty data entity behind a height that came last, if one is there, and else nothing
+-- the empty stripe data entity behind a height that came last, if there is one, and otherwise nothing
 abbrev pub IsTail : Bool → List ℕ → List ℕ → Type 0
 IsTail true tail rest = ((reset : Bool) × (tail ≡ marker_bytes reset)) ⊎ ((tail ≡ []) × ((reset : Bool) (more : List ℕ) → rest ≡ marker_bytes reset ++ more → ⊥))
 IsTail false tail rest = tail ≡ []
 
--- No height is given in these parts. Behind the last stripe that the header's height makes there are comments alone, and
--- those only where a height comes behind them.
+-- These parts contain no height. Behind the last stripe of the header's height there are only comments, and only if a height
+-- follows them.
 pub record IsUngiven (w : PartWalk) (h : Fields) (stripes : List Stripe) (segments : List Segment) (body : List ℕ) : Type 0 where
   pub zero : w.late_height ≡ 0
   pub none : lengths (all_segments stripes ++ segments) ≡ []
@@ -49,8 +49,8 @@ pub record IsUngiven (w : PartWalk) (h : Fields) (stripes : List Stripe) (segmen
   pub quiet : length stripes ≡ stripe_count h.yd h.l0 → w.at_height ≡ false → segments ≡ []
   pub comes : w.at_height ≡ true → (length stripes ≡ stripe_count h.yd h.l0) × AllByRecursion (λ s. IsTrue (is_comment s)) segments × ((height : ℕ) × GivesHeight h body height)
 
--- The height of the stream is given in these parts, and no other. Behind the last stripe that it makes there is nothing but
--- what gives it.
+-- These parts contain the height of the stream, and no other. Behind the last stripe of this height there is nothing but the
+-- segment with the height.
 pub record IsGiven (w : PartWalk) (h : Fields) (stripes : List Stripe) (segments : List Segment) (body : List ℕ) : Type 0 where
   pub gives : GivesHeight h body w.late_height
   pub only : GiveOnly w.late_height 0 (all_segments stripes ++ segments)
@@ -58,7 +58,7 @@ pub record IsGiven (w : PartWalk) (h : Fields) (stripes : List Stripe) (segments
   pub within : length stripes ≤ stripe_count w.late_height h.l0
   pub last : length stripes ≡ stripe_count w.late_height h.l0 → EndsInHeight w.at_height w.late_height segments
 
--- A walk stands in a stream behind its header, these stripes and these segments.
+-- A parser state in a stream behind its header, these stripes and these segments.
 pub record StandsBehind (stream : List ℕ) (w : PartWalk) (h : Fields) (stripes : List Stripe) (segments : List Segment) : Type 0 where
   pub header_of : HeaderOf stream h
   pub offset_is : w.offset ≡ 20 + length (passed_bytes stripes segments)
@@ -69,11 +69,11 @@ pub record StandsBehind (stream : List ℕ) (w : PartWalk) (h : Fields) (stripes
   pub moved_is : (if w.moved then 1 else 0) ≡ count_by is_move segments
   pub height : IsUngiven w h stripes segments (drop 20 stream) ⊎ IsGiven w h stripes segments (drop 20 stream)
 
--- a walk before the first byte
+-- a parser state before the first byte
 abbrev pub start_walk : PartWalk
 start_walk = record { offset = 0; entities = 0; late_height = 0; moved = false; at_height = false }
 
--- A walk stands in a stream behind these parts.
+-- A parser state in a stream behind these parts.
 abbrev pub IsBehind : List ℕ → PartWalk → Passed → Type 0
 IsBehind stream w Nothing = w.offset ≡ 0
 IsBehind stream w (Behind h stripes segments) = StandsBehind stream w h stripes segments
@@ -83,7 +83,7 @@ abbrev pub AddsSegment : Segment → Passed → Passed → List ℕ → Type 0
 AddsSegment segment Nothing to bytes = ⊥
 AddsSegment segment (Behind h stripes segments) to bytes = IsLegal h segment × (to ≡ Behind h stripes (segments ++ segment ∷ [])) × (bytes ≡ segment_bytes segment)
 
--- The next part is a data entity, with which a stripe is whole.
+-- The next part is a stripe data entity, which completes a stripe.
 abbrev pub AddsEntity : Passed → Passed → List ℕ → Type 0
 AddsEntity Nothing to bytes = ⊥
 AddsEntity (Behind h stripes segments) to bytes =
@@ -102,7 +102,7 @@ Adds kind.Move from to bytes = (row : ℕ) × (offset : ℕ) × AddsSegment (Mov
 Adds kind.NewHeight from to bytes = (height : ℕ) × AddsSegment (NewLength height) from to bytes
 Adds kind.DataEntity from to bytes = AddsEntity from to bytes
 
--- The next part of a stream was told, and the walk stands behind it.
+-- The next part of a stream was returned, and the parser state is behind it.
 pub record TakesPart (stream : List ℕ) (w w' : PartWalk) (from : Passed) (part : Part) : Type 0 where
   pub to : Passed
   pub bytes : List ℕ
@@ -113,8 +113,8 @@ pub record TakesPart (stream : List ℕ) (w w' : PartWalk) (from : Passed) (part
   pub there : take part.len (drop part.offset stream) ≡ bytes
   pub stripe_is : part.stripe ≡ entities_in from
 
--- All parts were passed: the stripes of the height of the stream, and behind them nothing but what gives it, with its empty
--- data entity. If a height is given it is among them.
+-- All parts were returned: the stripes of the height of the stream, and behind them nothing but the segment with the height and
+-- its empty stripe data entity. If there is such a segment, it is among the parts.
 pub record IsWholeStream (stream : List ℕ) (len : ℕ) (h : Fields) (stripes : List Stripe) (segments : List Segment) : Type 0 where
   pub height : ℕ
   pub comes_last : Bool
@@ -132,8 +132,8 @@ abbrev pub EndsAt : List ℕ → Passed → ℕ → Type 0
 EndsAt stream Nothing len = ⊥
 EndsAt stream (Behind h stripes segments) len = IsWholeStream stream len h stripes segments
 
--- These bytes are no whole part, after so many data entities and heights, and so many moves in the stripe: after bytes of
--- a code, if some come, stands what has this fault.
+-- These bytes are no whole part, after this many stripe data entities and heights, and this many moves in the stripe: after
+-- code bytes, if any, there are bytes with this error.
 pub record HasPartFault (h : Fields) (entities heights moves : ℕ) (bytes : List ℕ) (fault : Fault) : Type 0 where
   pub code : List ℕ
   pub rest : List ℕ
@@ -141,7 +141,7 @@ pub record HasPartFault (h : Fields) (entities heights moves : ℕ) (bytes : Lis
   pub small : AllByRecursion (λ b. b < 256) code
   pub rest_has : (height : ℕ) → rest_fault h (record { height = height; entities = entities; heights = heights }) moves (not (is_nil code)) rest ≡ Some fault
 
--- Behind these parts the next one breaks.
+-- Behind these parts, the next one is broken.
 abbrev pub BreaksNext : Passed → List ℕ → Fault → Type 0
 BreaksNext Nothing rest fault = header_fault rest ≡ Some fault
 BreaksNext (Behind h stripes segments) rest fault = HasPartFault h (length stripes) (length (lengths (all_segments stripes ++ segments))) (count_by is_move segments) rest fault
@@ -153,13 +153,13 @@ pub record BreaksAt (stream : List ℕ) (w : PartWalk) (from : Passed) (fault : 
   pub breaks : BreaksNext from (drop offset stream) fault
   pub stream_has : StreamFault stream fault
 
--- What a walk tells that stands behind these parts.
+-- The result of a walk that is behind these parts.
 abbrev pub TellsNext : List ℕ → PartWalk → PartWalk → Passed → Found → Type 0
 TellsNext stream w w' from (found.Part part) = TakesPart stream w w' from part
 TellsNext stream w w' from (found.End len) = EndsAt stream from len × (w' ≡ w)
 TellsNext stream w w' from (found.Broken fault offset stripe) = BreaksAt stream w from fault offset stripe × (w' ≡ w)
 
--- What a walk tells whatever its numbers are: a part has a byte at least, and ends within the stream; a fault is one that
+-- The result of a walk whatever its numbers are: a part has at least one byte, and ends within the stream; an error is one that
 -- a stream may have.
 abbrev pub TellsOfAny : List ℕ → PartWalk → PartWalk → Found → Type 0
 TellsOfAny stream w w' (found.Part part) = (part.offset ≡ w.offset) × (w'.offset ≡ w.offset + part.len) × (0 < part.len) × (w'.offset ≤ length stream)

@@ -1,4 +1,4 @@
--- What a decoder leaves that is given a stream in pieces.
+-- The effect of a decoder's calls for a stream in pieces.
 use Rattle.std.specs.Prelude.{ℕ, ◌+◌, ◌*◌, ◌≡◌, ◌≢◌, ◌≤◌, ⊤, Bool, true, false, List, [], ◌∷◌, ◌++◌, length, take, Some, None, flat_map}
 use Rattle.raster_core.specs.Packed.{packed_row}
 use Rattle.t85_core.specs.declared.fault.Fault.{Fault}
@@ -21,15 +21,15 @@ use Rattle.t85_core.specs.Steps.PieceStands.{DecoderStands}
 abbrev pub stream_of : PieceView → Fields
 stream_of d = fields_of d.header
 
--- the height that it uses
+-- the decoder's current height
 abbrev pub height_in_use : PieceView → ℕ
 height_in_use d = d.height
 
--- the row that it gave last, packed
+-- the row that it returned last, packed
 abbrev pub row_held : PieceView → List ℕ
 row_held d = d.walk.carried.held.current
 
--- A decoder goes on. It has taken these bytes, and has given these rows, packed.
+-- The state of a decoder that can continue. It has consumed these bytes, and has returned these rows, packed.
 pub record HasDecoded (d : PieceView) (text out : List ℕ) : Type 0 where
   pub going : d.end ≡ None
   pub stands : DecoderStands d text out
@@ -38,36 +38,36 @@ pub record HasDecoded (d : PieceView) (text out : List ℕ) : Type 0 where
 abbrev pub HasHeight : Fields → List ℕ → ℕ → Type 0
 HasHeight h body height = (n : ℕ) → IsHeight h body n → n ≡ height
 
--- The least height of the bodies that begin with these bytes: as many first rows are the image's, whatever follows.
+-- The least height of the bodies that begin with these bytes: this many first rows are the image's, whatever follows.
 pub record IsLeastHeight (h : Fields) (text : List ℕ) (least : ℕ) : Type 0 where
   pub below : (rest : List ℕ) (height : ℕ) → IsHeight h (text ++ rest) height → least ≤ height
   pub reached : (rest : List ℕ) × IsHeight h (text ++ rest) least
 
--- so many first rows are certain, and not one more
+-- exactly this many first rows are certain
 abbrev pub AreCertain : PieceView → ℕ → Type 0
 AreCertain d rows = (text out : List ℕ) → HasDecoded d text out → IsLeastHeight (stream_of d) text rows
 
--- A body that is broken, or ends too early: its height, its fault, and the rows that it fixes, packed.
+-- A body that is broken, or ends too early: its height, its error, and the rows that it fixes, packed.
 pub record HandsOut (h : Fields) (body : List ℕ) (height : ℕ) (fault : Fault) (out : List ℕ) : Type 0 where
   pub height_is : HasHeight h body height
   pub rows : List (List Bool)
   pub fixes : Fixes h height body fault rows
   pub out_is : out ≡ flat_map packed_row rows
 
--- A body that denotes an image: its height, and rows, packed, of which as many first ones are the image's.
+-- A body that denotes an image: its height, and rows, packed, of which the first ones, as many as the height, are the image's.
 pub record HoldsImage (h : Fields) (body : List ℕ) (height : ℕ) (out : List ℕ) : Type 0 where
   pub height_is : HasHeight h body height
   pub rows : List (List Bool)
   pub denotes : DenotesAt h height body (record { width = h.xd; rows = take height rows })
   pub out_is : out ≡ flat_map packed_row rows
 
--- what may come after a piece: nothing after the last
+-- the bytes that may follow a piece: none after the last
 abbrev pub MayFollow : Bool → List ℕ → Type 0
 MayFollow is_all rest = is_all ≡ true → rest ≡ []
 
 -- ---- a call with a piece
 
--- the piece, whether it is the last, how many of its bytes were taken, the answer, and the decoder after it
+-- the piece, whether it is the last, the number of its consumed bytes, the result, and the decoder after it
 pub record Call : Type 0 where
   pub piece : List ℕ
   pub is_all : Bool
@@ -78,42 +78,43 @@ pub record Call : Type 0 where
 abbrev pub call_of : List ℕ → Bool → Progress → PieceView → Call
 call_of piece is_all progress new = record { piece = piece; is_all = is_all; taken = progress.taken; answer = progress.outcome; new = new }
 
--- ---- what it leaves, where `Before` and `After` say which bytes were taken, and which rows given, before it and with it
+-- ---- the effect, where `Before` and `After` say which bytes were consumed, and which rows returned, before the call and with
+-- it
 
--- a row more was given
+-- one more row was returned
 abbrev pub GivesRow : (Before After : List ℕ → List ℕ → Type 0) → Call → Type 0
 GivesRow Before After call =
     call.answer ≡ outcome.Row → (text out : List ℕ) → Before text out → After (text ++ take call.taken call.piece) (out ++ row_held call.new)
 
--- how many rows it gave, up to the last one of a stripe whose code it is in
+-- the number of rows returned, up to the last one of the stripe whose code is being decoded
 abbrev pub rows_given : PieceView → ℕ
 rows_given d = d.walk.entities * d.header.l0 + d.walk.row
 
--- A row that the end marker of its code decides waits for what comes behind the marker, while a height may come: none
--- that comes then is below the rows that were given.
+-- A row that the end marker of its code determines waits for the bytes behind the marker, while a height may follow: no such
+-- height is lower than the number of returned rows.
 abbrev pub RowsWait : (Before : List ℕ → List ℕ → Type 0) → PieceView → Call → Type 0
 RowsWait Before old call =
     call.answer ≡ outcome.Row → call.new.is_open ≡ true → HasMarker call.new.walk → (text out rest : List ℕ) (height : ℕ) → Before text out → MayFollow call.is_all rest → IsHeight (stream_of old) ((text ++ call.piece) ++ rest) height →
     rows_given call.new ≤ height
 
--- No row is given. If nothing waits, and nothing comes after the piece, the stream ends too early, and what was given is
--- what it fixes.
+-- No row is returned. If no row waits, and nothing follows the piece, the stream ends too early, and fixes exactly the returned
+-- rows.
 abbrev pub WantsMore : (Before After : List ℕ → List ℕ → Type 0) → PieceView → Call → Type 0
 WantsMore Before After old call =
     call.answer ≡ outcome.More → (text out : List ℕ) → Before text out →
     After (text ++ take call.taken call.piece) out × (waits_behind call.new ≡ false → HandsOut (stream_of old) (text ++ call.piece) call.new.height Truncated out)
 
--- the image is whole at this height, whatever comes after the piece
+-- the image is whole at this height, whatever follows the piece
 abbrev pub IsWhole : (Before : List ℕ → List ℕ → Type 0) → PieceView → Call → Type 0
 IsWhole Before old call =
     (height : ℕ) → call.answer ≡ outcome.Done height → (call.new.height ≡ height) × ((text out rest : List ℕ) → Before text out → MayFollow call.is_all rest → HoldsImage (stream_of old) ((text ++ call.piece) ++ rest) height out)
 
--- what was given is what the stream fixes, whatever comes after the piece
+-- the returned rows are those that the stream fixes, whatever follows the piece
 abbrev pub IsBroken : (Before : List ℕ → List ℕ → Type 0) → PieceView → Call → Type 0
 IsBroken Before old call =
     (fault : Fault) → call.answer ≡ outcome.Broken fault → (text out rest : List ℕ) → Before text out → MayFollow call.is_all rest → HandsOut (stream_of old) ((text ++ call.piece) ++ rest) call.new.height fault out
 
--- after an end all stays as it is
+-- after an end nothing changes
 abbrev pub EndsAgain : PieceView → Call → Type 0
 EndsAgain old call = (end : End) → old.end ≡ Some end → (call.answer ≡ end_told end old.height) × (call.taken ≡ 0) × (call.new ≡ old)
 
@@ -121,7 +122,7 @@ pub record IsCallBy (Before After : List ℕ → List ℕ → Type 0) (old : Pie
   pub same : stream_of call.new ≡ stream_of old
   pub bound : call.taken ≤ length call.piece
   pub ends : call.is_all ≡ true → call.answer ≢ outcome.More
-  -- what is not taken begins an escape or a segment
+  -- the unconsumed bytes begin an escape code or a marker segment
   pub few_left : call.answer ≡ outcome.More → length call.piece ≤ call.taken + 7
   pub again : EndsAgain old call
   pub row : GivesRow Before After call
@@ -130,13 +131,13 @@ pub record IsCallBy (Before After : List ℕ → List ℕ → Type 0) (old : Pie
   pub done : IsWhole Before old call
   pub broken : IsBroken Before old call
 
--- what a call of `next_row` or `next_of_last` leaves
+-- the effect of a call of `next_row` or `next_of_last`
 abbrev pub IsCall : PieceView → Call → Type 0
 IsCall old call = IsCallBy (HasDecoded old) (HasDecoded call.new) old call
 
 -- ---- calls one after another
 
--- the bytes that were taken in a call, and the row that it gave, if it gave one
+-- the bytes that a call consumed, and the row that it returned, if any
 abbrev pub bytes_taken : Call → List ℕ
 bytes_taken call = take call.taken call.piece
 
@@ -149,14 +150,14 @@ given_with (outcome.Broken fault) row = []
 abbrev pub row_given : Call → List ℕ
 row_given call = given_with call.answer (row_held call.new)
 
--- whether the stream goes on after it
+-- whether the stream continues after it
 abbrev pub StreamGoesOn : Outcome → Type 0
 StreamGoesOn outcome.Row = ⊤
 StreamGoesOn outcome.More = ⊤
 StreamGoesOn (outcome.Done height) = ⊥
 StreamGoesOn (outcome.Broken fault) = ⊥
 
--- calls one after another, whatever their pieces are, up to the end
+-- successive calls, with any pieces, up to the end
 abbrev pub AreCalls : PieceView → List Call → Type 0
 AreCalls d [] = ⊤
 AreCalls d (call ∷ calls) = IsCall d call × StreamGoesOn call.answer × AreCalls call.new calls
@@ -166,13 +167,13 @@ abbrev pub decoder_after : PieceView → List Call → PieceView
 decoder_after d [] = d
 decoder_after d (call ∷ calls) = decoder_after call.new calls
 
--- However a stream is cut: after any calls a decoder that is fresh has taken their bytes, and has given their rows.
+-- However a stream is cut: after any calls, a new decoder has consumed their bytes, and has returned their rows.
 abbrev pub PiecesTaken : Type 0
 PiecesTaken =
     (d : PieceView) (calls : List Call) → HasDecoded d [] [] → AreCalls d calls →
     HasDecoded (decoder_after d calls) (flat_map bytes_taken calls) (flat_map row_given calls)
 
--- What a call says after some calls: of all that was taken, and of all that came.
+-- The result of a call after some calls: for all consumed bytes, and for all bytes passed.
 abbrev pub PiecesWhole : Type 0
 PiecesWhole =
     (d : PieceView) (calls : List Call) (last : Call) (height : ℕ) (rest : List ℕ) → HasDecoded d [] [] → AreCalls d calls → IsCall (decoder_after d calls) last →

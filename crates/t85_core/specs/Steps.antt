@@ -1,4 +1,4 @@
--- How the code is proved: what each step leaves, from the bytes up to whole images.
+-- Definitions that serve the proofs: the effect of each step, from the bytes up to whole images.
 pub mod CoderLaws
 pub mod Passage
 pub mod Buffers

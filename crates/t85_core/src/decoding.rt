@@ -117,13 +117,7 @@ fn decode_by<R: Input, W: Output, const AHEAD: usize, const HELD: usize>(
     }
     let mut stream: InputBuffer<'_, R, AHEAD> = InputBuffer::new(input);
     let mut buffer: OutputBuffer<'_, W, HELD> = OutputBuffer::new(output);
-    decode_buffered(
-        image,
-        &mut walk,
-        &mut lent,
-        &mut stream,
-        &mut buffer,
-    )
+    decode_buffered(image, &mut walk, &mut lent, &mut stream, &mut buffer)
 }
 
 /// Writes the rows of an image, and then the buffer, except after a failed write.

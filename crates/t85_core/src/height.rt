@@ -27,15 +27,15 @@ pub struct Passed {
     pub comments: u64,
 }
 
-/// What was skipped of a stripe: all of it, or its marker segments up to a NEWLEN.
+/// The skipped part of a stripe: all of it, or its marker segments up to a NEWLEN.
 #[derive(Clone, Copy)]
 struct Skipped {
     passed: Passed,
     height: Option<u32>,
 }
 
-/// What was skipped of a stream: how many stripe data entities, with the segments before them, and, if a NEWLEN was
-/// found, the segments before it.
+/// The skipped part of a stream: the number of stripe data entities, with the segments before them, and, if a NEWLEN
+/// was found, the segments before it.
 #[derive(Clone, Copy)]
 pub struct Reached {
     pub entities: u32,

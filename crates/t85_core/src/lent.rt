@@ -1,4 +1,4 @@
-//! What a caller lends a decoder for a call.
+//! The memory that a decoder borrows for a call.
 
 use qm_core::Learned;
 use raster_core::Window;

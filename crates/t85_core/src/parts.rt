@@ -40,7 +40,7 @@ pub struct Part {
     pub stripe: u32,
 }
 
-/// What a walk finds next.
+/// The next item of a walk.
 #[derive(Clone, Copy, Debug, PartialEq, Eq)]
 pub enum Found {
     Part(Part),
@@ -72,7 +72,7 @@ pub struct PartWalk {
     pub at_height: bool,
 }
 
-/// What was read from the body of a stream: a part, and the height that it gives, if any.
+/// A part that was read from the body of a stream, and the height that it gives, if any.
 #[derive(Clone, Copy)]
 pub enum Taken {
     Comment,

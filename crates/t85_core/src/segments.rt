@@ -19,8 +19,8 @@ use crate::input_buffer::{ByteSource, ESCAPE};
 use crate::segments::length::read_length;
 use byteorder::{BigEndian, ByteOrder};
 
-/// Where a stripe begins, or what is next in it: the current height, the number of stripe data entities before it, and
-/// whether there was a NEWLEN.
+/// The start of a stripe, or the position of its next item: the current height, the number of stripe data entities
+/// before it, and whether there was a NEWLEN.
 #[derive(Clone, Copy)]
 pub struct Place {
     pub height: u32,
@@ -43,7 +43,7 @@ pub enum Code {
     Marker(bool),
 }
 
-/// What may come at a position before a code.
+/// The items that are allowed at a position before a code.
 #[derive(Clone, Copy)]
 pub enum Piece {
     /// A valid height (NEWLEN).
@@ -54,7 +54,7 @@ pub enum Piece {
     Code(Code),
 }
 
-/// What follows the marker segments that were read.
+/// The item behind the marker segments that were read.
 #[derive(Clone, Copy)]
 pub enum Next {
     /// A valid height, which is not the current one.

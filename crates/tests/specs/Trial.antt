@@ -1,4 +1,4 @@
--- What the helpers of tests say.
+-- The job that the arguments of a trial specify.
 use Rattle.std.specs.Prelude.{◌≡◌, ◌+◌, ◌-◌, ◌*◌, ◌&&◌, ℕ, List, [], ◌∷◌, ◌++◌, Option, Some, None, codes, if◌then◌else◌, nat_le}
 
 -- the value of an upper-case hexadecimal digit

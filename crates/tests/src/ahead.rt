@@ -1,4 +1,5 @@
-//! What `to_jbg` takes of its input, where bytes come after the image: those that its last read gave, and no read more.
+//! The bytes that `to_jbg` consumes if its input continues after the image: those that its last read returned, and no
+//! further read.
 
 ghost use Rattle.std.specs.Prelude.{◌<◌};
 
@@ -8,27 +9,27 @@ use std::alloc::Global;
 use std::test::Fail;
 use t85_core::{Options, to_jbg};
 
-/// Two rows of a byte behind a header of seven bytes, and bytes after them.
+/// Two rows of a byte after a header of seven bytes, and bytes after them.
 const RAW: &[u8] = b"P4\n8 2\nab0123456789";
 
-/// A plain row of eight digits behind a header of seven bytes, and bytes after it.
+/// A plain row of eight digits after a header of seven bytes, and bytes after it.
 const PLAIN: &[u8] = b"P1\n8 1\n10000001 0123456789";
 
 /// A run of the encoder.
 struct Taken {
     bytes: &'static [u8],
-    /// How many bytes a read gives, and which read fails.
+    /// The number of bytes per read, and the number of the read that fails.
     most: usize,
     failing: u64,
     announced: Option<u32>,
-    /// The number of the fault, or 0.
+    /// The number of the error, or 0.
     fault: u8,
-    /// How many bytes the input has still to give.
+    /// The number of bytes left in the input.
     left: u64,
 }
 
 static TAKEN: [Taken; 12] = [
-    // No read follows that of the last byte.
+    // No read follows the one that returns the last byte.
     Taken {
         bytes: RAW,
         most: 1,
@@ -46,7 +47,7 @@ static TAKEN: [Taken; 12] = [
         fault: 37,
         left: 11,
     },
-    // The third read gives more than is wanted.
+    // The third read returns more bytes than needed.
     Taken {
         bytes: RAW,
         most: 4,
@@ -112,7 +113,7 @@ static TAKEN: [Taken; 12] = [
         fault: 0,
         left: 0,
     },
-    // A height that is announced too low is told after the header.
+    // An announced height that is too low is reported after the header.
     Taken {
         bytes: RAW,
         most: 4,
@@ -131,7 +132,7 @@ static TAKEN: [Taken; 12] = [
     },
 ];
 
-/// The number of the fault, how many bytes the input has still to give, and how often it has failed.
+/// The number of the error, the number of bytes left in the input, and the number of its failures.
 fn outcome(alloc: Global, case: &Taken) -> Result<(u8, u64, u64), Fail> {
     let options = Options::new(0, 128, 0, case.announced, false, None)?;
     let mut input = Pieces::new(case.bytes, case.most.max(1), Some(case.failing));

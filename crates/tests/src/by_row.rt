@@ -1,4 +1,4 @@
-//! Rows that are given to an encoder one by one, beside `encode` of the whole image.
+//! Compares rows that are encoded one by one with `encode` of the whole image.
 
 ghost use Rattle.std.specs.Prelude.{◌≡◌};
 ghost use Rattle.raster_core.specs.Window.{width_of};
@@ -11,12 +11,12 @@ use std::alloc::Global;
 use std::test::Fail;
 use t85_core::{Fault, Learning, Options, RowEncoder};
 
-/// How a run ends whose rows are given one by one.
+/// The end of a run whose rows are encoded one by one.
 #[derive(Clone, Copy, Debug, PartialEq, Eq)]
 enum End {
     /// The stream is whole.
     Whole,
-    /// No row is taken, since the announced height is low.
+    /// No row is accepted, since the announced height is low.
     Low,
     /// A write of the head fails.
     HeadFails,
@@ -24,30 +24,30 @@ enum End {
     RowFails,
     /// A write of the end fails.
     EndFails,
-    /// Something is not as it has to be.
+    /// A check failed.
     Wrong(&'static str),
 }
 
-/// How many bytes were written, and so many more.
+/// The number of bytes written, increased.
 fn with_written(output: &Drip<'_>, more: u64) -> u64 {
     more.saturating_add(output.written().len() as u64)
 }
 
-/// Rows that are given one by one, and the stream that they have to give.
+/// Rows that are encoded one by one, and the expected stream.
 #[derive(Drop)]
 struct Rows<'a> {
-    /// The most rows that may come, and how wide they are.
+    /// The greatest number of rows, and their width.
     size: Size,
     options: &'a Options<'a>,
     rows: &'a [Vec<u8>],
-    /// What `encode` writes of an image of just these rows.
+    /// The output of `encode` for an image of exactly these rows.
     whole: &'a [u8],
-    /// How many bytes `encode` writes where the input ends after each of the rows.
+    /// The number of bytes that `encode` writes if the input ends after each of the rows.
     fronts: &'a [usize],
 }
 
 impl Rows<'_> {
-    /// Gives the rows, and ends the stream.
+    /// Encodes the rows, and ends the stream.
     fn run(&self, window: &mut Window<'_>, output: &mut Drip<'_>) -> End
         requires { width_of window.old ≡ self.now.size.width }
     {
@@ -95,12 +95,12 @@ impl Rows<'_> {
         self.closed(&mut encoder, window, &mut learning, output, end)
     }
 
-    /// Whether these bytes begin the stream, and there are at least so many.
+    /// Whether these bytes are a prefix of the stream, with at least this many bytes.
     fn stands(&self, written: &[u8], least: usize) -> bool {
         self.whole.starts_with(written) && written.len() >= least
     }
 
-    /// This end, where the encoder is closed, and each later call answers that a write failed and writes nothing.
+    /// This end, if the encoder is closed, and each later call reports a failed write and writes nothing.
     fn closed(
         &self,
         encoder: &mut RowEncoder,
@@ -119,7 +119,7 @@ impl Rows<'_> {
         if !encoder.is_closed() || row.len() != row_bytes(self.size.width) {
             return End::Wrong("an encoder that is not closed");
         }
-        // A window may be lent again once it is white.
+        // A window may be used again once it is white.
         window.clear();
         let put = encoder.put_row(row, window, learning, output);
         window.clear();
@@ -136,16 +136,16 @@ impl Rows<'_> {
     }
 }
 
-/// An image, a height that its encoder is told, and what is chosen for the stream.
+/// An image, the height passed to its encoder, and the options of the stream.
 #[derive(Drop)]
 struct Case {
     image: Image,
-    /// How many of the image's rows come.
+    /// The number of the image's rows that are encoded.
     height: u32,
     choices: Choices,
 }
 
-/// A run of a case: how it ended, what `encode` wrote, and what the row encoder wrote.
+/// A run of a case: its end, the output of `encode`, and the output of the row encoder.
 #[derive(Drop)]
 struct Ran {
     end: End,
@@ -154,7 +154,7 @@ struct Ran {
 }
 
 impl Case {
-    /// A random image, all of whose rows come.
+    /// A random image, all of whose rows are encoded.
     fn random(alloc: Global, random: &mut Random) -> Result<Case, Fail> {
         let image = Image::random(alloc, random)?;
         Ok(Case {
@@ -164,14 +164,14 @@ impl Case {
         })
     }
 
-    /// The rows that come.
+    /// The rows that are encoded.
     fn rows(&self) -> &[Vec<u8>] {
         let all = self.image.rows.as_slice();
         all.get(..self.height as usize).unwrap_or(all)
     }
 
-    /// How many bytes `encode` writes where the input ends after each of the rows; after all of the image it has no end, and
-    /// they are as many as before the last.
+    /// The number of bytes that `encode` writes if the input ends after each of the rows; after the whole image, the
+    /// number before the last row.
     fn fronts(&self, alloc: Global, options: &Options<'_>) -> Result<Vec<usize>, Fail> {
         let mut fronts = Vec::new(alloc);
         let mut front = 0;
@@ -186,7 +186,7 @@ impl Case {
         Ok(fronts)
     }
 
-    /// Gives the rows over an output that takes so many bytes a write, and fails the write of this number.
+    /// Encodes the rows with an output that accepts this many bytes per write, and fails the write of this number.
     fn run(&self, alloc: Global, most: usize, failing: Option<u64>) -> Result<Ran, Fail> {
         let options = self.choices.options()?;
         let size = Size {
@@ -216,7 +216,7 @@ impl Case {
     }
 }
 
-/// Rows of whole images give the stream of `encode`, and after each row what was written is a beginning of it.
+/// Rows of whole images give the stream of `encode`, and the output after each row is a prefix of it.
 #[test]
 fn rows_give_the_stream(rt: HostRuntime) -> Result<(), Fail> {
     let mut random = Random::new(1);
@@ -241,7 +241,7 @@ fn rows_give_the_stream(rt: HostRuntime) -> Result<(), Fail> {
     Ok(())
 }
 
-/// An image that ends early, where a height is announced, gives the stream of the image of just its rows.
+/// An image that ends early, with an announced height, gives the stream of the image of exactly its rows.
 #[test]
 fn fewer_rows_give_the_stream(rt: HostRuntime) -> Result<(), Fail> {
     let mut random = Random::new(2);
@@ -260,7 +260,7 @@ fn fewer_rows_give_the_stream(rt: HostRuntime) -> Result<(), Fail> {
     Ok(())
 }
 
-/// How many runs end where.
+/// The number of runs by their end.
 #[derive(Clone, Copy, Debug)]
 struct Ends {
     head: u32,
@@ -278,7 +278,7 @@ impl Ends {
     }
 }
 
-/// Where a write fails, just the bytes before it are out, and the encoder is closed.
+/// If a write fails, exactly the bytes before it are written, and the encoder is closed.
 #[test]
 fn failing_writes(rt: HostRuntime) -> Result<(), Fail> {
     let mut random = Random::new(3);
@@ -315,7 +315,7 @@ fn failing_writes(rt: HostRuntime) -> Result<(), Fail> {
     Ok(())
 }
 
-/// An announced height below the image's is refused, as by `encode`, and nothing is written.
+/// An announced height below the image's is rejected, as by `encode`, and nothing is written.
 #[test]
 fn refuses_a_low_height(rt: HostRuntime) -> Result<(), Fail> {
     let mut random = Random::new(4);

@@ -166,7 +166,7 @@ fn streams_give_their_images(rt: HostRuntime) -> Result<(), Fail> {
     Ok(())
 }
 
-/// Bits after the last pixel of a row stay out of the code, and comments of the header are skipped.
+/// Padding bits do not affect the code, and comments of the header are skipped.
 static PADDED: Run<'static> = Run {
     words: &["pbmtojbg85", "-p", "0"],
     input: Raw(b"P4\n#x\n3 2\n\x1F\x1F"),
@@ -181,7 +181,7 @@ fn leaves_padding_out(rt: HostRuntime) -> Result<(), Fail> {
     Ok(())
 }
 
-/// Images that are refused: nothing is written.
+/// Images that are rejected: nothing is written.
 static REFUSED: [Run<'static>; 10] = [
     Run {
         words: &["pbmtojbg85"],
@@ -357,13 +357,13 @@ static CUTS: [Cut; 7] = [
     },
 ];
 
-/// The input ends, or can't be read, after each byte in turn: each stripe is written whose rows all came.
+/// The input ends, or a read fails, after each byte in turn: each stripe whose rows all arrived is written.
 #[test]
 fn cut_at_each_byte(rt: HostRuntime) -> Result<(), Fail> {
     all_are_cut(&rt, rt.alloc(), &CUTS)
 }
 
-/// Whether an image is coded to this stream, and comes back from it.
+/// Whether an image is encoded to this stream, and decoded from it.
 fn codes<'a>(
     alloc: Global,
     words: &'a [&'a str],
@@ -399,7 +399,7 @@ fn codes_a_tall_image(rt: HostRuntime) -> Result<(), Fail> {
     Ok(())
 }
 
-/// Whether an image with a comment of 5,000 letters is coded.
+/// Whether an image with a comment of 5,000 letters is encoded.
 fn codes_comment(alloc: Global) -> Result<bool, LineFault> {
     let comment = "A".repeat(alloc, 5000)?;
     let digits = "41".repeat(alloc, 5000)?;
@@ -410,7 +410,7 @@ fn codes_comment(alloc: Global) -> Result<bool, LineFault> {
     codes(alloc, &words, "8 1", "00", &hex)
 }
 
-/// A comment of more bytes than the buffer holds is written, and passed.
+/// A comment longer than the buffer is written, and skipped.
 #[test]
 fn codes_a_long_comment(rt: HostRuntime) -> Result<(), Fail> {
     assert!(rt; codes_comment(rt.alloc())?);

@@ -5,10 +5,10 @@ use program_core::{LineFault, jbgtopbm85, pbmtojbg85};
 use std::alloc::Global;
 use t85_core::Fault;
 
-/// Words for the encoder, and what they ask for.
+/// Arguments of the encoder, and the values they stand for.
 struct Encode {
     words: &'static [&'static str],
-    /// The options byte, the rows of a stripe, and the greatest offset.
+    /// The options byte, the rows per stripe, and the greatest offset.
     numbers: (u32, u32, u32),
     announced: Option<u32>,
     reset: bool,
@@ -59,7 +59,7 @@ impl Encode {
             && job.output.as_deref() == self.output
     }
 
-    /// Whether the arguments are taken, and ask for that.
+    /// Whether the arguments are accepted with these values.
     fn is_read(&self, alloc: Global) -> bool {
         match pbmtojbg85::job(alloc, self.words) {
             Ok(job) => self.is(&job),
@@ -75,7 +75,7 @@ fn reads_words_of_the_encoder(rt: HostRuntime) {
     }
 }
 
-/// Words for the decoder, and what they ask for.
+/// Arguments of the decoder, and the values they stand for.
 struct Decode {
     words: &'static [&'static str],
     info: bool,
@@ -123,7 +123,7 @@ impl Decode {
             && job.output.as_deref() == self.output
     }
 
-    /// Whether the arguments are taken, and ask for that.
+    /// Whether the arguments are accepted with these values.
     fn is_read(&self, alloc: Global) -> bool {
         match jbgtopbm85::job(alloc, self.words) {
             Ok(job) => self.is(&job),
@@ -139,7 +139,7 @@ fn reads_words_of_the_decoder(rt: HostRuntime) {
     }
 }
 
-/// Words, and the status with which they are refused.
+/// Arguments, and the status with which they are rejected.
 static REFUSED: [(&[&str], u8); 24] = [
     (&["jbgtopbm85", "-h"], 0),
     (&["jbgtopbm85", "--help"], 0),
@@ -167,7 +167,7 @@ static REFUSED: [(&[&str], u8); 24] = [
     (&["pbmtojbg85", "-rr"], 2),
 ];
 
-/// Whether the arguments are refused with this status.
+/// Whether the arguments are rejected with this status.
 fn refuses(alloc: Global, words: &[&str], status: u8) -> bool {
     match Program::of(alloc, words) {
         Ok(_) => false,
@@ -187,7 +187,7 @@ fn refuses_words(rt: HostRuntime) {
     assert!(rt; status_of(Fault::OutOfMemory) == 1);
 }
 
-/// Options that are refused in their order.
+/// Options that are rejected, in the order of the checks.
 static OPTIONS: [([&str; 4], Fault); 5] = [
     (["pbmtojbg85", "-p1", "-s0", "-m128"], Fault::OptionBits),
     (["pbmtojbg85", "-p16", "-s1", "-m0"], Fault::OptionBits),
@@ -196,7 +196,7 @@ static OPTIONS: [([&str; 4], Fault); 5] = [
     (["pbmtojbg85", "-p72", "-s1", "-m128"], Fault::MoveLarge),
 ];
 
-/// Whether the arguments are refused with this fault.
+/// Whether the arguments are rejected with this error.
 fn refuses_by(alloc: Global, words: &[&str], fault: Fault) -> bool {
     matches!(Program::of(alloc, words), Err(LineFault::Fault(told)) if told == fault)
 }

@@ -5,13 +5,13 @@ use crate::trial::Bytes::{Hex, Image, Raw};
 use crate::trial::{Cut, Run, all_are_cut, all_stand};
 use std::test::Fail;
 
-/// Each stream gives its image, or the rows that it fixes.
+/// Each stream gives its image, or the rows that it determines.
 #[test]
 fn writes_each_image(rt: HostRuntime) -> Result<(), Fail> {
     all_stand(&rt, rt.alloc(), &STREAMS)
 }
 
-/// Images of just as many rows as are taken, and of more: these are refused before anything is written.
+/// Images with as many rows as the limit, and with more: the latter are rejected before anything is written.
 static LIMITED: [Run<'static>; 6] = [
     Run {
         words: &["jbgtopbm85", "--max-rows", "2"],
@@ -48,7 +48,7 @@ static LIMITED: [Run<'static>; 6] = [
         output: Raw(b"1 2 1 0 8 2 2 0 0\n"),
         fault: None,
     },
-    // A header that is refused comes before its height.
+    // An invalid header is reported before a height above the limit.
     Run {
         words: &["jbgtopbm85", "--max-rows", "0"],
         input: Hex("00000100 00100001 00000001 00000080 00 0000 00"),
@@ -164,7 +164,7 @@ static CUTS: [Cut; 7] = [
     },
 ];
 
-/// The input ends, or can't be read, after each byte in turn: the rows that the bytes before fix are written.
+/// The input ends, or a read fails, after each byte in turn: the rows that the bytes so far determine are written.
 #[test]
 fn cut_at_each_byte(rt: HostRuntime) -> Result<(), Fail> {
     all_are_cut(&rt, rt.alloc(), &CUTS)

@@ -1,4 +1,4 @@
-//! Short streams, cut into pieces in each way that there is.
+//! Short streams, cut into pieces in every possible way.
 
 use crate::in_pieces::{Case, Cuts, Ends};
 use crate::trial::Bytes::Hex;
@@ -8,9 +8,9 @@ use std::process::Abort;
 use std::test::Fail;
 use t85_core::Header;
 
-/// Streams with at most 14 bytes after the header, and how many of these they have.
+/// Streams with at most 14 bytes after the header, and their number of such bytes.
 static STREAMS: [(&str, u32); 20] = [
-    // Stripes that go on, and that reset.
+    // Stripes that continue, and stripes that reset.
     (
         "00000100 00000001 00000002 00000001 00 0000 08 E0 FF02 E0 FF02",
         6,
@@ -19,7 +19,7 @@ static STREAMS: [(&str, u32); 20] = [
         "00000100 00000008 00000002 00000001 00 0000 00 F0 FF03 F0 FF03",
         6,
     ),
-    // A stuffed byte of code, code that ends before its stripe, and code that is longer.
+    // A stuffed code byte, code that ends before its stripe, and code that is longer.
     (
         "00000100 00000003 00000003 00000080 00 0000 00 FF00 C0 FF02",
         5,
@@ -29,7 +29,7 @@ static STREAMS: [(&str, u32); 20] = [
         "00000100 00000008 00000002 00000080 00 0000 00 F0 00 00 00 FF02",
         6,
     ),
-    // Comments, and one that is cut short.
+    // Comments, and a truncated one.
     (
         "00000100 00000008 00000001 00000080 00 0000 00 FF07 00000002 6869 60 FF02",
         11,
@@ -42,7 +42,7 @@ static STREAMS: [(&str, u32); 20] = [
         "00000100 00000008 00000002 00000080 00 0000 00 FF07 00000005 68",
         7,
     ),
-    // Moves of the adaptive pixel: sound, of a row that is not the first, out of range, and twice.
+    // Moves of the adaptive pixel: valid, for a row that is not the first, out of range, and twice.
     (
         "00000100 00000008 00000002 00000001 03 0000 00 F0 FF02 FF06 00000000 0300 F8 FF02",
         14,
@@ -59,7 +59,7 @@ static STREAMS: [(&str, u32); 20] = [
         "00000100 00000008 00000002 00000080 00 0000 00 FF06 00000000 0000 FF06",
         10,
     ),
-    // Heights: late, before a stripe that is wanted, the header's, too low, and twice.
+    // Heights: late, before a needed stripe, the header's, too low, and twice.
     (
         "00000100 00000001 00000009 00000001 00 0000 20 C0 FF02 C0 FF02 FF05 00000002 FF02",
         14,
@@ -80,7 +80,7 @@ static STREAMS: [(&str, u32); 20] = [
         "00000100 00000001 00000009 00000001 00 0000 20 FF05 00000009 C0 FF02 FF05",
         11,
     ),
-    // An abort and a code that means nothing, after bytes of code.
+    // An abort and an undefined escape code, after code bytes.
     (
         "00000100 00000008 00000002 00000080 00 0000 00 F0 00 00 FF04",
         5,
@@ -96,7 +96,7 @@ static STREAMS: [(&str, u32); 20] = [
     ),
 ];
 
-/// Asserts that the body gives the same in each way to cut it.
+/// Asserts that every way to cut the body has the same result.
 fn check(
     rt: &impl Abort,
     alloc: Global,
@@ -118,7 +118,7 @@ fn check(
     Ok(())
 }
 
-/// Asserts it of each beginning of the body, too. How many ways there are, is the answer.
+/// Asserts it also for each prefix of the body. Returns the number of ways.
 fn check_beginnings(
     rt: &impl Abort,
     alloc: Global,
@@ -136,7 +136,7 @@ fn check_beginnings(
     Ok(())
 }
 
-/// Each stream, and each of its beginnings, gives what `decode` gives, in each way to cut it.
+/// Each stream, and each of its prefixes, gives the result of `decode`, however it is cut.
 #[test]
 fn each_way(rt: HostRuntime) -> Result<(), Fail> {
     let mut ends = Ends::NONE;
@@ -144,7 +144,7 @@ fn each_way(rt: HostRuntime) -> Result<(), Fail> {
     for &(digits, length) in &STREAMS {
         let stream = Hex(digits).to_vec(rt.alloc())?;
         check_beginnings(&rt, rt.alloc(), &stream, length, &mut ends)?;
-        // A body of n bytes is cut in 2^(n - 1) ways.
+        // A body of n bytes can be cut in 2^(n - 1) ways.
         ways = ways.saturating_add((1u32 << length.min(14)) - 1);
     }
     assert_eq!(rt; ends.cuts, ways);

@@ -1,4 +1,4 @@
-//! What no contract of the engine says: the texts of faults, and its header on outside values.
+//! Facts that no contract of the engine states: the texts of errors, and its header on values from outside.
 
 use pbm_core::PbmFault;
 use pbm_core::trial::{Drip, Pieces};
@@ -10,13 +10,13 @@ use t85_core::{Fault, Header, info};
 /// The header of a stream of two typical rows, one black pixel wide, in stripes of one row.
 const HEADER: [u8; 20] = [0, 0, 1, 0, 0, 0, 0, 1, 0, 0, 0, 2, 0, 0, 0, 1, 0, 0, 0, 8];
 
-/// Whether a fault has this text.
+/// Whether an error has this text.
 fn shows<F: Display>(alloc: Global, fault: &F, text: &str) -> Result<bool, AllocError> {
     let shown = format!(in alloc; "{fault}")?;
     Ok(shown.as_str() == text)
 }
 
-/// The faults, their numbers and their texts.
+/// The errors, their numbers and their texts.
 static FAULTS: [(Fault, u8, &str); 30] = [
     (Fault::ShortHeader, 1, "header is shorter than 20 bytes"),
     (
@@ -95,7 +95,7 @@ fn faults_have_numbers_and_texts(rt: HostRuntime) -> Result<(), Fail> {
     Ok(())
 }
 
-/// The faults of a PBM, their numbers and their texts.
+/// The errors of a PBM, their numbers and their texts.
 static PBM_FAULTS: [(PbmFault, u8, &str); 8] = [
     (PbmFault::NotPbm, 1, "input is not a PBM bitmap"),
     (PbmFault::BadNumber, 2, "bad number in the PBM header"),
@@ -120,8 +120,7 @@ fn pbm_faults_have_numbers_and_texts(rt: HostRuntime) -> Result<(), Fail> {
     Ok(())
 }
 
-/// The width, the height, the stripe length, the range and the options of a header, and the
-/// bytes that it is written as.
+/// The width, the height, the stripe length, the range and the options of a header, and its bytes.
 fn read_and_written(bytes: &[u8]) -> Result<((u32, u32, u32, u8, u8), [u8; 20]), Fault> {
     let header = Header::read(&mut Pieces::new(bytes, 3, None))?;
     let fields = (header.xd, header.yd, header.l0, header.mx, header.options);
@@ -141,7 +140,7 @@ fn header_is_read_and_written(rt: HostRuntime) {
     );
 }
 
-/// Each line sets one more byte of a header that is refused, and an earlier refusal wins.
+/// Each line sets one more byte of a header that is rejected; the earlier check decides.
 static REFUSED: [(usize, u8, Fault); 7] = [
     (19, 0x0e, Fault::PrivateTable),
     (16, 128, Fault::MoveRange),
@@ -163,7 +162,7 @@ fn headers_are_refused_in_order(rt: HostRuntime) {
     }
 }
 
-/// What `info` answers, and whether it reports this line.
+/// Whether `info` returns this result and reports this line.
 fn tells(stream: &[u8], line: &[u8]) -> (Result<(), Fault>, bool) {
     let mut input = Pieces::new(stream, 4096, None);
     let mut held = [0; 64];

@@ -1,4 +1,4 @@
-//! Streams whose height may change, which are read twice, and how they are written.
+//! Streams with variable height, which are read twice, and their encoding.
 
 use crate::trial::Bytes::{Hex, Image, Raw};
 use crate::trial::{Devices, Run, SMOOTH, Trial, all_stand, is_read_again, leaves, stands};
@@ -8,14 +8,14 @@ use std::alloc::Global;
 use std::test::Fail;
 use t85_core::{Fault, Header, decode, to_pbm};
 
-/// A run of the decoder that reads its stream twice, and how many bytes it asks for the second time.
+/// A run of the decoder that reads its stream twice, and the number of bytes read the second time.
 struct Twice {
     run: Run<'static>,
     again: u64,
 }
 
 static TWICE: [Twice; 9] = [
-    // The new height comes after the last stripe that it leaves.
+    // The new height follows the last stripe that it leaves.
     Twice {
         run: Run {
             words: &["jbgtopbm85"],
@@ -26,7 +26,7 @@ static TWICE: [Twice; 9] = [
         },
         again: 23,
     },
-    // No new height comes.
+    // There is no new height.
     Twice {
         run: Run {
             words: &["jbgtopbm85"],
@@ -37,7 +37,7 @@ static TWICE: [Twice; 9] = [
         },
         again: 23,
     },
-    // One above the header's height ends the look after the last stripe.
+    // A height above the header's ends the search after the last stripe.
     Twice {
         run: Run {
             words: &["jbgtopbm85"],
@@ -48,7 +48,7 @@ static TWICE: [Twice; 9] = [
         },
         again: 23,
     },
-    // So does one that is cut short.
+    // So does a truncated one.
     Twice {
         run: Run {
             words: &["jbgtopbm85"],
@@ -71,7 +71,7 @@ static TWICE: [Twice; 9] = [
         },
         again: 26,
     },
-    // It comes between two stripes.
+    // A height between two stripes.
     Twice {
         run: Run {
             words: &["jbgtopbm85"],
@@ -97,7 +97,7 @@ static TWICE: [Twice; 9] = [
         },
         again: 32,
     },
-    // One that would cut stripes that came.
+    // A height that would remove stripes that precede it.
     Twice {
         run: Run {
             words: &["jbgtopbm85"],
@@ -139,7 +139,7 @@ fn reads_again(rt: HostRuntime) -> Result<(), Fail> {
     Ok(())
 }
 
-/// Images that are written with an announced height, and as the reader has it.
+/// Images encoded with an announced height, and the images that the reader decodes.
 static ANNOUNCED: [Run<'static>; 6] = [
     Run {
         words: &["pbmtojbg85", "-p", "0", "-Y", "5"],
@@ -210,7 +210,7 @@ static REFUSED: [Run<'static>; 2] = [
         output: Raw(b""),
         fault: Some("announced height is below the image's height"),
     },
-    // The limit of rows is held to the height that was found.
+    // The limit of rows applies to the actual height.
     Run {
         words: &["jbgtopbm85", "--max-rows", "1"],
         input: Hex(
@@ -236,7 +236,7 @@ static WITHIN: Run<'static> = Run {
     fault: None,
 };
 
-/// The same stream where it can be read once.
+/// The same stream in an input that can be read once.
 static ONCE: Run<'static> = Run {
     words: &["jbgtopbm85"],
     input: Hex("00000100 00000001 00000005 00000080 00 0000 20 C0 FF02 FF05 00000001 FF02"),
@@ -256,7 +256,7 @@ fn wants_a_second_reading(rt: HostRuntime) -> Result<(), Fail> {
     Ok(())
 }
 
-/// What is answered where the second reading has other bytes, and how many bytes are written.
+/// The result and the number of bytes written if the second reading has other bytes.
 fn converts(alloc: Global, first: &[u8], second: &[u8]) -> (Result<(), Fault>, usize) {
     let mut input = Pieces::new(first, 1, None);
     let mut again = Some(Pieces::new(second, 1, None));
@@ -266,7 +266,7 @@ fn converts(alloc: Global, first: &[u8], second: &[u8]) -> (Result<(), Fault>, u
     (answer, output.written().len())
 }
 
-/// A header of 1 by 5 whose height may change, and a stream of fixed height.
+/// A header of 1 by 5 with variable height, and a stream of fixed height.
 const VARIABLE: [u8; 32] = [
     0, 0, 1, 0, 0, 0, 0, 1, 0, 0, 0, 5, 0, 0, 0, 128, 0, 0, 0, 32, 0xC0, 0xFF, 2, 0xFF, 5, 0, 0, 0,
     1, 0xFF, 2, 0,
@@ -281,7 +281,7 @@ fn second_reading_has_another_header(rt: HostRuntime) {
     assert!(rt; converts(rt.alloc(), &VARIABLE, &FIXED) == (Err(Fault::Changed), 0));
 }
 
-/// What `decode` answers for these bytes at this height, and how many bytes it writes.
+/// The result of `decode` for these bytes at this height, and the number of bytes written.
 fn decodes(alloc: Global, bytes: &[u8], height: u32) -> Result<(Result<(), Fault>, usize), Fault> {
     let mut input = Pieces::new(bytes, 1, None);
     let header = Header::read(&mut input)?;
@@ -296,7 +296,7 @@ fn decodes(alloc: Global, bytes: &[u8], height: u32) -> Result<(Result<(), Fault
     Ok((answer, output.written().len()))
 }
 
-/// A new height of 3 before the first stripe, where 5 rows are decoded.
+/// A new height of 3 before the first stripe, decoded at 5 rows.
 const OTHER: [u8; 26] = [
     0, 0, 1, 0, 0, 0, 0, 1, 0, 0, 0, 5, 0, 0, 0, 128, 0, 0, 0, 32, 0xFF, 5, 0, 0, 0, 3,
 ];

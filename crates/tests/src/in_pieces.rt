@@ -1,4 +1,4 @@
-//! Streams that come in pieces, beside `decode` of the whole stream.
+//! Compares streams that arrive in pieces with `decode` of the whole stream.
 
 ghost use Rattle.std.specs.Prelude.{◌≡◌, ◌≤◌, ◌<◌, ◌*◌, length};
 ghost use Rattle.std.specs.Int.{div_ceil};
@@ -23,12 +23,12 @@ pub enum Cuts<'a> {
     Random(&'a mut Random),
     /// After each byte.
     Each,
-    /// After each byte of which the bit is set, from the lowest.
+    /// After each byte whose bit is set, from the lowest.
     After(u32),
 }
 
 impl Cuts<'_> {
-    /// How many bytes the next piece has, at least one.
+    /// The length of the next piece, at least one.
     fn next(&mut self) -> usize {
         match self {
             Cuts::Random(random) => match random.between(0, 3) {
@@ -46,7 +46,7 @@ impl Cuts<'_> {
         }
     }
 
-    /// Whether the end is told by itself, after all bytes were shown, and not with the last of them.
+    /// Whether the end is signalled by itself, after all bytes were passed, and not with the last of them.
     fn ends_by_itself(&mut self) -> bool {
         match self {
             Cuts::Random(random) => random.is_one_in(2),
@@ -56,10 +56,10 @@ impl Cuts<'_> {
     }
 }
 
-/// How many bytes of a piece may be left where more are wanted: all but the last of a move.
+/// The number of bytes of a piece that may be left when more are needed: all but the last of a move.
 const MOST_LEFT: usize = 7;
 
-/// The bytes that are left of a stream, and how many of them have come.
+/// The unconsumed bytes of a stream, and how many of them have arrived.
 #[derive(Drop)]
 struct Feed<'a> {
     rest: &'a [u8],
@@ -79,32 +79,32 @@ impl<'a> Feed<'a> {
         &self.rest[..self.come]
     }
 
-    /// Whether all have come.
+    /// Whether all have arrived.
     fn is_all(&self) -> bool {
         self.come == self.rest.len()
     }
 
-    /// Takes so many of those that have come.
+    /// Consumes this many of those that have arrived.
     fn take(&mut self, count: usize) {
         let taken = count.min(self.come);
         self.rest = &self.rest[taken..];
         self.come -= taken;
     }
 
-    /// So many more come.
+    /// This many more arrive.
     fn come(&mut self, count: usize) {
         self.come = self.come.saturating_add(count).min(self.rest.len());
     }
 }
 
-/// The rows of a stream, packed, and how it ends.
+/// The rows of a stream, packed, and its end.
 #[derive(Drop, Debug, PartialEq, Eq)]
 pub struct Given {
     rows: Vec<u8>,
     end: Outcome,
 }
 
-/// What `decode` gives at this height.
+/// The result of `decode` at this height.
 fn decoded(alloc: Global, header: &Header, height: u32, body: &[u8]) -> Result<Given, Fail>
     requires from { 1 ≤ height }
     requires to { height ≤ header.now.yd }
@@ -126,7 +126,8 @@ fn decoded(alloc: Global, header: &Header, height: u32, body: &[u8]) -> Result<G
     })
 }
 
-/// Goes on with a piece, which is the last where the end is told: feeds it where bytes may be held, and else shows it.
+/// Continues with a piece, which is the last if the end is signalled: by `feed` if bytes may be stored, and otherwise
+/// by `next_row`.
 fn go_on(
     decoder: &mut PieceDecoder,
     window: &mut Window<'_>,
@@ -153,7 +154,7 @@ fn go_on(
     }
 }
 
-/// Goes on with what has come and was not taken.
+/// Continues with the bytes that have arrived and were not consumed.
 fn call(
     decoder: &mut PieceDecoder,
     window: &mut Window<'_>,
@@ -167,7 +168,7 @@ fn call(
     progress.outcome
 }
 
-/// Whether later calls take nothing and answer the same as the end: on what was not taken, and on other bytes.
+/// Whether later calls consume nothing and return the same end: on the unconsumed bytes, and on other bytes.
 fn answers_again(
     decoder: &mut PieceDecoder,
     window: &mut Window<'_>,
@@ -187,16 +188,16 @@ fn answers_again(
         && *held == before
 }
 
-/// How many calls lead to the end, at most: each takes a byte, gives a row, or tells the end, once more.
+/// The greatest number of calls up to the end: each consumes a byte, returns a row, or signals the end, once more.
 fn most_calls(header: &Header, body: &[u8]) -> u64 {
     (body.len() as u64)
         .saturating_add(u64::from(header.yd))
         .saturating_add(3)
 }
 
-/// What a stream gives that comes in pieces, where bytes are held or not. It is none where no end comes, a call after the end
-/// answers something else, more is wanted after the last byte, more of a piece is left than may be, or rows that were certain
-/// are not so later, or not the image's.
+/// The result of a stream that arrives in pieces, with bytes stored or not. There is none if no end is reached, a call
+/// after the end returns something else, more is requested after the last byte, more of a piece is left than allowed,
+/// or rows that were certain are later not certain, or not the image's.
 fn take_pieces(
     alloc: Global,
     header: Header,
@@ -255,7 +256,7 @@ fn take_pieces(
     Ok(None)
 }
 
-/// What is kept of a decoder from call to call, beside its contexts and the memory of its window.
+/// The stored state of a decoder between calls, without its contexts and the memory of its window.
 #[derive(Drop)]
 struct Kept {
     numbers: PieceNumbers,
@@ -263,8 +264,8 @@ struct Kept {
     ghost within: { place < 3 },
 }
 
-/// Makes the decoder again that was kept, shows it what has come and was not taken, and keeps it. A row that it gives is
-/// appended.
+/// Rebuilds the stored decoder, passes it the bytes that have arrived and were not consumed, and stores it again.
+/// Appends the row that it returns.
 fn call_kept(
     header: Header,
     kept: &mut Kept,
@@ -289,7 +290,7 @@ fn call_kept(
     Ok(outcome)
 }
 
-/// What a stream gives that comes in pieces, where of the decoder nothing but numbers is kept from call to call.
+/// The result of a stream that arrives in pieces, if only numbers are stored between calls.
 fn take_pieces_kept(
     alloc: Global,
     header: Header,
@@ -330,7 +331,7 @@ fn take_pieces_kept(
     Ok(None)
 }
 
-/// A decoder before the first byte, as it is kept.
+/// A decoder before the first byte, as stored.
 fn first_kept(header: Header, lent: &mut [u8], learned: &mut Learned) -> Kept
     requires { length lent.old ≡ 3 * div_ceil header.xd 8 }
 {
@@ -341,7 +342,7 @@ fn first_kept(header: Header, lent: &mut [u8], learned: &mut Learned) -> Kept
     Kept { numbers, place }
 }
 
-/// How many cuts of streams end how.
+/// The number of cuts of streams by their end.
 #[derive(Clone, Copy, Debug)]
 pub struct Ends {
     pub cuts: u32,
@@ -377,7 +378,7 @@ impl Ends {
     }
 }
 
-/// A stream after its header, and what it gives as a whole.
+/// A stream after its header, and the result of the whole.
 #[derive(Drop)]
 pub struct Case<'a> {
     header: Header,
@@ -398,7 +399,7 @@ impl<'a> Case<'a> {
         })
     }
 
-    /// Whether the stream gives the same in these pieces.
+    /// Whether the stream has the same result in these pieces.
     pub fn is_given(
         &self,
         alloc: Global,
@@ -410,21 +411,21 @@ impl<'a> Case<'a> {
         Ok(given.as_ref() == Some(&self.whole))
     }
 
-    /// Whether it does where each piece is fed, and taken whole where more is wanted.
+    /// The same if each piece is passed to `feed`, and consumed whole when more is needed.
     pub fn is_fed(&self, alloc: Global, cuts: &mut Cuts<'_>) -> Result<bool, Fail> {
         let held = Some(HeldBytes::none());
         let given = take_pieces(alloc, self.header, self.body, held, cuts)?;
         Ok(given.as_ref() == Some(&self.whole))
     }
 
-    /// Whether it does where nothing but numbers is kept of the decoder.
+    /// The same if only numbers of the decoder are stored.
     fn is_given_again(&self, alloc: Global, cuts: &mut Cuts<'_>) -> Result<bool, Fail> {
         let given = take_pieces_kept(alloc, self.header, self.body, cuts)?;
         Ok(given.as_ref() == Some(&self.whole))
     }
 }
 
-/// Asserts that a stream gives the same however it is cut at random, ten times.
+/// Asserts that a stream has the same result in ten random cuts.
 fn check(
     rt: &impl Abort,
     alloc: Global,
@@ -463,15 +464,15 @@ fn check(
     Ok(())
 }
 
-/// What calls answer, each of which is shown so many bytes more, of a stream with one pixel in a row: two stripes of one
-/// row, of nine that are announced, and the height. A row that only its end marker decides waits until what comes behind
-/// tells that no height cuts it off. The last number is how many rows are certain then.
+/// The results of calls, each with this many more bytes, for a stream with one pixel per row: two stripes of one row,
+/// of nine that are announced, and the height. A row that only its end marker determines waits until the bytes behind
+/// the marker show that no height cuts it off. The last number is how many rows are certain then.
 static ANSWERS: [(usize, Outcome, u32); 9] = [
     // The first stripe, and the code of the second.
     (3, Outcome::More, 1),
     (1, Outcome::Row, 1),
     (0, Outcome::More, 2),
-    // Its end, and the height.
+    // Its end marker, and the height.
     (2, Outcome::More, 2),
     (2, Outcome::More, 2),
     (3, Outcome::More, 2),
@@ -551,7 +552,7 @@ fn streams_cut_short(rt: HostRuntime) -> Result<(), Fail> {
     Ok(())
 }
 
-/// Streams of which one to three bytes are changed, inserted or removed.
+/// Streams with one to three bytes changed, inserted or removed.
 #[test]
 fn damaged_streams(rt: HostRuntime) -> Result<(), Fail> {
     let mut random = Random::new(14);

@@ -1,4 +1,4 @@
-//! The lines that `jbgtopbm85 --info` writes of streams, with each device failing in turn.
+//! The lines that `jbgtopbm85 --info` writes for streams, with each device failing in turn.
 
 use crate::trial::Bytes::{Hex, Raw};
 use crate::trial::{Devices, Run, SMOOTH, Trial, all_stand, leaves, stands};
@@ -19,7 +19,7 @@ static STREAMS: [Run<'static>; 20] = [
         output: Raw(b"1 9 1 0 32 2 2 0 0\n"),
         fault: None,
     },
-    // A comment after the last data entity that the height leaves.
+    // A comment after the last stripe data entity that the height leaves.
     Run {
         words: &["jbgtopbm85", "--info"],
         input: Hex(
@@ -159,7 +159,7 @@ static STREAMS: [Run<'static>; 20] = [
     },
 ];
 
-/// Each stream gives its line, or its fault.
+/// Each stream has its line, or its error.
 #[test]
 fn tells_each_stream(rt: HostRuntime) -> Result<(), Fail> {
     all_stand(&rt, rt.alloc(), &STREAMS)
@@ -180,22 +180,22 @@ fn tells_comment(alloc: Global) -> Result<bool, LineFault> {
     stands(alloc, run, Trial::Sizes)
 }
 
-/// Comments of more bytes than the buffer holds are passed as well.
+/// Comments longer than the buffer are also skipped.
 #[test]
 fn passes_a_long_comment(rt: HostRuntime) -> Result<(), Fail> {
     assert!(rt; tells_comment(rt.alloc())?);
     Ok(())
 }
 
-/// What is reported of two stripes where the read of this number fails: where reads are large, one is for the header and
-/// one for what follows.
+/// The report for two stripes if the read of this number fails: with large reads, one is for the header and one for the
+/// rest.
 static AHEAD: [(u64, &[u8], Option<&str>); 3] = [
     (1, b"", Some("input cannot be read")),
     (2, b"", Some("input cannot be read")),
     (3, b"1 2 1 0 8 2 2 0 0\n", None),
 ];
 
-/// Whether the read of this number fails, and leaves that.
+/// Whether the read of this number fails, with these results.
 fn reads_so_far<'a>(
     alloc: Global,
     at: u64,
@@ -224,7 +224,7 @@ fn reads_ahead(rt: HostRuntime) -> Result<(), Fail> {
     Ok(())
 }
 
-/// Whether a run reports a fault by its status alone, where the second piece of the message can't be written.
+/// Whether a run reports an error only by its status, if the second piece of the message cannot be written.
 fn loses(alloc: Global) -> Result<bool, LineFault> {
     let job = job(alloc, &["jbgtopbm85", "--info"])?;
     let mut input = Pieces::new(b"", 1, None);
@@ -244,7 +244,7 @@ fn loses(alloc: Global) -> Result<bool, LineFault> {
     Ok(status == 1 && messages.written() == b"jbgtopbm".as_slice())
 }
 
-/// A message that can't be written changes no status.
+/// A message that cannot be written does not change the status.
 #[test]
 fn loses_a_message(rt: HostRuntime) -> Result<(), Fail> {
     assert!(rt; loses(rt.alloc())?);

@@ -1,4 +1,4 @@
-//! Images with wide rows, and with more bytes of rows and of code than a buffer holds.
+//! Images with wide rows, and with more bytes of rows and of code than a buffer has.
 
 use crate::trial::Bytes::{Hex, Image};
 use crate::trial::{Devices, Run, SMOOTH, leaves};
@@ -7,7 +7,7 @@ use std::alloc::{AllocError, Global};
 use std::process::Abort;
 use std::test::Fail;
 
-/// Bytes of which a part comes again and again, as hexadecimal digits.
+/// Bytes as hexadecimal digits, of which a part is repeated.
 struct Long {
     head: &'static str,
     unit: &'static str,
@@ -16,14 +16,14 @@ struct Long {
 }
 
 impl Long {
-    /// The digits, so often.
+    /// The digits, repeated.
     fn digits(&self, alloc: Global, count: usize) -> Result<String, AllocError> {
         let middle = self.unit.repeat(alloc, self.times)?;
         format!(in alloc; "{}{middle}{}", self.head, self.tail)?.repeat(alloc, count)
     }
 }
 
-/// An image of equal rows, in stripes that are coded alike: there is one, or each ends in a reset. The code of a
+/// An image of equal rows, in stripes with equal codes: there is one stripe, or each ends in a reset. The code of a
 /// stripe is the one that JBIG-KIT 2.1 writes for an image of that stripe alone.
 struct Large {
     words: &'static [&'static str],
@@ -137,13 +137,14 @@ static WIDEST: [Large; 2] = [
     },
 ];
 
-/// Whether the run and the one that decodes what it writes leave what they say, by reads and writes of this many bytes.
+/// Whether the run, and the one that decodes its output, have the expected results, with reads and writes of this many
+/// bytes.
 fn goes_there_and_back(alloc: Global, run: Run<'_>, most: usize) -> Result<bool, LineFault> {
     let devices = Devices { most, ..SMOOTH };
     Ok(leaves(alloc, run, devices)? && leaves(alloc, run.back(), devices)?)
 }
 
-/// The same, of each size.
+/// The same for each size.
 fn goes_by_each_size(alloc: Global, run: Run<'_>) -> Result<bool, LineFault> {
     for most in [1, 4095, 4096, 4097] {
         if !goes_there_and_back(alloc, run, most)? {
@@ -153,7 +154,7 @@ fn goes_by_each_size(alloc: Global, run: Run<'_>) -> Result<bool, LineFault> {
     Ok(true)
 }
 
-/// The run that codes this image.
+/// The run that encodes this image.
 fn run_of<'a>(words: &'a [&'a str], size: &'a str, rows: &'a str, hex: &'a str) -> Run<'a> {
     Run {
         words,
@@ -165,7 +166,7 @@ fn run_of<'a>(words: &'a [&'a str], size: &'a str, rows: &'a str, hex: &'a str) 
 }
 
 impl Large {
-    /// Whether the image is coded to its stream, and comes back from it.
+    /// Whether the image is encoded to its stream, and decoded from it.
     fn is_coded(&self, alloc: Global) -> Result<bool, LineFault> {
         let rows = self.row.digits(alloc, self.rows)?;
         let entities = self.entity.digits(alloc, self.stripes)?;
@@ -174,7 +175,7 @@ impl Large {
     }
 }
 
-/// Asserts of each image that it is coded, and comes back.
+/// Asserts that each image is encoded and decoded.
 fn all_are_coded(rt: &impl Abort, alloc: Global, images: &[Large]) -> Result<(), Fail> {
     for large in images {
         assert!(rt; large.is_coded(alloc)?, "{} {:?}", large.size, large.words);

@@ -1,4 +1,4 @@
-//! Tests of the engine and of both programs, through what they show to others.
+//! Tests of the engine and of both programs, through their public functions.
 #![tactic(auto)]
 
 #[cfg(test)]

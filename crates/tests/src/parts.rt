@@ -1,4 +1,4 @@
-//! What streams are made of, as it was worked out by hand.
+//! The parts of streams, worked out by hand.
 
 use crate::trial::Bytes::Hex;
 use std::alloc::Global;
@@ -7,10 +7,10 @@ use std::test::Fail;
 use t85_core::PartKind::{Comment, DataEntity, Move, NewHeight};
 use t85_core::{Fault, Found, Part, PartKind, PartWalk};
 
-/// What comes behind the header, and how the walk ends.
+/// The bytes after the header, and the end of the list of parts.
 struct Case {
     stream: &'static str,
-    /// Of each part its kind, its offset, its length, and how many data entities come before it.
+    /// For each part its kind, its offset, its length, and the number of stripe data entities before it.
     body: &'static [(PartKind, usize, usize, u32)],
     end: Found,
 }
@@ -61,7 +61,7 @@ static WHOLE: [Case; 17] = [
         body: &[(NewHeight, 20, 6, 0), (DataEntity, 26, 3, 0)],
         end: Found::End { len: 29 },
     },
-    // A height behind the last stripe that it leaves, after a comment, and an empty data entity.
+    // A height behind the last stripe that it leaves, after a comment, and an empty stripe data entity.
     Case {
         stream: "00000100 00000001 00000009 00000001 00 0000 20 C0 FF02 C0 FF02 FF07 00000000 FF05 00000002 FF02",
         body: &[
@@ -72,7 +72,7 @@ static WHOLE: [Case; 17] = [
         ],
         end: Found::End { len: 40 },
     },
-    // The same with the other end marker, with no marker, and with a marker behind something else.
+    // The same with the other end marker, without a marker, and with a marker behind something else.
     Case {
         stream: "00000100 00000001 00000009 00000001 00 0000 20 C0 FF02 FF05 00000001 FF03 FF02",
         body: &[(DataEntity, 20, 3, 0), (NewHeight, 23, 6, 1)],
@@ -88,13 +88,13 @@ static WHOLE: [Case; 17] = [
         body: &[(DataEntity, 20, 3, 0), (NewHeight, 23, 6, 1)],
         end: Found::End { len: 29 },
     },
-    // An end marker behind the last stripe, where the height came before that.
+    // An end marker behind the last stripe, if the height preceded that.
     Case {
         stream: "00000100 00000001 00000009 00000001 00 0000 20 FF05 00000001 C0 FF02 FF02",
         body: &[(NewHeight, 20, 6, 0), (DataEntity, 26, 3, 0)],
         end: Found::End { len: 29 },
     },
-    // Behind the last stripe of the header's height, after two comments.
+    // A height behind the last stripe of the header's height, after two comments.
     Case {
         stream: "00000100 00000001 00000005 00000080 00 0000 20 C0 FF02 FF07 00000001 41 FF07 00000000 FF05 00000001",
         body: &[
@@ -111,7 +111,7 @@ static WHOLE: [Case; 17] = [
         body: &[(DataEntity, 20, 3, 0), (NewHeight, 23, 6, 1)],
         end: Found::End { len: 29 },
     },
-    // None there: a code, one above the header's, and one that is cut short.
+    // No height there: a code, one above the header's, and a truncated one.
     Case {
         stream: "00000100 00000001 00000005 00000080 00 0000 20 C0 FF02 FF07 00000001 41 C0 FF02",
         body: &[(DataEntity, 20, 3, 0)],
@@ -139,7 +139,7 @@ static BROKEN: [Case; 9] = [
             stripe: 0,
         },
     },
-    // In a code: the data entity begins before its fault.
+    // An error inside a code: the stripe data entity begins before it.
     Case {
         stream: "00000100 00000001 00000002 00000001 00 0000 08 E0 FF02 E0 00 FF05",
         body: &[(DataEntity, 20, 3, 0)],
@@ -194,7 +194,7 @@ static BROKEN: [Case; 9] = [
             stripe: 1,
         },
     },
-    // A height that two stripes are too many for.
+    // A height that two stripes exceed.
     Case {
         stream: "00000100 00000001 00000009 00000001 00 0000 20 C0 FF02 C0 FF02 FF05 00000001 FF02",
         body: &[(DataEntity, 20, 3, 0), (DataEntity, 23, 3, 1)],
@@ -204,7 +204,7 @@ static BROKEN: [Case; 9] = [
             stripe: 2,
         },
     },
-    // A second move may come in the next stripe alone.
+    // A second move is allowed only in the next stripe.
     Case {
         stream: "00000100 00000008 00000003 00000001 03 0000 00 FF06 00000000 0300 F0 FF02 FF06 00000000 0000 FF07 00000005 68",
         body: &[(Move, 20, 8, 0), (DataEntity, 28, 3, 0), (Move, 31, 8, 1)],
@@ -216,7 +216,7 @@ static BROKEN: [Case; 9] = [
     },
 ];
 
-/// Whether a walk tells the header, these parts, and then, however often it is asked, this end.
+/// Whether a walk returns the header, these parts, and then this end at each further call.
 fn tells(stream: &[u8], body: &[(PartKind, usize, usize, u32)], end: Found) -> bool {
     let header = Found::Part(Part {
         kind: PartKind::Header,
@@ -264,7 +264,7 @@ fn broken_streams(rt: HostRuntime) -> Result<(), Fail> {
     all_tell(&rt, rt.alloc(), &BROKEN)
 }
 
-/// Whether the first `len` bytes of the stream break in the part in which they end. The first of the parts is the header.
+/// Whether the first `len` bytes of the stream are broken in the part in which they end. The first part is the header.
 fn breaks_at(stream: &[u8], len: usize, parts: &[(usize, usize, u32)]) -> bool {
     let mut walk = PartWalk::start();
     let cut = &stream[..len.min(stream.len())];
@@ -302,7 +302,7 @@ fn each_cut_of_a_stream(rt: HostRuntime) -> Result<(), Fail> {
     Ok(())
 }
 
-/// How long the stream is that these bytes begin with, if it is whole.
+/// The length of the stream with which these bytes begin, if it is whole.
 fn len_of(bytes: &[u8]) -> Option<usize> {
     let mut walk = PartWalk::start();
     for _ in 0..bytes.len() {

@@ -1,4 +1,4 @@
-//! Plain images through `pbmtojbg85`: a digit a pixel, with white space or without.
+//! Plain images through `pbmtojbg85`: one digit per pixel, with or without white space.
 
 use crate::trial::Bytes::{Hex, Plain};
 use crate::trial::{Run, Trial, all_stand, stands};
@@ -165,7 +165,7 @@ fn writes_each_stream(rt: HostRuntime) -> Result<(), Fail> {
     all_stand(&rt, rt.alloc(), &CODED)
 }
 
-/// A digit that is none, a comment among the digits, and the end within a row.
+/// An invalid digit, a comment among the digits, and an end within a row.
 static BROKEN: [Run<'static>; 3] = [
     Run {
         words: &["pbmtojbg85", "-p", "0", "-s", "1"],
@@ -195,7 +195,7 @@ fn refuses_digits(rt: HostRuntime) -> Result<(), Fail> {
     all_stand(&rt, rt.alloc(), &BROKEN)
 }
 
-/// Whether a white row of 1,048,576 digits is coded.
+/// Whether a white row of 1,048,576 digits is encoded.
 fn codes_widest(alloc: Global) -> Result<bool, LineFault> {
     let digits = "0".repeat(alloc, 1048576)?;
     let image = format!(in alloc; "P1\n1048576 1\n{digits}")?;

@@ -1,4 +1,4 @@
-//! Numbers that look random and are the same in each run, and images, choices and streams that are made of them.
+//! Pseudo-random numbers that are the same in each run, and images, options and streams made from them.
 
 ghost use Rattle.std.specs.Prelude.{◌≤◌, ◌^◌, ◌<◌};
 
@@ -9,7 +9,7 @@ use std::alloc::{AllocError, Global};
 use std::test::Fail;
 use t85_core::{Fault, Options, encode, summarize};
 
-/// Numbers that a seed fixes.
+/// Numbers that a seed determines.
 #[derive(Drop)]
 pub struct Random {
     state: u64,
@@ -38,12 +38,12 @@ impl Random {
         from + above as u32
     }
 
-    /// A height to announce for an image of this one, or of fewer rows.
+    /// A height to announce for an image of this height, or of fewer rows.
     pub fn height_from(&mut self, height: u32) -> u32 {
         height.saturating_add(self.between(0, 30))
     }
 
-    /// A place among so many, where there are any.
+    /// An index below a count, if there is any.
     pub fn below(&mut self, count: usize) -> usize {
         if count == 0 {
             return 0;
@@ -51,7 +51,7 @@ impl Random {
         self.next() as usize % count
     }
 
-    /// Whether a thing happens that happens once in `count` times.
+    /// Whether something happens that happens once in `count` times.
     pub fn is_one_in(&mut self, count: u32) -> bool
         requires { 1 ≤ count }
     {
@@ -89,7 +89,7 @@ impl Random {
         }
     }
 
-    /// A row of so many bytes.
+    /// A row of this many bytes.
     fn row(&mut self, alloc: Global, ink: Ink, count: usize) -> Result<Vec<u8>, AllocError> {
         let mut row = Vec::new(alloc);
         let mut byte = self.byte(ink);
@@ -104,7 +104,7 @@ impl Random {
     }
 }
 
-/// How many pixels are black: of a striped row a half, and its bytes are equal.
+/// The share of black pixels: half in a striped row, whose bytes are equal.
 #[derive(Clone, Copy)]
 enum Ink {
     None,
@@ -114,7 +114,7 @@ enum Ink {
     Striped,
 }
 
-/// An image: each row in whole bytes. What the padding is means nothing.
+/// An image: each row in whole bytes, with arbitrary padding.
 #[derive(Drop)]
 pub struct Image {
     pub size: Size,
@@ -142,14 +142,14 @@ impl Image {
     }
 }
 
-/// What an encoder answered and wrote.
+/// The result and the output of an encoder.
 #[derive(Drop)]
 pub struct Encoded {
     pub answer: Result<(), Fault>,
     pub bytes: Vec<u8>,
 }
 
-/// What `encode` answers for an image of this size whose input has these rows, and what it writes.
+/// The result and the output of `encode` for an image of this size whose input has these rows.
 pub fn encode_rows(
     alloc: Global,
     size: Size,
@@ -176,13 +176,13 @@ pub fn encode_rows(
     Ok(Encoded { answer, bytes })
 }
 
-/// What is chosen for a stream.
+/// The options of a stream.
 #[derive(Drop)]
 pub struct Choices {
     bits: u32,
     stripe_rows: u32,
     most_offset: u32,
-    /// A height to announce: none, where a test does not say one.
+    /// A height to announce: none, unless a test sets one.
     pub announced: Option<u32>,
     reset: bool,
     comment: Option<Vec<u8>>,
@@ -233,18 +233,18 @@ impl Choices {
     }
 }
 
-/// Which height a stream's header has.
+/// The height in a stream's header.
 #[derive(Clone, Copy, Debug, PartialEq, Eq)]
 pub enum Heights {
     /// The image's.
     Fixed,
-    /// One that is announced, from the image's on.
+    /// An announced one, at least the image's.
     Announced,
-    /// The one or the other.
+    /// Either of them.
     Either,
 }
 
-/// How many bytes a stream has before its first segment.
+/// The number of bytes of a stream before its first marker segment.
 pub const HEADER: usize = 20;
 
 impl Random {
@@ -264,7 +264,7 @@ impl Random {
         Ok(encode_rows(alloc, image.size, &image.rows, &options)?.bytes)
     }
 
-    /// Changes, inserts or removes one to three bytes after the header, and now and then turns whether the height may change.
+    /// Changes, inserts or removes one to three bytes after the header, and occasionally inverts VLENGTH.
     pub fn damage(&mut self, stream: &mut Vec<u8>) -> Result<(), Fail> {
         for _ in 0..self.between(1, 3) {
             self.damage_byte(stream)?;
@@ -299,7 +299,7 @@ impl Random {
     }
 }
 
-/// How many streams have something, so that a test can say what it tried.
+/// Counts streams by their features, so that a test can check what it tried.
 #[derive(Clone, Copy, Debug)]
 pub struct Kinds {
     pub streams: u32,
@@ -308,7 +308,7 @@ pub struct Kinds {
     /// Streams in which the adaptive pixel moves.
     pub moved: u32,
     pub commented: u32,
-    /// Streams whose height is less than what the header says.
+    /// Streams whose height is less than the header's.
     pub lowered: u32,
 }
 
@@ -321,7 +321,7 @@ impl Kinds {
         lowered: 0,
     };
 
-    /// Counts this stream too.
+    /// Counts this stream.
     pub fn count(&mut self, stream: &[u8]) -> Result<(), Fault> {
         let found = summarize(&mut Pieces::new(stream, 4096, None))?;
         add(&mut self.streams, true);
@@ -333,7 +333,7 @@ impl Kinds {
     }
 }
 
-/// Counts one more where it is so.
+/// Adds one if the condition holds.
 pub fn add(count: &mut u32, is_so: bool) {
     *count = count.saturating_add(u32::from(is_so));
 }

@@ -1,4 +1,4 @@
-//! Streams, and what they give.
+//! Streams and their results.
 
 use crate::trial::Bytes::{Hex, Image, Raw};
 use crate::trial::Run;

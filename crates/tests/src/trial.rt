@@ -1,4 +1,4 @@
-//! Runs of both programs over devices in memory, and what is tried on them.
+//! Runs both programs on devices in memory, with trials of each run.
 
 ghost use Rattle.std.specs.Prelude.{◌≡◌, ◌↔◌, ◌-◌, IfOk, IsTrue, filter_map, option_map};
 ghost use Rattle.tests.specs.Trial.{HasTold, hex_digit, paired};
@@ -18,7 +18,7 @@ pub enum Program {
 }
 
 impl Program {
-    /// What the arguments ask for, of the program that the first of them names.
+    /// The job for the arguments, for the program that the first of them names.
     pub fn of(alloc: Global, words: &[&str]) -> Result<Program, LineFault> {
         if words.first() == Some(&jbgtopbm85::NAME) {
             Ok(Program::Decoder(jbgtopbm85::job(alloc, words)?))
@@ -34,7 +34,7 @@ impl Program {
         }
     }
 
-    /// Runs it over these devices, and gives the exit status. A second reading is the decoder's.
+    /// Runs it on these devices, and returns the exit status. Only the decoder has a second reading.
     pub fn run<R: Input, Second: Input, W: Output, M: Output>(
         &self,
         alloc: Global,
@@ -51,7 +51,7 @@ impl Program {
         }
     }
 
-    /// What is reported of an input that ends too early.
+    /// The text for an input that ends too early.
     fn early_end(&self) -> &'static str {
         match self {
             Program::Encoder(_) => "PBM ends too early",
@@ -60,10 +60,10 @@ impl Program {
     }
 }
 
-/// How the devices of a run behave.
+/// The behaviour of a run's devices.
 #[derive(Clone, Copy)]
 pub struct Devices {
-    /// The most bytes that a read or a write moves.
+    /// The greatest number of bytes that a read or a write moves.
     pub most: usize,
     /// The number of the read that fails, from 1.
     pub failing_read: Option<u64>,
@@ -75,7 +75,7 @@ pub struct Devices {
     pub flush_fails: bool,
 }
 
-/// What a run left.
+/// The results of a run.
 #[derive(Drop)]
 struct Ran {
     status: u8,
@@ -95,7 +95,7 @@ pub const SMOOTH: Devices = Devices {
 /// Single bytes.
 const BYTEWISE: Devices = Devices { most: 1, ..SMOOTH };
 
-/// The bytes that a text has as upper-case hexadecimal digits. Its other characters are skipped.
+/// The bytes of a text of upper-case hexadecimal digits. Its other characters are skipped.
 fn bytes_of(alloc: Global, hex: &str) -> Result<Vec<u8>, AllocError>
     ensures { IfOk result (λ v. v.items ≡ paired (filter_map hex_digit hex.now)) }
 {
@@ -118,7 +118,7 @@ fn bytes_of(alloc: Global, hex: &str) -> Result<Vec<u8>, AllocError>
     Ok(bytes)
 }
 
-/// Whether a run of this program has reported just the text of this fault, or nothing where there is none.
+/// Whether a run of this program has reported exactly the text of this error, or nothing if there is none.
 fn has_told(
     alloc: Global,
     ran: &Ran,
@@ -137,7 +137,7 @@ fn has_told(
     }
 }
 
-/// Runs a program on these bytes, into a room of this size.
+/// Runs a program on these bytes, with an output buffer of this size.
 fn run_on(
     alloc: Global,
     program: &Program,
@@ -172,11 +172,11 @@ fn pbm_of(alloc: Global, size: &str, rows: &str) -> Result<Vec<u8>, AllocError> 
     Ok(image)
 }
 
-/// Bytes as a table writes them.
+/// Bytes in the notation of a table.
 #[derive(Clone, Copy)]
 pub enum Bytes<'a> {
     Raw(&'a [u8]),
-    /// An image in the plain form, and how many of its bytes are the header.
+    /// An image in the plain form, and the length of its header.
     Plain(&'a [u8], usize),
     /// A stream, as hexadecimal digits.
     Hex(&'a str),
@@ -193,7 +193,7 @@ impl Bytes<'_> {
         }
     }
 
-    /// How many bytes the header has, of a stream or of an image.
+    /// The length of the header of a stream or of an image.
     fn header(self) -> Option<usize> {
         match self {
             Bytes::Raw(_) => None,
@@ -204,20 +204,20 @@ impl Bytes<'_> {
     }
 }
 
-/// A run of a program: what it is asked for, what it reads, and what it leaves.
+/// A run of a program: its arguments, its input, and the expected results.
 #[derive(Clone, Copy)]
 pub struct Run<'a> {
     pub words: &'a [&'a str],
     pub input: Bytes<'a>,
-    /// How many bytes are asked for, one at a time; the end of the input is asked for too.
+    /// The number of bytes that are read, one at a time; the end of the input counts as one.
     pub reads: u64,
     pub output: Bytes<'a>,
-    /// The text of the fault that is reported.
+    /// The text of the expected error.
     pub fault: Option<&'a str>,
 }
 
 impl<'a> Run<'a> {
-    /// The run that decodes what this one writes.
+    /// The run that decodes this run's output.
     pub fn back(self) -> Run<'a> {
         Run {
             words: &["jbgtopbm85"],
@@ -227,8 +227,8 @@ impl<'a> Run<'a> {
         }
     }
 
-    /// Whether `count` bytes may have been written where the read after `came` bytes fails: none before a whole header was read,
-    /// and at least the header from there on; of a line none.
+    /// Whether `count` bytes may have been written if the read after `came` bytes fails: none before a whole header was
+    /// read, and at least the header from then on; for `--info`, none.
     fn may_stand(self, came: u64, count: usize) -> bool {
         match (self.input.header(), self.output.header()) {
             (Some(read), Some(written)) if came >= read as u64 => count >= written,
@@ -237,18 +237,18 @@ impl<'a> Run<'a> {
     }
 }
 
-/// What is tried on a run.
+/// A trial of a run.
 #[derive(Clone, Copy)]
 pub enum Trial {
     /// Reads and writes of each size.
     Sizes,
-    /// Bytes after the last that is asked for.
+    /// Bytes after the last one that is read.
     Rest,
-    /// Each failing read, and that one more is never asked for.
+    /// Each failing read; one more read is never made.
     Reads,
-    /// Each failing write, and that one more is never asked for.
+    /// Each failing write; one more write is never made.
     Writes,
-    /// A failing flush, which is asked for after a whole output alone.
+    /// A failing flush, which is made only after a whole output.
     Flush,
 }
 
@@ -260,7 +260,7 @@ static TRIALS: [(Trial, &str); 5] = [
     (Trial::Flush, "a failing flush"),
 ];
 
-/// A run as it is tried.
+/// A run in a trial.
 #[derive(Drop)]
 struct Case<'a> {
     run: Run<'a>,
@@ -279,14 +279,14 @@ impl<'a> Case<'a> {
         })
     }
 
-    /// Runs the program on these bytes, into room for a byte more than the output has.
+    /// Runs the program on these bytes, with a buffer one byte longer than the output.
     fn run_on(&self, alloc: Global, bytes: &[u8], devices: Devices) -> Result<Ran, AllocError> {
         let room = self.output.len().saturating_add(1);
         run_on(alloc, &self.program, bytes, devices, room)
     }
 
-    /// Whether a run on these bytes writes just `count` bytes of the output, and reports just the text of this fault, or nothing
-    /// where there is none.
+    /// Whether a run on these bytes writes exactly `count` bytes of the output, and reports exactly the text of this
+    /// error, or nothing if there is none.
     fn leaves(
         &self,
         alloc: Global,
@@ -305,7 +305,7 @@ impl<'a> Case<'a> {
         )
     }
 
-    /// The same, whatever the size of reads and writes. Where a fault is reported a flush would fail: none may be asked for.
+    /// The same for all sizes of reads and writes. If there is an error, a flush would fail: none may be made.
     fn leaves_at_each_size(
         &self,
         alloc: Global,
@@ -326,7 +326,7 @@ impl<'a> Case<'a> {
         Ok(true)
     }
 
-    /// Whether a run over these devices leaves the whole output, and reports this fault.
+    /// Whether a run on these devices writes the whole output, and reports this error.
     fn ends(
         &self,
         alloc: Global,
@@ -336,7 +336,7 @@ impl<'a> Case<'a> {
         self.leaves(alloc, &self.input, devices, self.output.len(), fault)
     }
 
-    /// Whether the failing read after `came` bytes is reported, with a beginning of the output written.
+    /// Whether the failing read after `came` bytes is reported, with a prefix of the output written.
     fn tells_read(&self, alloc: Global, came: u64) -> Result<bool, AllocError> {
         let devices = Devices {
             failing_read: Some(came.saturating_add(1)),
@@ -351,7 +351,7 @@ impl<'a> Case<'a> {
         )
     }
 
-    /// Whether the height of the image may change, so that the stream is read twice.
+    /// Whether the stream has variable height, so that it is read twice.
     fn is_read_twice(&self) -> bool {
         match self.program {
             Program::Encoder(_) => false,
@@ -362,7 +362,8 @@ impl<'a> Case<'a> {
         }
     }
 
-    /// Whether `count` bytes may have been written where the read after `came` bytes fails: none in the first of two readings.
+    /// Whether `count` bytes may have been written if the read after `came` bytes fails: none in the first of two
+    /// readings.
     fn may_stand(&self, came: u64, count: usize) -> bool {
         if self.is_read_twice() {
             count == 0
@@ -371,7 +372,8 @@ impl<'a> Case<'a> {
         }
     }
 
-    /// Whether the failing read of the second reading after `came` bytes is reported, with a beginning of the output written.
+    /// Whether the failing read of the second reading after `came` bytes is reported, with a prefix of the output
+    /// written.
     fn tells_second_read(&self, alloc: Global, came: u64) -> Result<bool, AllocError> {
         let devices = Devices {
             failing_again: Some(came.saturating_add(1)),
@@ -386,7 +388,7 @@ impl<'a> Case<'a> {
         )
     }
 
-    /// Whether each of `reads` reads of the second reading is reported where it fails, and no more are asked for.
+    /// Whether each of `reads` reads of the second reading is reported if it fails, and no more are made.
     fn is_read_again(&self, alloc: Global, reads: u64) -> Result<bool, AllocError> {
         for came in 0..reads {
             if !self.tells_second_read(alloc, came)? {
@@ -423,7 +425,7 @@ impl<'a> Case<'a> {
         Ok(true)
     }
 
-    /// Whether no flush is asked for where the input ends before the last byte that is asked for.
+    /// Whether no flush is made if the input ends before the last byte that is read.
     fn ends_early(&self, alloc: Global) -> Result<bool, AllocError> {
         let came = (self.input.len() as u64).min(self.run.reads.saturating_sub(1)) as usize;
         let devices = Devices {
@@ -435,14 +437,14 @@ impl<'a> Case<'a> {
         has_told(alloc, &ran, self.program.name(), text)
     }
 
-    /// Whether bytes after the last that is asked for change nothing.
+    /// Whether bytes after the last one that is read change nothing.
     fn leaves_the_rest(&self, alloc: Global) -> Result<bool, AllocError> {
         let mut bytes = self.input.as_slice().to_vec(alloc)?;
         bytes.extend_from_slice(b"P4\n1 1\n\xFF")?;
         self.leaves(alloc, &bytes, SMOOTH, self.output.len(), None)
     }
 
-    /// Whether what the trial asks for holds.
+    /// Whether the trial succeeds.
     fn stands(&self, alloc: Global, trial: Trial) -> Result<bool, AllocError> {
         let fault = self.run.fault;
         let (is_told, devices, fault) = match trial {
@@ -484,7 +486,7 @@ impl<'a> Case<'a> {
         Ok(is_told && self.ends(alloc, devices, fault)?)
     }
 
-    /// The name of the first trial that the run does not pass.
+    /// The name of the first trial that the run fails.
     fn first_failing(&self, alloc: Global) -> Result<Option<&'static str>, AllocError> {
         for &(trial, name) in &TRIALS {
             if !self.stands(alloc, trial)? {
@@ -494,8 +496,8 @@ impl<'a> Case<'a> {
         Ok(None)
     }
 
-    /// Whether just `count` bytes were written where the input ends, or can't be read, after `came` bytes, and
-    /// this is reported where it ends.
+    /// Whether exactly `count` bytes were written if the input ends, or a read fails, after `came` bytes, and the end
+    /// is reported so.
     fn is_cut(
         &self,
         alloc: Global,
@@ -522,24 +524,24 @@ pub fn stands(alloc: Global, run: Run<'_>, trial: Trial) -> Result<bool, LineFau
     Ok(held?)
 }
 
-/// Whether each of `reads` reads of the run's second reading is reported where it fails, and no more are asked for.
+/// Whether each of `reads` reads of the run's second reading is reported if it fails, and no more are made.
 pub fn is_read_again(alloc: Global, run: Run<'_>, reads: u64) -> Result<bool, LineFault> {
     let held = Case::new(alloc, run)?.is_read_again(alloc, reads);
     Ok(held?)
 }
 
-/// Whether the run leaves what it says, over these devices.
+/// Whether the run has the expected results on these devices.
 pub fn leaves(alloc: Global, run: Run<'_>, devices: Devices) -> Result<bool, LineFault> {
     let held = Case::new(alloc, run)?.ends(alloc, devices, run.fault);
     Ok(held?)
 }
 
-/// Whether the run and the one that decodes what it writes leave what they say, by reads and writes of each size.
+/// Whether the run, and the one that decodes its output, have the expected results, with reads and writes of each size.
 pub fn goes_there_and_back(alloc: Global, run: Run<'_>) -> Result<bool, LineFault> {
     Ok(stands(alloc, run, Trial::Sizes)? && stands(alloc, run.back(), Trial::Sizes)?)
 }
 
-/// The name of the first trial that the run does not pass.
+/// The name of the first trial that the run fails.
 fn first_failing(alloc: Global, run: Run<'_>) -> Result<Option<&'static str>, LineFault> {
     let failing = Case::new(alloc, run)?.first_failing(alloc);
     Ok(failing?)
@@ -557,12 +559,12 @@ pub fn all_stand(rt: &impl Abort, alloc: Global, runs: &[Run<'_>]) -> Result<(),
 /// A run whose input is cut short.
 pub struct Cut {
     pub run: Run<'static>,
-    /// From how many bytes on how many of the output are written, and what is reported where the input ends there.
+    /// For each number of bytes from which on the output is longer: its length, and the error if the input ends there.
     pub stands: &'static [(usize, usize, &'static str)],
 }
 
 impl Cut {
-    /// How many bytes are written after this many were read, and what is reported where the input ends there.
+    /// The number of bytes written after this many were read, and the error if the input ends there.
     fn standing(&self, came: usize) -> (usize, &'static str) {
         let mut standing = (0, "");
         for &(from, count, text) in self.stands {
@@ -573,7 +575,7 @@ impl Cut {
         standing
     }
 
-    /// After how many bytes something else is written first, or reported.
+    /// The numbers of bytes after which the output or the error changes.
     fn first_failing_in(
         &self,
         alloc: Global,
@@ -594,7 +596,7 @@ impl Cut {
     }
 }
 
-/// Asserts of each run that what it says is written, after each byte at which its input ends or can't be read.
+/// Asserts the expected output of each run for each byte at which its input ends or a read fails.
 pub fn all_are_cut(rt: &impl Abort, alloc: Global, cuts: &[Cut]) -> Result<(), Fail> {
     for (at, cut) in cuts.iter().enumerate() {
         let failing = cut.first_failing(alloc)?;
@@ -603,8 +605,8 @@ pub fn all_are_cut(rt: &impl Abort, alloc: Global, cuts: &[Cut]) -> Result<(), F
     Ok(())
 }
 
-/// An image of 6,000 rows of one pixel, and its code in as many stripes that each end in a reset: so each is the code
-/// of a black or of a white pixel alone.
+/// An image of 6,000 rows of one pixel, and its code in as many stripes, each of which ends in a reset: so each is the
+/// code of a single black or white pixel.
 #[derive(Drop)]
 pub struct Tall {
     pub rows: String,

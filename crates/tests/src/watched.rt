@@ -1,4 +1,4 @@
-//! A slow input sees each finished stripe go out: an input that looks at what the output has taken.
+//! Each finished stripe is written before a slow input continues: the input observes how much the output has received.
 
 ghost use Rattle.std.specs.Prelude.{◌<◌, ◌-◌, [], length, None};
 
@@ -11,10 +11,10 @@ use std::alloc::Global;
 use std::cell::Cell;
 use std::test::Fail;
 
-/// The most bytes of an image that is watched.
+/// The greatest number of bytes of a watched image.
 const MOST: usize = 16;
 
-/// An input that gives single bytes, and notes at each how many the output has taken before it.
+/// An input that returns single bytes, and records for each how many the output has received before it.
 #[derive(Drop)]
 struct Watcher<'a> {
     rest: &'a [u8],
@@ -55,7 +55,7 @@ impl Input for Watcher<'_> {
     }
 }
 
-/// An output that keeps nothing, and counts the bytes that it takes where others see it.
+/// An output that stores nothing, and publishes the number of bytes that it received.
 #[derive(Drop)]
 struct Counter<'a> {
     taken: &'a Cell<u64>,
@@ -90,13 +90,13 @@ impl Output for Counter<'_> {
     }
 }
 
-/// A run of the encoder, and what has to be written while its rows are read.
+/// A run of the encoder, and the output that is due while its rows are read.
 struct Watched {
     words: &'static [&'static str],
     image: Bytes<'static>,
-    /// Before which byte of the image how many of the stream must have gone out.
+    /// Bytes of the image, and how many of the stream must have been written before each.
     due: &'static [(usize, u64)],
-    /// How many bytes the stream has.
+    /// The length of the stream.
     whole: u64,
 }
 
@@ -146,12 +146,12 @@ static WATCHED: [Watched; 6] = [
 ];
 
 impl Watched {
-    /// Whether at least this many had gone out before each of these bytes of the image was read.
+    /// Whether at least this many bytes had been written before each of these bytes of the image was read.
     fn were_out(&self, seen: &[u64; MOST]) -> bool {
         self.due.iter().all(|&(at, count)| seen.get(at).is_some_and(|taken| *taken >= count))
     }
 
-    /// Whether the encoder ends well, with all written, and each stripe out in time.
+    /// Whether the encoder succeeds, with everything written, and each stripe in time.
     fn goes_out(&self, alloc: Global) -> Result<bool, LineFault> {
         let image = self.image.to_vec(alloc)?;
         let program = Program::of(alloc, self.words)?;
@@ -160,7 +160,8 @@ impl Watched {
     }
 }
 
-/// Runs the program on these bytes: the exit status, how many bytes it wrote, and how many before each that it read.
+/// Runs the program on these bytes: the exit status, the number of bytes written, and the number written before each
+/// byte that it read.
 fn watch(alloc: Global, program: &Program, bytes: &[u8]) -> (u8, u64, [u64; MOST]) {
     let taken = Cell::new(0);
     let mut input = Watcher {
@@ -186,7 +187,7 @@ fn watch(alloc: Global, program: &Program, bytes: &[u8]) -> (u8, u64, [u64; MOST
     (status, taken.get(), input.seen)
 }
 
-/// Before the first row of a stripe is read, the stripe before it is out, with its end marker.
+/// Before the first row of a stripe is read, the previous stripe is written, with its end marker.
 #[test]
 fn sends_each_stripe_on(rt: HostRuntime) -> Result<(), Fail> {
     for watched in &WATCHED {

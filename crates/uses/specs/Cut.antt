@@ -1,4 +1,4 @@
--- A stream that ends too early, and what is written of it.
+-- A stream that ends too early, and the output for it.
 use Rattle.std.specs.Prelude.{ℕ, ◌≡◌, ◌≢◌, ◌⊎◌, List, ◌++◌, take, Option, Result, Err, OnOk, IfErr}
 use Rattle.std.specs.Io.KnownBytes.{Appends, Keeps}
 use Rattle.pbm_core.specs.Device.{AppendsBeginning}
@@ -9,7 +9,7 @@ use Rattle.t85_core.specs.Outcome.{pbm_rows, pbm_text}
 use Rattle.t85_core.specs.Jbg.{Settings, AreSettings, IsAnnounced, jbg}
 use Rattle.t85_core.specs.ToPbm.{IsFixed}
 
--- the stream of a raster begins with the bytes, which may be all of it, or none
+-- the stream of a raster begins with the bytes, which may be all or none of it
 pub record Begins (raster : Raster) (bytes : List ℕ) : Type 0 where
   pub chosen : Settings
   pub accepted : AreSettings chosen
@@ -22,12 +22,12 @@ pub record Begins (raster : Raster) (bytes : List ℕ) : Type 0 where
 abbrev pub WritesFirstRows : Raster → Option (List ℕ) → Option (List ℕ) → Type 0
 WritesFirstRows raster old new = (count : ℕ) × Appends old new (pbm_rows raster.width (height raster) (take count raster.rows))
 
--- What was written of bytes with which the stream of this raster begins: a beginning of the image, whatever failed.
+-- The output for bytes with which the stream of this raster begins: a prefix of the image, whatever failed.
 pub record WritesFirst (raster : Raster) (bytes : List ℕ) (old new : Option (List ℕ)) (answer : Result (Unit {0}) Fault) : Type 0 where
   pub begins : AppendsBeginning old new (pbm_text raster)
-  -- all of it
+  -- the whole image
   pub whole : OnOk answer (Appends old new (pbm_text raster))
-  -- whole rows, or nothing, where no write failed
+  -- whole rows, or nothing, if no write failed
   pub rows : answer ≢ Err Write → Keeps old new ⊎ WritesFirstRows raster old new
-  -- rows, where the bytes hold a header with a fixed height, and neither memory nor a device failed
+  -- rows, if the bytes contain a header with a fixed height, and neither memory nor a device failed
   pub some : IsFixed bytes → IfErr answer (λ f. f ≢ Read → f ≢ Write → f ≢ OutOfMemory → WritesFirstRows raster old new)

@@ -1,4 +1,4 @@
--- What comes back of an image.
+-- The image after encoding and decoding.
 use Rattle.std.specs.Prelude.{⊤, ◌≡◌, ℕ, List, Option}
 use Rattle.std.specs.Io.KnownBytes.{Appends}
 use Rattle.pbm_core.specs.Image.{IsPbm}
@@ -7,11 +7,11 @@ use Rattle.t85_core.specs.declared.fault.Fault.{Fault}
 use Rattle.t85_core.specs.declared.fault.Fault.TheVariants.{AnnouncedLow, OutOfMemory, Pbm, Write}
 use Rattle.t85_core.specs.Outcome.{pbm_text}
 
--- the raw form of an image, with white after the last pixel of a row, and nothing more
+-- the raw form of an image, with white padding, and nothing more
 abbrev pub IsRawForm : List ℕ → Type 0
 IsRawForm bytes = (raster : Raster) × IsRaster raster × (bytes ≡ pbm_text raster)
 
--- The bytes begin with an image, and its raw form was written. So bytes that are a raw form came back unchanged.
+-- The bytes begin with an image, and its raw form was written. So bytes in the raw form are unchanged.
 pub record WritesRawForm (bytes : List ℕ) (old new : Option (List ℕ)) : Type 0 where
   pub raster : Raster
   pub rest : List ℕ
@@ -19,7 +19,7 @@ pub record WritesRawForm (bytes : List ℕ) (old new : Option (List ℕ)) : Type
   pub appends : Appends old new (pbm_text raster)
   pub unchanged : IsRawForm bytes → Appends old new bytes
 
--- what may be reported of an image, of memory, and of an output; and nothing of a stream
+-- the possible errors: of an image, of memory, and of an output; none of a stream
 abbrev pub IsOfImage : Fault → Type 0
 IsOfImage (Pbm fault) = ⊤
 IsOfImage AnnouncedLow = ⊤

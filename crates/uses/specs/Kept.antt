@@ -1,4 +1,4 @@
--- A decoder in pieces of which nothing but numbers is kept from call to call.
+-- A decoder in pieces that is stored as numbers between calls.
 use Rattle.std.specs.Prelude.{ℕ, ◌≡◌, ◌≤◌, Bool, List, ◌++◌, length, take}
 use Rattle.qm_core.specs.Place.{Estimate}
 use Rattle.raster_core.specs.Packed.{rows_at}
@@ -14,7 +14,7 @@ use Rattle.t85_core.specs.Feeds.{HasFed, held_bytes}
 use Rattle.t85_core.specs.Pieces.{HandsOut, HoldsImage, MayFollow, StreamGoesOn, given_with}
 use Rattle.uses.specs.declared.kept.KeptDecoder.{KeptDecoder}
 
--- what there is between two calls
+-- the state between two calls
 pub record Between : Type 0 where
   pub header : Header
   pub kept : KeptDecoder
@@ -24,7 +24,7 @@ pub record Between : Type 0 where
 abbrev pub between_calls : Header → KeptDecoder → List ℕ → List Estimate → Between
 between_calls header kept memory learned = record { header = header; kept = kept; memory = memory; learned = learned }
 
--- They are those of a decoder that goes on. It was fed these bytes, and has given these rows, packed.
+-- The state is that of a decoder that can continue. It has consumed these bytes, and returned these rows, packed.
 pub record IsKept (b : Between) (text out : List ℕ) : Type 0 where
   pub decoder : PieceDecoder
   pub stream_is : fields_of decoder.header ≡ fields_of b.header
@@ -35,7 +35,7 @@ pub record IsKept (b : Between) (text out : List ℕ) : Type 0 where
 abbrev pub row_kept : Between → List ℕ
 row_kept b = (rows_at b.kept.place b.header.xd b.memory).current
 
--- What a call leaves: the next numbers, or what the image is, whatever comes after the piece.
+-- The result of a call: the next numbers, or the image, whatever follows the piece.
 pub record KeptOn (old new : Between) (piece : List ℕ) (is_all : Bool) (progress : Progress) : Type 0 where
   pub bound : progress.taken ≤ length piece
   pub all : progress.outcome ≡ outcome.More → progress.taken ≡ length piece

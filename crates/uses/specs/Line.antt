@@ -1,4 +1,4 @@
--- What is said of the stream that is written for an image.
+-- The `--info` line of the stream of an image.
 use Rattle.std.specs.Prelude.{ℕ, List, [], ◌∷◌, Option, count_by, if◌then◌else◌, is_some}
 use Rattle.std.specs.Io.KnownBytes.{Appends}
 use Rattle.pbm_core.specs.Image.{IsPbm}
@@ -7,8 +7,8 @@ use Rattle.t85_core.specs.Grammar.{stripe_count}
 use Rattle.t85_core.specs.Jbg.{Settings, coding_of, header_of}
 use Rattle.t85_core.specs.Info.{line_text}
 
--- The header's width, height, rows of a stripe, greatest offset and options; the height in use, which is the image's; how
--- many stripes there are, how many of them begin with a move, and whether there is a comment.
+-- The header's width, height, rows per stripe, greatest offset and options; the actual height, which is the image's; the number
+-- of stripes, the number of them that begin with a move, and whether there is a comment.
 abbrev pub line_numbers : Settings → Raster → List ℕ
 line_numbers s raster =
     let h = header_of s raster.width (height raster) in

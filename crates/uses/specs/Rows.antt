@@ -1,4 +1,4 @@
--- What is asked where a row encoder is made of its numbers.
+-- The precondition of a row encoder that is rebuilt from its numbers.
 use Rattle.std.specs.Prelude.{ℕ, ◌≡◌, ◌<◌, List, length, false}
 use Rattle.pbm_core.specs.Pbm.{bytes_of_row}
 use Rattle.pbm_core.specs.declared.size.Size.{Size}
@@ -9,7 +9,7 @@ use Rattle.t85_core.specs.Steps.ByRow.{IsPlan, MayGoOn, plan_of}
 use Rattle.t85_core.specs.RowImage.{image_of}
 use Rattle.t85_core.specs.declared.encoding.by_row.RowEncoder.{RowEncoder}
 
--- An encoder of this size and with these settings may take this row, whatever was learned.
+-- An encoder of this size and with these settings accepts this row, whatever the context states.
 pub record MayTake (s : Settings) (size : Size) (e : RowEncoder) (window : Window) (row : List ℕ) : Type 0 where
   pub low : is_low s size.height ≡ false
   pub plan : IsPlan (image_of s size.width size.height) (plan_of e)

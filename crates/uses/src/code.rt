@@ -5,11 +5,11 @@ ghost use Rattle.uses.specs.Coder.{Unstuffs};
 
 use qm_core::{CodeBytes, CodeSink, Pulled, SinkFault};
 
-/// A code that grows, in the form that it has in a stream.
+/// A growing code, with stuffing.
 #[derive(Drop)]
 pub struct Code {
     pub bytes: Vec<u8>,
-    /// How often memory was wanting, modulo 2^64.
+    /// The number of times that memory ran out, modulo 2^64.
     pub failures: u64,
 }
 
@@ -33,7 +33,7 @@ impl CodeSink for Code {
     }
 }
 
-/// What is left of a code, in the form that it has in a stream.
+/// The rest of a code, with stuffing.
 #[derive(Drop)]
 pub struct Stuffed<'a> {
     pub rest: &'a [u8],

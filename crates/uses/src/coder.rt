@@ -1,4 +1,4 @@
-//! Pixels, their code, and the pixels again.
+//! Encodes pixels, and decodes the same pixels.
 
 ghost use Rattle.std.specs.Prelude.{◌≡◌, ◌≤◌, Bool, List, length, IfOk, OnOk};
 ghost use Rattle.uses.specs.Coder.{code_for, end_of};
@@ -7,7 +7,7 @@ use crate::code::{Code, Stuffed};
 use qm_core::{Context, Decoder, Encoder, Learned, MAX_EVENTS, laws};
 use std::alloc::{AllocError, Global};
 
-/// Codes pixels and decodes them again, with contexts that have learned the same before.
+/// Encodes pixels and decodes them again, with equal context states.
 pub fn pixels_again(
     alloc: Global,
     contexts: &[Context],
@@ -25,7 +25,7 @@ pub fn pixels_again(
     decode(alloc, contexts, code.as_slice(), copy)
 }
 
-/// The code of pixels, each in its context, in the form that it has in a stream.
+/// The stuffed code of pixels in their contexts.
 pub fn encode(
     alloc: Global,
     contexts: &[Context],
@@ -38,7 +38,7 @@ pub fn encode(
     ensures taught { OnOk result (learned.new ≡
         (end_of learned.old contexts.now pixels.now).learned) }
 {
-    // What the proof cites of the coder.
+    // Laws of the coder for the proof.
     laws::places();
     laws::codes();
     let mut code = Code {
@@ -60,7 +60,7 @@ pub fn encode(
     Ok(code.bytes)
 }
 
-/// The pixels of a code, each in its context.
+/// The pixels of a code in their contexts.
 pub fn decode(
     alloc: Global,
     contexts: &[Context],
@@ -71,7 +71,7 @@ pub fn decode(
         code.now ≡ code_for learned.old contexts.now pixels →
         (again.items ≡ pixels) × (learned.new ≡ (end_of learned.old contexts.now pixels).learned)) }
 {
-    // What the proof cites of the coder.
+    // Laws of the coder for the proof.
     laws::places();
     laws::codes();
     laws::inverse();
@@ -81,7 +81,7 @@ pub fn decode(
     let mut decoder = Decoder::start();
     let mut pixels = Vec::new(alloc);
     for cx in contexts {
-        // A source that never fails doesn't stop a decoder.
+        // A source that never fails does not stop a decoder.
         let Ok(pixel) = decoder.next(learned, *cx, &mut source) else {
             unreachable!()
         };

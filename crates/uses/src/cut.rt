@@ -12,9 +12,9 @@ use t85_core::{Fault, to_pbm};
 
 /// Writes the image of a stream, which may end anywhere.
 ///
-/// Whatever fails, a beginning of the image is written, and where no write failed none but whole rows. Of a stream
-/// whose height may change nothing is written, since it isn't read twice; of one whose height is fixed the header and
-/// rows, as soon as its header came.
+/// Whatever fails, a prefix of the image is written, and if no write failed, only whole rows. For a stream with
+/// variable height nothing is written, since it is not read twice; for one with a fixed height, the header and rows are
+/// written once the header is complete.
 pub fn rows_of_cut<R: Input, W: Output>(
     alloc: Global,
     input: &mut R,
@@ -24,7 +24,7 @@ pub fn rows_of_cut<R: Input, W: Output>(
         (λ bytes. (raster : Raster) → Begins raster bytes →
         WritesFirst raster bytes (W.view output.old).contents (W.view output.new).contents result) }
 {
-    // What the proof cites of streams.
+    // Laws of streams for the proof.
     code_denotes();
     headers();
     lines();

@@ -1,4 +1,4 @@
-//! An image, its stream, and the image again.
+//! Encodes an image, and decodes its stream to the same image.
 
 ghost use Rattle.std.specs.Prelude.{OnOk, IfErr, IfSome};
 ghost use Rattle.uses.specs.Image.{WritesRawForm, IsOfImage};
@@ -11,8 +11,8 @@ use std::alloc::Global;
 use t85_core::laws::{headers, lines};
 use t85_core::{Fault, Options, to_jbg, to_pbm};
 
-/// Writes the stream of an image into a lent slice, and from there the image again, in the raw form. Of that stream
-/// nothing is refused: a fault is one of the image, of memory or of an output.
+/// Writes the stream of an image into a caller's slice, and decodes it to the image in the raw form. The stream is
+/// never rejected: an error is one of the image, of memory or of an output.
 pub fn round_trip<R: Input, W: Output>(
     alloc: Global,
     input: &mut R,
@@ -25,7 +25,7 @@ pub fn round_trip<R: Input, W: Output>(
     ensures told { IfErr result (λ fault. IfSome (R.view input.old).remaining
         (λ _. IsOfImage fault)) }
 {
-    // What the proof cites of images and streams.
+    // Laws of images and streams for the proof.
     images();
     headers();
     lines();

@@ -1,4 +1,4 @@
-//! A decoder in pieces of which nothing but numbers is kept from call to call. It takes all that comes.
+//! A decoder in pieces that is stored as numbers between calls. It consumes all bytes.
 
 ghost use Rattle.std.specs.Prelude.{◌≡◌, ◌<◌, ◌*◌, [], length};
 ghost use Rattle.std.specs.Int.{div_ceil};
@@ -12,17 +12,17 @@ use qm_core::Learned;
 use raster_core::Window;
 use t85_core::{Header, HeldBytes, PieceDecoder, PieceNumbers, Progress};
 
-/// What is kept of a decoder from call to call, beside its header, the memory of its window and the contexts.
+/// The state of a decoder between calls, without its header, the memory of its window and the contexts.
 #[derive(Clone, Copy)]
 pub struct KeptDecoder {
     pub numbers: PieceNumbers,
-    /// What it has taken and not decoded yet.
+    /// The bytes that it has consumed and not decoded yet.
     pub held: HeldBytes,
-    /// Where the memory has the row that was decoded last.
+    /// The place in memory of the row that was decoded last.
     pub place: u8,
 }
 
-/// Before the first byte after the header. The memory is made white, and the contexts forget.
+/// The state before the first byte after the header. Makes the memory white, and resets the contexts.
 pub fn first_kept(header: Header, memory: &mut [u8], learned: &mut Learned) -> KeptDecoder
     requires { length memory.old ≡ 3 * div_ceil header.xd 8 }
     ensures kept { IsKept (between_calls header result memory.new learned.new) [] [] }
@@ -37,7 +37,8 @@ pub fn first_kept(header: Header, memory: &mut [u8], learned: &mut Learned) -> K
     }
 }
 
-/// Goes on with a piece, which may be the last, up to the next row, or as far as it goes. The memory has the row.
+/// Continues with a piece, which may be the last, up to the next row, or as far as it goes. The memory then has the
+/// row.
 pub fn next_of_kept(
     header: Header,
     kept: &mut KeptDecoder,
@@ -64,7 +65,7 @@ pub fn next_of_kept(
     progress
 }
 
-/// Goes on with a piece, which may be the last.
+/// Continues with a piece, which may be the last.
 fn feed(
     decoder: &mut PieceDecoder,
     window: &mut Window<'_>,

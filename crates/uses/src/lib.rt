@@ -1,4 +1,4 @@
-//! Callers of the public contracts, which show what these give.
+//! Callers that show what follows from the public contracts.
 #![tactic(auto)]
 
 mod code;

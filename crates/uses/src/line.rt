@@ -1,4 +1,4 @@
-//! The line about a stream that is written.
+//! Writes the `--info` line of an image's stream.
 
 ghost use Rattle.std.specs.Prelude.{OnOk, IfErr, IfSome};
 ghost use Rattle.t85_core.specs.Options.{settings_of};
@@ -13,7 +13,7 @@ use std::alloc::Global;
 use t85_core::laws::lines;
 use t85_core::{Fault, Options, info, to_jbg};
 
-/// Writes the stream of an image into a lent slice, and then the line about that stream.
+/// Writes the stream of an image into a caller's slice, and then the line about that stream.
 pub fn line_of_encoded<R: Input, W: Output>(
     alloc: Global,
     input: &mut R,
@@ -27,7 +27,7 @@ pub fn line_of_encoded<R: Input, W: Output>(
     ensures told { IfErr result (λ fault. IfSome (R.view input.old).remaining
         (λ _. IsOfImage fault)) }
 {
-    // What the proof cites of codes and streams.
+    // Laws of codes and streams for the proof.
     coder::places();
     coder::codes();
     lines();

@@ -1,4 +1,4 @@
-//! A stream whose bytes come in pieces.
+//! Decodes a stream that arrives in pieces.
 
 ghost use Rattle.std.specs.Prelude.{◌≡◌, ◌++◌, IfOk, OnErr};
 ghost use Rattle.raster_core.specs.Window.{memory_of, width_of};
@@ -12,7 +12,7 @@ use raster_core::Window;
 use std::alloc::{AllocError, Global};
 use t85_core::{Header, Outcome, PieceDecoder, Progress};
 
-/// Appends the rows of a body, packed, which comes in two pieces.
+/// Appends the packed rows of a body that arrives in two pieces.
 pub fn rows_of_body(
     alloc: Global,
     header: Header,
@@ -39,10 +39,10 @@ pub fn rows_of_body(
     )
 }
 
-/// Appends the rows of a text, packed, which comes in two pieces, and is all that comes. Of the first the decoder leaves
-/// bytes over: these are shown again, with the second behind them.
+/// Appends the packed rows of a text that arrives in two pieces and is the whole stream. The decoder leaves some bytes
+/// of the first piece: these are passed again, followed by the second.
 ///
-/// The answer is `Row` where a piece gave as many rows as `limit` and more may come. Else it tells what the rows are.
+/// The result is `Row` if a piece returned `limit` rows and more may follow. Otherwise it describes the rows.
 pub fn rows_of_two(
     alloc: Global,
     decoder: &mut PieceDecoder,
@@ -79,8 +79,8 @@ pub fn rows_of_two(
     }
 }
 
-/// Appends the rows of a piece, packed, which may be the last: it asks for one after the other up to the first answer that
-/// is no row, or until `limit` came. What was not taken is to be shown again, with more bytes behind it.
+/// Appends the packed rows of a piece, which may be the last: it requests one after the other, up to the first result
+/// that is not a row, or until there are `limit`. The caller passes the unconsumed bytes again, followed by more.
 pub fn rows_of_piece(
     decoder: &mut PieceDecoder,
     window: &mut Window<'_>,
@@ -114,7 +114,7 @@ pub fn rows_of_piece(
     })
 }
 
-/// Goes on with a piece, which may be the last.
+/// Continues with a piece, which may be the last.
 pub fn next_row(
     decoder: &mut PieceDecoder,
     window: &mut Window<'_>,

@@ -1,4 +1,4 @@
-//! Rows into an output of fixed room.
+//! Encodes rows into a buffer of fixed size.
 
 ghost use Rattle.std.specs.Prelude.{◌≡◌, ◌≤◌, ◌<◌, ◌+◌, Some, false, length, take, true};
 ghost use Rattle.pbm_core.specs.Pbm.{bytes_of_row};
@@ -13,15 +13,15 @@ use t85_core::{Learning, RowEncoder};
 
 const SIZE: usize = 8192;
 
-/// Room for so many bytes. A write fails where it is full, and nowhere else.
+/// A buffer of fixed size. A write fails if and only if the buffer is full.
 #[derive(Drop)]
 pub struct Room {
     bytes: [u8; SIZE],
     len: usize,
     flushed: bool,
-    /// How often a flush was asked for, modulo 2^64.
+    /// The number of flushes, modulo 2^64.
     flushes: u64,
-    /// How often a write has failed, modulo 2^64.
+    /// The number of failed writes, modulo 2^64.
     failures: u64,
     ghost sized: { length bytes ≡ 8192 },
     ghost within: { len ≤ 8192 },
@@ -42,7 +42,7 @@ impl Room {
         }
     }
 
-    /// How many bytes have room yet.
+    /// The number of free bytes.
     pub fn left(&self) -> usize
         ensures { result + self.now.len ≡ 8192 }
     {
@@ -83,7 +83,8 @@ impl Output for Room {
     }
 }
 
-/// Puts a row where there is room for all that it may write, and says whether it did. So no write ever fails.
+/// Encodes a row if the buffer has room for all bytes that it may write, and returns whether it did. So no write ever
+/// fails.
 pub fn put_where_room(
     encoder: &mut RowEncoder,
     row: &[u8],

@@ -1,4 +1,4 @@
-//! Rows that are handed one by one.
+//! Encodes rows one by one.
 
 ghost use Rattle.std.specs.Prelude.{◌≡◌, ◌≢◌, ◌≤◌, ◌<◌, ◌*◌, ◌∷◌, ◌⊎◌, [], length, false, true, Err, Ok, None, OnOk, OnErr, IfErr, IfSome};
 ghost use Rattle.std.specs.Io.KnownBytes.{Appends};
@@ -22,7 +22,7 @@ use pbm_core::{Output, Size};
 use raster_core::{Window, current_row};
 use t85_core::{Fault, Learning, Options, RowEncoder, RowNumbers};
 
-/// Writes the stream of an image of two rows. What is written is the stream of the whole image.
+/// Writes the stream of an image of two rows. The output is the stream of the whole image.
 #[tactic(auto, using(crate::proofs::Writes::after_ok))]
 pub fn two_rows<W: Output>(
     size: Size,
@@ -52,7 +52,7 @@ pub fn two_rows<W: Output>(
     encoder.finish(window, &mut learning, output)
 }
 
-/// Whether the encoder takes a row more.
+/// Whether the encoder accepts another row.
 pub fn takes_row(encoder: &RowEncoder) -> bool
     requires within { IsGoing encoder.now → encoder.now.rows ≤ encoder.now.size.height }
     ensures open_ { result ≡ true → IsGoing encoder.now }
@@ -62,7 +62,7 @@ pub fn takes_row(encoder: &RowEncoder) -> bool
     !encoder.is_closed() && encoder.left() > 0
 }
 
-/// Ends the stream where the image may end here, and says whether it did.
+/// Ends the stream if the image may end here, and returns whether it did.
 pub fn end_where_allowed<W: Output>(
     encoder: &mut RowEncoder,
     window: &mut Window<'_>,
@@ -90,7 +90,7 @@ pub fn end_where_allowed<W: Output>(
     Ok(true)
 }
 
-/// Puts a row by an encoder that is made of the numbers of another one, and tells its numbers, unless a write fails.
+/// Encodes a row with an encoder rebuilt from another one's numbers, and returns its own numbers, unless a write fails.
 pub fn put_by_numbers<W: Output>(
     size: Size,
     options: &Options<'_>,
@@ -115,8 +115,8 @@ pub fn put_by_numbers<W: Output>(
     }
 }
 
-/// Writes a row below the two that memory holds from an earlier call, at the place that was told then. The answer is the
-/// new row's place.
+/// Encodes a row below the two that memory holds from an earlier call, at the place which that call returned. Returns
+/// the new row's place.
 pub fn row_below(memory: &mut [u8], width: u32, place: u8, row: &[u8]) -> u8
     requires memory { length memory.old ≡ 3 * div_ceil width 8 }
     requires place { place < 3 }
@@ -131,7 +131,7 @@ pub fn row_below(memory: &mut [u8], width: u32, place: u8, row: &[u8]) -> u8
     window.place()
 }
 
-/// Writes the current row.
+/// Encodes the current row.
 fn write_current(window: &mut Window<'_>, row: &[u8])
     requires row { length row.now ≡ div_ceil (width_of window.old) 8 }
     ensures row { held window.new ≡ with_current (held window.old) row.now }

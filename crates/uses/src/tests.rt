@@ -1,4 +1,4 @@
-//! Each caller once, where all goes well.
+//! Each caller once, if everything succeeds.
 
 use crate::coder::pixels_again;
 use crate::cut::rows_of_cut;
@@ -17,7 +17,7 @@ use t85_core::{Fault, Header, Learning, Options, Outcome, RowEncoder, RowNumbers
 /// Three by two pixels in the plain form.
 const IMAGE: &[u8] = b"P1 3 2 101 010";
 
-/// What comes back of the image, and how many bytes of it.
+/// The decoded image, and its number of bytes.
 fn back(alloc: Global, held: &mut [u8]) -> Result<usize, Fault> {
     let options = Options::new(8, 1, 0, None, false, None)?;
     let mut room = [0; 64];
@@ -34,7 +34,7 @@ fn image_comes_back(rt: HostRuntime) {
     assert!(rt; held == *b"P4\n3 2\n\xa0\x40");
 }
 
-/// The line about its stream, and how many bytes it has.
+/// The line about its stream, and the line's number of bytes.
 fn line(alloc: Global, held: &mut [u8]) -> Result<usize, Fault> {
     let options = Options::new(8, 1, 0, Some(5), false, Some(b"abc"))?;
     let mut room = [0; 64];
@@ -55,7 +55,7 @@ fn line_is_written(rt: HostRuntime) {
 const CUT: &[u8] =
     b"\x00\x00\x01\x00\x00\x00\x00\x01\x00\x00\x00\x01\x00\x00\x00\x01\x00\x00\x00\x00";
 
-/// What is reported of it, and how many bytes are written.
+/// The error for it, and the number of bytes written.
 fn cut(alloc: Global, held: &mut [u8]) -> (Result<(), Fault>, usize) {
     let mut input = Pieces::new(CUT, 4096, None);
     let mut output = Drip::new(held, 4096, None, false);
@@ -70,7 +70,8 @@ fn rows_of_a_cut_stream(rt: HostRuntime) {
     assert!(rt; held == *b"P4\n1 1\n");
 }
 
-/// What is told of a stream of two stripes of a black pixel each, and its rows. Its second piece begins in an end marker.
+/// The result for a stream of two stripes of a black pixel each, and its rows. Its second piece begins in an end
+/// marker.
 fn two_pieces(alloc: Global) -> Result<(Outcome, Vec<u8>), AllocError> {
     let header = Header {
         xd: 1,
@@ -101,7 +102,7 @@ fn rows_of_two_pieces(rt: HostRuntime) {
     );
 }
 
-/// Whether a row of eight pixels is put into room for 8,192 bytes.
+/// Whether a row of eight pixels is encoded into a buffer of 8,192 bytes.
 fn put_narrow() -> Result<bool, Fault> {
     let size = Size {
         width: 8,
@@ -116,7 +117,7 @@ fn put_narrow() -> Result<bool, Fault> {
     Ok(put_where_room(&mut encoder, b"\x5a", &mut window, &mut learning, &mut room))
 }
 
-/// Whether one is that may have four times 2,041 bytes and a few, behind a header.
+/// Whether a row is that may have a few more bytes than four times 2,041, behind a header.
 fn put_wide() -> Result<bool, Fault> {
     let size = Size {
         width: 2040,
@@ -149,7 +150,7 @@ const NARROW: Size = Size {
     height: 3,
 };
 
-/// What a caller keeps of an encoder after one of these rows, in stripes of two.
+/// A stored encoder after one of these rows, in stripes of two.
 fn numbers_of_a_row() -> Result<RowNumbers, Fault> {
     let options = Options::new(8, 2, 0, None, false, None)?;
     let mut lent = [0; 3];
@@ -161,7 +162,7 @@ fn numbers_of_a_row() -> Result<RowNumbers, Fault> {
     Ok(encoder.numbers())
 }
 
-/// The numbers of the encoder that is made of such numbers, if there is one.
+/// The numbers of the encoder that is rebuilt from such numbers, if there is one.
 fn numbers_again(numbers: &RowNumbers) -> Option<RowNumbers> {
     let options = Options::new(8, 2, 0, None, false, None).ok()?;
     let encoder = RowEncoder::resume(NARROW, &options, numbers)?;
@@ -201,7 +202,7 @@ fn pixels_come_back(rt: HostRuntime) {
 
 #[test]
 fn rows_stay_in_memory(rt: HostRuntime) {
-    // Of three rows the second is the current one: the third is above it, and the first above that.
+    // The second of three rows is the current one: the third is above it, and the first above that.
     let mut memory = [3, 0, 2];
     let place = row_below(&mut memory, 8, 1, &[5]);
     assert!(rt; place == 0);

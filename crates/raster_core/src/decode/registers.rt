@@ -1,4 +1,4 @@
-//! What the pixels of a byte are decoded with.
+//! The context registers for the pixels of a byte.
 
 ghost use Rattle.std.specs.Prelude.{◌<◌, ◌≤◌, ◌^◌};
 
@@ -8,7 +8,7 @@ use crate::shape::Shape;
 #[derive(Clone, Copy)]
 pub(crate) struct Registers {
     pub(crate) shape: Shape,
-    /// Where the adaptive pixel is.
+    /// The offset of the adaptive pixel.
     pub(crate) offset: u8,
     /// The byte before, the byte and the one after it of the row two above.
     pub(crate) second: u32,

@@ -324,8 +324,18 @@ fn codes_with(before: [Option<u8>; 2], stream: &[u8]) -> bool {
 fn chosen_offsets_move_the_adaptive_pixel(rt: HostRuntime) {
     assert!(rt; codes_with([None, None], TWO_BLACK.stream));
     assert!(rt; codes_with([None, Some(3)], TWO_BLACK.stream));
-    assert!(rt; codes_with([None, Some(0)], b"\0\0\x01\0\0\0\0\x08\0\0\0\x02\0\0\0\x01\x03\0\0\0\xf0\xff\x02\xf4\xff\x02"));
-    assert!(rt; codes_with([Some(3), None], b"\0\0\x01\0\0\0\0\x08\0\0\0\x02\0\0\0\x01\x03\0\0\0\xff\x06\0\0\0\0\x03\0\xf8\xff\x02\xf8\xff\x02"));
+    assert!(rt;
+        codes_with(
+            [None, Some(0)],
+            b"\0\0\x01\0\0\0\0\x08\0\0\0\x02\0\0\0\x01\x03\0\0\0\xf0\xff\x02\xf4\xff\x02"
+        )
+    );
+    assert!(rt;
+        codes_with(
+            [Some(3), None],
+            b"\0\0\x01\0\0\0\0\x08\0\0\0\x02\0\0\0\x01\x03\0\0\0\xff\x06\0\0\0\0\x03\0\xf8\xff\x02\xf8\xff\x02"
+        )
+    );
 }
 
 #[test]

@@ -1,4 +1,4 @@
--- What stands behind an end marker, while a height may still come.
+-- The state behind an end marker, while a height may still follow.
 use Rattle.std.specs.Prelude.{ℕ, ◌+◌, ◌^◌, ◌≡◌, ◌≤◌, ◌<◌, Bool, true, false, ◌||◌, List, [], ◌∷◌, ◌++◌, length, Option, Some, None, IfSome, is_some}
 use Rattle.byteorder.specs.Endian.{big_bytes}
 use Rattle.t85_core.specs.declared.fault.Fault.{Fault}
@@ -13,7 +13,7 @@ use Rattle.t85_core.specs.Grammar.{NewLength, ESC, COMMENT, segment_bytes, IsLeg
 use Rattle.t85_core.specs.Failures.{Ends, counted_as}
 use Rattle.t85_core.specs.Steps.Segments.{HasPassed, segments_so_far, PieceFault, IsByteOrMarker, code_bytes}
 
--- Where behind an end marker one is, and whether the last stripe is over.
+-- The position behind an end marker, and whether the last stripe is over.
 pub record BehindPlace : Type 0 where
   pub place : Place
   pub last : Bool
@@ -21,16 +21,16 @@ pub record BehindPlace : Type 0 where
 abbrev pub behind_at : Place → Bool → BehindPlace
 behind_at place last = record { place = place; last = last }
 
--- whether a move may not come
+-- whether a move may not follow
 abbrev pub move_came : Bool → Option move.Move → Bool
 move_came last at = last || is_some at
 
--- these segments, and bytes of a comment that has begun
+-- these segments, and bytes of an unfinished comment
 abbrev pub CommentBegun : Option ℕ → List ℕ → List ℕ → Type 0
 CommentBegun None front back = back ≡ front
 CommentBegun (Some left) front back = (part : List ℕ) × (length part + left < 2 ^ 32) × (back ≡ front ++ (ESC ∷ COMMENT ∷ (big_bytes 4 (length part + left) ++ part)))
 
--- These bytes came behind a marker: whole segments, and what has begun of a comment.
+-- These bytes followed a marker: whole segments, and the start of a comment.
 pub record BehindStands (h : Fields) (here : BehindPlace) (b : Behind) (back : List ℕ) : Type 0 where
   pub front : List ℕ
   pub comments : ℕ
@@ -38,21 +38,21 @@ pub record BehindStands (h : Fields) (here : BehindPlace) (b : Behind) (back : L
   pub at_is : IfSome b.at (λ to. to.offset ≤ 127)
   pub begun : CommentBegun b.comment front back
 
--- More bytes came.
+-- More bytes followed.
 abbrev pub BehindOn : Fields → BehindPlace → Behind → Behind → List ℕ → List ℕ → Type 0
 BehindOn h here b b' piece piece' = (back : List ℕ) → BehindStands h here b back → (given : List ℕ) × (piece ≡ given ++ piece') × BehindStands h here b' (back ++ given)
 
--- what comes next is a valid height or what a code begins with
+-- the next bytes are a valid height or the start of a code
 abbrev pub ComesBehind : Fields → Place → Next → List ℕ → List ℕ → Type 0
 ComesBehind h place (next.Height n) piece rest = (is_valid_length h place.entities n ≡ true) × IsLegal h (NewLength n) × (piece ≡ segment_bytes (NewLength n) ++ rest)
 ComesBehind h place (next.Code c) piece rest = IsByteOrMarker c × (piece ≡ code_bytes c ++ rest)
 
--- what is left of the piece breaks, or ends too early: before a segment, or in a comment
+-- the rest of the piece is broken, or ends too early: before a segment, or in a comment
 abbrev pub BreaksBehind : Fields → BehindPlace → Behind → Option ℕ → List ℕ → Fault → Type 0
 BreaksBehind h here b None piece fault = (unread : List ℕ) × Ends Truncated (Some piece) (Some unread) (PieceFault h here.place (move_came here.last b.at)) fault
 BreaksBehind h here b (Some left) piece fault = (length piece < left) × (fault ≡ Truncated)
 
--- How a step behind an end marker stops: how few bytes it leaves where more are to come, and why it can't go on.
+-- How a step behind an end marker stops: the few bytes that it leaves if more may follow, and why it cannot continue.
 pub record StopsBehind (h : Fields) (here : BehindPlace) (b : Behind) (piece : List ℕ) (fault : Fault) : Type 0 where
   pub counted : counted_as Truncated fault ≡ fault
   pub few : fault ≡ Truncated → length piece ≤ 7

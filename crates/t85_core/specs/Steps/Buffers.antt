@@ -1,4 +1,4 @@
--- Bytes that are read ahead or held back, and what a buffer takes of a code.
+-- Bytes that are read ahead or held back, and the code bytes that a buffer accepts.
 use Rattle.std.specs.Prelude.{ℕ, zero, suc, ◌++◌, ◌-◌, ◌<◌, ◌≢◌, List, length, take, drop, Option, Some, None, Result, OnOk, OnErr, IfOk, IfErr, IfSome, IsErrOf, ◌≡◌, ◌≤◌, [], ◌∷◌}
 use Rattle.std.specs.List.{AllByRecursion}
 use Rattle.std.specs.Io.KnownBytes.{Appends, Consumes, Keeps}
@@ -7,7 +7,7 @@ use Rattle.t85_core.specs.declared.fault.Fault.{Fault}
 use Rattle.t85_core.specs.declared.fault.Fault.TheVariants.{Truncated, Read, Write}
 use Rattle.t85_core.specs.Failures.{CountsRead, CountsWrite, Ends}
 
--- the bytes from one place of an array up to another, which are held
+-- the buffered bytes: those of an array from one index up to another
 abbrev pub held_of : List ℕ → ℕ → ℕ → List ℕ
 held_of bytes at end = take (end - at) (drop at bytes)
 
@@ -15,14 +15,14 @@ held_of bytes at end = take (end - at) (drop at bytes)
 abbrev pub ArePlain : List ℕ → Type 0
 ArePlain code = AllByRecursion (λ b. (b < 256) × (b ≢ 255)) code
 
--- a writer: which it is, which memory was lent to it, and how often it was asked to flush
+-- a writer: its identity, the caller's memory if there is one, and its count of flushes
 pub record Writer : Type 0 where
   pub reference : ℕ
   pub target : ℕ
   pub flushes : ℕ
 
--- A source: the bytes still to come, where the reader reports them, and those of them that it has still to give; how many
--- they are at most; how often the reader has failed; which reader it is.
+-- A source: the remaining bytes, if they are known, and those of them that the reader has left; an upper bound on their number;
+-- the reader's count of failures; its identity.
 pub record SourceView : Type 0 where
   pub known : Option (List ℕ)
   pub beyond : Option (List ℕ)
@@ -30,7 +30,7 @@ pub record SourceView : Type 0 where
   pub failures : ℕ
   pub source : ℕ
 
--- What is known of the bytes that a reader has still to give, before and after a step.
+-- The known bytes that a reader has left, before and after a step.
 pub record Reading : Type 0 where
   pub old : Option (List ℕ)
   pub new : Option (List ℕ)
@@ -38,8 +38,8 @@ pub record Reading : Type 0 where
 abbrev pub reading : Option (List ℕ) → Option (List ℕ) → Reading
 reading old new = record { old = old; new = new }
 
--- What a call leaves of a source besides the bytes that it takes: the reader, its count, and after a failed read nothing
--- that was held.
+-- The effect of a call on a source besides the bytes that it consumes: the reader, its count, and after a failed read an empty
+-- buffer.
 pub record ReadsOn {T : Type 0} (old new : SourceView) (result : Result T Fault) : Type 0 where
   pub drained : IsErrOf result Read → new.known ≡ new.beyond
   pub counts : CountsRead old.failures new.failures result
@@ -71,8 +71,8 @@ pub record SkipsPlain (old new : SourceView) : Type 0 where
   pub no_more : new.left ≤ old.left
   pub same_source : new.source ≡ old.source
 
--- A target: the bytes that it has taken, where the writer reports them, and those of them that it holds; how many the writer
--- has taken; how often that has failed; which writer it is.
+-- A target: the bytes that it has accepted, if they are known, and those of them that it has buffered; the number that the
+-- writer has accepted; the writer's count of failures; its identity.
 pub record TargetView : Type 0 where
   pub text : Option (List ℕ)
   pub held : List ℕ
@@ -80,17 +80,17 @@ pub record TargetView : Type 0 where
   pub failures : ℕ
   pub writer : Writer
 
--- what a call leaves of a target besides its text: the writer, which has taken no less, and its count
+-- the effect of a call on a target besides its text: the writer, which has accepted no less, and its count
 pub record WritesOn {T : Type 0} (old new : TargetView) (result : Result T Fault) : Type 0 where
   pub counts : CountsWrite old.failures new.failures result
   pub grows : old.written ≤ new.written
   pub same_writer : new.writer ≡ old.writer
 
--- the same of a step that fails just where a write does
+-- the same for a step that fails if and only if a write does
 abbrev pub WritesOrFails : {T : Type 0} → TargetView → TargetView → Result T Fault → Type 0
 WritesOrFails old new result = IfErr result (λ f. f ≡ Write) × WritesOn old new result
 
--- the bytes were taken, or a beginning of them
+-- the bytes were accepted, or a prefix of them
 pub record PutsBytes (bytes : List ℕ) (old new : TargetView) (result : Result (Unit {0}) Fault) : Type 0 where
   pub ok : OnOk result (Appends old.text new.text bytes)
   pub err : IfErr result (λ f. f ≡ Write)
@@ -99,12 +99,12 @@ pub record PutsBytes (bytes : List ℕ) (old new : TargetView) (result : Result 
   pub counts : CountsWrite old.failures new.failures result
   pub same_writer : new.writer ≡ old.writer
 
--- the same bytes so many times
+-- the same bytes this many times
 abbrev pub copies : ℕ → List ℕ → List ℕ
 copies zero bytes = []
 copies (suc count) bytes = bytes ++ copies count bytes
 
--- the byte was taken, or left out
+-- the byte was accepted, or left out
 pub record Pushes (byte : ℕ) (old new : TargetView) (result : Result (Unit {0}) Fault) : Type 0 where
   pub ok : OnOk result (Appends old.text new.text (byte ∷ []))
   pub err : IfErr result (λ f. f ≡ Write)
@@ -113,7 +113,7 @@ pub record Pushes (byte : ℕ) (old new : TargetView) (result : Result (Unit {0}
   pub counts : CountsWrite old.failures new.failures result
   pub same_writer : new.writer ≡ old.writer
 
--- what was held was written, or a write failed
+-- the buffered bytes were written, or a write failed
 pub record HandsOn (old new : TargetView) (result : Result (Unit {0}) Fault) : Type 0 where
   pub text : Keeps old.text new.text
   pub sent : OnOk result (new.held ≡ [])
@@ -122,12 +122,12 @@ pub record HandsOn (old new : TargetView) (result : Result (Unit {0}) Fault) : T
   pub counts : CountsWrite old.failures new.failures result
   pub same_writer : new.writer ≡ old.writer
 
--- how many bytes are known
+-- the number of known bytes
 abbrev pub known_length : Option (List ℕ) → ℕ
 known_length None = 0
 known_length (Some bytes) = length bytes
 
--- of a target: which it is, its writer, how many bytes that has, and the bytes that the target has taken
+-- for a target: its identity, its writer, the number of the writer's bytes, and the bytes that the target has accepted
 pub record SinkView : Type 0 where
   pub target : ℕ
   pub writer : Writer
@@ -140,10 +140,10 @@ pub record SameSink (s t : SinkView) : Type 0 where
   pub same_writer : t.writer ≡ s.writer
   pub grows : s.written ≤ t.written
 
--- the byte was taken
+-- the byte was accepted
 abbrev pub TakesByte : SinkView → ℕ → SinkView → Type 0
 TakesByte s byte t = SameSink s t × Appends s.text t.text (byte ∷ [])
 
--- nothing was taken
+-- nothing was accepted
 abbrev pub RefusesByte : SinkView → SinkView → Type 0
 RefusesByte s t = SameSink s t × Keeps s.text t.text

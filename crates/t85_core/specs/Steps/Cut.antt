@@ -1,4 +1,4 @@
--- How far a decoder has come in a stripe, and what it has run through of one that breaks.
+-- How far a decoder is in a stripe, and what it has decoded of a broken one.
 use Rattle.std.specs.Prelude.{ℕ, ◌+◌, ◌≡◌, ◌≤◌, ◌⊎◌, ⊤, Bool, List, [], ◌∷◌, length, Option}
 use Rattle.qm_core.specs.Place.{Event, after}
 use Rattle.qm_core.specs.Code.{Lies}
@@ -14,11 +14,11 @@ use Rattle.raster_core.specs.Window.{shape_mode}
 use Rattle.raster_core.specs.declared.shape.Shape.{Shape}
 use Rattle.raster_core.specs.declared.shape.Kept.{Kept}
 
--- what is coded for the next row of a stripe, its row r
+-- the events of the next row of a stripe, its row r
 abbrev pub events_with : Mode → Option (ℕ × ℕ) → ℕ → RowStart → List Bool → Bool → List Event
 events_with mode move r b row flag = row_events mode (lines_with b row) (offset_at move r b.offset) b.previous flag
 
--- this many bytes decide each of these rows, from row r on
+-- this many bytes determine each of these rows, from row r on
 abbrev pub RunEnough : ℕ → RowCoding → ℕ → RowStart → List (List Bool) → List Bool → Type 0
 RunEnough count coding r b [] flags = ⊤
 RunEnough count coding r b (row ∷ rows) [] = ⊤
@@ -26,14 +26,14 @@ RunEnough count coding r b (row ∷ rows) (flag ∷ flags) =
     AreEnough count b.state (events_with coding.mode coding.move r b row flag)
     × RunEnough count coding (r + 1) (after_row coding.mode coding.move r b row flag) rows flags
 
--- no next row has events that are all decided by the bytes of the code
+-- no next row has events that are all determined by the bytes of the code
 abbrev pub NoneDecided : RowCoding → ℕ → RowStart → List ℕ → Type 0
 NoneDecided coding r b code =
     (row : List Bool) (flag : Bool) → length row ≡ coding.width → IsLegalFlag coding.mode (lines_with b row) flag →
     Lies code (after b.state (events_with coding.mode coding.move r b row flag)).place →
     AreEnough (length code) b.state (events_with coding.mode coding.move r b row flag) → ⊥
 
--- A stripe whose code is being decoded: the fields of its header, what is carried to it, and its segments.
+-- A stripe whose code is being decoded: the fields of its header, the state carried to it, and its segments.
 pub record OpenStripe : Type 0 where
   pub fields : Fields
   pub start : StripeStart
@@ -42,15 +42,15 @@ pub record OpenStripe : Type 0 where
 abbrev pub open_stripe : Fields → StripeStart → List Segment → OpenStripe
 open_stripe h c segments = record { fields = h; start = c; segments = segments }
 
--- how its rows are coded, and what its first row starts from
+-- how its rows are coded, and the state before its first row
 abbrev pub rows_coding : OpenStripe → RowCoding
 rows_coding stripe = stripe_coding stripe.fields stripe.segments
 
 abbrev pub rows_start : OpenStripe → RowStart
 rows_start stripe = first_row_start stripe.start
 
--- The first rows of a stripe of this many rows, of which this code came: the code decides them, and they are all of the
--- stripe's rows, or it decides no row more.
+-- The first rows of a stripe of this many rows, with this code so far: the code determines them, and they are all of the
+-- stripe's rows, or it determines no further row.
 pub record BegunRun (stripe : OpenStripe) (count : ℕ) (code : List ℕ) (rows : List (List Bool)) (flags : List Bool) : Type 0 where
   pub last : RowStart
   pub run : Run (rows_coding stripe) 0 (rows_start stripe) rows flags last
@@ -59,20 +59,20 @@ pub record BegunRun (stripe : OpenStripe) (count : ℕ) (code : List ℕ) (rows 
   pub enough : RunEnough (length code) (rows_coding stripe) 0 (rows_start stripe) rows flags
   pub ends : (length rows ≡ count) ⊎ NoneDecided (rows_coding stripe) (length rows) last code
 
--- The first rows of a stripe of this many rows, of which this code came: the code lies where they lead.
+-- The first rows of a stripe of this many rows, with this code so far: the code lies in the place to which they lead.
 pub record FrontRun (stripe : OpenStripe) (count : ℕ) (code : List ℕ) (rows : List (List Bool)) (flags : List Bool) : Type 0 where
   pub last : RowStart
   pub run : Run (rows_coding stripe) 0 (rows_start stripe) rows flags last
   pub few : length rows ≤ count
   pub lies : Lies code last.state.place
 
--- First rows of a stripe, of which the source has answered so.
+-- First rows of a stripe, for which the source has returned these bytes.
 pub record RowsSoFar (stripe : OpenStripe) (answers : List Pulled) (rows : List (List Bool)) (flags : List Bool) (last : RowStart) : Type 0 where
   pub run : Run (rows_coding stripe) 0 (rows_start stripe) rows flags last
-  -- while the code goes on, the bytes that came decide the rows
+  -- while the code continues, the bytes so far determine the rows
   pub enough : heard_of answers ≡ More → RunEnough (length (bytes_of answers)) (rows_coding stripe) 0 (rows_start stripe) rows flags
 
--- What row r of a stripe is decoded with is what is carried to it. Its move is made.
+-- Row r of a stripe is decoded with the state carried to it. Its move is made.
 pub record IsReady (coding : RowCoding) (shape : Shape) (kept : Kept) (lines : Lines) (r : ℕ) (b : RowStart) : Type 0 where
   pub width_is : shape.width ≡ coding.width
   pub mode_is : shape_mode shape ≡ coding.mode

@@ -21,7 +21,7 @@ pub record ReadsRows (form : Form) (width : ℕ) (old new : Option (List ℕ)) (
   pub taken : Consumes old new given
   pub are_rows : AreRows form width given rows
 
--- less than a row came, and then the end, a failed read or a byte that is no digit
+-- less than a row was read, and then the end, a failed read or a byte that is not a digit
 pub record EndsInRow (form : Form) (width : ℕ) (old new : Option (List ℕ)) (fault : PbmFault) : Type 0 where
   pub given : List ℕ
   pub taken : Consumes old new given
@@ -39,7 +39,7 @@ pub record IsShape (s : Settings) (width : ℕ) (shape : Shape) : Type 0 where
   pub width_is : shape.width ≡ width
   pub mode_is : shape_mode shape ≡ mode_of s.options
 
--- these lines were counted, or none where lines aren't counted
+-- these lines were counted, or none if lines are not counted
 abbrev pub IsCountedTo : ℕ → Option ℕ → Tally → List Lines → Type 0
 IsCountedTo width None tally lines = (current : ℕ) → CountsLines tally width current []
 IsCountedTo width (Some current) tally lines = CountsLines tally width current lines

@@ -1,4 +1,4 @@
--- What a data entity gives to a decoder.
+-- The bytes of a stripe data entity that a decoder reads.
 use Rattle.std.specs.Prelude.{ℕ, ◌≡◌, ◌<◌, Bool, List, [], ◌∷◌, Option, Some, None}
 use Rattle.std.specs.Io.KnownBytes.{Consumes, prepend_known}
 use Rattle.qm_core.specs.Code.{stuffed}
@@ -11,12 +11,12 @@ use Rattle.t85_core.specs.Grammar.{marker_bytes}
 use Rattle.t85_core.specs.Failures.{Ends, reads_after}
 use Rattle.t85_core.specs.Steps.Segments.{code_bytes, RestFault}
 
--- the bytes still to come: those that were read ahead, and then the stream's
+-- the remaining bytes: those that were read ahead, and then the stream's
 abbrev pub entity_known : Option Code → Option (List ℕ) → Option (List ℕ)
 entity_known None known = known
 entity_known (Some c) known = prepend_known (code_bytes c) known
 
--- what of an entity a pull may change
+-- the fields of an entity that a pull may change
 pub record EntityView : Type 0 where
   pub known : Option (List ℕ)
   pub beyond : Option (List ℕ)
@@ -27,7 +27,7 @@ pub record EntityView : Type 0 where
   pub marker : Option Bool
   pub fault : Option Fault
 
--- a code byte was given
+-- a code byte was returned
 pub record GivesByte (s t : EntityView) (b : ℕ) : Type 0 where
   pub small : b < 256
   pub taken : Consumes s.known t.known (stuffed (b ∷ []))
@@ -60,7 +60,7 @@ GivesSo s (pulled.Byte b) t = GivesByte s t b
 GivesSo s pulled.End t = GivesEnd s t
 GivesSo s pulled.Fault t = GivesFault s t
 
--- What a pull gives, where the code has neither ended nor broken before; and it stays the same stream.
+-- The result of a pull if the code has neither ended nor broken before; the stream is the same.
 pub record EntityGives (s : EntityView) (answer : Pulled) (t : EntityView) : Type 0 where
   pub gives : s.marker ≡ None → s.fault ≡ None → GivesSo s answer t
   pub same_source : t.source ≡ s.source

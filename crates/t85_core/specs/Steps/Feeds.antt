@@ -1,10 +1,9 @@
--- What of some bytes is held, or was not taken.
+-- The bytes that are stored, or were not consumed.
 use Rattle.std.specs.Prelude.{ℕ, ◌-◌, ◌≡◌, ◌≢◌, ◌≤◌, List, ◌++◌, length, take, drop}
 use Rattle.t85_core.specs.declared.pieces.Outcome.TheVariants as outcome
 use Rattle.t85_core.specs.declared.pieces.Progress.{Progress}
 
--- Of these bytes, the first of which were held before, a call took some. What it did not take is held now, or is left of
--- the others.
+-- A call consumed some of these bytes, the first of which were stored before. The others are stored now, or are left.
 pub record Settles (bytes : List ℕ) (count : ℕ) (call told : Progress) (held : List ℕ) : Type 0 where
   pub outcome_is : told.outcome ≡ call.outcome
   pub bound : told.taken ≤ length bytes - count

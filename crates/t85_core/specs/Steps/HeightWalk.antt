@@ -1,4 +1,4 @@
--- What a walk skips that looks for a height, and goes on after one.
+-- A walk that searches for the height, and continues after one.
 use Rattle.std.specs.Prelude.{ℕ, ◌+◌, ◌-◌, ◌≡◌, ◌≤◌, ◌<◌, ◌^◌, ◌⊎◌, ⊤, Bool, true, false, not, List, [], ◌∷◌, ◌++◌, Option, Some, None, IfSome, length, min, sum_by, count_by, flat_map, if◌then◌else◌, IsTrue}
 use Rattle.std.specs.List.{AllByRecursion}
 use Rattle.std.specs.Io.KnownBytes.{Consumes}
@@ -16,8 +16,8 @@ use Rattle.t85_core.specs.Steps.Segments.{PassesCode, CodeFault}
 use Rattle.t85_core.specs.Info.{numbers_of}
 use Rattle.t85_core.specs.Height.{IsHeight, IsOpen}
 
--- Where in a stripe a search for the height goes on: after how many data entities, whether a height was given before,
--- and whether a move of the stripe came.
+-- The position in a stripe at which a search for the height continues: the number of stripe data entities, whether there was a
+-- height before, and whether the stripe had a move.
 pub record SearchPlace : Type 0 where
   pub entities : ℕ
   pub given : Bool
@@ -26,7 +26,7 @@ pub record SearchPlace : Type 0 where
 abbrev pub search_place : ℕ → Bool → Bool → SearchPlace
 search_place entities given moved = record { entities = entities; given = given; moved = moved }
 
--- How many moves and comments were skipped.
+-- The numbers of moves and comments that were skipped.
 pub record SegmentCounts : Type 0 where
   pub moves : ℕ
   pub comments : ℕ
@@ -34,7 +34,7 @@ pub record SegmentCounts : Type 0 where
 abbrev pub segment_counts : ℕ → ℕ → SegmentCounts
 segment_counts moves comments = record { moves = moves; comments = comments }
 
--- Where a search for the height ended: after how many data entities, what came with these, and what came behind them.
+-- Where a search for the height ended: the number of stripe data entities, the segments in these, and those behind them.
 pub record SearchEnd : Type 0 where
   pub entities : ℕ
   pub passed : SegmentCounts
@@ -44,16 +44,16 @@ abbrev pub search_end : ℕ → (moves comments : ℕ) → (part_moves part_comm
 search_end entities moves comments part_moves part_comments =
     record { entities = entities; passed = segment_counts moves comments; part = segment_counts part_moves part_comments }
 
--- there a search ended that reached this
+-- a search that reached this position ended there
 abbrev pub search_end_of : Reached → SearchEnd
 search_end_of r = search_end r.entities r.passed.moves r.passed.comments r.part.moves r.part.comments
 
--- The fault of a rest behind these segments and this code of a stripe, whatever the height in use is.
+-- The error of a rest behind these segments and this code of a stripe, whatever the actual height is.
 abbrev pub FaultAnyHeight : Fields → SearchPlace → List Segment → List ℕ → List ℕ → Fault → Type 0
 FaultAnyHeight h at segments code rest fault =
     (height : ℕ) → rest_fault h (record { height = height; entities = at.entities; heights = if at.given then 1 else 0 }) ((if at.moved then 1 else 0) + count_by is_move segments) (not (is_nil code)) rest ≡ Some fault
 
--- The code begins so, and is skipped with its end marker.
+-- The code begins here, and is skipped with its end marker.
 abbrev pub PassesRest : Code → Option (List ℕ) → Option (List ℕ) → Type 0
 PassesRest (code.Byte b) old new = (reset : Bool) × PassesCode old new reset
 PassesRest (code.Marker reset) old new = new ≡ old
@@ -63,8 +63,7 @@ abbrev pub RestBreaks : Code → List ℕ → Fault → Type 0
 RestBreaks (code.Byte b) given fault = CodeFault given fault
 RestBreaks (code.Marker reset) given fault = ⊥
 
--- A whole stripe, in which no height is given; of it, or of what is left of it after a move, how many moves and comments
--- it has.
+-- A whole stripe without a height; and the numbers of moves and comments in it, or in its rest after a move.
 pub record SkipsStripe (h : Fields) (moved : Bool) (known : Reading) (counts : SegmentCounts) : Type 0 where
   pub stripe : Stripe
   pub whole : IsBegun h stripe.segments stripe.code
@@ -87,12 +86,12 @@ pub record SkipsTo (h : Fields) (at : SearchPlace) (known : Reading) (counts : S
   pub comments_are : counts.comments ≡ min (count_by is_comment segments) (2 ^ 64 - 1)
   pub taken : Consumes known.old known.new (flat_map segment_bytes segments ++ segment_bytes (NewLength height))
 
--- the one or the other
+-- either of them
 abbrev pub SkipsParts : Fields → SearchPlace → Reading → SegmentCounts → Option ℕ → Type 0
 SkipsParts h at known counts None = SkipsStripe h at.moved known counts
 SkipsParts h at known counts (Some height) = SkipsTo h at known counts height
 
--- A stripe that breaks before a height is given in it.
+-- A stripe that breaks before it contains a height.
 pub record SkipFault (h : Fields) (at : SearchPlace) (bytes : List ℕ) (fault : Fault) : Type 0 where
   pub segments : List Segment
   pub code : List ℕ
@@ -103,17 +102,17 @@ pub record SkipFault (h : Fields) (at : SearchPlace) (bytes : List ℕ) (fault :
   pub none : lengths segments ≡ []
   pub rest_has : FaultAnyHeight h at segments code rest fault
 
--- whether a move came before what is next: none after a whole stripe
+-- whether a move precedes the next bytes: none after a whole stripe
 abbrev pub moved_behind : Bool → List Stripe → Bool
 moved_behind moved [] = moved
 moved_behind moved (s ∷ stripes) = false
 
--- the first stripe has no move where one came before it
+-- the first stripe has no move if one preceded it
 abbrev pub IsAlone : Bool → List Stripe → Type 0
 IsAlone moved [] = ⊤
 IsAlone moved (s ∷ stripes) = (if moved then 1 else 0) + count_by is_move s.segments ≤ 1
 
--- This many whole stripes, in which no height is given.
+-- This many whole stripes without a height.
 pub record SkipsStripes (h : Fields) (moved : Bool) (count : ℕ) (known : Reading) (counts : SegmentCounts) : Type 0 where
   pub stripes : List Stripe
   pub count_is : length stripes ≡ count
@@ -132,7 +131,7 @@ pub record SkipsStripesTo (h : Fields) (from : SearchPlace) (known : Reading) (t
   pub before : SkipsStripes h from.moved count (reading known.old mid) to.passed
   pub part : SkipsTo h (search_place to.entities from.given (moved_behind from.moved before.stripes)) (reading mid known.new) to.part height
 
--- stripes, and after them one that breaks before a height is given
+-- stripes, and after them one that breaks before it contains a height
 pub record SkipsFault (h : Fields) (from : SearchPlace) (count : ℕ) (bytes : List ℕ) (fault : Fault) : Type 0 where
   pub stripes : List Stripe
   pub tail : List ℕ
@@ -161,7 +160,7 @@ pub record LooksTo (h : Fields) (entities : ℕ) (old new : Option (List ℕ)) (
   pub valid : is_valid_length h entities height ≡ true
   pub taken : Consumes old new (flat_map segment_bytes segments ++ segment_bytes (NewLength height))
 
--- and what is neither a comment nor a valid height
+-- and bytes that are neither a comment nor a valid height
 pub record LookEnds (h : Fields) (entities : ℕ) (rest : List ℕ) : Type 0 where
   pub segments : List Segment
   pub last : List ℕ
@@ -178,7 +177,7 @@ pub record LookOpen (h : Fields) (entities : ℕ) (given : List ℕ) : Type 0 wh
   pub given_is : given ≡ flat_map segment_bytes segments ++ rest
   pub cut : FaultAnyHeight h (search_place entities false true) [] [] rest Truncated
 
--- The height that the body gives was found.
+-- The height in the body was found.
 pub record FindsGiven (h : Fields) (known : Reading) (to : SearchEnd) (height : ℕ) : Type 0 where
   pub mid : Option (List ℕ)
   pub before : SkipsStripes h false to.entities (reading known.old mid) to.passed
@@ -193,23 +192,23 @@ pub record FindsGiven (h : Fields) (known : Reading) (to : SearchEnd) (height : 
   pub part_comments_are : to.entities < stripe_count h.yd h.l0 → to.part.comments ≡ min (count_by is_comment segments) (2 ^ 64 - 1)
   pub taken : Consumes mid known.new (flat_map segment_bytes segments ++ segment_bytes (NewLength height))
 
--- It was found so, behind whichever bytes.
+-- It was found like this, whatever bytes precede it.
 abbrev pub WhereFound : Fields → Option (List ℕ) → SearchEnd → ℕ → (Option (List ℕ) → Type 0) → Type 0
 WhereFound h rest to height Leaves = (known : Option (List ℕ)) → FindsGiven h (reading known rest) to height → Leaves known
 
--- All stripes that the header's height makes were skipped, and the body gives no height.
+-- All stripes of the header's height were skipped, and the body contains no height.
 pub record FindsNone (h : Fields) (known : Reading) (entities : ℕ) (counts : SegmentCounts) : Type 0 where
   pub mid : Option (List ℕ)
   pub before : SkipsStripes h false entities (reading known.old mid) counts
   pub all : entities ≡ stripe_count h.yd h.l0
   pub height_is : IfSome known.old (λ body. IsHeight h body h.yd)
 
--- the one or the other
+-- either of them
 abbrev pub Finds : Fields → Reading → SearchEnd → Option ℕ → Type 0
 Finds h known to None = FindsNone h known to.entities to.passed
 Finds h known to (Some height) = FindsGiven h known to height
 
--- a read failed before it was known whether the body gives a height: in the stripes, or after the last of them
+-- a read failed before it was known whether the body contains a height: in the stripes, or after the last of them
 abbrev pub FindsOpen : Fields → List ℕ → Type 0
 FindsOpen h given = SkipsFault h (search_place 0 false false) (stripe_count h.yd h.l0) given Truncated ⊎ IsOpen h given
 
@@ -220,7 +219,7 @@ pub record BodyNumbers (h : Fields) (numbers body : List ℕ) : Type 0 where
   pub parts : Parts h height body
   pub numbers_are : numbers ≡ numbers_of h height parts.stripes
 
--- a body that hasn't its parts at its height
+-- a body that does not have its parts at its height
 pub record BodyRefused (h : Fields) (fault : Fault) (body : List ℕ) : Type 0 where
   pub height : ℕ
   pub height_is : IsHeight h body height
@@ -230,6 +229,6 @@ pub record BodyRefused (h : Fields) (fault : Fault) (body : List ℕ) : Type 0 w
 abbrev pub BodyUnfinished : Fields → List ℕ → Type 0
 BodyUnfinished h given = BodyRefused h Truncated given ⊎ IsOpen h given
 
--- an image may have this height whose header announces that one
+-- an image may have this height if its header announces that one
 abbrev pub MayBeHeight : ℕ → ℕ → Type 0
 MayBeHeight announced height = (1 ≤ height) × (height ≤ announced)

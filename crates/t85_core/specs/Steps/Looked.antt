@@ -1,4 +1,4 @@
--- What is carried to a stripe, as the definitions look it up in the whole raster.
+-- The state carried to a stripe, determined from the whole raster.
 use Rattle.std.specs.Prelude.{ℕ, zero, suc, ◌-◌, ◌*◌, ◌≡◌, Bool, false, List, [], map, if◌then◌else◌, ◌==◌, slice_index_or, filter_map}
 use Rattle.raster_core.specs.Raster.{Raster, row_above}
 use Rattle.raster_core.specs.Lines.{Lines, numbers_from}
@@ -7,7 +7,7 @@ use Rattle.t85_core.specs.Steps.State.{StripeStart}
 use Rattle.t85_core.specs.Jbg.{Settings, cut, coding_of, current_offset, move_before}
 use Rattle.t85_core.specs.Steps.Written.{EncoderStart, next_move}
 
--- ---- what stands before a row, where all above row t is white
+-- ---- the state before a row, where everything above row t is white
 abbrev pub offset_before : Coding → ℕ → ℕ → ℕ
 offset_before c t y = last_or 0 (filter_map (moved_at c) (numbers_from t (y - t)))
 
@@ -18,7 +18,7 @@ flag_before c t y = if t == y then false else slice_index_or c.flags (y - 1) fal
 abbrev pub top : Coding → ℕ → ℕ
 top c i = fresh_stripe c i * c.stripe_rows
 
--- what is carried to stripe i, which begins at row y
+-- the state carried to stripe i, which begins at row y
 pub record CarryAt (c : Coding) (i y : ℕ) (b : StripeStart) : Type 0 where
   pub learned : b.learned ≡ learned_at c i
   pub offset : b.offset ≡ offset_before c (top c i) y
@@ -36,11 +36,11 @@ abbrev pub offset_to : Settings → Raster → ℕ → ℕ
 offset_to s raster zero = 0
 offset_to s raster (suc i) = current_offset s (cut s raster) i
 
--- what an encoder carries to stripe i of a raster
+-- the state that an encoder carries to stripe i of a raster
 pub record CourseAt (s : Settings) (raster : Raster) (i : ℕ) (at : EncoderStart) : Type 0 where
   pub stripe : at.stripe ≡ i
   pub carry : CarryAt (coding_of s raster) i (i * s.stripe_rows) at.carry
   pub counted : at.counted ≡ lines_before s raster i
   pub offset : at.carry.offset ≡ offset_to s raster i
-  -- the move before stripe i is the named one, or that which the rows of the stripe before choose
+  -- the move before stripe i is the caller's, or the one that the rows of the previous stripe choose
   pub move : next_move s raster.width at ≡ move_before s (cut s raster) i

@@ -1,4 +1,4 @@
--- What one step of a walk over the parts of a stream reads and tells.
+-- The effect and the result of one step of a walk over the parts of a stream.
 use Rattle.std.specs.Prelude.{ℕ, ◌+◌, ◌-◌, ◌^◌, ◌≡◌, ◌≤◌, ◌<◌, ⊤, Bool, true, false, not, ◌==◌, List, [], ◌∷◌, ◌++◌, length, take, drop, if◌then◌else◌}
 use Rattle.std.specs.List.{AllByRecursion}
 use Rattle.qm_core.specs.Code.{stuffed}
@@ -33,7 +33,7 @@ ReadsPart h place moved old new taken.DataEntity = (code : List ℕ) × (reset :
 abbrev pub MissesPart : Fields → Place → Bool → List ℕ → Fault → Type 0
 MissesPart h place moved bytes fault = HasPartFault h place.entities (if place.given then 1 else 0) (if moved then 1 else 0) bytes fault
 
--- where no height came yet
+-- if no height has come yet
 abbrev pub place_before : ℕ → Place
 place_before entities = record { height = 0; entities = entities; given = false }
 
@@ -41,7 +41,7 @@ abbrev pub IsSegment : Taken → Type 0
 IsSegment taken.DataEntity = ⊥
 IsSegment _ = ⊤
 
--- A data entity can be counted.
+-- A stripe data entity can be counted.
 abbrev pub CanPass : Taken → PartWalk → Type 0
 CanPass taken.DataEntity w = w.entities < 2 ^ 32 - 1
 CanPass _ w = ⊤
@@ -52,11 +52,11 @@ kind_of taken.Move = kind.Move
 kind_of (taken.NewHeight height) = kind.NewHeight
 kind_of taken.DataEntity = kind.DataEntity
 
--- a part of this length, where the walk stands
+-- a part of this length at the current position
 abbrev pub part_told : Taken → PartWalk → ℕ → Part
 part_told t w len = record { kind = kind_of t; offset = w.offset; len = len; stripe = w.entities }
 
--- the walk behind it
+-- the parser state behind it
 abbrev pub walk_behind : Taken → PartWalk → ℕ → PartWalk
 walk_behind taken.Comment w len = record { offset = w.offset + len; entities = w.entities; late_height = w.late_height; moved = w.moved; at_height = w.at_height }
 walk_behind taken.Move w len = record { offset = w.offset + len; entities = w.entities; late_height = w.late_height; moved = true; at_height = w.at_height }
@@ -69,7 +69,7 @@ header_part = record { kind = kind.Header; offset = 0; len = 20; stripe = 0 }
 abbrev pub header_walk : PartWalk
 header_walk = record { offset = 20; entities = 0; late_height = 0; moved = false; at_height = false }
 
--- whether a segment gave a height
+-- whether a segment contained a height
 abbrev pub is_given : PartWalk → Bool
 is_given w = not (w.late_height == 0)
 
@@ -81,7 +81,7 @@ height_told h w = if w.late_height == 0 then h.yd else w.late_height
 abbrev pub stripes_in_use : Fields → PartWalk → ℕ
 stripes_in_use h w = stripe_count (height_told h w) h.l0
 
--- What is told behind this header, wherever the walk stands there.
+-- The result behind this header, wherever the walk is.
 abbrev pub TellsThere : Fields → List ℕ → PartWalk → PartWalk → Found → Type 0
 TellsThere h stream w w' found = (stripes : List Stripe) (segments : List Segment) → StandsBehind stream w h stripes segments → TellsNext stream w w' (Behind h stripes segments) found
 
@@ -93,11 +93,11 @@ TellsInStripe h stream w w' found = w.entities < stripes_in_use h w → TellsThe
 abbrev pub TellsBehind : Fields → List ℕ → PartWalk → PartWalk → Found → Type 0
 TellsBehind h stream w w' found = stripes_in_use h w ≤ w.entities → TellsThere h stream w w' found
 
--- behind the last stripe, where a height comes
+-- behind the last stripe, if a height follows
 abbrev pub TellsBefore : Fields → List ℕ → PartWalk → PartWalk → Found → Type 0
 TellsBefore h stream w w' found = w.late_height ≡ 0 → stripe_count h.yd h.l0 ≤ w.entities → (height : ℕ) → GivesHeight h (drop 20 stream) height → TellsThere h stream w w' found
 
--- All parts were passed.
+-- All parts were returned.
 pub record IsDone (stream : List ℕ) (w : PartWalk) (h : Fields) (stripes : List Stripe) (segments : List Segment) : Type 0 where
   pub height : ℕ
   pub last : EndsInHeight w.at_height height segments
@@ -108,11 +108,11 @@ pub record IsDone (stream : List ℕ) (w : PartWalk) (h : Fields) (stripes : Lis
   pub all : length stripes ≡ stripe_count height h.l0
   pub given : (late : ℕ) → GivesHeight h (drop 20 stream) late → lengths (all_segments stripes ++ segments) ≡ late ∷ []
 
--- so many bytes has what belongs to the stream behind them
+-- the number of bytes of the stream behind them
 abbrev pub TailIs : PartWalk → List ℕ → ℕ → Type 0
 TailIs w stream n = (tail : List ℕ) × (rest : List ℕ) × (drop w.offset stream ≡ tail ++ rest) × (length tail ≡ n) × IsTail w.at_height tail rest
 
--- Behind the last stripe a height comes, or the stream is whole.
+-- A height follows the last stripe, or the stream is whole.
 abbrev pub ComesOrEnds : Fields → List ℕ → PartWalk → List Stripe → List Segment → Bool → Type 0
 ComesOrEnds h stream w stripes segments true = (w.late_height ≡ 0) × ((height : ℕ) × GivesHeight h (drop 20 stream) height)
 ComesOrEnds h stream w stripes segments false = IsDone stream w h stripes segments

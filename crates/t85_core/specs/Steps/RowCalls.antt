@@ -1,4 +1,4 @@
--- What the calls of a row encoder ask for, and what they leave of its numbers.
+-- The preconditions of a row encoder's calls, and their effects on its numbers.
 use Rattle.std.specs.Prelude.{ℕ, ◌+◌, ◌^◌, ◌≡◌, ◌≤◌, ◌<◌, Result, OnOk, IfErr, is_err, true, false, not, ◌&&◌, ◌==◌, Bool}
 use Rattle.t85_core.specs.RowImage.{may_name}
 use Rattle.pbm_core.specs.declared.size.Size.{Size}
@@ -18,7 +18,7 @@ use Rattle.t85_core.specs.Steps.ByRow.{IsLined, MayGoOn}
 abbrev pub HasRows : ℕ → Window → Type 0
 HasRows width window = IsLined (held window) × (width_of window ≡ width)
 
--- another row may come
+-- another row is accepted
 abbrev pub MayTakeRow : RowEncoder → Type 0
 MayTakeRow e = (e.rows < e.size.height) × MayGoOn e
 
@@ -26,27 +26,27 @@ MayTakeRow e = (e.rows < e.size.height) × MayGoOn e
 abbrev pub MayEnd : RowEncoder → Type 0
 MayEnd e = (0 < e.rows) × (e.may_end ≡ false → e.rows ≡ e.size.height)
 
--- whether an offset may be named now
+-- whether an offset may be chosen now
 abbrev pub takes_name : RowEncoder → ℕ → Bool
 takes_name e t = not e.is_closed && ((e.in_stripe == 0) && may_name e.shape.two_line e.most_offset t)
 
--- The row that a window has may be coded in this shape.
+-- The window's row may be coded in this shape.
 abbrev pub MayCode : Shape → Kept → Window → Encoder → Type 0
 MayCode shape kept window e = MayCodeRow shape kept window × (event_count e + shape.width + 1 ≤ 2 ^ 56) × (has_failed e ≡ false)
 
--- It was: the encoder may go on, and no more events came than the row has.
+-- It was coded: the encoder may continue, and had at most the row's events.
 abbrev pub HasCoded : Shape → Kept → Kept → Encoder → Encoder → Type 0
 HasCoded shape kept kept' e e' = (has_failed e' ≡ false) × (event_count e' ≤ event_count e + shape.width + 1) × (kept'.offset ≡ kept.offset)
 
--- no row came of an image of this size
+-- no row of an image of this size was received
 abbrev pub HasNoRows : Size → RowEncoder → Type 0
 HasNoRows size e = MayGoOn e × (e.is_closed ≡ false) × (e.rows ≡ 0) × (e.size ≡ size)
 
--- what was chosen of the image stays, and whether the encoder is closed
+-- the settings of the image are unchanged, and whether the encoder is closed
 abbrev pub KeepsPlan : RowEncoder → RowEncoder → Type 0
 KeepsPlan e e' = (e'.size ≡ e.size) × (e'.stripe_rows ≡ e.stripe_rows) × (e'.is_closed ≡ e.is_closed)
 
--- and no row was taken
+-- and no row was received
 abbrev pub KeepsRows : RowEncoder → RowEncoder → Type 0
 KeepsRows e e' = KeepsPlan e e' × (e'.rows ≡ e.rows)
 
@@ -54,11 +54,11 @@ KeepsRows e e' = KeepsPlan e e' × (e'.rows ≡ e.rows)
 abbrev pub CodesNothing : RowEncoder → RowEncoder → Type 0
 CodesNothing e e' = KeepsRows e e' × (e'.in_stripe ≡ e.in_stripe) × (e'.encoder ≡ e.encoder)
 
--- a row was taken
+-- a row was received
 abbrev pub AddsRow : RowEncoder → RowEncoder → Type 0
 AddsRow e e' = KeepsPlan e e' × (e'.rows ≡ e.rows + 1) × (e'.in_stripe ≡ e.in_stripe + 1)
 
--- An encoder has taken a row and may go on; or a write failed, and it is closed.
+-- An encoder has received a row and may continue; or a write failed, and it is closed.
 abbrev pub TakesRow : {T : Type 0} → RowEncoder → RowEncoder → Result T Fault → Type 0
 TakesRow e e' result = (e'.is_closed ≡ is_err result) × OnOk result (MayGoOn e') × OnOk result (e'.rows ≡ e.rows + 1) × (e'.size ≡ e.size) × IfErr result (λ f. f ≡ Write)
 

@@ -1,4 +1,4 @@
--- What the steps of a row encoder leave.
+-- The effects of the steps of a row encoder.
 use Rattle.std.specs.Prelude.{ℕ, ◌+◌, ◌*◌, ◌≡◌, ◌≤◌, ◌<◌, Bool, false, List, [], ◌∷◌, ◌++◌, length, Option, IfSome, flat_map, unwrap_or, Result, Ok, Err, OnOk, OnErr}
 use Rattle.std.specs.Io.KnownBytes.{Appends}
 use Rattle.pbm_core.specs.Device.{AppendsBeginning}
@@ -30,18 +30,18 @@ use Rattle.t85_core.specs.Steps.Sent.{Origin, Sends, SendsBeginning, here}
 use Rattle.t85_core.specs.Steps.ByRow.{EncoderAt, IsPlan, encoder_at, HaveCome, StripesWhole, IsStart, RowView, Stands, Waits, Runs, StreamCut, IsBelow, TakesNextRow, CutsRow, move_bytes}
 use Rattle.t85_core.specs.RowImage.{Image}
 
--- The move of a stripe was written and made, where the offset was this one.
+-- The move of a stripe was written and made, if the offset was this one.
 pub record MoveMade (move : Option (ℕ × ℕ)) (offset : ℕ) (text text' : Option (List ℕ)) (kept kept' : Kept) : Type 0 where
   pub at_top : IfSome move (λ m. m.0 ≡ 0)
   pub offset_is : kept'.offset ≡ offset_at move 0 offset
   pub previous_is : kept'.previous_typical ≡ kept.previous_typical
   pub appended : Appends text text' (flat_map segment_bytes (move_segments move))
 
--- a beginning of it was written
+-- a prefix of it was written
 abbrev pub MoveCut : Settings → ℕ → EncoderStart → Option (List ℕ) → Option (List ℕ) → Type 0
 MoveCut s width at text text' = AppendsBeginning text text' (move_bytes s width at)
 
--- What coding a row leaves, for an encoder with these bytes pushed: what was written, in place of a sink.
+-- The effect of coding a row, for an encoder with these bytes pushed: the output, in place of a sink.
 pub record RowPut (task : RowTask) (pushed : List ℕ) (kept' : Kept) (text : Option (List ℕ)) (new : EncoderState (Option (List ℕ))) : Type 0 where
   pub more : List ℕ
   pub appended : Appends text new.out more
@@ -50,7 +50,7 @@ pub record RowPut (task : RowTask) (pushed : List ℕ) (kept' : Kept) (text : Op
   pub offset_is : kept'.offset ≡ task.kept.offset
   pub flag_is : kept'.previous_typical ≡ may_be_typical (shape_mode task.shape) task.lines
 
--- the target refused a byte of it
+-- the target rejected a byte of it
 pub record RowCut (s : State) (pushed : List ℕ) (all : List place.Event) (text text' : Option (List ℕ)) : Type 0 where
   pub events : List place.Event
   pub rest : List place.Event
@@ -60,17 +60,17 @@ pub record RowCut (s : State) (pushed : List ℕ) (all : List place.Event) (text
   pub appended : Appends text text' done
   pub begins : IsStuffedFront ((pushed ++ done) ++ left) (place.after s events).place
 
--- the answer of a call whose coder answered so
+-- the result of a call whose coder returned this
 abbrev pub sent_as : Result (Unit {0}) CoderFault → Result (Unit {0}) Fault
 sent_as (Ok u) = Ok u
 sent_as (Err f) = Err Write
 
--- what a call that codes a row leaves
+-- the effect of a call that codes a row
 pub record RowOutcome {E : Type 0} (task : RowTask) (pushed : List ℕ) (kept' : Kept) (text : Option (List ℕ)) (new : EncoderState (Option (List ℕ))) (answer : Result (Unit {0}) E) : Type 0 where
   pub ok : OnOk answer (RowPut task pushed kept' text new)
   pub cut : OnErr answer (RowCut task.state pushed (canonical_events task.shape task.kept task.lines) text new.out)
 
--- The code of a place was ended, behind the bytes that were pushed, or a beginning of that was written.
+-- The code of a place was ended, behind the bytes pushed, or a prefix of that was written.
 pub record CodeFinished {E : Type 0} (p : Place) (pushed : List ℕ) (text text' : Option (List ℕ)) (answer : Result (Unit {0}) E) : Type 0 where
   pub code : List ℕ
   pub is : IsCode p code
@@ -88,7 +88,7 @@ pub record CodeEnded {E : Type 0} (p : Place) (reset : Bool) (pushed : List ℕ)
   pub ok : OnOk answer (Appends text text' more)
   pub cut : OnErr answer (AppendsBeginning text text' more)
 
--- A stripe was ended that had so many rows.
+-- A stripe of this many rows was ended.
 pub record StripeEnded (image : Image) (count : ℕ) (rows : List (List Bool)) (e : EncoderAt) (origin : Origin) : Type 0 where
   pub plan_is : IsPlan image e.view.plan
   pub come : HaveCome image.width image.limit rows e.view.rows
@@ -108,7 +108,7 @@ pub record StripeEnded (image : Image) (count : ℕ) (rows : List (List Bool)) (
   pub on_course : (i + 1) * image.settings.stripe_rows < image.limit → IsStart image.settings image.width (next_encoder_start image.settings image.width at part) e.view e.window
   pub sent : Sends origin e.text (front ++ stripe_bytes (next_stripe image.settings image.width at part))
 
--- no more than a beginning of it was written
+-- at most a prefix of it was written
 pub record StripeBegun (image : Image) (count : ℕ) (rows : List (List Bool)) (origin : Origin) (text : Option (List ℕ)) : Type 0 where
   pub i : ℕ
   pub whole : List (List Bool)
@@ -129,41 +129,41 @@ pub record StripesEnded (image : Image) (rows : List (List Bool)) (v : RowView) 
   pub announced_is : v.plan.announced ≡ unwrap_or image.settings.announced (length rows)
   pub sent : Sends origin text (jbg_up_to image.settings (raster_of image.width rows) (stripe_count (length rows) image.settings.stripe_rows))
 
--- ---- what the steps of a call do, in whatever stream
+-- ---- the steps of a call, in any stripe
 
--- A stripe runs now, where one waited or ran.
+-- A stripe is in progress now, where one was to begin or was in progress.
 abbrev pub StandsToRun : RowView → RowView → Option (List ℕ) → Option (List ℕ) → Type 0
 StandsToRun v v' old new =
     (image : Image) (rows : List (List Bool)) (before : Held) (origin : Origin) → Stands image rows v before origin old →
     Runs image rows v' before origin new
 
--- A stripe that waited runs now.
+-- A stripe that was to begin is in progress now.
 abbrev pub WaitsToRun : RowView → RowView → Option (List ℕ) → Option (List ℕ) → Type 0
 WaitsToRun v v' old new =
     (image : Image) (rows : List (List Bool)) (before : Held) (origin : Origin) → Waits image rows v before origin old →
     Runs image rows v' before origin new
 
--- no more than a beginning of its move was written
+-- at most a prefix of its move was written
 abbrev pub CutsMove : RowView → Option (List ℕ) → Option (List ℕ) → Type 0
 CutsMove v old new =
     (image : Image) (rows : List (List Bool)) (row : List Bool) (before : Held) (origin : Origin) → Waits image rows v before origin old →
     StreamCut image (rows ++ row ∷ []) origin new
 
--- The row that a window has was coded, in a stripe that runs.
+-- The window's row was coded, in a stripe in progress.
 abbrev pub CodesRow : RowView → RowView → Held → Option (List ℕ) → Option (List ℕ) → Type 0
 CodesRow v v' window old new =
     (image : Image) (rows : List (List Bool)) (row : List Bool) (before : Held) (origin : Origin) → IsBelow row before window →
     Runs image rows v before origin old →
     Runs image (rows ++ row ∷ []) v' window origin new
 
--- no more than a beginning was written
+-- at most a prefix was written
 abbrev pub CutsCode : RowView → Held → Option (List ℕ) → Option (List ℕ) → Type 0
 CutsCode v window old new =
     (image : Image) (rows : List (List Bool)) (row : List Bool) (before : Held) (origin : Origin) → IsBelow row before window →
     Runs image rows v before origin old →
     StreamCut image (rows ++ row ∷ []) origin new
 
--- The stripe that ran was ended, if it has all its rows.
+-- The stripe in progress was ended, if it has all its rows.
 abbrev pub RunsToStand : RowView → RowView → Held → Held → Option (List ℕ) → Option (List ℕ) → Type 0
 RunsToStand v v' window window' old new =
     (image : Image) (rows : List (List Bool)) (origin : Origin) → Runs image rows v window origin old →
@@ -174,7 +174,7 @@ CutsRunning v window old new =
     (image : Image) (rows : List (List Bool)) (origin : Origin) → Runs image rows v window origin old →
     StreamCut image rows origin new
 
--- The stripe that ran was ended.
+-- The stripe in progress was ended.
 abbrev pub EndsStripe : RowView → RowView → Held → Held → Option (List ℕ) → Option (List ℕ) → Type 0
 EndsStripe v v' window window' old new =
     (image : Image) (rows : List (List Bool)) (origin : Origin) → Runs image rows v window origin old →
@@ -191,29 +191,29 @@ EndsStripes v v' window old new =
     (image : Image) (rows : List (List Bool)) (origin : Origin) → Stands image rows v window origin old →
     StripesEnded image rows v' origin new
 
--- A row is taken that is below the lines that a window had.
+-- A row was received that is below the lines of a window.
 abbrev pub TakesBelow : RowView → RowView → Held → Held → Option (List ℕ) → Option (List ℕ) → Type 0
 TakesBelow v v' window window' old new = (row : List Bool) (before : Held) → IsBelow row before window → TakesNextRow row (encoder_at v before old) (encoder_at v' window' new)
 
 abbrev pub CutsBelow : RowView → Held → Option (List ℕ) → Option (List ℕ) → Type 0
 CutsBelow v window old new = (row : List Bool) (before : Held) → IsBelow row before window → CutsRow row v before old new
 
--- nothing is learned or counted yet of an image
+-- the context states and counts of an image are reset
 pub record IsUntaught (s : Settings) (l : Learning) : Type 0 where
   pub learned_is : l.learned ≡ fresh
   pub two_line : is_two_line l.tally ≡ (mode_of s.options).two_line
   pub most : most_of l.tally ≡ s.most_offset
   pub counts : (width current : ℕ) → CountsLines l.tally width current []
 
--- the encoder takes rows
+-- the encoder accepts rows
 abbrev pub IsGoing : RowEncoder → Type 0
 IsGoing e = e.is_closed ≡ false
 
--- the row that it is given by these bytes
+-- the row in these bytes
 abbrev pub given_row : RowEncoder → List ℕ → List Bool
 given_row e bytes = pixels_of e.size.width bytes
 
--- Once the head of a stream is written, and a window is white, no row has come.
+-- Once the head of a stream is written, and a window is white, no row has been received.
 abbrev pub StandsFirst : Image → RowView → Type 0
 StandsFirst image v =
     (window : Held) (text text' : Option (List ℕ)) → HasLines window (white_lines image.width) → Appends text text' (head_of image.settings image.width image.limit) →

@@ -1,4 +1,4 @@
--- What one step of the walk reads.
+-- The result of one step of the walk.
 use Rattle.std.specs.Prelude.{◌≡◌, ◌≢◌, ◌≤◌, ◌<◌, ◌+◌, ◌-◌, ◌^◌, ⊤, ℕ, Bool, true, false, List, [], ◌∷◌, ◌++◌, Option, Some, length, min, count_by, flat_map, option_map, is_some, if◌then◌else◌}
 use Rattle.std.specs.List.{AllByRecursion}
 use Rattle.std.specs.Io.KnownBytes.{Consumes}
@@ -18,7 +18,7 @@ use Rattle.t85_core.specs.Grammar.{Segment, NewLength, Move, Comment, segment_by
 use Rattle.t85_core.specs.Coding.{move_of}
 use Rattle.t85_core.specs.Refusal.{Spot, rest_fault, length_fault, StripeFault}
 
--- where a stripe begins, or what is next in it
+-- the start of a stripe, or the next item in it
 abbrev pub spot_at : Place → Spot
 spot_at place = record { height = place.height; entities = place.entities; heights = if place.given then 1 else 0 }
 
@@ -31,7 +31,7 @@ abbrev pub IsByteOrMarker : Code → Type 0
 IsByteOrMarker (code.Byte b) = b < 256
 IsByteOrMarker (code.Marker reset) = ⊤
 
--- the fault of a rest inside a code
+-- the error of a rest inside a code
 abbrev pub RestFault : List ℕ → Fault → Type 0
 RestFault rest fault = (h : Fields) (spot : Spot) (moves : ℕ) → rest_fault h spot moves true rest ≡ Some fault
 
@@ -41,7 +41,7 @@ pub record PassesCode (old new : Option (List ℕ)) (reset : Bool) : Type 0 wher
   pub bytes : AllByRecursion (λ b. b < 256) code
   pub taken : Consumes old new (stuffed code ++ marker_bytes reset)
 
--- bytes of a code, and a rest with this fault
+-- bytes of a code, and a rest with this error
 pub record CodeFault (bytes : List ℕ) (fault : Fault) : Type 0 where
   pub code : List ℕ
   pub rest : List ℕ
@@ -58,24 +58,24 @@ pub record PassesSegment (h : Fields) (old new : Option (List ℕ)) (segment : S
   pub legal : IsLegal h segment
   pub taken : Consumes old new (segment_bytes segment)
 
--- the fault of a rest before a code, whatever the height in use is
+-- the error of a rest before a code, whatever the actual height is
 abbrev pub PieceFault : Fields → Place → Bool → List ℕ → Fault → Type 0
 PieceFault h place moved rest fault =
     (height : ℕ) → rest_fault h (record { height = height; entities = place.entities; heights = if place.given then 1 else 0 }) (if moved then 1 else 0) false rest ≡ Some fault
 
--- of what comes after FF 05
+-- of the bytes behind FF 05
 abbrev pub LengthFault : Fields → Place → List ℕ → Fault → Type 0
 LengthFault h place bytes fault = (height : ℕ) → length_fault h (record { height = height; entities = place.entities; heights = if place.given then 1 else 0 }) bytes ≡ Some fault
 
--- the first height, which is valid, the first move of the stripe, a comment, or what the code begins with
+-- the first height, which is valid, the first move of the stripe, a comment, or the start of the code
 abbrev pub Passes : Fields → Place → Bool → Option (List ℕ) → Option (List ℕ) → Piece → Type 0
 Passes h place moved old new (piece.NewLength height) = (place.given ≡ false) × (is_valid_length h place.entities height ≡ true) × PassesSegment h old new (NewLength height)
 Passes h place moved old new (piece.Move to) = (moved ≡ false) × PassesSegment h old new (Move to.row to.offset)
 Passes h place moved old new piece.Comment = (text : List ℕ) × PassesSegment h old new (Comment text)
 Passes h place moved old new (piece.Code c) = IsByteOrMarker c × Consumes old new (code_bytes c)
 
--- What the segments of a stripe that were read so far came to: the move among them, whether one came in them or before,
--- whether the height was given in them or before, and how many comments they have.
+-- The segments of a stripe so far: the move among them, whether one was in or before them, whether the height was in or before
+-- them, and the number of comments.
 pub record SegmentsSoFar : Type 0 where
   pub at : Option move.Move
   pub moved : Bool
@@ -85,7 +85,7 @@ pub record SegmentsSoFar : Type 0 where
 abbrev pub segments_so_far : Option move.Move → (moved given : Bool) → ℕ → SegmentsSoFar
 segments_so_far at moved given comments = record { at = at; moved = moved; given = given; comments = comments }
 
--- segments of a stripe, and the move among them, where one stood before them or none
+-- segments of a stripe, and the move among them, or the one before them or none
 pub record HasPassed (h : Fields) (place : Place) (before : Bool) (old new : Option (List ℕ)) (passed : SegmentsSoFar) : Type 0 where
   pub segments : List Segment
   pub begun : IsBegun h segments []
@@ -97,17 +97,17 @@ pub record HasPassed (h : Fields) (place : Place) (before : Bool) (old new : Opt
   pub told : passed.comments ≡ min (count_by is_comment segments) (2 ^ 64 - 1)
   pub taken : Consumes old new (flat_map segment_bytes segments)
 
--- a valid height, or what a code begins with
+-- a valid height, or the start of a code
 abbrev pub next_bytes : Next → List ℕ
 next_bytes (next.Height height) = segment_bytes (NewLength height)
 next_bytes (next.Code c) = code_bytes c
 
--- the height is the first, and another than that in use
+-- the height is the first, and differs from the actual one
 abbrev pub IsNextItem : Fields → Place → Bool → Next → Type 0
 IsNextItem h place given (next.Height height) = (given ≡ false) × (is_valid_length h place.entities height ≡ true) × IsLegal h (NewLength height) × (height ≢ place.height)
 IsNextItem h place given (next.Code c) = IsByteOrMarker c
 
--- Segments of one stripe, after a move or none, and what is next after them.
+-- Segments of one stripe, after a move or none, and the next item after them.
 pub record PassesSegments (h : Fields) (place : Place) (moved : Bool) (old new : Option (List ℕ)) (s : Segments) : Type 0 where
   pub segments : List Segment
   pub begun : IsBegun h segments []
@@ -120,7 +120,7 @@ pub record PassesSegments (h : Fields) (place : Place) (moved : Bool) (old new :
   pub next_is : IsNextItem h place s.given s.next
   pub taken : Consumes old new (flat_map segment_bytes segments ++ next_bytes s.next)
 
--- Segments, and a rest with this fault, whatever the height in use is.
+-- Segments, and a rest with this error, whatever the actual height is.
 pub record SegmentsFault (h : Fields) (place : Place) (moved : Bool) (bytes : List ℕ) (fault : Fault) : Type 0 where
   pub segments : List Segment
   pub rest : List ℕ

@@ -1,4 +1,4 @@
--- What is carried from row to row, and from stripe to stripe.
+-- The state carried from row to row, and from stripe to stripe.
 use Rattle.std.specs.Prelude.{ℕ, ◌+◌, ◌-◌, ◌≡◌, Bool, true, false, List, [], ◌∷◌, ◌++◌, length, min, ◌==◌, if◌then◌else◌, Option, Some, None}
 use Rattle.qm_core.specs.Place.{State, Estimate, start, fresh, after}
 use Rattle.qm_core.specs.Code.{Lies}
@@ -8,8 +8,8 @@ use Rattle.t85_core.specs.Header.{Fields}
 use Rattle.t85_core.specs.Grammar.{Segment, Stripe, IsBegun}
 use Rattle.t85_core.specs.Coding.{FlaggedRows, flagged, mode_of, move_of}
 
--- Between two rows: the coder's state, the adaptive pixel's offset, whether the row before was typical, and the two
--- rows above the next one.
+-- Between two rows: the coder's state, the adaptive pixel's offset, whether the previous row was typical, and the two rows
+-- above the next one.
 pub record RowStart : Type 0 where
   pub state : State
   pub offset : ℕ
@@ -41,7 +41,7 @@ pub record IsNextRow (width : ℕ) (mode : Mode) (b : RowStart) (row : List Bool
   pub wide : length row ≡ width
   pub legal : IsLegalFlag mode (lines_with b row) flag
 
--- How the rows of a stripe are coded: how wide they are, in which mode, and the move of the adaptive pixel.
+-- How the rows of a stripe are coded: their width, their mode, and the move of the adaptive pixel.
 pub record RowCoding : Type 0 where
   pub width : ℕ
   pub mode : Mode
@@ -62,7 +62,7 @@ Run coding r b (row ∷ rows) [] last = ⊥
 Run coding r b (row ∷ rows) (flag ∷ flags) last =
     IsNextRow coding.width coding.mode b row flag × Run coding (r + 1) (after_row coding.mode coding.move r b row flag) rows flags last
 
--- between two stripes: what the contexts have learned, and the rest of what is carried
+-- between two stripes: the context states, and the rest of the carried state
 pub record StripeStart : Type 0 where
   pub learned : List Estimate
   pub offset : ℕ
@@ -74,7 +74,7 @@ pub record StripeStart : Type 0 where
 abbrev pub image_start : ℕ → StripeStart
 image_start width = record { learned = fresh; offset = 0; previous = false; above = white_row width; second = white_row width }
 
--- a stripe begins its code again
+-- a stripe starts a new code
 abbrev pub first_row_start : StripeStart → RowStart
 first_row_start c = record { state = record { place = start; learned = c.learned }; offset = c.offset; previous = c.previous; above = c.above; second = c.second }
 
@@ -83,7 +83,7 @@ abbrev pub next_stripe_start : ℕ → Bool → RowStart → StripeStart
 next_stripe_start width true b = image_start width
 next_stripe_start width false b = record { learned = b.state.learned; offset = b.offset; previous = b.previous; above = b.above; second = b.second }
 
--- A whole stripe of this many rows: its code lies where its rows lead.
+-- A whole stripe of this many rows: its code lies in the place to which its rows lead.
 pub record StripeRun (h : Fields) (count : ℕ) (c : StripeStart) (s : Stripe) (coded : FlaggedRows) (next : StripeStart) : Type 0 where
   pub whole : IsBegun h s.segments s.code
   pub last : RowStart
@@ -92,7 +92,7 @@ pub record StripeRun (h : Fields) (count : ℕ) (c : StripeStart) (s : Stripe) (
   pub lies : Lies s.code last.state.place
   pub next_is : next ≡ next_stripe_start h.xd s.reset last
 
--- Stripes one after another, where this many rows are still to come.
+-- Successive stripes, with this many rows left.
 abbrev pub StripesRun : Fields → ℕ → StripeStart → List Stripe → FlaggedRows → StripeStart → Type 0
 StripesRun h left c [] coded next = (coded.rows ≡ []) × (coded.flags ≡ []) × (c ≡ next)
 StripesRun h left c (s ∷ stripes) coded next =

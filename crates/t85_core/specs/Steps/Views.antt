@@ -1,4 +1,4 @@
--- What contracts see of the structs that hold a device.
+-- The views of structs that contain a device.
 use Rattle.std.specs.Prelude.{ℕ, List, [], Option, Some, Result, ◌≡◌, ◌≤◌}
 use Rattle.std.specs.Io.KnownBytes.{append_known}
 use Rattle.pbm_core.specs.declared.device.Output as device
@@ -11,7 +11,7 @@ use Rattle.t85_core.specs.Steps.Buffers.{Writer, SourceView, SinkView, TargetVie
 use Rattle.t85_core.specs.Steps.Passage.{Passage, passage}
 use Rattle.t85_core.specs.Steps.Entity.{EntityView, entity_known}
 
--- a code of which a piece came
+-- a code of which a piece arrived
 abbrev pub piece_view : {F : ℕ} → PieceCode F → EntityView
 piece_view {F} s = record {
   known = entity_known s.first (Some s.piece.rest.now);
@@ -24,7 +24,7 @@ piece_view {F} s = record {
   fault = s.fault;
 }
 
--- a sink, by what its target reports
+-- a sink, from its target
 abbrev pub sink_view : {P : Type 0} → (P → TargetView) → EntitySink P → SinkView
 sink_view view s = record {
   target = s.target.ghost_name;
@@ -33,7 +33,7 @@ sink_view view s = record {
   text = (view s.target.now).text;
 }
 
--- the bytes that a buffer has taken, after those that stood there
+-- the bytes that a buffer has accepted, after those that were there
 abbrev pub text_taken : {W : Type 0} {N : ℕ} {G : device.Ghosts W} → OutputBuffer W N G → Option (List ℕ)
 text_taken {W} {N} {G} b = append_known (G.view b.output.now).contents (held_of b.bytes b.at b.end)
 
@@ -41,12 +41,12 @@ text_taken {W} {N} {G} b = append_known (G.view b.output.now).contents (held_of 
 abbrev pub writer_of : {W : Type 0} {N : ℕ} {G : device.Ghosts W} → OutputBuffer W N G → Writer
 writer_of {W} {N} {G} b = record { reference = b.output.ghost_name; target = (G.view b.output.now).target; flushes = (G.view b.output.now).flushes }
 
--- What a call leaves of the writer behind a buffer: it is the same, has taken no less, and has counted a failed write.
+-- The effect of a call on the writer behind a buffer: it is the same, has accepted no less, and has counted a failed write.
 abbrev pub WritesBehind : {T : Type 0} {W : Type 0} {N : ℕ} {G : device.Ghosts W} → OutputBuffer W N G → OutputBuffer W N G → Result T Fault → Type 0
 WritesBehind {T} {W} {N} {G} b b' result =
     CountsWrite (G.view b.output.now).failures (G.view b'.output.now).failures result × (known_length (G.view b.output.now).contents ≤ known_length (G.view b'.output.now).contents) × (writer_of b' ≡ writer_of b)
 
--- what a buffer is as a target
+-- a buffer as a target
 abbrev pub target_view : {W : Type 0} {N : ℕ} {G : device.Ghosts W} → OutputBuffer W N G → TargetView
 target_view {W} {N} {G} b = record {
   text = text_taken b;
@@ -56,6 +56,6 @@ target_view {W} {N} {G} b = record {
   writer = writer_of b;
 }
 
--- what is known of a source and of a target, before a call and after it
+-- the known bytes of a source and of a target, before and after a call
 abbrev pub passage_of : SourceView → SourceView → TargetView → TargetView → Passage
 passage_of source source' target target' = passage source.known source'.known target.text target'.text

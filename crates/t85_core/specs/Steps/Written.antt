@@ -1,4 +1,4 @@
--- The stream of a raster as an encoder sees it, carried from row to row and from stripe to stripe.
+-- The stream of a raster as an encoder writes it, with the state carried from row to row and from stripe to stripe.
 use Rattle.std.specs.Prelude.{ℕ, suc, ◌+◌, ◌≡◌, Bool, nat_lt, if◌then◌else◌, List, [], ◌∷◌, ◌++◌, length, Option, option_map}
 use Rattle.qm_core.specs.Code.{code_of, stuffed}
 use Rattle.raster_core.specs.Lines.{Lines, Mode, may_be_typical}
@@ -9,7 +9,7 @@ use Rattle.t85_core.specs.Steps.State.{RowStart, StripeStart, first_row_start, i
 use Rattle.t85_core.specs.Jbg.{Settings, named_for, moved_to, move_segments}
 use Rattle.t85_core.specs.Encode.{IsBeginning}
 
--- the next row is typical wherever it may be
+-- the next row is typical if it may be
 abbrev pub next_flag : Mode → RowStart → List Bool → Bool
 next_flag mode b row = may_be_typical mode (lines_with b row)
 
@@ -23,8 +23,8 @@ abbrev pub lines_down : List Bool → List Bool → List (List Bool) → List Li
 lines_down above second [] = []
 lines_down above second (row ∷ rows) = record { row = row; above = above; second = second } ∷ lines_down row above rows
 
--- What goes from stripe to stripe: how many came, what is carried, and the rows of the stripe before, which choose the
--- next offset where none is named.
+-- The state carried from stripe to stripe: the number of stripes, the carried state, and the rows of the previous stripe, which
+-- choose the next offset unless the caller did.
 pub record EncoderStart : Type 0 where
   pub stripe : ℕ
   pub carry : StripeStart
@@ -43,7 +43,7 @@ next_move s width at =
 abbrev pub row_start_in : Settings → ℕ → EncoderStart → List (List Bool) → RowStart
 row_start_in s width at rows = after_rows (mode_of s.options) (next_move s width at) 0 (first_row_start at.carry) rows
 
--- it is written so, where these are its rows
+-- the stripe in the stream, if these are its rows
 abbrev pub next_stripe : Settings → ℕ → EncoderStart → List (List Bool) → Stripe
 next_stripe s width at rows = record {
   segments = move_segments (next_move s width at);
@@ -51,7 +51,7 @@ next_stripe s width at rows = record {
   reset = s.reset;
 }
 
--- and this goes on to the stripe after it
+-- and the state carried to the next stripe
 abbrev pub next_encoder_start : Settings → ℕ → EncoderStart → List (List Bool) → EncoderStart
 next_encoder_start s width at rows = record {
   stripe = suc at.stripe;
@@ -59,11 +59,11 @@ next_encoder_start s width at rows = record {
   counted = lines_down at.carry.above at.carry.second rows;
 }
 
--- The bytes are a beginning of the code of each stripe of this many rows that begins with these.
+-- The bytes are a prefix of the code of each stripe of this many rows that begins with these.
 abbrev pub BeginsCode : Mode → Option (ℕ × ℕ) → StripeStart → ℕ → List (List Bool) → List ℕ → Type 0
 BeginsCode mode move c count rows bytes =
     (later : List (List Bool)) → length rows + length later ≡ count → IsBeginning bytes (stuffed (code_of (after_rows mode move 0 (first_row_start c) (rows ++ later)).state.place))
 
--- what comes after the last stripe, where a height was written in the header
+-- the bytes after the last stripe, if a height was announced in the header
 abbrev pub ending_of : ℕ → Bool → ℕ → List ℕ
 ending_of announced reset height' = if nat_lt height' announced then segment_bytes (NewLength height') ++ marker_bytes reset else []

@@ -1,4 +1,4 @@
-//! What is learned about an image while it is encoded.
+//! The context states and counts of an image while it is encoded.
 
 ghost use Rattle.std.specs.Prelude.{◌≡◌, ℕ, [], false};
 ghost use Rattle.qm_core.specs.Place.{fresh};

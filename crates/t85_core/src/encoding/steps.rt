@@ -47,8 +47,8 @@ pub fn write_head<P: ByteTarget>(
     }
 }
 
-/// The offset to which the adaptive pixel moves: the named one, unless it is there already, or, where none is named, the
-/// one that would have served the previous stripe, if there is one.
+/// The offset to which the adaptive pixel moves: the caller's, unless it is there already; or, if the caller chose
+/// none, the one that would have served the previous stripe, if there is one.
 fn next_offset(named: Option<u8>, current: u8, tally: &Tally) -> Option<u8>
     requires named { IfSome named (λ t. t ≤ 127) }
     ensures is { (s : Settings) (width : ℕ) (at : EncoderStart) → current ≡ at.carry.offset →
@@ -68,8 +68,8 @@ fn next_offset(named: Option<u8>, current: u8, tally: &Tally) -> Option<u8>
     }
 }
 
-/// Moves the adaptive pixel to the named offset or, where none is named, if that would have served the previous stripe,
-/// and writes the move.
+/// Moves the adaptive pixel to the caller's offset or, without one, if that would have served the previous stripe, and
+/// writes the move.
 pub fn move_pixel<P: ByteTarget>(
     kept: &mut Kept,
     named: Option<u8>,

@@ -73,7 +73,7 @@ impl HeldBytes {
     }
 
     /// After a call that consumed some of these bytes, the first `count` of which were stored before: stores the
-    /// unconsumed bytes, if more input is wanted, and otherwise only the unconsumed ones of the first `count`. Returns
+    /// unconsumed bytes, if more input is needed, and otherwise only the unconsumed ones of the first `count`. Returns
     /// the number of bytes consumed after the first `count`.
     fn settle(&mut self, bytes: &[u8], count: usize, call: Progress) -> Progress
         requires within { count ≤ length bytes.now }
@@ -109,7 +109,7 @@ impl PieceDecoder {
     ghost use Rattle.t85_core.specs.Pieces.{call_of};
     ghost use Rattle.t85_core.specs.Feeds.{held_bytes, IsFeed};
 
-    /// Decodes the stored bytes followed by these bytes, as `next_row` does. If it wants more input, it has consumed
+    /// Decodes the stored bytes followed by these bytes, as `next_row` does. If it needs more input, it has consumed
     /// all bytes.
     pub fn feed(
         &mut self,
@@ -201,7 +201,7 @@ fn ends_there(is_all: bool, back: &[u8]) -> bool
     is_all && back.is_empty()
 }
 
-/// Whether a call wants more input, and there is more.
+/// Whether a call needs more input, and there is more.
 fn goes_on(answer: Outcome, back: &[u8]) -> bool
     ensures yes { result ≡ true → (answer ≡ outcome.More) × (1 ≤ length back.now) }
     ensures no { result ≡ false → answer ≡ outcome.More → back.now ≡ [] }

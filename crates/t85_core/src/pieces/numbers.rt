@@ -39,13 +39,13 @@ pub struct PieceNumbers {
     pub is_open: bool,
     /// Whether it is waiting for the bytes behind an end marker.
     pub waits: bool,
-    /// What arrived there: a move,
+    /// The marker segments that arrived there: a move,
     pub move_behind: MoveNumbers,
     /// whether a comment has begun,
     pub has_comment_behind: bool,
     /// and the number of its bytes still to come, or 0.
     pub comment_behind: u32,
-    /// What comes next: 0 a marker segment of a stripe or its code, 1 the rest of a comment, 2 a row or the end of a
+    /// The next item: 0 a marker segment of a stripe or its code, 1 the rest of a comment, 2 a row or the end of a
     /// code, 3 the rest of a row, 4 nothing.
     pub stage: u8,
     /// The number of complete stripe data entities.
@@ -62,7 +62,7 @@ pub struct PieceNumbers {
     pub row: u32,
     /// How far the next row is decoded.
     pub place: RowPlaceNumbers,
-    /// What was read ahead of the code: 0 nothing, 1 SDNORM, 2 SDRST, from 256 on 256 plus a byte.
+    /// The byte or marker read ahead of the code: 0 nothing, 1 SDNORM, 2 SDRST, from 256 on 256 plus a byte.
     pub ahead: u16,
     /// The end marker that was read: 0 none, 1 SDNORM, 2 SDRST.
     pub marker: u8,
@@ -227,7 +227,7 @@ impl PieceNumbers {
         }
     }
 
-    /// What arrived after an end marker.
+    /// The bytes that arrived after an end marker.
     fn behind(&self) -> Behind
         ensures { (d : PieceDecoder) → self.now ≡ piece_numbers d → result ≡ d.behind }
     {

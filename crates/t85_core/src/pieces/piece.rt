@@ -59,7 +59,7 @@ impl ByteSource for Piece<'_> {
 #[derive(Drop)]
 pub struct PieceCode<'a, const PART: usize> {
     pub piece: Piece<'a>,
-    /// What was read ahead to find where the code begins.
+    /// The byte or marker read ahead to find the start of the code.
     pub first: Option<Code>,
     /// Whether the end marker resets, once it has been read.
     pub marker: Option<bool>,

@@ -22,7 +22,7 @@ use crate::state::{START, restart};
 use qm_core::Decoder;
 use raster_core::{Kept, RowPlace};
 
-/// What comes next in a stream.
+/// The next item in a stream.
 #[derive(Clone, Copy)]
 pub enum Stage {
     /// A marker segment of a stripe, or its code.
@@ -57,7 +57,7 @@ pub struct Walk {
     pub row: u32,
     /// How far the next row is decoded.
     pub place: RowPlace,
-    /// What was read ahead to find where the code begins.
+    /// The byte or marker read ahead to find the start of the code.
     pub first: Option<Code>,
     /// Whether the end marker resets, once it has been read.
     pub marker: Option<bool>,

@@ -83,10 +83,7 @@ impl PieceDecoder {
             header: self.header,
             height: self.header.yd,
         };
-        let _given = self
-            .walk
-            .give_row(&image, lent, &mut none)
-            .is_ok();
+        let _given = self.walk.give_row(&image, lent, &mut none).is_ok();
         true
     }
 
@@ -141,9 +138,6 @@ impl PieceDecoder {
             header: self.header,
             height: self.header.yd,
         };
-        let _ended = self
-            .walk
-            .finish_stripe(&image, lent, &mut none)
-            .is_ok();
+        let _ended = self.walk.finish_stripe(&image, lent, &mut none).is_ok();
     }
 }

@@ -51,11 +51,7 @@ impl Walk {
     }
 
     /// Skips the rest of a comment, if one has begun.
-    fn leave_comment(
-        &mut self,
-        image: &SizedImage,
-        piece: &mut Piece<'_>,
-    ) -> Result<(), Fault>
+    fn leave_comment(&mut self, image: &SizedImage, piece: &mut Piece<'_>) -> Result<(), Fault>
         requires stage { (self.old.stage ≡ stage.Head) ⊎ (self.old.stage ≡ stage.Comment) }
         ensures step { Alone (λ w w'. Step (sized_of image.now) w w' piece.old.rest.now
             piece.new.rest.now result) self.old self.new }
@@ -70,11 +66,7 @@ impl Walk {
     }
 
     /// Skips the rest of a comment.
-    fn pass_comment(
-        &mut self,
-        image: &SizedImage,
-        piece: &mut Piece<'_>,
-    ) -> Result<(), Fault>
+    fn pass_comment(&mut self, image: &SizedImage, piece: &mut Piece<'_>) -> Result<(), Fault>
         requires stage { self.old.stage ≡ stage.Comment }
         ensures step { Alone (λ w w'. Step (sized_of image.now) w w' piece.old.rest.now
             piece.new.rest.now result) self.old self.new }
@@ -94,12 +86,8 @@ impl Walk {
         Ok(())
     }
 
-    /// Reads a marker segment of a stripe, or the first element of its code. Of a comment, it reads the length.
-    fn read_segment(
-        &mut self,
-        image: &SizedImage,
-        piece: &mut Piece<'_>,
-    ) -> Result<(), Fault>
+    /// Reads a marker segment of a stripe, or the first element of its code. It reads only the length of a comment.
+    fn read_segment(&mut self, image: &SizedImage, piece: &mut Piece<'_>) -> Result<(), Fault>
         requires stage { self.old.stage ≡ stage.Head }
         ensures step { Alone (λ w w'. Step (sized_of image.now) w w' piece.old.rest.now
             piece.new.rest.now result) self.old self.new }
@@ -116,11 +104,7 @@ impl Walk {
     }
 
     /// Reads the length of a comment.
-    fn enter_comment(
-        &mut self,
-        image: &SizedImage,
-        piece: &mut Piece<'_>,
-    ) -> Result<(), Fault>
+    fn enter_comment(&mut self, image: &SizedImage, piece: &mut Piece<'_>) -> Result<(), Fault>
         requires stage { self.old.stage ≡ stage.Head }
         requires comment { (rest : List ℕ) × (piece.old.rest.now ≡ 255 ∷ 7 ∷ rest) }
         ensures step { Alone (λ w w'. Step (sized_of image.now) w w' piece.old.rest.now
@@ -147,11 +131,7 @@ impl Walk {
     }
 
     /// Reads a marker segment of a stripe, or the first element of its code.
-    fn pass_segment(
-        &mut self,
-        image: &SizedImage,
-        piece: &mut Piece<'_>,
-    ) -> Result<(), Fault>
+    fn pass_segment(&mut self, image: &SizedImage, piece: &mut Piece<'_>) -> Result<(), Fault>
         requires stage { self.old.stage ≡ stage.Head }
         requires other { (rest : List ℕ) → piece.old.rest.now ≡ 255 ∷ 7 ∷ rest → ⊥ }
         ensures step { Alone (λ w w'. Step (sized_of image.now) w w' piece.old.rest.now

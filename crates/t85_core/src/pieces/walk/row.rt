@@ -33,8 +33,8 @@ const WHOLE_ROW: usize = 0;
 const REST_OF_ROW: usize = 1;
 
 impl Walk {
-    /// Continues to the end of the next row, if one is wanted. For numbers that no decoder exports, it reports that the
-    /// piece has ended.
+    /// Continues to the end of the next row, if the stripe has one. For numbers that no decoder exports, it reports
+    /// that the piece has ended.
     pub fn give_row(
         &mut self,
         image: &SizedImage,

@@ -62,7 +62,13 @@ impl Walk {
         if !is_settled(self.at, self.row) {
             return 0;
         }
-        let count = skip_many(image.header.shape(), self.kept, lent.learned, &mut self.decoder, left);
+        let count = skip_many(
+            image.header.shape(),
+            self.kept,
+            lent.learned,
+            &mut self.decoder,
+            left,
+        );
         if count == 0 {
             return 0;
         }
@@ -81,11 +87,7 @@ impl Walk {
     }
 
     /// Skips the rest of the code of a stripe, after its last row, up to its end marker, and reads the marker ahead.
-    pub fn find_end(
-        &mut self,
-        image: &SizedImage,
-        piece: &mut Piece<'_>,
-    ) -> Result<(), Fault>
+    pub fn find_end(&mut self, image: &SizedImage, piece: &mut Piece<'_>) -> Result<(), Fault>
         requires rows { HasAllRows image.now.header.l0 self.old }
         requires unmarked { self.old.marker ≡ None }
         ensures step { Alone (λ w w'. Step (sized_of image.now) w w' piece.old.rest.now
