@@ -22,7 +22,8 @@ use Rattle.t85_core.specs.Jbg.{AreSettings, Settings, head_of, is_low, jbg, jbg_
 use Rattle.t85_core.specs.Laws.{CodeDenotes}
 use Rattle.t85_core.specs.Options.{refusal_of, settings_of}
 use Rattle.t85_core.specs.RowNumbers.{row_numbers}
-use Rattle.t85_core.specs.Steps.ByRow.{EndsImage, HaveCome, IsPlan, MayGoOn, RowPlan, RowView, Stands, TakesNextRow, plan_of, view_of, encoder_at, NamesOffset}
+use Rattle.t85_core.specs.Steps.RowStream.{HaveCome}
+use Rattle.t85_core.specs.Steps.ByRow.{EndsImage, IsPlan, MayGoOn, RowPlan, RowView, Stands, TakesNextRow, plan_of, view_of, encoder_at, NamesOffset}
 use Rattle.t85_core.specs.RowImage.{MayCome, Image, image_of, may_name, named_after, with_name}
 use Rattle.t85_core.specs.Steps.RowLaws.{RowFronts, RowsGoElsewhere}
 use Rattle.t85_core.specs.Steps.MostBytes.{AppendsAtMost, most_row_bytes}

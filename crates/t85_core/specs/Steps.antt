@@ -22,6 +22,7 @@ pub mod Feeds
 pub mod Written
 pub mod Looked
 pub mod Sent
+pub mod RowStream
 pub mod ByRow
 pub mod RowLaws
 pub mod MostBytes

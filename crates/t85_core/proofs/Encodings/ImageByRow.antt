@@ -15,7 +15,8 @@ use Rattle.t85_core.specs.Steps.CoderLaws.{WritingLaws}
 use Rattle.t85_core.specs.Steps.EncodeRows.{ReadsRows, RowTaken, EndsInRow}
 use Rattle.t85_core.specs.Steps.EncodeStripes.{ImageShort, ImageRefused}
 use Rattle.t85_core.specs.Steps.Sent.{Origin, SendsBeginning, here}
-use Rattle.t85_core.specs.Steps.ByRow.{RowView, StreamCut, StreamFront, Waits, Runs, Stands, IsLined, move_bytes}
+use Rattle.t85_core.specs.Steps.RowStream.{StreamCut, StreamFront}
+use Rattle.t85_core.specs.Steps.ByRow.{RowView, Waits, Runs, Stands, IsLined, move_bytes}
 use Rattle.t85_core.specs.RowImage.{MayCome, Image, image_of}
 use Rattle.t85_core.proofs.Bytes.Sendings.{here_sent}
 use Rattle.t85_core.proofs.Theorems.Joined.{stripe_at}

@@ -4,7 +4,8 @@ use Rattle.std.specs.Io.KnownBytes.{Keeps, append_known}
 use Rattle.raster_core.specs.Packed.{Held}
 use Rattle.t85_core.specs.Steps.Buffers.{known_length}
 use Rattle.t85_core.specs.Steps.Sent.{Origin, Sends, behind}
-use Rattle.t85_core.specs.Steps.ByRow.{RowView, StreamCut, StreamFront, Stands, Waits, IsStart, IsLined, move_bytes}
+use Rattle.t85_core.specs.Steps.RowStream.{StreamCut, StreamFront}
+use Rattle.t85_core.specs.Steps.ByRow.{RowView, Stands, Waits, IsStart, IsLined, move_bytes}
 use Rattle.t85_core.specs.RowImage.{Image}
 use Rattle.t85_core.proofs.Bytes.Sendings.{Sends-keeps, sends_grows, sends_handed, sent_behind, appends_none}
 

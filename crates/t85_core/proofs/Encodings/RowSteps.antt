@@ -31,7 +31,8 @@ use Rattle.t85_core.specs.Steps.CoderLaws.{WritingLaws}
 use Rattle.t85_core.specs.Steps.EncodeRows.{IsCountedTo}
 use Rattle.t85_core.specs.Steps.EncodeStripes.{IsTallied}
 use Rattle.t85_core.specs.Steps.Sent.{Origin, Sends, SendsBeginning, here}
-use Rattle.t85_core.specs.Steps.ByRow.{RowView, StreamCut, IsPlan, HaveCome, StripesWhole, IsHeldBy, IsStart, Runs, Waits, Stands, counted_of, move_bytes, IsBelow, encoder_at}
+use Rattle.t85_core.specs.Steps.RowStream.{StreamCut, HaveCome, StripesWhole}
+use Rattle.t85_core.specs.Steps.ByRow.{RowView, IsPlan, IsHeldBy, IsStart, Runs, Waits, Stands, counted_of, move_bytes, IsBelow, encoder_at}
 use Rattle.t85_core.specs.RowImage.{MayCome, Image}
 use Rattle.t85_core.specs.Steps.RowSteps.{MoveMade, MoveCut, RowPut, RowCut, StripeEnded, StripeBegun, StripesEnded}
 use Rattle.t85_core.proofs.Bytes.Sendings.{Sends-more, Sends-keeps, sends_after, sends_longer, sent_here}

@@ -16,7 +16,7 @@ use Rattle.t85_core.specs.Jbg.{Settings, moved_to, move_segments, coding_of, cod
 use Rattle.t85_core.specs.Encode.{IsBeginning}
 use Rattle.t85_core.specs.Steps.Written.{EncoderStart, after_rows, lines_down, first_encoder_start, next_stripe, next_encoder_start}
 use Rattle.t85_core.specs.Steps.Looked.{CourseAt}
-use Rattle.t85_core.specs.Steps.ByRow.{FrontStands, StripesWhole}
+use Rattle.t85_core.specs.Steps.RowStream.{FrontStands, StripesWhole}
 use Rattle.t85_core.specs.RowImage.{MayCome, Image, SameNames, naming}
 use Rattle.t85_core.proofs.Encodings.EncoderStarts.{CourseGoes, course_begins, course_step, stripes_more}
 use Rattle.t85_core.proofs.Encodings.RowsOn.{RowsGoOn, front_splits, rows_continue, rows_go_on}

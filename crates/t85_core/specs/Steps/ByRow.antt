@@ -1,10 +1,8 @@
--- What a row encoder holds, and what stands of a stream, after some rows.
+-- The state of a row encoder after some rows, and how it relates to the stream.
 use Rattle.std.specs.Prelude.{ℕ, ◌+◌, ◌*◌, ◌%◌, ◌^◌, ◌≡◌, ◌≤◌, ◌<◌, ◌⊎◌, Bool, true, false, List, [], ◌∷◌, ◌++◌, length, nat_lt, flat_map, if◌then◌else◌, Option, None, Some, IfSome, is_some, unwrap_or}
-use Rattle.std.specs.List.{AllByRecursion}
 use Rattle.qm_core.specs.Place.{Estimate, Place, start}
 use Rattle.qm_core.specs.Encoder.{EncoderIsAt, event_count, has_failed}
 use Rattle.qm_core.specs.declared.encoder.Encoder.{Encoder}
-use Rattle.raster_core.specs.Raster.{Raster, height}
 use Rattle.raster_core.specs.Lines.{Lines}
 use Rattle.raster_core.specs.Offset.{candidates}
 use Rattle.raster_core.specs.Packed.{Held, HasLines}
@@ -16,27 +14,15 @@ use Rattle.t85_core.specs.declared.encoding.by_row.RowEncoder.{RowEncoder}
 use Rattle.t85_core.specs.declared.encoding.learning.Learning.{Learning}
 use Rattle.t85_core.specs.Grammar.{segment_bytes}
 use Rattle.t85_core.specs.Coding.{mode_of}
-use Rattle.t85_core.specs.Encode.{IsBeginning, HoldsStripes, raster_of}
-use Rattle.t85_core.specs.Jbg.{Settings, named_for, jbg, jbg_up_to, move_segments}
-use Rattle.t85_core.specs.RowImage.{Image, MayCome, SameNames, naming, named_after}
+use Rattle.t85_core.specs.Encode.{raster_of}
+use Rattle.t85_core.specs.Jbg.{Settings, named_for, jbg, move_segments}
+use Rattle.t85_core.specs.RowImage.{Image, named_after}
 use Rattle.t85_core.specs.Steps.State.{RowStart, first_row_start, offset_at}
+use Rattle.t85_core.specs.Steps.RowStream.{HaveCome, StripesWhole, StreamCut}
 use Rattle.t85_core.specs.Steps.Written.{EncoderStart, next_move, row_start_in, lines_down}
 use Rattle.t85_core.specs.Steps.EncodeRows.{IsShape, IsCountedTo}
 use Rattle.t85_core.specs.Steps.EncodeStripes.{IsTallied}
-use Rattle.t85_core.specs.Steps.Looked.{CourseAt}
 use Rattle.t85_core.specs.Steps.Sent.{Origin, Sends, SendsBeginning}
-
--- What was written is a beginning of the stream of each raster that may still come.
-pub record StreamCut (image : Image) (rows : List (List Bool)) (origin : Origin) (text : Option (List ℕ)) : Type 0 where
-  pub bytes : List ℕ
-  pub sent : Sends origin text bytes
-  pub begins : (raster : Raster) → MayCome image rows raster → IsBeginning bytes (jbg image.settings raster)
-
--- The same, with each stripe whose rows all came.
-pub record StreamFront (image : Image) (rows : List (List Bool)) (origin : Origin) (text : Option (List ℕ)) : Type 0 where
-  pub bytes : List ℕ
-  pub sent : Sends origin text bytes
-  pub begun : (raster : Raster) → MayCome image rows raster → HoldsStripes image.settings raster (length rows) bytes
 
 -- what was chosen for a stream
 pub record RowPlan : Type 0 where
@@ -130,23 +116,6 @@ pub record IsPlan (image : Image) (p : RowPlan) : Type 0 where
   pub width_from : 1 ≤ image.width
   pub width_to : image.width ≤ 1048576
   pub limit_to : image.limit < 2 ^ 32
-
--- these rows came, so many
-pub record HaveCome (width limit : ℕ) (rows : List (List Bool)) (count : ℕ) : Type 0 where
-  pub many : count ≡ length rows
-  pub few : length rows ≤ limit
-  pub wide : AllByRecursion (λ row. length row ≡ width) rows
-
--- This is the stream up to stripe i and what is carried to it.
-pub record FrontStands (image : Image) (i : ℕ) (rows : List (List Bool)) (at : EncoderStart) (front : List ℕ) : Type 0 where
-  pub front_is : (raster : Raster) → MayCome image rows raster → front ≡ jbg_up_to image.settings raster i
-  pub course : (raster : Raster) → MayCome image rows raster → i * image.settings.stripe_rows < height raster → CourseAt image.settings raster i at
-
--- i stripes are whole, and this is the stream up to there and what is carried on, whatever is named for later stripes
-pub record StripesWhole (image : Image) (i : ℕ) (rows : List (List Bool)) (at : EncoderStart) (front : List ℕ) : Type 0 where
-  pub many : length rows ≡ i * image.settings.stripe_rows
-  pub stripe_is : at.stripe ≡ i
-  pub stands : (names : List (Option ℕ)) → SameNames i image.settings.named names → FrontStands (naming image names) i rows at front
 
 -- what is held before row r of a stripe, whose move is made
 pub record IsHeldBy (move : Option (ℕ × ℕ)) (r : ℕ) (b : RowStart) (kept : Kept) (learned : List Estimate) (window : Held) : Type 0 where

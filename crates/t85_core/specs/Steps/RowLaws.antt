@@ -2,7 +2,8 @@
 use Rattle.std.specs.Prelude.{ℕ, Bool, List, Option}
 use Rattle.raster_core.specs.Packed.{Held}
 use Rattle.t85_core.specs.Steps.Sent.{Origin, Sends, behind}
-use Rattle.t85_core.specs.Steps.ByRow.{RowView, Stands, StreamFront}
+use Rattle.t85_core.specs.Steps.RowStream.{StreamFront}
+use Rattle.t85_core.specs.Steps.ByRow.{RowView, Stands}
 use Rattle.t85_core.specs.RowImage.{Image}
 
 -- The output after some rows is a prefix of each stream that is still possible, and contains each stripe whose rows all came.

@@ -27,7 +27,8 @@ use Rattle.t85_core.specs.Jbg.{Settings, head_of, jbg_up_to, move_segments}
 use Rattle.t85_core.specs.Steps.State.{offset_at}
 use Rattle.t85_core.specs.Steps.Written.{EncoderStart, next_stripe, next_encoder_start}
 use Rattle.t85_core.specs.Steps.Sent.{Origin, Sends, SendsBeginning, here}
-use Rattle.t85_core.specs.Steps.ByRow.{EncoderAt, IsPlan, encoder_at, HaveCome, StripesWhole, IsStart, RowView, Stands, Waits, Runs, StreamCut, IsBelow, TakesNextRow, CutsRow, move_bytes}
+use Rattle.t85_core.specs.Steps.RowStream.{HaveCome, StripesWhole, StreamCut}
+use Rattle.t85_core.specs.Steps.ByRow.{EncoderAt, IsPlan, encoder_at, IsStart, RowView, Stands, Waits, Runs, IsBelow, TakesNextRow, CutsRow, move_bytes}
 use Rattle.t85_core.specs.RowImage.{Image}
 
 -- The move of a stripe was written and made, if the offset was this one.

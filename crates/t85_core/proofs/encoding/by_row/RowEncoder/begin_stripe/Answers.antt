@@ -1,7 +1,8 @@
 use Rattle.std.specs.Prelude.{OnErr, List, Bool, ◌++◌, ◌∷◌, []}
 use Rattle.raster_core.specs.Packed.{Held}
 use Rattle.t85_core.specs.Steps.Sent.{Origin}
-use Rattle.t85_core.specs.Steps.ByRow.{Waits, StreamCut, view_of}
+use Rattle.t85_core.specs.Steps.RowStream.{StreamCut}
+use Rattle.t85_core.specs.Steps.ByRow.{Waits, view_of}
 use Rattle.t85_core.specs.RowImage.{Image}
 use Rattle.t85_core.proofs.Walks.InfoEnds.{exit_all}
 use Rattle.t85_core.proofs.Encodings.RowSteps.{stripe_begun, move_cut}

@@ -6,7 +6,8 @@ use Rattle.t85_core.specs.Steps.EncodeRows.{IsCountedTo}
 use Rattle.t85_core.specs.Steps.Written.{row_start_in}
 use Rattle.t85_core.specs.Steps.State.{lines_with}
 use Rattle.t85_core.specs.Steps.Sent.{Origin}
-use Rattle.t85_core.specs.Steps.ByRow.{Runs, StreamCut, IsBelow, view_of}
+use Rattle.t85_core.specs.Steps.RowStream.{StreamCut}
+use Rattle.t85_core.specs.Steps.ByRow.{Runs, IsBelow, view_of}
 use Rattle.t85_core.specs.RowImage.{Image}
 use Rattle.t85_core.proofs.Walks.InfoEnds.{exit_all}
 use Rattle.t85_core.proofs.Encodings.RowSteps.{events_more, row_coded, row_cut, lines_are}

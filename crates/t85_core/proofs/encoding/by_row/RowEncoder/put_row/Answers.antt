@@ -3,7 +3,8 @@ use Rattle.pbm_core.specs.Image.{pixels_of}
 use Rattle.raster_core.specs.Window.{held}
 use Rattle.t85_core.specs.Steps.Buffers.{held_of, known_length}
 use Rattle.t85_core.specs.Steps.Views.{text_taken}
-use Rattle.t85_core.specs.Steps.ByRow.{Stands, StreamCut, view_of}
+use Rattle.t85_core.specs.Steps.RowStream.{StreamCut}
+use Rattle.t85_core.specs.Steps.ByRow.{Stands, view_of}
 use Rattle.t85_core.proofs.Bytes.Ends.{map_ok, on_err}
 use Rattle.t85_core.proofs.Decodings.BufferDecoded.{text_unheld}
 use Rattle.t85_core.proofs.Encodings.RowCalls.{moved, stands_cleared, stands_grown, cut_written}

@@ -1,0 +1,39 @@
+-- What was written of a stream after some rows, and the stripes of it whose rows are complete.
+use Rattle.std.specs.Prelude.{ℕ, ◌*◌, ◌≡◌, ◌≤◌, ◌<◌, Bool, List, length, Option}
+use Rattle.std.specs.List.{AllByRecursion}
+use Rattle.raster_core.specs.Raster.{Raster, height}
+use Rattle.t85_core.specs.Encode.{IsBeginning, HoldsStripes}
+use Rattle.t85_core.specs.Jbg.{jbg, jbg_up_to}
+use Rattle.t85_core.specs.RowImage.{Image, MayCome, SameNames, naming}
+use Rattle.t85_core.specs.Steps.Written.{EncoderStart}
+use Rattle.t85_core.specs.Steps.Looked.{CourseAt}
+use Rattle.t85_core.specs.Steps.Sent.{Origin, Sends}
+
+-- What was written is a beginning of the stream of each raster that may still come.
+pub record StreamCut (image : Image) (rows : List (List Bool)) (origin : Origin) (text : Option (List ℕ)) : Type 0 where
+  pub bytes : List ℕ
+  pub sent : Sends origin text bytes
+  pub begins : (raster : Raster) → MayCome image rows raster → IsBeginning bytes (jbg image.settings raster)
+
+-- The same, with each stripe whose rows all came.
+pub record StreamFront (image : Image) (rows : List (List Bool)) (origin : Origin) (text : Option (List ℕ)) : Type 0 where
+  pub bytes : List ℕ
+  pub sent : Sends origin text bytes
+  pub begun : (raster : Raster) → MayCome image rows raster → HoldsStripes image.settings raster (length rows) bytes
+
+-- these rows came, so many
+pub record HaveCome (width limit : ℕ) (rows : List (List Bool)) (count : ℕ) : Type 0 where
+  pub many : count ≡ length rows
+  pub few : length rows ≤ limit
+  pub wide : AllByRecursion (λ row. length row ≡ width) rows
+
+-- This is the stream up to stripe i and what is carried to it.
+pub record FrontStands (image : Image) (i : ℕ) (rows : List (List Bool)) (at : EncoderStart) (front : List ℕ) : Type 0 where
+  pub front_is : (raster : Raster) → MayCome image rows raster → front ≡ jbg_up_to image.settings raster i
+  pub course : (raster : Raster) → MayCome image rows raster → i * image.settings.stripe_rows < height raster → CourseAt image.settings raster i at
+
+-- i stripes are whole, and this is the stream up to there and what is carried on, whatever is named for later stripes
+pub record StripesWhole (image : Image) (i : ℕ) (rows : List (List Bool)) (at : EncoderStart) (front : List ℕ) : Type 0 where
+  pub many : length rows ≡ i * image.settings.stripe_rows
+  pub stripe_is : at.stripe ≡ i
+  pub stands : (names : List (Option ℕ)) → SameNames i image.settings.named names → FrontStands (naming image names) i rows at front
