@@ -1,11 +1,11 @@
 -- The first number of a range with the greatest value.
 use Rattle.std.proofs.Common.{◌≡◌, ℕ, zero, suc, ◌+◌, ◌<◌, ◌≤◌, Bool, true, false, ◌&&◌, List, refl, ◌∙◌, ap, arith, None, Some, replicate, get_or, inl, inr, ◌⊎◌, cond}
-use Rattle.std.specs.Prelude.{find, nat_le, ◌-◌, ◌*◌, ◌/◌, length, nat_lt, if◌then◌else◌, option_and_then}
+use Rattle.std.specs.Prelude.{find, nat_le, ◌-◌, if◌then◌else◌}
 use Rattle.std.specs.List.{list_all}
 use Rattle.std.specs.Bool.{then_some}
 use Rattle.std.proofs.lemmas.Bool.Decides.{nat_tests}
 use Rattle.raster_core.specs.Lines.{Lines, numbers_from}
-use Rattle.raster_core.specs.Offset.{agreement, chosen_offset}
+use Rattle.raster_core.specs.Offset.{agreement, best_offset, candidates}
 use Rattle.raster_core.specs.Tally.{least_lag}
 use Rattle.std.proofs.Math.Bool.{and-false}
 
@@ -58,17 +58,15 @@ best_found f k n b low high most first =
     one_false (λ u. nat_le (f u) (f t)) k n b low high
     (let h : f t < f b = first t from below in grind (arith, nat_tests)))
 
--- the offset that is chosen, where the best lag is known
-pub chosen_is : (two_line : Bool) (most width current : ℕ) (stripe : List Lines) (b : ℕ) →
+-- the best offset of a list of candidates
+pub best_is : (two_line : Bool) (most : ℕ) (stripe : List Lines) (b : ℕ) →
     least_lag two_line ≤ b → b ≤ most →
     ((u : ℕ) → least_lag two_line ≤ u → u ≤ most → agreement stripe u ≤ agreement stripe b) →
     ((u : ℕ) → least_lag two_line ≤ u → u < b → agreement stripe u < agreement stripe b) →
-    chosen_offset two_line most width stripe current
-    ≡ (if nat_lt (width * length stripe / 8) (agreement stripe b - agreement stripe current) then Some b else None)
-chosen_is two_line most width current stripe b low high greatest first =
-    ap (option_and_then (λ t. if nat_lt (width * length stripe / 8) (agreement stripe t - agreement stripe current) then Some t else None))
-    (best_found (agreement stripe) (least_lag two_line) (most + 1 - least_lag two_line) b low (omega arith)
-    (λ u from below. greatest u from (omega arith)) first)
+    best_offset stripe (candidates two_line most) ≡ Some b
+best_is two_line most stripe b low high greatest first =
+    best_found (agreement stripe) (least_lag two_line) (most + 1 - least_lag two_line) b low (omega arith)
+    (λ u from below. greatest u from (omega arith)) first
 
 pub some_if : (b : Bool) (x : ℕ) → then_some b x ≡ (if b then Some x else None)
 some_if true x = refl

@@ -1,6 +1,6 @@
 -- What a tally counts, modulo 2^64 and of rows whose counts stay below it, and the lag that it chooses.
 use Rattle.std.proofs.Common.{◌≡◌, ℕ, ◌+◌, ◌-◌, ◌*◌, ◌%◌, ◌^◌, ◌<◌, ◌≤◌, Bool, true, false, List, [], ◌∷◌, ◌++◌, length, refl, sym, ◌∙◌, ap, subst, arith, get_or, replicate, inl, inr, Some, None}
-use Rattle.std.specs.Prelude.{◌/◌, nat_lt, if◌then◌else◌}
+use Rattle.std.specs.Prelude.{◌/◌, nat_lt, if◌then◌else◌, option_and_then}
 use Rattle.std.specs.List.{AllByRecursion}
 use Rattle.std.proofs.lemmas.Bool.{cases_lt}
 use Rattle.std.proofs.lemmas.Nat.{mul-mod_first}
@@ -8,10 +8,10 @@ use Rattle.std.proofs.lemmas.List.Sums.{count_by-le-length, sum_by-cons}
 use Rattle.qm_core.specs.Place.{same}
 use Rattle.raster_core.specs.Raster.{pixel_at}
 use Rattle.raster_core.specs.Lines.{Lines, adaptive, numbers_from}
-use Rattle.raster_core.specs.Offset.{agreements, agreement, chosen_offset}
+use Rattle.raster_core.specs.Offset.{agreements, agreement, best_offset, candidates, chosen_offset}
 use Rattle.raster_core.specs.Tally.{CountsLines, KeepsCounts, counted_at, is_two_line, most_of, least_lag, last_lag}
 use Rattle.raster_core.specs.declared.tally.Tally.{Tally}
-use Rattle.raster_core.proofs.Choosing.{zeros, chosen_is}
+use Rattle.raster_core.proofs.Choosing.{zeros, best_is}
 use Rattle.raster_core.proofs.Packed.{length-numbers}
 use Rattle.raster_core.proofs.Shifts.{count_same}
 use Rattle.raster_core.proofs.Parts.{is_lt, adaptive_left, agreement_push, all_push, length_push}
@@ -89,18 +89,6 @@ threshold t width current (r ∷ rows) k =
     let w : t.width ≡ width = k.width_is some in
     ap (λ n. n / 8) (ap (λ x. x * length (r ∷ rows)) (sym w) ∙ ap (λ n. t.width * n) (sym k.number))
 
--- with what the counts say of the rows
-chosen_with : (t : Tally) (width current : ℕ) (rows : List Lines) (b : ℕ) → CountsLines t width current rows → least_lag (is_two_line t) ≤ b → b ≤ most_of t → counted_at t b ≡ agreement rows b →
-    ((u : ℕ) → least_lag (is_two_line t) ≤ u → u ≤ most_of t → agreement rows u ≤ agreement rows b) →
-    ((u : ℕ) → least_lag (is_two_line t) ≤ u → u < b → agreement rows u < agreement rows b) →
-    chosen_offset (is_two_line t) (most_of t) width rows current
-    ≡ (if nat_lt (t.width * t.rows / 8) (counted_at t b - t.held) then Some b else None)
-chosen_with t width current rows b k low high counted greatest first =
-    chosen_is (is_two_line t) (most_of t) width current rows b low high greatest first
-    ∙ ap (λ x. if nat_lt x (agreement rows b - agreement rows current) then Some b else None) (threshold t width current rows k)
-    ∙ ap (λ x. if nat_lt (t.width * t.rows / 8) (x - agreement rows current) then Some b else None) (sym counted)
-    ∙ ap (λ x. if nat_lt (t.width * t.rows / 8) (counted_at t b - x) then Some b else None) (sym k.held)
-
 some_lag : (two_line : Bool) → 1 ≤ least_lag two_line
 some_lag true = omega arith
 some_lag false = omega arith
@@ -111,22 +99,30 @@ beyond_last two_line most width u rows wide to above =
     let some = some_lag two_line in
     beyond rows width u (last_lag two_line most width) wide (omega arith) (omega arith) (omega arith) (omega arith)
 
-pub chosen_by : (t : Tally) (width current : ℕ) (rows : List Lines) (b : ℕ) → CountsLines t width current rows → IsBest t b →
-    chosen_offset (is_two_line t) (most_of t) width rows current
-    ≡ (if nat_lt (t.width * t.rows / 8) (counted_at t b - t.held) then Some b else None)
-chosen_by t width current [] b k h =
-    let none : t.rows ≡ 0 = k.number in
+-- what was counted at the last lags
+counted_best : (t : Tally) (width current : ℕ) (rows : List Lines) (b : ℕ) → CountsLines t width current rows → least_lag (is_two_line t) ≤ b → b ≤ last_lag (is_two_line t) (most_of t) t.width →
+    counted_at t b ≡ agreement rows b
+counted_best t width current [] b k low high = k.none refl b
+counted_best t width current (r ∷ rows) b k low high =
+    let some : 0 < length (r ∷ rows) = omega arith in
+    let w : t.width ≡ width = k.width_is some in
+    k.each b low (rw w at high)
+
+pub best_by : (t : Tally) (width current : ℕ) (rows : List Lines) (b : ℕ) → CountsLines t width current rows → IsBest t b →
+    best_offset rows (candidates (is_two_line t) (most_of t)) ≡ Some b
+best_by t width current [] b k h =
     let zero_b : counted_at t b ≡ 0 = k.none refl b in
-    chosen_with t width current [] b k h.low (omega (arith, h.high)) zero_b (λ u from to. omega arith)
+    best_is (is_two_line t) (most_of t) [] b h.low (omega (arith, h.high))
+    (λ u from to. omega arith)
     (λ u from below. absurd (let l = h.first u from below in omega arith))
-chosen_by t width current (r ∷ rows) b k h =
+best_by t width current (r ∷ rows) b k h =
     let some : 0 < length (r ∷ rows) = omega arith in
     let w : t.width ≡ width = k.width_is some in
     let high : b ≤ last_lag (is_two_line t) (most_of t) width = rw w at h.high in
     let at_b : counted_at t b ≡ agreement (r ∷ rows) b = k.each b h.low high in
     let within : (u : ℕ) → least_lag (is_two_line t) ≤ u → u ≤ last_lag (is_two_line t) (most_of t) width → agreement (r ∷ rows) u ≤ agreement (r ∷ rows) b =
     (λ u from to. subst2 ◌≤◌ (k.each u from to) at_b (h.greatest u from (rw w to))) in
-    chosen_with t width current (r ∷ rows) b k h.low (omega arith) at_b
+    best_is (is_two_line t) (most_of t) (r ∷ rows) b h.low (omega arith)
     (λ u from to. elim (cases_lt (last_lag (is_two_line t) (most_of t) width) u) [
       | inl above ↦
           let e = beyond_last (is_two_line t) (most_of t) width u (r ∷ rows) k.wide to above in
@@ -138,3 +134,14 @@ chosen_by t width current (r ∷ rows) b k h =
   where
     subst2 : (R : ℕ → ℕ → Type 0) {a b x y : ℕ} → a ≡ x → b ≡ y → R a b → R x y
     subst2 R {a} {b} {x} {y} e f r = subst (λ (z : ℕ). R x z) f (subst (λ (z : ℕ). R z b) e r)
+
+-- the best lag is chosen if it gains enough
+pub chosen_by : (t : Tally) (width current : ℕ) (rows : List Lines) (b : ℕ) → CountsLines t width current rows → least_lag (is_two_line t) ≤ b → b ≤ last_lag (is_two_line t) (most_of t) t.width →
+    best_offset rows (candidates (is_two_line t) (most_of t)) ≡ Some b →
+    chosen_offset (is_two_line t) (most_of t) width rows current
+    ≡ (if nat_lt (t.width * t.rows / 8) (counted_at t b - t.held) then Some b else None)
+chosen_by t width current rows b k low high best =
+    ap (option_and_then (λ u. if nat_lt (width * length rows / 8) (agreement rows u - agreement rows current) then Some u else None)) best
+    ∙ ap (λ x. if nat_lt x (agreement rows b - agreement rows current) then Some b else None) (threshold t width current rows k)
+    ∙ ap (λ x. if nat_lt (t.width * t.rows / 8) (x - agreement rows current) then Some b else None) (sym (counted_best t width current rows b k low high))
+    ∙ ap (λ x. if nat_lt (t.width * t.rows / 8) (counted_at t b - x) then Some b else None) (sym k.held)

@@ -28,7 +28,7 @@ impl Tally {
     ghost use Rattle.std.specs.Prelude.{ℕ, ◌+◌, ◌^◌, ◌≡◌, ◌≤◌, ◌<◌, ◌-◌, [], ◌∷◌, ◌++◌, List, IfSome, length, take};
     ghost use Rattle.raster_core.specs.Tally.{CountsLines, CountsAlike, CountsRow, KeepsCounts, counted_at, is_two_line, last_lag, least_lag, most_of, row_count};
     ghost use Rattle.raster_core.specs.Lines.{Lines};
-    ghost use Rattle.raster_core.specs.Offset.{chosen_offset};
+    ghost use Rattle.raster_core.specs.Offset.{best_offset, candidates, chosen_offset};
     ghost use Rattle.raster_core.specs.Packed.{HasLines};
     ghost use Rattle.raster_core.specs.Window.{held as rows_held, width_of};
 
@@ -128,12 +128,14 @@ impl Tally {
         self.counts[lag].wrapping_add(self.times.wrapping_mul(self.last.agreed[lag]))
     }
 
-    /// The least lag with the greatest count, if that count exceeds the count at `offset` by more than an eighth of the
-    /// number of pixels.
-    pub fn choose(&self, offset: u8) -> Option<u8>
-        ensures chosen { (width : ℕ) (rows : List Lines) → CountsLines self.now width offset rows
-            → result ≡ chosen_offset (is_two_line self.now) (most_of self.now) width rows offset }
-        ensures reach { IfSome result (λ lag. lag ≤ most_of self.now) }
+    /// The least lag with the greatest count, if there is a lag that may be chosen.
+    pub fn best(&self) -> Option<u8>
+        ensures best { (width current : ℕ) (rows : List Lines) →
+            CountsLines self.now width current rows →
+            result ≡ best_offset rows (candidates (is_two_line self.now) (most_of self.now)) }
+        ensures low { IfSome result (λ lag. least_lag (is_two_line self.now) ≤ lag) }
+        ensures reach { IfSome result (λ lag. lag ≤ last_lag (is_two_line self.now)
+            (most_of self.now) self.now.width) }
     {
         let least = self.least_lag();
         if self.most < u32::from(least) {
@@ -146,6 +148,17 @@ impl Tally {
                 best = lag;
             }
         }
+        Some(best)
+    }
+
+    /// The least lag with the greatest count, if that count exceeds the count at `offset` by more than an eighth of the
+    /// number of pixels.
+    pub fn choose(&self, offset: u8) -> Option<u8>
+        ensures chosen { (width : ℕ) (rows : List Lines) → CountsLines self.now width offset rows
+            → result ≡ chosen_offset (is_two_line self.now) (most_of self.now) width rows offset }
+        ensures reach { IfSome result (λ lag. lag ≤ most_of self.now) }
+    {
+        let best = self.best()?;
         let eighth = self.width as u64 * self.rows as u64 / 8;
         let gain = self.at(best).saturating_sub(self.held);
         (gain > eighth).then_some(best)
