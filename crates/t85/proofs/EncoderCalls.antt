@@ -38,7 +38,7 @@ use Rattle.t85_core.specs.declared.fault.Fault.TheVariants.{AnnouncedLow, MoveLa
 use Rattle.t85.specs.Decoded.{window_bytes}
 use Rattle.t85.specs.Delivered.{lending}
 use Rattle.t85.specs.Encoded.{settings_chosen}
-use Rattle.t85.specs.Encoder.{BeginsStream, EndsStream, HasBeenEnded, HasCome, IsNotBegun, PutsEnd, PutsRow, StartCall, StartsStream, TakesOne, TellsLeft, encoder_hold, end_refusal, numbers_of_encoder, row_refusal, settings_kept, start_refusal, without_comment, TakesName}
+use Rattle.t85.specs.Encoder.{BeginsStream, EndsStream, HasBeenEnded, HasCome, EncoderIsNotBegun, PutsEnd, PutsRow, StartCall, StartsStream, TakesOne, TellsLeft, encoder_hold, end_refusal, numbers_of_encoder, row_refusal, settings_kept, start_refusal, without_comment, TakesName}
 use Rattle.t85.specs.EncoderSteps.{GoesOnFrom, HasBegun, IsIdle, IsOfNone, AwaitsCall, RefusesCall}
 use Rattle.t85.specs.Laws.{SentIsFront}
 use Rattle.t85.specs.declared.encoder.T85Encoder.{T85Encoder}
@@ -438,7 +438,7 @@ other_window image d window window' rows sent same k = record {
 take_twice : (n m : ℕ) (xs : List ℕ) → n ≡ m → take n (take m xs) ≡ take n xs
 take_twice n m xs same = subst (λ k. take n (take k xs) ≡ take n xs) same (take_all n (take n xs) (subst (λ k. k ≤ n) (sym (length-take n xs)) (omega arith)))
 
-ready_begun : (d : T85Encoder) (e : RowEncoder) → AwaitsCall d e → IsNotBegun d → ⊥
+ready_begun : (d : T85Encoder) (e : RowEncoder) → AwaitsCall d e → EncoderIsNotBegun d → ⊥
 ready_begun d e r (inl other) = other r.version_is
 ready_begun d e r (inr other) = other.0 r.next_is
 

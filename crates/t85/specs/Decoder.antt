@@ -199,15 +199,15 @@ pub record Answers (Has : List ℕ → List ℕ → Type 0) (old new : Hold) (ca
   pub tells : TellsAnswer Has old new call what
 
 -- the struct was not initialized, as its first numbers show
-abbrev pub IsNotBegun : T85Decoder → Type 0
-IsNotBegun d = (d.version ≢ 1) ⊎ (3 < d.next)
+abbrev pub DecoderIsNotBegun : T85Decoder → Type 0
+DecoderIsNotBegun d = (d.version ≢ 1) ⊎ (3 < d.next)
 
 -- the effect of a call, and its status
 pub record IsAnswered (old new : Hold) (call : BytesCall) (status : ℕ) : Type 0 where
   pub what : Answer
   pub status_is : status ≡ status_told what
   pub answers : Answers (HasRead old) old new call what
-  pub not_begun : IsNotBegun old.decoder → what ≡ answer.NotBegun
+  pub not_begun : DecoderIsNotBegun old.decoder → what ≡ answer.NotBegun
   pub ended : old.decoder.version ≡ 1 → old.decoder.next ≡ 3 → what ≡ answer.Ended old.decoder.status
 
 -- This many rows are certain: no height that can still arrive is lower, and one is equal.

@@ -95,8 +95,8 @@ pub record HasBeenEnded (d : T85Encoder) : Type 0 where
   pub next_is : d.next ≡ 2
 
 -- the struct was not initialized, as its first numbers show
-abbrev pub IsNotBegun : T85Encoder → Type 0
-IsNotBegun d = (d.version ≢ 1) ⊎ ((d.next ≢ 1) × (d.next ≢ 2))
+abbrev pub EncoderIsNotBegun : T85Encoder → Type 0
+EncoderIsNotBegun d = (d.version ≢ 1) ⊎ ((d.next ≢ 1) × (d.next ≢ 2))
 
 -- The greatest number of bytes that the next call writes: twice the code bytes held back, since stuffing may double them; four
 -- for each pixel of a row, and for the SLNTP pseudo-pixel; and ten for a move or a new height, and end markers.
@@ -164,7 +164,7 @@ TakesOne old new row bytes = OfEach old (λ image rows sent. HasCome image new (
 pub record PutsRow (old new : EncoderHold) (row : List ℕ) (l : Lending) : Type 0 where
   pub status_is : OfEach old (λ image rows sent. l.answer ≡ unwrap_or (row_refusal old.encoder (length row) (length old.window) (length l.old)) 0)
   pub ended : HasBeenEnded old.encoder → l.answer ≡ 54
-  pub not_begun : IsNotBegun old.encoder → l.answer ≡ 53
+  pub not_begun : EncoderIsNotBegun old.encoder → l.answer ≡ 53
   pub refused : l.answer ≢ 0 → LeavesAll old new l
   pub taken : l.answer ≡ 0 → TakesOne old new row (take l.written l.new)
   pub within : l.written ≤ length l.new
@@ -186,7 +186,7 @@ TakesName old new offset = OfEach old (λ image rows sent. (length rows % image.
 pub record NamesNext (old new : T85Encoder) (offset answer : ℕ) : Type 0 where
   pub status_is : (window : List ℕ) → OfEach (encoder_hold old window) (λ image rows sent. answer ≡ unwrap_or (name_refusal old offset) 0)
   pub ended : HasBeenEnded old → answer ≡ 54
-  pub not_begun : IsNotBegun old → answer ≡ 53
+  pub not_begun : EncoderIsNotBegun old → answer ≡ 53
   pub refused : answer ≢ 0 → new ≡ old
   pub named : answer ≡ 0 → (window : List ℕ) → TakesName (encoder_hold old window) (encoder_hold new window) offset
 
@@ -216,7 +216,7 @@ EndsStream old bytes = OfEach old (λ image rows sent. IsStreamOfRows image rows
 pub record PutsEnd (old new : EncoderHold) (l : Lending) : Type 0 where
   pub status_is : OfEach old (λ image rows sent. l.answer ≡ unwrap_or (end_refusal old.encoder (length old.window) (length l.old)) 0)
   pub was_ended : HasBeenEnded old.encoder → l.answer ≡ 54
-  pub not_begun : IsNotBegun old.encoder → l.answer ≡ 53
+  pub not_begun : EncoderIsNotBegun old.encoder → l.answer ≡ 53
   pub refused : l.answer ≢ 0 → LeavesAll old new l
   pub ends : l.answer ≡ 0 → EndsStream old (take l.written l.new)
   pub ended : l.answer ≡ 0 → HasBeenEnded new.encoder

@@ -11,7 +11,7 @@ use Rattle.t85_core.specs.Steps.Sent.{here}
 use Rattle.t85_core.specs.Steps.RowSteps.{IsGoing}
 use Rattle.t85_core.specs.declared.encoding.by_row.RowEncoder.{RowEncoder}
 use Rattle.t85_core.specs.declared.encoding.learning.Learning.{Learning}
-use Rattle.t85.specs.Encoder.{HasBeenEnded, HasCome, IsNotBegun, OfEach, encoder_hold, numbers_of_encoder, settings_kept, without_comment}
+use Rattle.t85.specs.Encoder.{HasBeenEnded, HasCome, EncoderIsNotBegun, OfEach, encoder_hold, numbers_of_encoder, settings_kept, without_comment}
 use Rattle.t85.specs.declared.encoder.T85Encoder.{T85Encoder}
 
 -- the settings of the stream, and the context states and counts for the image
@@ -53,14 +53,14 @@ pub record IsIdle (d : T85Encoder) (status : ℕ) : Type 0 where
   pub some : status ≢ 0
   pub none : IsOfNone d
   pub ended : HasBeenEnded d → status ≡ 54
-  pub not_begun : IsNotBegun d → status ≡ 53
+  pub not_begun : EncoderIsNotBegun d → status ≡ 53
 
 -- a call is rejected with this status, if that is its first error for a struct that accepts rows
 pub record RefusesCall (d : T85Encoder) (refusal : Option ℕ) (status : ℕ) : Type 0 where
   pub some : status ≢ 0
   pub first : (window : List ℕ) → OfEach (encoder_hold d window) (λ image rows sent. refusal ≡ Some status)
   pub ended : HasBeenEnded d → status ≡ 54
-  pub not_begun : IsNotBegun d → status ≡ 53
+  pub not_begun : EncoderIsNotBegun d → status ≡ 53
 
 -- The numbers of a started encoder are in a struct, and these bytes were written, which are the head of the stream.
 pub record HasBegun (s : Settings) (size : Size) (d : T85Encoder) (window : Window) (bytes : List ℕ) : Type 0 where

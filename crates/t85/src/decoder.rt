@@ -6,7 +6,7 @@ ghost use Rattle.t85_core.specs.Feeds.{IsFeed, held_bytes};
 ghost use Rattle.t85_core.specs.Pieces.{call_of as piece_call};
 ghost use Rattle.raster_core.specs.Window.{memory_of, width_of};
 ghost use Rattle.t85.specs.Decoded.{window_bytes as window_of};
-ghost use Rattle.t85.specs.Decoder.{Answers, BeginsDecoder, HasEnded, HasRead, InRows, IsAnswered, IsDecoderBegun, IsNotBegun, TellsCertain, bytes_call, height_of_decoder, bytes_held_by, hold_of, numbers_of_decoder, status_told};
+ghost use Rattle.t85.specs.Decoder.{Answers, BeginsDecoder, HasEnded, HasRead, InRows, IsAnswered, IsDecoderBegun, DecoderIsNotBegun, TellsCertain, bytes_call, height_of_decoder, bytes_held_by, hold_of, numbers_of_decoder, status_told};
 ghost use Rattle.t85.specs.declared.decoder.Answer.TheVariants as answer;
 ghost use Rattle.t85.specs.DecoderSteps.{IsAwaited, IsFilled, IsJudged, IsOfEngine, IsToldOf, KeepsRest, MayEnterRows, MayTakeRows};
 
@@ -410,10 +410,10 @@ impl T85Decoder {
 
     /// Continues with these bytes; `is_all` says whether they are the last.
     fn go_on(&mut self, bytes: &[u8], window: &mut [u8], is_all: bool) -> Told
-        ensures answers { Answers (HasRead (hold_of self.old window.old)) (hold_of self.old window.old)
-            (hold_of self.new window.new) (bytes_call bytes.now is_all result.taken result.row)
-            result.answer }
-        ensures not_begun { IsNotBegun self.old → result.answer ≡ answer.NotBegun }
+        ensures answers { Answers (HasRead (hold_of self.old window.old))
+            (hold_of self.old window.old) (hold_of self.new window.new)
+            (bytes_call bytes.now is_all result.taken result.row) result.answer }
+        ensures not_begun { DecoderIsNotBegun self.old → result.answer ≡ answer.NotBegun }
         ensures ended { self.old.version ≡ 1 → self.old.next ≡ 3 →
             result.answer ≡ answer.Ended self.old.status }
     {
