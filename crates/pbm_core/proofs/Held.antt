@@ -40,7 +40,7 @@ pub some_taken : (bytes : List ℕ) (at count end : ℕ) (a : Option (List ℕ))
 some_taken bytes at count end a fits =
     subst (λ z. Consumes (prepend_known (bytes_between bytes at end) a) (prepend_known z a) (take count (bytes_between bytes at end))) (sym (held_after bytes at count end fits)) (consumes_held count (bytes_between bytes at end) a)
 
--- the end of the input, where none is held
+-- the end of the input, if no byte is buffered
 pub at_end_unheld : (held : List ℕ) (a : Option (List ℕ)) → held ≡ [] → IsAtEnd a → IsAtEnd (prepend_known held a)
 at_end_unheld held None e h = tt
 at_end_unheld held (Some a) e h = ap (λ z. z ++ a) e ∙ h

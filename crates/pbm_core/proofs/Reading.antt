@@ -83,7 +83,7 @@ fails-after {T} {U} {a} {b} {c} {e} {P} {Q} {F} {G} {front} (Err y) is p q widen
   drained (inl same) = inl (same ∙ p.failures)
   drained (inr none) = inr none
 
--- the exit of a `?` where the next byte was wanted
+-- the exit of a `?` at the next byte
 pub missing : {T U : Type 0} {a b c : InputView} {e : PbmFault} {P : List ℕ → T → Type 0} {Q : List ℕ → U → Type 0} {F : List ℕ → PbmFault → Type 0} {front : List ℕ} (r : Result T PbmFault)
     → IsErrAnd r (λ y. y ≡ e) → Passes a b front → Reads b c (Err e) Q (IsCut (λ given. given ≡ [])) → F front Truncated → Reads a c r P F
 missing {F = F} {front = front} r is p q cut = fails-after r is p q (λ given f k.

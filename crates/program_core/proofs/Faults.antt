@@ -1,4 +1,4 @@
--- From the kind of clap's error to what is answered for it.
+-- From the kind of clap's error to the result for it.
 use Rattle.std.proofs.Common.{◌≡◌, ◌⊎◌, inl, inr, subst}
 use Rattle.clap.specs.Words.{IsAmong, Kinds}
 use Rattle.clap.specs.declared.error.ErrorKind.{ErrorKind}

@@ -1,4 +1,4 @@
--- What the typed getter of a flag reads, as a function of the text.
+-- The result of the typed getter of a flag, as a function of the text.
 use Rattle.std.proofs.Common.{◌≡◌, Bool, Option, Some, None, true, false, refl, ap, sym, codes}
 use Rattle.std.specs.Prelude.{Result, Ok, Err}
 use Rattle.std.proofs.lemmas.Slice.Eq.{bytes_eq-Decides}

@@ -1,4 +1,4 @@
--- What the typed getter of a number reads, as a function of the text.
+-- The result of the typed getter of a number, as a function of the text.
 use Rattle.std.proofs.Common.{◌≡◌, ◌&&◌, ◌^◌, ℕ, Bool, List, [], ◌∷◌, Option, Some, None, true, false, true≢false, length, refl, ap, sym, option_and_then, is_some, rules, ◌∙◌}
 use Rattle.std.specs.Prelude.{IsSome, Result, Ok, Err, nat_lt}
 use Rattle.std.proofs.lemmas.Bool.{ltb-true, lt-ltb}

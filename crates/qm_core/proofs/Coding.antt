@@ -1,4 +1,4 @@
--- What the calls of an encoder leave, as lists of events.
+-- The effects of an encoder's calls, as lists of events.
 use Rattle.std.proofs.Common.{◌≡◌, ℕ, ◌+◌, Bool, true, false, List, [], ◌∷◌, refl, sym, ◌∙◌, ap, arith, subst, replicate, Ok, Err}
 use Rattle.std.specs.Prelude.{◌↔◌, Result, IsTrue, IsErr, OnOk, OnErr, is_err}
 use Rattle.std.proofs.lemmas.List.{append-nil, length-replicate}

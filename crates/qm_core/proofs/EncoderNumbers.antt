@@ -1,4 +1,4 @@
--- Encoders with the same numbers are the same, and each stands somewhere.
+-- Encoders with the same numbers are equal, and each is at some coding interval.
 use Rattle.std.proofs.Common.{◌≡◌, ℕ, true, false, ◌+◌, ◌*◌, ◌/◌, ◌^◌, ◌-◌, ◌≤◌, ◌<◌, ◌%◌, Option, Some, None, List, [], ◌++◌, length, refl, ap, sym, ◌∙◌, arith}
 use Rattle.std.specs.Prelude.{is_some}
 use Rattle.std.specs.Option.{unwrap_or}

@@ -1,4 +1,4 @@
--- What a run leaves of what a decoder stands for, and when its bytes lie after a run.
+-- The relation of a decoder to its interval after a run, and when its bytes lie in the interval after a run.
 use Rattle.std.proofs.Common.{◌≡◌, ◌≢◌, ℕ, ◌+◌, ◌-◌, ◌*◌, ◌^◌, ◌<◌, ◌≤◌, Bool, true, List, [], ◌++◌, length, replicate, append-nil, arith, refl, ◌∙◌}
 use Rattle.std.proofs.lemmas.Nat.{pow_pos}
 use Rattle.qm_core.specs.Place.{Place, Estimate, State, Event, after}
@@ -19,7 +19,7 @@ use Rattle.qm_core.proofs.Pulling.{plain}
 use Rattle.qm_core.proofs.Deciding.{stands_step}
 use Rattle.qm_core.proofs.FavouredRuns.{after_run}
 
--- where 16 bits are there, the next event wants no pull
+-- with 16 bits, the next event needs no pull
 by_heard : (h : Heard) (bits n held : ℕ) → (h ≡ More → wanted_bytes n ≤ held) → 16 ≤ bits → h ≢ Stopped → WantsNone h bits n held
 by_heard More bits n held more enough going = more refl
 by_heard Ended bits n held more enough going = enough

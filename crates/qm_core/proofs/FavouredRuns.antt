@@ -1,4 +1,4 @@
--- What a run of favoured pixels of one context leaves.
+-- The effect of a run of favoured pixels of one context.
 use Rattle.std.specs.Bool.{beq}
 use Rattle.std.proofs.Common.{◌≡◌, ℕ, zero, suc, ◌+◌, ◌-◌, ◌*◌, ◌<◌, ◌≤◌, Bool, true, false, not, nat_lt, replicate, arith, refl, ap, ◌∙◌}
 use Rattle.std.proofs.lemmas.Bool.{lt-ltb, le-ltb, and_parts}

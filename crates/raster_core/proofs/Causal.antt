@@ -1,4 +1,4 @@
--- What is coded for a pixel depends on the pixels before it alone.
+-- The context of a pixel depends only on the pixels before it.
 use Rattle.std.proofs.Common.{◌≡◌, ℕ, zero, suc, ◌+◌, ◌-◌, ◌*◌, ◌%◌, ◌^◌, ◌<◌, ◌≤◌, Bool, true, false, inl, inr, List, [], ◌∷◌, ◌++◌, length, refl, sym, ◌∙◌, ap, arith, append_assoc}
 use Rattle.std.specs.Prelude.{if◌then◌else◌, nat_lt, ◌==◌, map}
 use Rattle.std.proofs.lemmas.Bool.Decides.{nat_tests}

@@ -1,4 +1,4 @@
--- What a source answered and a sink took, one after another.
+-- The answers of a source and the bytes of a sink, in succession.
 use Rattle.std.proofs.Common.{◌≡◌, ℕ, suc, Bool, true, false, List, [], ◌∷◌, ◌++◌, length, refl, sym, ap, subst, Ok, Err}
 use Rattle.std.specs.Prelude.{Result, IsTrue, IsErr}
 use Rattle.qm_core.specs.Source.{bytes_of, heard_of, IsClosed, Gives, before_fault}

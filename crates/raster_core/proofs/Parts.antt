@@ -1,4 +1,4 @@
--- What the words of a row agree in, and what its pixels do.
+-- The bits in which the words of a row agree, and the pixels that agree.
 use Rattle.std.proofs.Common.{◌≡◌, ℕ, zero, suc, ◌+◌, ◌-◌, ◌*◌, ◌<◌, ◌≤◌, Bool, true, false, ◌&&◌, List, [], ◌∷◌, ◌++◌, length, refl, sym, ◌∙◌, ap, arith, cond, inl, inr, add-zero, zero-add}
 use Rattle.std.specs.Prelude.{nat_lt, ◌==◌, if◌then◌else◌, count_by}
 use Rattle.std.specs.List.{AllByRecursion}

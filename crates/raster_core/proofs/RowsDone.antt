@@ -73,7 +73,7 @@ enough_later (e ∷ xs) ys n s h = enough_later xs ys n (step s e.context e.pixe
 agrees_bytes : (answers : List Pulled) → Agrees answers (bytes_of answers)
 agrees_bytes answers = record { rest = []; is = sym (append-nil (bytes_of answers)); bytes = tt; ended = λ _. refl }
 
--- A row that begins otherwise has no events that keep the bytes inside; one that goes on wants more of them.
+-- A row that begins otherwise has no events that keep the bytes inside; one that continues needs more of them.
 pub short_row : PartForever → (mode : Mode) (lines : Lines) (offset : ℕ) (first : List Event) (s : State) (done row : List Bool) (c : List ℕ) (count : ℕ) → IsPlace s.place → length done < length row →
     Lies c (after s (first ++ pixel_events mode (with_row lines done) offset)).place → count < wanted_bytes (after s (first ++ pixel_events mode (with_row lines done) offset)).place.doublings →
     Lies c (after s (first ++ pixel_events mode (with_row lines row) offset)).place → AreEnough count s (first ++ pixel_events mode (with_row lines row) offset) → ⊥

@@ -73,7 +73,7 @@ events_run mode lines offset done (suc n) c contexts =
     ∙ (append_assoc (pixel_events mode (with_row lines done) offset) (replicate n (uniform_event c)) (uniform_event c ∷ [])
     ∙ ap (λ es. pixel_events mode (with_row lines done) offset ++ es) (one_more n (uniform_event c))))))
 
--- ---- a run wants no byte
+-- ---- a run needs no byte
 
 enough_run : (n : ℕ) (s : State) (event : Event) (count : ℕ) → ((k : ℕ) → k ≤ n → (after s (replicate k event)).place.doublings ≡ s.place.doublings) → wanted_bytes s.place.doublings ≤ count →
     AreEnough count s (replicate n event)

@@ -1,4 +1,4 @@
--- What a tally counts, modulo 2^64 and of rows whose counts stay below it, and the lag that it chooses.
+-- The counts of a tally, modulo 2^64 and for rows whose counts stay below it, and the lag that it chooses.
 use Rattle.std.proofs.Common.{◌≡◌, ℕ, ◌+◌, ◌-◌, ◌*◌, ◌%◌, ◌^◌, ◌<◌, ◌≤◌, Bool, true, false, List, [], ◌∷◌, ◌++◌, length, refl, sym, ◌∙◌, ap, subst, arith, get_or, replicate, inl, inr, Some, None}
 use Rattle.std.specs.Prelude.{◌/◌, nat_lt, if◌then◌else◌, option_and_then}
 use Rattle.std.specs.List.{AllByRecursion}

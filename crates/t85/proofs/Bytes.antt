@@ -1,4 +1,4 @@
--- What the laws of streams ask for: lists of bytes, and headers and heights in use.
+-- The premises of the laws of streams: lists of bytes, and actual headers and heights.
 use Rattle.std.proofs.Common.{◌<◌, ◌≤◌, ℕ, suc, List, [], ◌∷◌, get_or}
 use Rattle.qm_core.specs.Code.{IsBytes}
 use Rattle.t85_core.specs.Laws.{IsInUse}

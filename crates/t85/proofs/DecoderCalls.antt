@@ -192,7 +192,7 @@ none_refused laws hold fault stream out (inr e) refused has =
     let was = in_rows hold stream out e has in
     not_some fault (sym (laws.not_refused hold.decoder.header (fields_of was.decoder.header) was.header_of) ∙ refused)
 
--- and the stream of one that stands behind its header begins with that
+-- and the stream of a decoder behind its header begins with that
 pub short_of : HeaderLaws → (hold : Hold) (header : Header) (stream out : List ℕ) → (hold.decoder.next ≡ 1) ⊎ (hold.decoder.next ≡ 2) → HeaderOf hold.decoder.header (fields_of header) → length hold.window < window_bytes header.xd → HasRead hold stream out → IsShort hold.window stream
 short_of laws hold header stream out (inl e) header_of short has =
     record { header = fields_of header; header_of = subst (λ s. HeaderOf s (fields_of header)) (sym (behind_header hold stream out e has).stream_is) header_of; short = short }

@@ -1,4 +1,4 @@
--- From what the engine leaves of a room to what stands in the lent memory.
+-- From the engine's effect on a buffer to the contents of the caller's memory.
 use Rattle.std.proofs.Common.{◌≡◌, ◌≢◌, ◌≤◌, ◌<◌, ℕ, zero, suc, Bool, true, false, List, [], ◌∷◌, ◌++◌, length, take, Option, Some, None, Result, Ok, Err, refl, sym, ap, ◌∙◌, subst, arith, append-nil, append_assoc, length-append, true≢false}
 use Rattle.std.specs.Prelude.{is_some, option_to_list}
 use Rattle.std.proofs.lemmas.Grind.{common_steps}
@@ -30,7 +30,7 @@ pub none_failed : (failures : ℕ) (spilled : Bool) → spilled ≡ false → (0
 none_failed zero spilled none full = refl
 none_failed (suc n) spilled none full = absurd (true≢false (sym (full (omega arith)) ∙ none))
 
--- a text that stands in the first bytes of memory
+-- a text in the first bytes of memory
 pub fits_in : (text : List ℕ) (status : ℕ) (memory : List ℕ) (len answer : ℕ) → take len memory ≡ text → len ≤ length memory → answer ≡ status → Fits text status memory len answer
 fits_in text status memory len answer stands within same =
     let long : length text ≡ len = ap length (sym stands) ∙ grind (arith, common_steps) in
@@ -49,7 +49,7 @@ full_of text memory b rest len is all =
     }
 
 module _ (h : Fields) (height : ℕ) (body : List ℕ) (in_new : Option (List ℕ)) (o : HasOutcome h height body) (old : List ℕ) where
-  -- what an output has taken that has not failed is the outcome, and this is told
+  -- the contents of an output that has not failed are the outcome, and this is reported
   pub held : (taken : List ℕ) (answer : Result (Unit {0}) Fault) → Decode h height (between (Some body) in_new 0 0) (between (Some old) (Some taken) 0 0) answer → (taken ≡ old ++ o.text) × (answer_status answer ≡ fault_status o.fault)
   held taken (Ok u) d =
       let w = d.whole in

@@ -179,7 +179,7 @@ module _ (d : T85Encoder) (e : RowEncoder) (ready : AwaitsCall d e) (memory : Li
       subst (λ w. Stands image rows (view_of e d.learning) w (behind sent (Some [])) (Some [])) same
       (subst (λ v. Stands image rows v (rows_at d.place image.width (take (window_bytes image.width) memory)) (behind sent (Some [])) (Some [])) (sym (ready.goes_on.resumes memory image rows sent k d.learning)) (k.stands (Some [])))
 
-  -- and once rows have come that the struct has the numbers of
+  -- and once rows have been received, with the numbers in the struct
   pub come_so : (law : RowsGoElsewhere) (kept : T85Encoder) (e' : RowEncoder) (learning : Learning) (memory' bytes : List ℕ) (window' : Window) (all : List (List Bool)) → length memory' ≡ window_bytes d.width → rows_held window' ≡ rows_at kept.place d.width memory' → kept.version ≡ d.version → kept.next ≡ d.next → kept.width ≡ d.width → kept.height ≡ d.height → settings_kept kept ≡ settings_kept d → kept.learning ≡ learning → kept.place ≡ 2 * length all % 3 → MayGoOn e' →
       numbers_of_encoder kept ≡ row_numbers e' → Stands image all (view_of e' learning) (rows_held window') (behind sent (Some [])) (Some bytes) → HasCome image (encoder_hold kept memory') all (sent ++ bytes)
   come_so law kept e' learning memory' bytes window' all long' at' version next wide high settings learned placed may numbers now =
@@ -335,7 +335,7 @@ all_white : (limit width : ℕ) → AllByRecursion (λ row. length row ≡ width
 all_white zero width = tt
 all_white (suc n) width = (length-replicate width false, all_white n width)
 
--- what stands before the first row is the head
+-- the bytes before the first row are the head
 head_sent : {s : Settings} {width limit : ℕ} {v : RowView} {window : Held} {origin : Origin} {text : Option (List ℕ)} → 1 ≤ limit → Stands (image_of s width limit) [] v window origin text → Sends origin text (head_of s width limit)
 head_sent {s} {width} {limit} {v} {window} {origin} {text} some (inl w) =
     let plan = w.plan_is in

@@ -1,4 +1,4 @@
--- What the answer 0 of a call means.
+-- The meaning of the result 0 of a call.
 use Rattle.std.proofs.Common.{◌≡◌, ◌≤◌, ◌<◌, ◌*◌, ◌/◌, inl, inr, ℕ, Bool, List, ◌++◌, length, take, drop, flat_map, true, false, Option, Some, None, refl, sym, ap, ◌∙◌, subst, arith}
 use Rattle.std.specs.Int.{div_ceil}
 use Rattle.std.specs.Prelude.{option_map}
@@ -23,7 +23,7 @@ use Rattle.t85.specs.Encoded.{DeliversCode, DeliversAll, or_else, status_if, set
 use Rattle.t85.specs.Laws.{IsOnly, IsStreamOf, DecodedIsImage, DecodedAreRows, EncodedIsStream}
 use Rattle.t85.proofs.Rowed.{length_rows}
 
--- no fault is told as 0
+-- no error has the status 0
 some_status : (f : Fault) → 0 ≡ fault_number f → ⊥
 some_status (Pbm fault) is = omega arith
 some_status fault is = omega arith
@@ -107,7 +107,7 @@ zero_fault : (o : Option Fault) → option_map fault_number o ≡ Some 0 → ⊥
 zero_fault None e = (let bot : ⊥ = cc in bot)
 zero_fault (Some f) e = some_status f (let same : 0 ≡ fault_number f = cc in same)
 
--- no refusal is told as 0
+-- no refusal has the status 0
 pub none_zero : (choice : T85Options) (comment : List ℕ) (width height stride window : ℕ) → refusal_told choice comment width height stride window ≡ Some 0 → ⊥
 none_zero choice comment width height stride window =
     zero_else _ _ (zero_if _ 50 (omega arith))

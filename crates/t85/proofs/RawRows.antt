@@ -20,7 +20,7 @@ same_front a b after behind same long = (
   sym (drop-append_seam a after) ∙ ap (drop (length a)) same ∙ ap (λ n. drop n (b ++ behind)) long ∙ drop-append_seam b behind,
 )
 
--- as many rows as are wanted, or all that are there
+-- as many rows as needed, or all of them
 pub record RowsOf (width wanted : ℕ) (body : List ℕ) : Type 0 where
   pub rows : List (List Bool)
   pub rest : List ℕ

@@ -1,4 +1,4 @@
--- From what the decoder leaves of an output of rows to the rows that stand in the lent memory.
+-- From the decoder's effect on an output of rows to the rows in the caller's memory.
 use Rattle.std.proofs.Common.{◌≡◌, ◌≤◌, ◌<◌, ◌+◌, ◌*◌, ◌/◌, ◌⊎◌, inl, inr, ℕ, zero, suc, Bool, true, false, List, [], ◌∷◌, ◌++◌, length, take, map, flat_map, Option, Some, None, Result, refl, sym, ap, ◌∙◌, subst, arith, append_assoc, append-nil, length-append, true≢false}
 use Rattle.std.specs.Prelude.{is_some, option_to_list}
 use Rattle.std.specs.List.{AllByRecursion}
@@ -129,7 +129,7 @@ module _ (width height row stride fit skip at y x : ℕ) (bytes head : List ℕ)
       let long : length (take at head) ≡ at = length-take-le at head (omega (arith, k.head_within, k.head_fits)) in
       (same_front (take at head) (header_text width height) rest packed same (long ∙ all ∙ skip_is)).1
 
-  -- nothing but a part of the head has come, so the text has not
+  -- only a part of the head was written, so the text was not
   head_only : at < skip → spilled ≡ None → taken_rows (state_with row stride fit skip bytes head at y x spilled) ≡ pbm_rows width height rows → ⊥
   head_only short none same =
       let zero_rows : y * row + x ≡ 0 = ap (λ n. n * row + x) (k.head_first_rows short) ∙ omega (arith, k.head_first_bytes short) in

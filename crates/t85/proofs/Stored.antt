@@ -1,4 +1,4 @@
--- From what the encoder leaves of a room to what stands in the lent memory.
+-- From the encoder's effect on a buffer to the contents of the caller's memory.
 use Rattle.std.proofs.Common.{◌≡◌, ◌≤◌, ◌<◌, ◌^◌, ◌==◌, ◌⊎◌, inl, inr, ℕ, true, false, nat_lt, Bor, List, [], ◌∷◌, ◌++◌, length, take, Option, Some, None, Result, Ok, Err, refl, sym, ap, ◌∙◌, subst, arith, append-nil, append_assoc, true≢false}
 use Rattle.std.specs.Prelude.{is_some, option_to_list, option_map, unwrap_or, IfSome, slice_index_or, zero, suc}
 use Rattle.std.specs.Option.{option_map_or}

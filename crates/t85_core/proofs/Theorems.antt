@@ -1,4 +1,4 @@
--- What a body denotes or fixes, and what the stream of a raster denotes.
+-- The raster that a body denotes or the rows that it fixes, and the raster that the stream of a raster denotes.
 pub mod Joined
 pub mod StateLookedUp
 pub mod Alike

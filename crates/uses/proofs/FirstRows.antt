@@ -1,4 +1,4 @@
--- What is written of a beginning of a stream.
+-- The output for a prefix of a stream.
 use Rattle.std.proofs.Common.{◌≡◌, ◌≢◌, ◌⊎◌, inl, inr, ℕ, Bool, false, List, [], ◌∷◌, ◌++◌, length, drop, take, Option, Some, None, Result, Ok, Err, refl, sym, ap, ◌∙◌, subst, append-nil, append_assoc, true≢false, ◌≤◌, ◌<◌, ◌+◌, ◌^◌, nat_lt, arith, true}
 use Rattle.std.specs.Prelude.{flat_map}
 use Rattle.std.specs.List.{AllByRecursion}

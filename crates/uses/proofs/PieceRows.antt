@@ -48,7 +48,7 @@ none_given outcome.More row other = refl
 none_given (outcome.Done height) row other = refl
 none_given (outcome.Broken fault) row other = refl
 
--- a call with a piece, by what is told of it
+-- a call with a piece, from its report
 abbrev pub call_told : List ℕ → Bool → ℕ → Outcome → PieceView → Call
 call_told piece is_all taken answer new = record { piece = piece; is_all = is_all; taken = taken; answer = answer; new = new }
 
@@ -176,7 +176,7 @@ module _ (old now : PieceView) (piece : List ℕ) (taken : ℕ) (held held' : Li
 
 -- ---- a text
 
--- an end tells of more bytes than had come
+-- an end describes more bytes than were passed
 tells_on : (h : Fields) (new : PieceView) (o : Outcome) (come more out : List ℕ) → SaysOfRows h false new o come out → o ≢ outcome.More → SaysOfRows h true new o (come ++ more) out
 tells_on h new outcome.Row come more out t other = tt
 tells_on h new outcome.More come more out t other = absurd (other refl)
@@ -187,7 +187,7 @@ module _ (old mid : PieceView) (first second : List ℕ) (limit taken : ℕ) (he
   split : take taken first ++ (drop taken first ++ second) ≡ first ++ second
   split = sym (append_assoc (take taken first) (drop taken first) second) ∙ ap (λ z. z ++ second) (take-append-drop taken first)
 
-  -- the first piece told all
+  -- the first piece was enough
   pub first_told : (answer : Outcome) → PieceRead old (call_told first false taken answer mid) limit (gathered held held') → answer ≢ outcome.More → TextRead old mid (first ++ second) limit answer (gathered held held')
   first_told answer p other = record {
     calls = p.calls;
@@ -208,7 +208,7 @@ module _ (old mid : PieceView) (first second : List ℕ) (limit taken : ℕ) (he
     appended = q.appended ∙ ap (λ z. z ++ flat_map row_given q.calls) p.appended ∙ rows_append held p.calls q.calls;
   }
 
-  -- the first wanted more, and the second told
+  -- the first needed more, and the second was enough
   pub second_told : (new : PieceView) (rest : List ℕ) (answer : Outcome) (more : ℕ) (held'' : List ℕ) → PieceRead old (call_told first false taken outcome.More mid) limit (gathered held held') → stream_of mid ≡ stream_of old →
       rest ≡ drop taken first ++ second → PieceRead mid (call_told rest true more answer new) limit (gathered held' held'') → TextRead old new (first ++ second) limit answer (gathered held held'')
   second_told new rest answer more held'' p same rest_is q = record {

@@ -1,4 +1,4 @@
--- Of a stream that denotes a raster nothing is refused.
+-- A stream that denotes a raster is never rejected.
 use Rattle.std.proofs.Common.{◌≡◌, ◌≢◌, ◌≤◌, ◌+◌, inl, inr, ℕ, Bool, true, false, List, [], ◌++◌, length, drop, take, nat_lt, Option, Some, None, Result, Ok, Err, refl, sym, ap, ◌∙◌, subst, append-nil, arith, true≢false, ◌^◌}
 use Rattle.std.specs.Prelude.{IfErr, IfSome}
 use Rattle.std.proofs.lemmas.Bool.Decides.{nat_tests}

@@ -1,4 +1,4 @@
--- What calls one after another leave of an output.
+-- The effect of successive calls on an output.
 use Rattle.std.proofs.Common.{ℕ, Result, Ok, Err, ◌∙◌, ap}
 use Rattle.pbm_core.specs.Device.{OutputView}
 use Rattle.t85_core.specs.declared.fault.Fault.{Fault}

@@ -7,7 +7,7 @@ use Rattle.t85_core.specs.declared.fault.Fault.TheVariants.{Truncated}
 use Rattle.t85_core.specs.Failures.{Ends, counted_as}
 use Rattle.t85_core.proofs.Bytes.Streams.{Consumes-more}
 
--- bytes that were skipped before stand before what came
+-- bytes that were skipped before precede the others
 pub Ends-after : {ending : Fault} {a b c : Option (List ℕ)} {P Q : List ℕ → Fault → Type 0} {f : Fault} (front : List ℕ) → Consumes a b front → ((given : List ℕ) (e : Fault) → P given e → Q (front ++ given) e) → Ends ending b c P f → Ends ending a c Q f
 Ends-after {ending} {a} {b} {c} {P} {Q} {f} front taken widen e = record {
   given = front ++ e.given;

@@ -1,4 +1,4 @@
--- The bytes of a code as they stand in a stream.
+-- The stuffed bytes of a code.
 use Rattle.std.proofs.Common.{cond, subst, ◌≡◌, ◌≢◌, ◌⊎◌, inl, inr, ℕ, false, List, [], ◌∷◌, ◌++◌, nat_eq, refl, sym, ap, ◌∙◌, append-nil, arith}
 use Rattle.std.specs.Prelude.{if◌then◌else◌}
 use Rattle.std.proofs.lemmas.Bool.{cases_eq}
@@ -31,7 +31,7 @@ stuffed_append (b ∷ code) more =
     ∙ ap (λ u. stuff b ++ u) (append-nil (stuffed (code ++ more)) ∙ stuffed_append code more)
     ∙ sym (stuffed_cons b code (stuffed more))
 
--- bytes other than FF stand as they are
+-- bytes other than FF are unchanged
 pub stuffed_plain : (code : List ℕ) → ArePlain code → stuffed code ≡ code
 stuffed_plain [] p = refl
 stuffed_plain (b ∷ code) p =

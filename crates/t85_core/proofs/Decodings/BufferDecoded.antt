@@ -1,4 +1,4 @@
--- What a buffer holds back is written.
+-- The buffered bytes are written.
 use Rattle.std.proofs.Common.{◌≡◌, ◌≢◌, ◌⊎◌, inl, inr, ℕ, List, [], ◌++◌, Option, None, Some, Result, Ok, Err, refl, sym, ap, ◌∙◌, subst, append-nil}
 use Rattle.std.specs.Prelude.{IfErr, flat_map}
 use Rattle.std.specs.Io.KnownBytes.{Consumes, Keeps, append_known}

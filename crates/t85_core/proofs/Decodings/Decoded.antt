@@ -34,7 +34,7 @@ use Rattle.t85_core.proofs.Bytes.HeldBack.{beginning_handed}
 use Rattle.t85_core.proofs.Walks.Passed.{Consumes-none}
 use Rattle.t85_core.proofs.Bytes.Streams.{Appends-more, Consumes-more, beginning_after, beginning_longer, longer_or_all}
 
--- what is fixed stays so, whatever bytes follow, but where the end is the fault
+-- fixed rows stay so, whatever bytes follow, unless the end is the error
 pub fixes_more : (h : Fields) (height : ℕ) (given more : List ℕ) (fault : Fault) (rows : List (List Bool)) → Fixes h height given fault rows → (fault ≡ Truncated) ⊎ Fixes h height (given ++ more) fault rows
 fixes_more h height given more fault rows f = went (stable_rest h _ _ _ f.broken.tail_has.rest more fault f.broken.tail_has.rest_has) where
   went : (fault ≡ Truncated) ⊎ (rest_fault h (spot_behind (spot_after height f.broken.stripes) f.broken.tail_has.segments) (count_by is_move f.broken.tail_has.segments) (not (is_nil f.broken.tail_has.code)) (f.broken.tail_has.rest ++ more) ≡ Some fault) → (fault ≡ Truncated) ⊎ Fixes h height (given ++ more) fault rows

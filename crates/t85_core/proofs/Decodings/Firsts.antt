@@ -1,4 +1,4 @@
--- What came decides the first rows of whatever the body comes to denote or to fix.
+-- The bytes so far decide the first rows of every raster or outcome of the body.
 use Rattle.std.proofs.Common.{◌≡◌, ◌<◌, ◌≤◌, ◌-◌, ◌*◌, ◌⊎◌, inl, inr, ℕ, Bool, List, [], ◌∷◌, ◌++◌, length, min, take, drop, None, Some, refl, sym, ap, ◌∙◌, subst, append_assoc, append-nil, take-append-drop, arith}
 use Rattle.std.specs.Prelude.{flat_map}
 use Rattle.std.proofs.lemmas.Grind.{flat_map-append}
@@ -100,7 +100,7 @@ module _ (q : CoderLaws) (h : Fields) (height : ℕ) (u : IsInUse h height) (str
       decided_in_longest q h height u.accepted (begun_stripes x.broken.stripes x.broken.tail_has.segments x.broken.tail_has.code) (length x.broken.stripes) x.broken.tail_has.code
       (begun_length x.broken.stripes x.broken.tail_has.segments x.broken.tail_has.code) (first ++ rows) all (first_flags ++ flags) x.fixed.flags l3 x.fixed.decided x.fixed.longest
 
-  -- the stripe of another reading that stands there
+  -- the stripe of another reading at this place
   record Matched (rows : List (List Bool)) (t : Stripe) : Type 0 where
     pub segments : List Segment
     pub code : List ℕ
@@ -228,7 +228,7 @@ module _ (q : CoderLaws) (h : Fields) (height : ℕ) (u : IsInUse h height) (str
           let m = matched t (flat_map stripe_bytes later ++ x.broken.tail) (all_right (λ (s : Stripe). IsBegun h s.segments s.code) stripes (t ∷ later) legal).0 (at ∙ append_assoc (stripe_bytes t) (flat_map stripe_bytes later) x.broken.tail) in
           in_rows m.segments m.code m.more rows m.flags m.bytes m.others m.front m.decides t.reset later body fault all x (stripe_at t later m x.broken.stripes e)
 
-  -- What came of the stripe after them decides the first rows of what the body comes to.
+  -- The bytes of the next stripe decide the first rows of the body's outcome.
   pub are_first : (given : List ℕ) (rows : List (List Bool)) (flags : List Bool) → StripeDecides h (stripe_place (spot_after height stripes) mid (min (height - length stripes * h.l0) h.l0)) given (flagged rows flags) → AreFirst h height (flat_map stripe_bytes stripes ++ given) (first ++ rows)
   are_first given rows flags d rest None text o =
       let t = text_first h.xd height (first ++ rows) o.0.rows (raster_first given rest rows flags d o.0 o.1) in

@@ -88,7 +88,7 @@ entity_begun (Some (code.Byte b)) None answers extra text o = inl (entity_opened
   none (reset, inr e) = cc
 entity_begun (Some (code.Marker reset)) None answers extra text o = inr (entity_closed (Some (code.Marker reset)) None answers extra text o (reset, inr refl))
 
--- Where it begins: the stripes before it, and its segments, without a height.
+-- The position at its start: the stripes before it, and its segments, without a height.
 pub record CodeBegins (h : Fields) (entities : ℕ) (text : List ℕ) : Type 0 where
   pub stripes : List Stripe
   pub segments : List Segment

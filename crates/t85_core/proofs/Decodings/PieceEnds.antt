@@ -22,7 +22,7 @@ use Rattle.t85_core.proofs.Bytes.Streams.{longer_or_all}
 abbrev pub before_all : Spot
 before_all = record { height = 0; entities = 0; heights = 0 }
 
--- what tells that the end marker came
+-- how the end marker is known
 abbrev pub Marked : Option Code → Option Bool → Type 0
 Marked first marker = (reset : Bool) × ((marker ≡ Some reset) ⊎ (first ≡ Some (code.Marker reset)))
 

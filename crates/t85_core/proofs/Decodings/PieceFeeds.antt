@@ -53,7 +53,7 @@ settled_first bytes left count taken within e = went (cases_lt taken count) wher
       ∙ ap (λ z. drop (length (take count bytes) + (taken - count)) z) (take-append-drop count bytes)
       ∙ ap (λ n. drop n bytes) sum
 
--- an end wants no more
+-- an end needs no more bytes
 told_no_more : (end : End) (n : ℕ) → end_told end n ≢ outcome.More
 told_no_more end_type.Done n e = cc
 told_no_more (end_type.Broken fault) n e = cc
@@ -68,7 +68,7 @@ cut_same held front left read taken e =
     ∙ ap (λ z. take read (held ++ front) ++ z) (sym e)
     ∙ sym (append_assoc (take read (held ++ front)) left (drop taken front)))
 
--- A call with what was held, and the front of a piece behind it: all of the piece, where more is wanted.
+-- A call with the stored bytes, and the front of a piece behind them: all of the piece, if more is needed.
 module _ (old new : PieceView) (held left front back joined : List ℕ) (is_end is_all : Bool) (call told : Progress) (joined_is : joined ≡ held ++ front) (is : IsCall old (call_of joined is_end call new)) (settled : Settles joined (length held) call told left)
     (only : is_end ≡ true → (is_all ≡ true) × (back ≡ [])) (no : is_end ≡ false → is_all ≡ true → back ≡ [] → ⊥) (whole : call.outcome ≡ outcome.More → back ≡ []) where
   long : length joined ≡ length held + length front
@@ -151,7 +151,7 @@ module _ (old new : PieceView) (held left front back joined : List ℕ) (is_end 
     stays = stays old.end refl;
   }
 
--- A call with what was held, and the front of a piece behind it, which wanted more, and then one with the rest.
+-- A call with the stored bytes, and the front of a piece behind them, which needed more, and then one with the rest.
 module _ (old mid new : PieceView) (held left front back joined rest : List ℕ) (is_end is_all : Bool) (call last : Progress) (joined_is : joined ≡ held ++ front) (is : IsCall old (call_of joined is_end call mid)) (wants : call.outcome ≡ outcome.More) (over : length held ≤ call.taken)
     (rest_is : rest ≡ drop (call.taken - length held) (front ++ back)) (next : IsFeed mid [] left (call_of rest is_all last new)) where
   abbrev piece : List ℕ

@@ -1,4 +1,4 @@
--- What is left where a piece ends: the beginning of an escape or of a segment.
+-- The rest of a piece: the beginning of an escape or of a segment.
 use Rattle.std.proofs.Common.{cond, ◌||◌, ◌≡◌, ◌≢◌, ◌⊎◌, inl, inr, ◌<◌, ◌≤◌, ℕ, Bool, true, false, List, [], ◌∷◌, ◌++◌, Option, None, Some, length, nat_le, Result, Ok, Err, refl, sym, ap, ◌∙◌, subst, append-nil, arith}
 use Rattle.std.specs.Bool.{◌==◌}
 use Rattle.std.specs.Result.{IfErr, IsErrOf}

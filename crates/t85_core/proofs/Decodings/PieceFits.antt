@@ -13,7 +13,7 @@ use Rattle.t85_core.specs.Steps.SizedImage.{sized}
 use Rattle.t85_core.proofs.Decodings.PieceSteps.{at_stage}
 use Rattle.t85_core.proofs.Decodings.PieceWalk.{in_row_going}
 
--- those of a walk that stands somewhere fit
+-- the numbers of a walk at some position fit
 pub fits_of : {h : Fields} {height : ℕ} {w : Walk} {rows : Held} {learned : List Estimate} {text out : List ℕ} → WalkStands (sized h height) (walk_view w rows learned) text out → RowFits h.xd w rows
 fits_of s = record { width_is = s.width_is; within = s.within; offset_is = s.offset_is; at_is = s.at_is; code_is = s.code_is; behind = s.behind }
 

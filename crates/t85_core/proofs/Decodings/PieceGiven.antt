@@ -1,4 +1,4 @@
--- What was given of a stream that comes in pieces: its height, its image, or its fault and the rows that it fixes.
+-- The results for a stream in pieces: its height, its image, or its error and the rows that it fixes.
 use Rattle.std.proofs.Common.{cond, ◌≡◌, ◌≢◌, ◌+◌, ◌⊎◌, inl, inr, ℕ, Bool, true, false, List, [], ◌∷◌, ◌++◌, length, take, nat_eq, nat_le, ◌==◌, ◌||◌, Option, None, Some, refl, sym, ap, ◌∙◌, subst, append_assoc, append-nil, arith, true≢false}
 use Rattle.std.specs.Prelude.{flat_map}
 use Rattle.std.proofs.lemmas.Bool.Decides.{nat_tests}

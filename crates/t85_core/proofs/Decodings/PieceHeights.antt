@@ -164,7 +164,7 @@ module _ {h : Fields} {entities : ℕ} {at : Option move.Move} {carried : Carrie
     valid = subst (λ k. is_valid_length h k n ≡ true) (sym s.stripes.many) valid;
   }
 
-  -- it is in use, where it has a row of the stripe
+  -- it is the actual height, if it has a row of the stripe
   pub head_raised : 1 ≤ h.l0 → IsLegal h (NewLength n) → entities * h.l0 < n → HeadStands (sized h n) (head_place entities true at carried) (text ++ segment_bytes (NewLength n)) out
   head_raised one legal over = head_length at_height n refl refl legal where
     parts : (1 ≤ n) × (n ≤ h.yd)

@@ -1,4 +1,4 @@
--- What is left of a code that comes in pieces, after the last row of its stripe.
+-- The rest of a code in pieces, after the last row of its stripe.
 use Rattle.std.proofs.Common.{◌≡◌, ◌<◌, ◌≤◌, ◌⊎◌, inl, inr, ℕ, Bool, List, [], ◌∷◌, ◌++◌, length, Option, None, Some, Result, Ok, Err, refl, sym, ap, ◌∙◌, subst, append_assoc, append-nil, length-append, arith}
 use Rattle.std.specs.Prelude.{IfSome, IfOk, IfErr, IsErrOf}
 use Rattle.std.specs.List.{AllByRecursion}

@@ -1,4 +1,4 @@
--- A row of which not all bytes may have come.
+-- A row whose bytes may be incomplete.
 use Rattle.std.proofs.Common.{◌≡◌, ◌+◌, ◌≤◌, ◌⊎◌, inl, inr, ℕ, Bool, List, [], ◌∷◌, ◌++◌, length, Option, Some, None, Ok, Err, refl, sym, ap, ◌∙◌, subst, append_assoc, append-nil, arith}
 use Rattle.std.specs.Prelude.{IfSome, Result, IsErr}
 use Rattle.qm_core.specs.Place.{State, IsPlace}

@@ -1,4 +1,4 @@
--- Where a decoder stands, before a step and after it.
+-- The position of a decoder before and after a step.
 use Rattle.std.proofs.Common.{cond, ◌≡◌, ◌≢◌, ◌<◌, ◌≤◌, ◌+◌, ◌-◌, ◌*◌, ◌⊎◌, inl, inr, ℕ, Bool, true, false, List, [], ◌∷◌, ◌++◌, length, min, take, drop, slice_index, nat_le, Option, None, Some, Result, Ok, Err, refl, sym, ap, ◌∙◌, subst, append_assoc, append-nil, length-append, arith, true≢false}
 use Rattle.std.specs.Prelude.{IsOk, OnOk, IfSome, is_some, ◌&&◌}
 use Rattle.std.proofs.lemmas.Bool.Decides.{nat_tests}
@@ -577,7 +577,7 @@ module _ (d : PieceView) (known : d.is_open ≡ false) where
   turn_broken p f off is_all all text out rest s follows =
       cut_hands (fields_of d.header) d.height (text ++ p) out rest f (subst (λ z. HasHeight (fields_of d.header) z d.height) (sym (append_assoc text p rest)) (known_of text (p ++ rest) s.height)) (λ t. follows (all t)) (off text out (walks_of d text out known s))
 
--- more is wanted behind a marker
+-- more bytes are needed behind a marker
 pub leaves_more : (is_all : Bool) (d d' : PieceView) (p p' : List ℕ) → d'.header ≡ d.header → d'.end ≡ d.end → is_all ≡ false → d'.is_open ≡ true → d'.waits ≡ true → DecoderOn d d' p p' [] → length p' ≤ 7 → StepLeaves is_all d d' p p' (Some outcome.More)
 leaves_more is_all d d' p p' header going open_ late waits on few = leaves_as is_all d d' p p' (Some outcome.More) header going (open_, on, (λ w. absurd (true≢false (sym (subst (λ b. (b && d'.waits) ≡ true) (sym late) waits) ∙ w))), few)
 
@@ -635,7 +635,7 @@ entities_few d text out late in_code s = go d.waits refl where
   go false going = walk_few (fields_of d.header) d.header.yd d.walk text out d.header.some_rows in_code (code_of d text out late going s).walk
   go true waits = let w = waits_of d text out late waits s in walk_few (fields_of d.header) d.header.yd d.walk w.done out d.header.some_rows in_code w.walk
 
--- ---- of a decoder that stands somewhere
+-- ---- for a decoder at some position
 
 -- its walk does
 pub some_code : (d : PieceView) → d.is_open ≡ true → d.waits ≡ false → SomeStand d → SomeStands (sized (fields_of d.header) d.header.yd) d.walk
@@ -644,7 +644,7 @@ some_code d late going some = (some.0, some.1, (code_of d some.0 some.1 late goi
 pub some_waits : (d : PieceView) → d.is_open ≡ true → d.waits ≡ true → SomeStand d → SomeStands (sized (fields_of d.header) d.header.yd) d.walk
 some_waits d late waits some = let w = waits_of d some.0 some.1 late waits some.2 in (w.done, some.1, w.walk)
 
--- what a step leaves is told of such a decoder alone
+-- the effect of a step is stated only for such a decoder
 module _ (is_all : Bool) (d d' : PieceView) (p p' : List ℕ) (header : d'.header ≡ d.header) (going : d'.end ≡ d.end) where
   leaves_where : (r : Option Outcome) → (r ≡ Some outcome.More → (is_all ≡ false) × (length p' ≤ 7)) → ((n : ℕ) → r ≡ Some (outcome.Done n) → d'.height ≡ n) → (SomeStand d → StepLeaves is_all d d' p p' r) → StepLeaves is_all d d' p p' r
   leaves_where r cut done there = record {
@@ -670,7 +670,7 @@ module _ (is_all : Bool) (d d' : PieceView) (p p' : List ℕ) (header : d'.heade
   pub broken_where : (f : Fault) → (SomeStand d → StepLeaves is_all d d' p p' (Some (outcome.Broken f))) → StepLeaves is_all d d' p p' (Some (outcome.Broken f))
   broken_where f = leaves_where (Some (outcome.Broken f)) (λ e. absurd (let bot : ⊥ = cc in bot)) (λ n e. absurd (let bot : ⊥ = cc in bot))
 
-  -- no decoder that stands somewhere comes here
+  -- no decoder at some position reaches this
   pub leaves_nowhere : (f : Fault) → (SomeStand d → ⊥) → StepLeaves is_all d d' p p' (Some (outcome.Broken f))
   leaves_nowhere f never = broken_where f (λ some. absurd (never some))
 

@@ -1,4 +1,4 @@
--- What a buffer holds back of a stream is written.
+-- The buffered bytes of a stream are written.
 use Rattle.std.proofs.Common.{◌≡◌, ◌≢◌, ◌≤◌, ◌⊎◌, inl, inr, ℕ, List, [], take, Option, Err, refl, sym, ap, ◌∙◌, append-nil, arith}
 use Rattle.std.specs.Prelude.{IsErrOf}
 use Rattle.std.proofs.lemmas.Grind.{div_ceil_times}

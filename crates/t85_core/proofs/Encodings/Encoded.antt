@@ -184,7 +184,7 @@ module _ (s : Settings) (form : Form) (width height' : ℕ) (in_old in_new out_o
     writes = writes;
   }
 
--- the output as it is before it is lent and when its loan ends
+-- the output before its loan, and at the loan's end
 pub encodes_at : {W : Type 0} (contents : W → Option (List ℕ)) (failures : W → ℕ) (s : Settings) (form : Form) (width height' : ℕ) (in_old in_new : Option (List ℕ)) (reads_old reads_new : ℕ)
     (before : Option (List ℕ)) (count : ℕ) (start output output' : W) (r : Result (Unit {0}) Fault) → before ≡ contents start → count ≡ failures start → output ≡ output' →
     Encode s (layout_of form width height') (between in_old in_new reads_old reads_new) (between before (contents output) count (failures output)) r →

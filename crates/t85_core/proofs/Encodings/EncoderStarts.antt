@@ -1,4 +1,4 @@
--- What an encoder carries from stripe to stripe is what the stream that is written for the raster looks up.
+-- The state that an encoder carries from stripe to stripe is the one that the definition of the stream determines.
 use Rattle.std.proofs.Common.{◌≡◌, ℕ, zero, suc, ◌+◌, ◌-◌, ◌*◌, ◌<◌, ◌≤◌, nat_eq, Bool, true, false, List, ◌++◌, length, map, refl, sym, ◌∙◌, ap, subst, arith, Option, None}
 use Rattle.std.specs.Prelude.{slice_index_or, if◌then◌else◌, flat_map, filter_map, min, unwrap_or, option_map}
 use Rattle.std.proofs.lemmas.Bool.Decides.{nat_tests}

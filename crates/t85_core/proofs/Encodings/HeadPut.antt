@@ -23,7 +23,7 @@ counts_on old mid new r same counts = subst (λ n. CountsWrite n new r) same cou
 abbrev comment_of : Option (List ℕ) → List ℕ
 comment_of comment = flat_map segment_bytes (map Comment (option_to_list comment))
 
--- the header was written, and no comment is wanted
+-- the header was written, and there is no comment
 pub head_plain : (s : Settings) (width height' : ℕ) (a b : Option (List ℕ)) (bytes : List ℕ) → bytes ≡ header_bytes (header_of s width height') → s.comment ≡ None → Appends a b bytes → Appends a b (head_of s width height')
 head_plain s width height' a b bytes is none put =
     subst (λ z. Appends a b z) (is ∙ sym (append-nil (header_bytes (header_of s width height'))) ∙ ap (λ o. header_bytes (header_of s width height') ++ comment_of o) (sym none)) put

@@ -134,7 +134,7 @@ module _ {form : Form} (s : Settings) (width height' : ℕ) (rows : List (List B
         let rows_are : raster.rows ≡ rows = sym (take-length raster.rows) ∙ ap (λ n. take n raster.rows) long ∙ b.first in
         ap (λ w. raster_of w raster.rows) b.width_is ∙ ap (raster_of width) rows_are
 
--- the rows that were read, and where the encoder stands
+-- the rows that were read, and the encoder's position
 abbrev pub ComeTo : Form → Settings → ℕ → ℕ → ℕ → Option (List ℕ) → Option (List ℕ) → RowView → Held → Option (List ℕ) → Option (List ℕ) → Type 0
 ComeTo form s width height' count known known' v window text text' =
     (rows : List (List Bool)) × (length rows ≡ count) × ReadsRows form width known known' rows × Stands (image_of s width height') rows v window (here text) text'

@@ -6,7 +6,7 @@ use Rattle.t85_core.specs.Change.{Change, between}
 use Rattle.t85_core.specs.Jbg.{Settings}
 use Rattle.t85_core.specs.ToJbg.{ToJbg, ToJbgAhead}
 
--- the reader as it is before it is lent and when its loan ends
+-- the reader before its loan, and at the loan's end
 pub read_ahead : {R : Type 0} (remaining : R → Option (List ℕ)) (failures : R → ℕ) (s : Settings) (output : Change) (flushed : Bool) (held : List ℕ) (start reader reader' : R) (known : Option (List ℕ)) (count : ℕ) (r : Result (Unit {0}) Fault)
     → known ≡ remaining start → count ≡ failures start → reader ≡ reader' → (failures reader ≡ count) ⊎ (held ≡ [])
     → ToJbg s (between known (prepend_known held (remaining reader)) count (failures reader)) output flushed r

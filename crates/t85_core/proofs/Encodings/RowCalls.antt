@@ -9,7 +9,7 @@ use Rattle.t85_core.specs.Steps.ByRow.{RowView, Stands, Waits, IsStart, IsLined,
 use Rattle.t85_core.specs.RowImage.{Image}
 use Rattle.t85_core.proofs.Bytes.Sendings.{Sends-keeps, sends_grows, sends_handed, sent_behind, appends_none}
 
--- where no stripe runs, with another window or where the bytes went elsewhere
+-- if no stripe is in progress, with another window or other destinations of the bytes
 waits_at : {image : Image} {rows : List (List Bool)} {v : RowView} {window window' : Held} {origin origin' : Origin} {text text' : Option (List ℕ)} (w : Waits image rows v window origin text) →
     (w.i * image.settings.stripe_rows < image.limit → IsStart image.settings image.width w.at v window') → Sends origin' text' w.front → Waits image rows v window' origin' text'
 waits_at w on_course sent = record {
@@ -73,7 +73,7 @@ module _ (image : Image) (rows : List (List Bool)) (v : RowView) (window : Held)
   pub stands_grown : Stands image rows v window origin text → known_length origin.text ≤ known_length text
   stands_grown so = sends_grows origin text (bytes_of so) (sends_of so)
 
-  -- what stands, stands behind what was sent
+  -- the state also holds behind the bytes sent
   pub stands_elsewhere : Stands image rows v window origin text → (bytes : List ℕ) × Sends origin text bytes × ((text' : Option (List ℕ)) → Stands image rows v window (behind bytes text') text')
   stands_elsewhere so = (bytes_of so, sends_of so, λ text'. resent (behind (bytes_of so) text') text' so (sent_behind (bytes_of so) text' (appends_none text')))
 

@@ -1,4 +1,4 @@
--- What a target took of a row, and of the end of a code.
+-- The bytes of a row, and of the end of a code, that a target accepted.
 use Rattle.std.proofs.Common.{◌≡◌, ℕ, List, ◌++◌, refl, sym, ap, ◌∙◌, subst, Option, Result, Ok, Err, arith, append_assoc}
 use Rattle.std.specs.Prelude.{IfErr, OnErr, OnOk}
 use Rattle.std.specs.Io.KnownBytes.{Appends}
@@ -20,7 +20,7 @@ use Rattle.t85_core.proofs.Bytes.Streams.{Appends-keeps}
 use Rattle.t85_core.proofs.Encodings.SinkTakes.{took_inked}
 use Rattle.raster_core.specs.Row.{RowEncoded, row_task}
 
--- what is answered for it, and counted
+-- the result for it, and the count
 pub sent_err : (answer : Result (Unit {0}) CoderFault) → IfErr (sent_as answer) (λ f. f ≡ Write)
 sent_err (Ok u) = tt
 sent_err (Err f) = refl

@@ -87,7 +87,7 @@ offset_named t image rows v window origin text none so =
       })),
     )
 
--- an offset is named only where no stripe runs
+-- an offset is chosen only if no stripe is in progress
 pub name_waits : (closed offered : Bool) (n : ℕ) → (closed && ((n == 0) && offered)) ≡ true → n ≡ 0
 name_waits true true n e = by (n == 0) refl e where
   by : (b : Bool) → (n == 0) ≡ b → (b && true) ≡ true → n ≡ 0

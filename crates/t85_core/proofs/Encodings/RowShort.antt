@@ -46,7 +46,7 @@ module _ (laws : WritingLaws) (mode : Mode) (move : Option (ℕ × ℕ)) where
         bytes_are = ap stuffed begins.1 ∙ laws.stuffed_append front.front begins.0 ∙ ap (λ z. z ++ stuffed begins.0) (sym front.is);
       }
 
-  -- What was pushed of a row begins each code of rows that go on after it.
+  -- The bytes pushed for a row begin each code of rows that continue after it.
   pub fails_begins : (c : StripeStart) (rows : List (List Bool)) (row : List Bool) (count : ℕ) (events rest : List Event) (pushed left : List ℕ) →
       row_events mode (lines_with (after_rows mode move 0 (first_row_start c) rows) row) (offset_at move (0 + length rows) (after_rows mode move 0 (first_row_start c) rows).offset) (after_rows mode move 0 (first_row_start c) rows).previous (next_flag mode (after_rows mode move 0 (first_row_start c) rows) row) ≡ events ++ rest →
       IsStuffedFront (pushed ++ left) (after (after_rows mode move 0 (first_row_start c) rows).state events).place → BeginsCode mode move c count (rows ++ row ∷ []) pushed

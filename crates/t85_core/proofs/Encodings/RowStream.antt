@@ -1,4 +1,4 @@
--- What stands of a stream, of each raster that may still come.
+-- The output for each raster that is still possible.
 use Rattle.std.proofs.Common.{◌≡◌, ℕ, zero, suc, ◌+◌, ◌-◌, ◌*◌, ◌<◌, ◌≤◌, ◌⊎◌, inl, inr, nat_lt, true, false, Bool, List, [], ◌++◌, length, take, map, refl, sym, ◌∙◌, ap, subst, arith, Option, None, Some, append_assoc, append-nil, length-append, option_to_list}
 use Rattle.std.specs.Prelude.{min, unwrap_or, flat_map, slice_index_or, option_map}
 use Rattle.std.proofs.lemmas.Grind.{div_ceil_times}

@@ -5,7 +5,7 @@ use Rattle.pbm_core.specs.declared.form.Form.{Form}
 use Rattle.pbm_core.specs.Image.{AreRows, HoldsRows}
 use Rattle.t85_core.proofs.Encodings.RowsTaken.{row_wide}
 
--- rows that were read stand before the rest
+-- rows that were read precede the rest
 pub rows_hold : (form : Form) (width : ℕ) (given rest : List ℕ) (rows : List (List Bool)) → AreRows form width given rows → HoldsRows form (given ++ rest) width rows rest
 rows_hold form width given rest rows are = record { front = given; bytes_are = refl; are_rows = are }
 

@@ -13,7 +13,7 @@ use Rattle.raster_core.specs.Packed.{Held, packed_row, rows_at, with_current, wi
 use Rattle.raster_core.specs.Window.{turned}
 use Rattle.t85_core.specs.Steps.EncodeRows.{RowTaken}
 
--- The current row of a window is written, whose place and width are told.
+-- The current row of a window is written, with a given place and width.
 pub put_current : (told place told_width width start end : ℕ) (bytes row : List ℕ) → told ≡ place → told_width ≡ width → length bytes ≡ 3 * div_ceil width 8 → length row ≡ div_ceil width 8 →
     ((bytes row : List ℕ) → length bytes ≡ 3 * div_ceil told_width 8 → length row ≡ div_ceil told_width 8 → rows_at told told_width (with_part start end bytes row) ≡ with_current (rows_at told told_width bytes) row) →
     rows_at place width (with_part start end bytes row) ≡ with_current (rows_at place width bytes) row

@@ -65,8 +65,8 @@ no_segment_in_code b x y s e = went s (stuff_cases b) e where
   went (Move row offset) (inr p) e = let k : b ∷ x ≡ 255 ∷ 6 ∷ body_of (Move row offset) ++ y = ap (λ z. z ++ x) (sym p.1) ∙ e in p.0 (cc)
   went (Comment text) (inr p) e = let k : b ∷ x ≡ 255 ∷ 7 ∷ body_of (Comment text) ++ y = ap (λ z. z ++ x) (sym p.1) ∙ e in p.0 (cc)
 
--- No more pieces stand at the front of x, after these segments and this code: no code byte, and no legal segment that
--- would fit there.
+-- No more pieces are at the front of x, after these segments and this code: no code byte, and no legal segment that would fit
+-- there.
 pub record EndsPieces (h : Fields) (Fits : List Segment → Type 0) (segments : List Segment) (code x : List ℕ) : Type 0 where
   pub no_code : NoCode x
   pub no_segment : code ≡ [] → (s : Segment) (z : List ℕ) → IsLegal h s → Fits (segments ++ s ∷ []) → x ≡ segment_bytes s ++ z → ⊥
@@ -182,7 +182,7 @@ abbrev pub Suits : Fields → ℕ → ℕ → Type 0
 Suits h height k = 1 ≤ height → is_valid_length h k height ≡ true
 
 module _ (h : Fields) (ok : IsAccepted h) (height k n : ℕ) (suits : Suits h height k) where
-  -- segments that may stand in one stripe, after n heights
+  -- segments that may be in one stripe, after n heights
   pub record Fits (ss : List Segment) : Type 0 where
     pub one_move : count_by is_move ss ≤ 1
     pub gives : GiveOnly height n ss

@@ -1,4 +1,4 @@
--- What stands at the front of a rest that has no fault.
+-- The front of a rest that has no error.
 use Rattle.std.proofs.Common.{cond, ◌≡◌, ◌≢◌, ◌⊎◌, inl, inr, ◌<◌, ◌≤◌, ◌+◌, ◌*◌, ◌/◌, ◌%◌, ◌^◌, ℕ, Bool, true, false, not, List, [], ◌∷◌, ◌++◌, Option, None, Some, length, drop, take, nat_eq, refl, sym, ap, ◌∙◌, subst, append_assoc, length-take-le, arith}
 use Rattle.std.specs.Prelude.{if◌then◌else◌}
 use Rattle.std.specs.List.{AllByRecursion}

@@ -39,7 +39,7 @@ nothing [] e = refl
 nothing (b ∷ code) e = absurd (true≢false e)
 
 module _ (h : Fields) (height : ℕ) where
-  -- a whole stripe is at the front, or what is left is broken; k entities and n heights stand before it
+  -- a whole stripe is at the front, or the rest is broken; k entities and n heights precede it
   data Parsed (k n : ℕ) (tail : List ℕ) : Type 0 where
     whole : (s : Stripe) (more : List ℕ) → IsBegun h s.segments s.code → GiveOnly height n s.segments → tail ≡ stripe_bytes s ++ more → Parsed k n tail
     broken : (f : Fault) → StripeFault h (spot_of height k n) tail f → Parsed k n tail

@@ -153,7 +153,7 @@ module _ (h : Fields) (ok : IsAccepted h) where
       let b = legal_give_none h ts legal k in
       lengths_append (all_segments ss) ts ∙ ap (λ u. u ++ lengths ts) a ∙ b
 
-  -- the header's height, where none is given
+  -- the header's height, if there is no other
   header_height : (body : List ℕ) → ((n : ℕ) → GivesHeight h body n → ⊥) → (n : ℕ) × IsHeight h body n
   header_height body never = (h.yd, inr (refl, never))
 
@@ -181,7 +181,7 @@ module _ (h : Fields) (ok : IsAccepted h) where
       rest ≡ flat_map segment_bytes cs ++ last → IsHeight h body h.yd
   height_of_ended body ss rest cs last many each gives is c l no_height no_comment e = inr (refl, never_behind body ss rest cs last many each gives is c l no_height no_comment e)
 
-  -- Where 0 is in use, a body that breaks with another fault than that of a valid height gives none.
+  -- At height 0, a body that breaks with another error than that of a valid height contains none.
   pub height_of_broken : (body : List ℕ) (f : Fault) → StripesFault h 0 (stripe_count h.yd h.l0) body f → (f ≡ Changed → ⊥) → IsHeight h body h.yd
   height_of_broken body f b other = inr (refl, never) where
     never : (n : ℕ) → GivesHeight h body n → ⊥

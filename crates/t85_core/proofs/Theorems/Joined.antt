@@ -1,4 +1,4 @@
--- What a coder carries from row to row is what the definitions look up.
+-- The state that a coder carries from row to row is the one that the definitions determine.
 use Rattle.std.proofs.Common.{◌≡◌, ℕ, zero, suc, ◌+◌, ◌-◌, ◌*◌, ◌/◌, ◌<◌, ◌≤◌, true, false, List, [], ◌∷◌, ◌++◌, refl, sym, ◌∙◌, ap, arith, Option, None, Some, append-nil, add-zero}
 use Rattle.std.specs.Prelude.{slice_index_or, unwrap_or, if◌then◌else◌, nat_lt, flat_map, filter_map}
 use Rattle.std.specs.List.{cons_option}

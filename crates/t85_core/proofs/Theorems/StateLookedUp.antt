@@ -1,4 +1,4 @@
--- What a decoder carries is what the definitions look up in the whole image.
+-- The state that a decoder carries is the one that the definitions determine from the whole image.
 use Rattle.std.proofs.Common.{◌≡◌, ◌≢◌, ℕ, zero, suc, ◌+◌, ◌-◌, ◌*◌, ◌/◌, ◌%◌, ◌<◌, ◌≤◌, nat_eq, Bool, true, false, List, [], ◌∷◌, length, refl, sym, ◌∙◌, ap, subst, arith, Option, None, Some}
 use Rattle.std.specs.Prelude.{slice_index_or, unwrap_or, if◌then◌else◌, ◌==◌, flat_map, filter_map, option_and_then}
 use Rattle.std.proofs.lemmas.Bool.Decides.{nat_tests}
@@ -11,7 +11,7 @@ use Rattle.t85_core.specs.Steps.Looked.{offset_before, flag_before, top, CarryAt
 use Rattle.t85_core.proofs.Bytes.Elements.{Continues, continues_first, continues_rest}
 use Rattle.t85_core.proofs.Theorems.Joined.{one_row_more, one_more_move, fresh_le, stripe_at, top_in, row_above_step, row_here}
 
--- ---- what stands before a row, where all above row t is white
+-- ---- the state before a row, where everything above row t is white
 
 -- what is carried after r rows of stripe i, which row y follows
 pub record CarriedAt (c : Coding) (i r y : ℕ) (b : RowStart) : Type 0 where

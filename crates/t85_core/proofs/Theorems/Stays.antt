@@ -1,4 +1,4 @@
--- What is decided stays so, however the stream goes on.
+-- Decided rows stay so, however the stream continues.
 use Rattle.std.proofs.Common.{◌≡◌, ℕ, zero, suc, ◌+◌, ◌-◌, ◌*◌, ◌<◌, ◌≤◌, ◌⊎◌, inl, inr, Bool, false, List, [], ◌∷◌, ◌++◌, length, map, take, drop, arith, refl, ap, ◌∙◌, sym, subst, Option, None, length-append, append_assoc}
 use Rattle.std.specs.Prelude.{slice_index_or, min, flat_map}
 use Rattle.std.specs.List.{AllByRecursion}

@@ -18,7 +18,7 @@ use Rattle.t85_core.proofs.Bytes.Lists.{All-append}
 use Rattle.t85_core.proofs.Bytes.Lengths.{many_lengths, gives_none, gives_both, gives_left, gives_right}
 use Rattle.t85_core.proofs.Bytes.Known.{stable_rest}
 
--- the same fault, where the counts are told in another way
+-- the same error, with the counts in another form
 pub same_rest : (h : Fields) (height a b m a' b' m' : ℕ) (in_code : Bool) (rest : List ℕ) (f : Fault) → a ≡ a' → b ≡ b' → m ≡ m' →
     rest_fault h (record { height = height; entities = a; heights = b }) m in_code rest ≡ Some f → rest_fault h (record { height = height; entities = a'; heights = b' }) m' in_code rest ≡ Some f
 same_rest h height a b m a' b' m' in_code rest f e k n p =

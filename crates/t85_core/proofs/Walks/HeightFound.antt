@@ -1,4 +1,4 @@
--- What a walk from the first stripe on found says of the height.
+-- The height that a walk from the first stripe on found.
 use Rattle.std.proofs.Common.{cond, ◌≡◌, ◌≢◌, inl, inr, ◌<◌, ◌+◌, ◌-◌, ◌^◌, ℕ, Bool, true, false, not, List, [], ◌∷◌, ◌++◌, Option, None, Some, IfSome, count_by, length, refl, sym, ap, ◌∙◌, subst, arith, true≢false}
 use Rattle.std.specs.Prelude.{flat_map}
 use Rattle.std.specs.Io.KnownBytes.{Consumes, IsAtEnd}

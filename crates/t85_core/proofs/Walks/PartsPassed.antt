@@ -32,7 +32,7 @@ passed_entity ss gs code reset =
 pub behind_bytes : (stream bytes left : List ℕ) (o : ℕ) → drop o stream ≡ bytes ++ left → drop (o + length bytes) stream ≡ left
 behind_bytes stream bytes left o e = sym (drop-drop (length bytes) o stream) ∙ ap (drop (length bytes)) e ∙ drop_at bytes left (length bytes) refl
 
--- the walk stands behind more bytes
+-- the walk is behind more bytes
 module _ {stream : List ℕ} {w : PartWalk} {h : Fields} {ss : List Stripe} {gs : List Segment} (p : StandsBehind stream w h ss gs) (w' : PartWalk) (bytes left : List ℕ) (there : drop w.offset stream ≡ bytes ++ left) (at : w'.offset ≡ w.offset + length bytes) where
   offset_grown : (ss' : List Stripe) (gs' : List Segment) → passed_bytes ss' gs' ≡ passed_bytes ss gs ++ bytes → w'.offset ≡ 20 + length (passed_bytes ss' gs')
   offset_grown ss' gs' e =
@@ -155,7 +155,7 @@ module _ {h : Fields} {w : PartWalk} {ss : List Stripe} {gs : List Segment} {bod
       last = λ _. subst (λ b. EndsInHeight b w'.late_height []) (sym at) refl;
     }
 
--- what stands before it, and the height itself
+-- the segments before it, and the height itself
 pub gives_there : {stream : List ℕ} {w : PartWalk} {h : Fields} {ss : List Stripe} {gs : List Segment} (p : StandsBehind stream w h ss gs) (n : ℕ) (left : List ℕ) → lengths (all_segments ss ++ gs) ≡ [] → length ss ≤ stripe_count h.yd h.l0 →
     (length ss ≡ stripe_count h.yd h.l0 → AllByRecursion (λ s. IsTrue (is_comment s)) gs) → IsLegal h (NewLength n) → is_valid_length h (length ss) n ≡ true → drop w.offset stream ≡ segment_bytes (NewLength n) ++ left → GivesHeight h (drop 20 stream) n
 gives_there {stream} {w} {h} {ss} {gs} p n left none within behind legal valid there = record {

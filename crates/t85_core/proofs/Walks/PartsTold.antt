@@ -1,4 +1,4 @@
--- What a walk over the parts of a stream tells.
+-- The results of a walk over the parts of a stream.
 use Rattle.std.proofs.Common.{cond, not, ◌≡◌, ◌≢◌, ◌⊎◌, inl, inr, ◌<◌, ◌≤◌, ◌+◌, ◌-◌, ℕ, Bool, true, false, nat_eq, List, [], ◌∷◌, ◌++◌, Option, None, Some, IfSome, is_some, count_by, length, take, drop, refl, sym, ap, ◌∙◌, subst, append_assoc, length-append, arith, true≢false}
 use Rattle.std.specs.Prelude.{flat_map, IsTrue}
 use Rattle.std.specs.List.{AllByRecursion}
@@ -65,7 +65,7 @@ module _ {stream : List ℕ} {w : PartWalk} {h : Fields} {ss : List Stripe} {gs 
     by (inl u) = u
     by (inr g) = absurd (let one = late_of g in omega (arith, one, zero))
 
-  -- and where one was
+  -- and its position before
   pub given_of_walk : is_given w ≡ true → IsGiven w h ss gs (drop 20 stream)
   given_of_walk is = by p.height where
     by : IsUngiven w h ss gs (drop 20 stream) ⊎ IsGiven w h ss gs (drop 20 stream) → IsGiven w h ss gs (drop 20 stream)
@@ -442,14 +442,14 @@ before_of h stream w w' found sees before most ss gs p =
     let none : is_given w ≡ false = ap (λ n. not (nat_eq n 0)) seen.0 in
     before seen.0 (most_there p none most) seen.1.0 seen.1.1 ss gs p
 
--- what is told of each header, is told of the one that the stream has
+-- a result for each header is one for the header of the stream
 pub tells_behind : (stream : List ℕ) (h : Fields) (w w' : PartWalk) (found : Found) → HeaderOf stream h → w.offset ≢ 0 → TellsThere h stream w w' found → (from : Passed) → IsBehind stream w from → TellsNext stream w w' from found
 tells_behind stream h w w' found header some told Nothing p = absurd (some p)
 tells_behind stream h w w' found header some told (Behind k ss gs) p =
     let same : h ≡ k = header_is stream h k header p.header_of in
     subst (λ z. TellsThere z stream w w' found) same told ss gs p
 
--- the header is told
+-- the header is returned
 pub tells_header : (stream : List ℕ) (h : Fields) (w : PartWalk) → HeaderOf stream h → w.offset ≡ 0 → (from : Passed) → IsBehind stream w from → TakesPart stream w header_walk from header_part
 tells_header stream h w header zero Nothing p = record {
   to = Behind h [] [];

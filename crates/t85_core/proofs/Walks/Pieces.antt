@@ -1,4 +1,4 @@
--- What one step of the walk over a stripe passes, or why it stops.
+-- The item that one step of the walk over a stripe passes, or why it stops.
 use Rattle.std.proofs.Common.{◌≡◌, ◌≢◌, ℕ, true, false, List, [], ◌∷◌, Option, Some, subst, arith}
 use Rattle.std.specs.Io.KnownBytes.{Consumes}
 use Rattle.std.proofs.lemmas.Bool.Decides.{nat_tests}

@@ -1,4 +1,4 @@
--- What stands after FF 06 and after FF 07.
+-- The bytes after FF 06 and after FF 07.
 use Rattle.std.proofs.Common.{cond, not, ◌&&◌, ◌≡◌, ◌≢◌, ◌<◌, ◌≤◌, ◌+◌, ◌^◌, ◌⊎◌, ℕ, true, false, List, [], ◌∷◌, ◌++◌, length, Some, None, nat_lt, nat_le, nat_eq, ap, ◌∙◌, length-append, arith}
 use Rattle.std.proofs.lemmas.Bool.Decides.{nat_tests}
 use Rattle.byteorder.specs.Endian.{big_bytes, big_number}

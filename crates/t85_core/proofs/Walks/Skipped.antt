@@ -1,4 +1,4 @@
--- What a walk passes that looks for a height, or goes on after one.
+-- The items that a walk passes if it searches for a height, or continues after one.
 use Rattle.std.proofs.Common.{cond, ◌≡◌, ◌<◌, ◌≤◌, ◌+◌, ◌-◌, ◌^◌, ℕ, Bool, true, false, List, [], ◌∷◌, ◌++◌, Option, Some, count_by, length, min, is_some, refl, sym, ap, ◌∙◌, subst, append_assoc, arith}
 use Rattle.std.specs.Prelude.{flat_map}
 use mir.Val.{bool_byte}
@@ -123,7 +123,7 @@ cut_pieces {h} {entities} {given} {before} {a} {b} {f} e = Ends-after {a = a} {b
 
 -- ---- stripes
 
--- stripes so far, and whether a move stands before what is next
+-- stripes so far, and whether a move precedes the next item
 pub record HasStripes (h : Fields) (before : Bool) (count : ℕ) (old new : Option (List ℕ)) (moved : Bool) (moves comments : ℕ) : Type 0 where
   pub so : SkipsStripes h before count (reading old new) (segment_counts moves comments)
   pub moved_is : moved ≡ moved_behind before so.stripes

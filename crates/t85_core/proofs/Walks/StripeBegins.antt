@@ -1,4 +1,4 @@
--- What a stripe begins with: its segments, one after another, and the code.
+-- The start of a stripe: its segments, one after another, and the code.
 use Rattle.std.proofs.Common.{inr, nat_eq, ◌≡◌, ◌≤◌, ℕ, List, [], length, refl, arith}
 use Rattle.std.specs.Prelude.{◌*◌, ◌/◌, ◌%◌, bit_and, not}
 use Rattle.std.proofs.lemmas.Bool.Decides.{nat_tests}

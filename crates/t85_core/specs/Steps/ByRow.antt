@@ -36,7 +36,7 @@ pub record RowPlan : Type 0 where
   pub reset : Bool
   pub most_offset : ℕ
 
--- what a row encoder holds, but for whether it is closed, and what it is lent of what was learned
+-- the state of a row encoder, without whether it is closed, and the context states and counts that it borrows
 pub record RowView : Type 0 where
   pub plan : RowPlan
   pub kept : Kept
@@ -126,7 +126,7 @@ pub record IsHeldBy (move : Option (ℕ × ℕ)) (r : ℕ) (b : RowStart) (kept 
   pub third : List Bool
   pub lines_are : HasLines window (record { row = b.above; above = b.second; second = third })
 
--- the offset against which the rows of a stripe are counted, where they are
+-- the offset with which the rows of a stripe are compared, if they are counted
 abbrev pub counted_of : RowView → Option ℕ
 counted_of v = if v.is_counted then Some (if v.plan.reset then 0 else v.kept.offset) else None
 
@@ -195,7 +195,7 @@ Stands image rows v window origin text =
 abbrev pub IsBelow : List Bool → Held → Held → Type 0
 IsBelow row old new = (lines : Lines) → HasLines old lines → HasLines new (record { row = row; above = lines.row; second = lines.above })
 
--- An encoder between two steps: what it holds, the window that it is lent, and what was written.
+-- An encoder between two steps: its state, the window that it borrows, and the output.
 pub record EncoderAt : Type 0 where
   pub view : RowView
   pub window : Held
@@ -204,7 +204,7 @@ pub record EncoderAt : Type 0 where
 abbrev pub encoder_at : RowView → Held → Option (List ℕ) → EncoderAt
 encoder_at view window text = record { view = view; window = window; text = text }
 
--- with what it is lent
+-- with the borrowed memory
 abbrev pub lent_to : RowEncoder → Learning → Held → Option (List ℕ) → EncoderAt
 lent_to e learning window text = encoder_at (view_of e learning) window text
 

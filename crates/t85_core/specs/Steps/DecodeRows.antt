@@ -1,4 +1,4 @@
--- What a decoder of the rows of a stripe leaves.
+-- The effect of a decoder of the rows of a stripe.
 use Rattle.std.specs.Prelude.{ℕ, ◌+◌, ◌≡◌, Bool, true, List, ◌++◌, length, replicate, Option, flat_map}
 use Rattle.std.specs.Io.KnownBytes.{Appends}
 use Rattle.qm_core.specs.Source.{heard_of, Gives}
@@ -26,7 +26,7 @@ pub record IsShapeOf (h : Fields) (shape : Shape) : Type 0 where
   pub width_is : shape.width ≡ h.xd
   pub mode_is : shape_mode shape ≡ mode_of h.options
 
--- What a decoder holds between two rows. The row that is to be written again may hold any.
+-- The state of a decoder between two rows. The row to be written next may contain anything.
 pub record IsCarried (b : RowStart) (carried : Carried) : Type 0 where
   pub offset_is : carried.kept.offset ≡ b.offset
   pub previous_is : carried.kept.previous_typical ≡ b.previous

@@ -1,4 +1,4 @@
--- What a decoder of stripes leaves.
+-- The effect of a decoder of stripes.
 use Rattle.std.specs.Prelude.{ℕ, ◌+◌, ◌≡◌, Bool, List, ◌++◌, length, Option, flat_map, ◌⊎◌}
 use Rattle.std.specs.Io.KnownBytes.{Appends, Consumes}
 use Rattle.pbm_core.specs.Device.{AppendsBeginning}
@@ -25,7 +25,7 @@ pub record GivesIn (spot : Spot) (heights : ℕ) (segments : List Segment) : Typ
   pub gives : GiveOnly spot.height spot.heights segments
   pub heights_are : heights ≡ spot.heights + length (lengths segments)
 
--- Where a stripe begins: its place in the body, what is carried to it, and how many rows it has.
+-- The start of a stripe: its place in the body, the state carried to it, and its number of rows.
 pub record StripePlace : Type 0 where
   pub spot : Spot
   pub start : StripeStart

@@ -34,7 +34,7 @@ pub record SegmentCounts : Type 0 where
 abbrev pub segment_counts : ℕ → ℕ → SegmentCounts
 segment_counts moves comments = record { moves = moves; comments = comments }
 
--- Where a search for the height ended: the number of stripe data entities, the segments in these, and those behind them.
+-- The end of a search for the height: the number of stripe data entities, the segments in these, and those behind them.
 pub record SearchEnd : Type 0 where
   pub entities : ℕ
   pub passed : SegmentCounts

@@ -33,7 +33,7 @@ ReadsPart h place moved old new taken.DataEntity = (code : List ℕ) × (reset :
 abbrev pub MissesPart : Fields → Place → Bool → List ℕ → Fault → Type 0
 MissesPart h place moved bytes fault = HasPartFault h place.entities (if place.given then 1 else 0) (if moved then 1 else 0) bytes fault
 
--- if no height has come yet
+-- if there is no height so far
 abbrev pub place_before : ℕ → Place
 place_before entities = record { height = 0; entities = entities; given = false }
 

@@ -1,4 +1,4 @@
--- How far the code of a stripe has come of which pieces came.
+-- The position of a decoder in the code of a stripe, whose pieces arrive one by one.
 use Rattle.std.specs.Prelude.{ℕ, ◌+◌, ◌≡◌, ◌≤◌, ◌<◌, Bool, List, [], ◌∷◌, ◌++◌, length, Option, Some, None, IfSome, flat_map}
 use Rattle.std.specs.List.{AllByRecursion}
 use Rattle.qm_core.specs.Code.{stuffed}
@@ -71,7 +71,7 @@ pub record CodeBreaks (text piece : List ℕ) (bytes : List ℕ) (fault : Fault)
 
 -- ---- a row
 
--- What of a decoder of rows a piece may change.
+-- The parts of a row decoder that a piece may change.
 pub record RowState : Type 0 where
   pub carried : Carried
   pub decoder : Decoder
@@ -112,7 +112,7 @@ pub record PieceRowTaken (stripe : OpenStripe) (shape : Shape) (row : ℕ) (left
   pub read : RowsKnown stripe shape (rows_done (row + 1) left.carried left.decoder) parts.began (parts.out ++ left.carried.held.current)
   pub code_is : CodeText left.first left.marker read.answers [] (parts.text ++ given)
 
--- A row of a stripe that has begun: the rows before it, what was answered since, and how far it has come.
+-- A row of a stripe that has begun: the rows before it, the answers since, and its position.
 pub record RowBegun (stripe : OpenStripe) (shape : Shape) (at : OpenRow) (began out : List ℕ) : Type 0 where
   pub start : Carried
   pub decoder : Decoder
@@ -211,7 +211,7 @@ pub record MarkerMissing (answers : List Pulled) (text piece : List ℕ) (fault 
 abbrev pub MissesMarker : Option Code → Option Bool → List ℕ → Fault → Type 0
 MissesMarker first marker piece fault = (answers : List Pulled) (extra text : List ℕ) → CodeText first marker answers extra text → MarkerMissing answers text piece fault
 
--- What came of the code was skipped.
+-- The bytes of the code that arrived were skipped.
 pub record CodeKept (first : Option Code) (marker : Option Bool) (answers : List Pulled) (text piece piece' : List ℕ) : Type 0 where
   pub given : List ℕ
   pub taken : piece ≡ given ++ piece'

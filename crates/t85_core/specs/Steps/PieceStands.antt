@@ -1,4 +1,4 @@
--- How far a decoder has come that is given a stream in pieces, while a height may still come, and after.
+-- The position of a decoder of a stream in pieces, while a height may still follow, and after.
 use Rattle.std.specs.Prelude.{ℕ, ◌+◌, ◌≡◌, ◌⊎◌, Bool, true, false, nat_le, List, ◌++◌, None}
 use Rattle.t85_core.specs.Lent.{PieceView, WalkView}
 use Rattle.t85_core.specs.declared.pieces.behind.Behind.{Behind}
@@ -12,14 +12,14 @@ use Rattle.t85_core.specs.Steps.Behind.{BehindStands, behind_at}
 use Rattle.t85_core.specs.Steps.Pieces.{WalkStands, HasMarker, IsInCode}
 use Rattle.t85_core.specs.Steps.SizedImage.{sized}
 
--- What is known of the height: it is the header's while another may come. After that it came, or none may come.
+-- The known height: the header's while another may follow. After that it arrived, or none may follow.
 pub record HeightKnown (h : Fields) (height : ℕ) (is_open : Bool) (text : List ℕ) : Type 0 where
   pub variable : is_open ≡ true → is_variable h ≡ true
   pub first : is_open ≡ true → height ≡ h.yd
   pub came : is_open ≡ false → is_variable h ≡ true → (rest : List ℕ) → GivesHeight h (text ++ rest) height
   pub fixed : is_open ≡ false → is_variable h ≡ false → height ≡ h.yd
 
--- how many data entities are before what stands behind a walk
+-- the number of stripe data entities before the bytes behind a walk
 abbrev pub entities_behind : Stage → ℕ → ℕ
 entities_behind stage.Head entities = entities
 entities_behind stage.Comment entities = entities

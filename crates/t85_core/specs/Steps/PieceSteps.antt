@@ -1,4 +1,4 @@
--- What the steps of a decoder leave that is given a stream in pieces.
+-- The effects of the steps of a decoder of a stream in pieces.
 use Rattle.std.specs.Prelude.{ℕ, ◌+◌, ◌*◌, ◌≡◌, ◌≤◌, ◌<◌, Bool, true, false, List, [], ◌++◌, length, min, Option, Some, None, if◌then◌else◌}
 use Rattle.t85_core.specs.declared.fault.Fault.{Fault}
 use Rattle.t85_core.specs.declared.fault.Fault.TheVariants.{Truncated}
@@ -30,7 +30,7 @@ LooksForHeight d = (d.is_open ≡ true) × (d.waits ≡ true)
 abbrev pub DecodesCode : PieceDecoder → Type 0
 DecodesCode d = (d.is_open ≡ true) × (d.waits ≡ false)
 
--- it stands somewhere
+-- it is at some position
 abbrev pub SomeStand : PieceView → Type 0
 SomeStand d = (text : List ℕ) × (out : List ℕ) × DecoderStands d text out
 
@@ -50,7 +50,7 @@ abbrev pub NoHeightBelow : Bool → PieceView → PieceView → List ℕ → Typ
 NoHeightBelow is_all d d' piece =
     d'.is_open ≡ true → HasMarker d'.walk → (text out rest : List ℕ) (n : ℕ) → DecoderStands d text out → MayFollow is_all rest → IsHeight (stream_of d) ((text ++ piece) ++ rest) n → rows_given d' ≤ n
 
--- What a step leaves: none of the answers where another step is to be taken.
+-- The effect of a step: no result if another step follows.
 pub record StepLeaves (is_all : Bool) (d d' : PieceView) (piece piece' : List ℕ) (answer : Option Outcome) : Type 0 where
   pub header : d'.header ≡ d.header
   pub going : d'.end ≡ d.end

@@ -1,4 +1,4 @@
--- How far a decoder has come that is fed in pieces.
+-- The position of a decoder that is fed in pieces.
 use Rattle.std.specs.Prelude.{⊤, ℕ, ◌+◌, ◌-◌, ◌*◌, ◌^◌, ◌≡◌, ◌≢◌, ◌≤◌, ◌<◌, Bool, true, false, List, [], ◌∷◌, ◌++◌, length, min, Option, Some, None, IfSome, is_some, if◌then◌else◌, Result, Ok, ◌⊎◌, IsOk, OnOk, IfErr, IsErrOf}
 use Rattle.byteorder.specs.Endian.{big_bytes}
 use Rattle.qm_core.specs.declared.decoder.Decoder.{Decoder}
@@ -32,8 +32,8 @@ pub record CutOff (image : SizedImage) (text out : List ℕ) (fault : Fault) : T
   pub unread : List ℕ
   pub cut : ImageCut image.fields image.height (passage (Some text) (Some unread) (Some []) (Some out)) fault
 
--- Where in the head of a stripe one is: after how many data entities, whether a height was given, which move came, and
--- what is carried from the rows before it.
+-- A position in the head of a stripe: the number of stripe data entities, whether there was a height, the move, and the state
+-- carried from the rows before it.
 pub record HeadPlace : Type 0 where
   pub entities : ℕ
   pub given : Bool
@@ -47,7 +47,7 @@ head_place entities given at carried = record { entities = entities; given = giv
 abbrev pub head_place_of : WalkView → HeadPlace
 head_place_of w = head_place w.entities w.given w.at w.carried
 
--- Where in the code of a stripe one is: before which row, which of its bytes or markers was read ahead, and the decoder.
+-- A position in the code of a stripe: the next row, the byte or marker that was read ahead, and the decoder.
 pub record CodePlace : Type 0 where
   pub row : ℕ
   pub first : Option Code
@@ -151,11 +151,11 @@ StepsOn image w w' piece piece' row = (text out : List ℕ) → WalkStands image
 abbrev pub StepsToEnd : SizedImage → WalkView → WalkView → List ℕ → List ℕ → Type 0
 StepsToEnd image w w' piece piece' = StepsOn image w w' piece piece' [] × (length piece' ≤ 7)
 
--- What came is broken, or ends too early, and fixes what was handed out.
+-- The bytes so far are broken, or end too early, and fix the returned rows.
 abbrev pub StepsOff : SizedImage → WalkView → List ℕ → Fault → Type 0
 StepsOff image w piece fault = (text out : List ℕ) → WalkStands image w text out → CutOff image (text ++ piece) out fault
 
--- What a step leaves that hands out no row.
+-- The effect of a step that returns no row.
 pub record Step (image : SizedImage) (w w' : WalkView) (piece piece' : List ℕ) (answer : Result (Unit {0}) Fault) : Type 0 where
   pub ok : OnOk answer (StepsOn image w w' piece piece' [])
   pub err : IfErr answer (λ f. StepsOff image w piece f)
@@ -165,7 +165,7 @@ pub record Step (image : SizedImage) (w w' : WalkView) (piece piece' : List ℕ)
 abbrev pub Alone : (WalkView → WalkView → Type 0) → Walk → Walk → Type 0
 Alone Leaves w w' = (rows : Held) (learned : List Estimate) → Leaves (walk_view w rows learned) (walk_view w' rows learned)
 
--- What a step leaves that hands out a row.
+-- The effect of a step that returns a row.
 pub record RowStep (image : SizedImage) (w w' : WalkView) (piece piece' : List ℕ) (answer : Result (Unit {0}) Fault) : Type 0 where
   pub ok : OnOk answer (StepsOn image w w' piece piece' w'.carried.held.current)
   pub err : IfErr answer (λ f. StepsOff image w piece f)
@@ -222,7 +222,7 @@ StripesOn image w w' piece piece' =
     (text out : List ℕ) → WalkStands image w text out →
     (given : List ℕ) × (piece ≡ given ++ piece') × StripesRead image.fields image.height (passage (Some (text ++ given)) (Some []) (Some []) (Some out)) (w.entities + 1) (if w.given then 1 else 0) w'.carried
 
--- What a step to a row leaves beside the row.
+-- The effect of a step to a row, besides the row.
 pub record RowLeaves (w w' : WalkView) (piece piece' : List ℕ) (answer : Result (Unit {0}) Fault) : Type 0 where
   pub place : KeepsPlace w w'
   pub row : OnOk answer ((w'.row ≡ w.row + 1) × (w'.stage ≡ stage.Code))
@@ -232,11 +232,11 @@ pub record RowLeaves (w w' : WalkView) (piece piece' : List ℕ) (answer : Resul
   pub drained : IfErr answer (λ _. EndsInNoEscape piece → piece' ≡ [])
   pub other : IfErr answer (λ f. f ≢ Changed)
 
--- It leaves that of a walk that stands somewhere.
+-- The walk is again one at some position.
 abbrev pub LeavesRow : SizedImage → WalkView → WalkView → List ℕ → List ℕ → Result (Unit {0}) Fault → Type 0
 LeavesRow image w w' piece piece' answer = SomeStands image w → RowLeaves w w' piece piece' answer
 
--- What a step leaves that may hand out a row, or find that the image is whole.
+-- The effect of a step that may return a row, or find that the image is whole.
 pub record Turn (image : SizedImage) (w w' : WalkView) (piece piece' : List ℕ) (answer : Result Bool Fault) : Type 0 where
   pub row : answer ≡ Ok true → StepsOn image w w' piece piece' w'.carried.held.current
   pub done : answer ≡ Ok false → StepsOn image w w' piece piece' [] × IsOver w'.stage

@@ -21,7 +21,7 @@ use Rattle.t85_core.specs.Steps.Passage.{passage}
 abbrev pub still_left : SourceView → List ℕ → ℕ
 still_left s held = s.left - length held
 
--- Of the bytes that were held so many stay, the last ones, and the others were taken.
+-- This many of the buffered bytes stay, the last ones, and the others were consumed.
 pub record KeepsLast (old : SourceView) (held : List ℕ) (new : SourceView) (held' : List ℕ) (left : ℕ) : Type 0 where
   pub taken : (front back : List ℕ) → held ≡ front ++ back → length back ≡ left → (held' ≡ back) × Consumes old.known new.known front
   pub within : length held' ≤ left
@@ -29,7 +29,7 @@ pub record KeepsLast (old : SourceView) (held : List ℕ) (new : SourceView) (he
   pub unfailed : new.failures ≡ old.failures
   pub same_source : new.source ≡ old.source
 
--- Bytes were read behind those that were held. Where there were none, or the read failed, none is held any more.
+-- Bytes were read behind the buffered ones. If there were none, or the read failed, none is buffered any more.
 pub record Refills (old : SourceView) (held : List ℕ) (new : SourceView) (held' : List ℕ) (result : Result (Unit {0}) Fault) : Type 0 where
   pub ok : OnOk result (Keeps old.known new.known)
   pub err : IfErr result (Ends Truncated old.known new.known (λ given fault. (given ≡ held) × (fault ≡ Truncated)))
@@ -42,7 +42,7 @@ pub record Refills (old : SourceView) (held : List ℕ) (new : SourceView) (held
 abbrev pub ReadsWalk : SizedImage → WalkView → WalkView → Option (List ℕ) → Option (List ℕ) → List ℕ → Type 0
 ReadsWalk image w w' known known' row = (text out : List ℕ) → WalkStands image w text out → (given : List ℕ) × Consumes known known' given × WalkStands image w' (text ++ given) (out ++ row)
 
--- What came is broken, or ends too early, and fixes what was handed out.
+-- The bytes so far are broken, or end too early, and fix the returned rows.
 pub record WalkBreaks (image : SizedImage) (text out : List ℕ) (known known' : Option (List ℕ)) (fault : Fault) : Type 0 where
   pub given : List ℕ
   pub taken : Consumes known known' given
@@ -60,7 +60,7 @@ WaitsWalk image w w' known known' held' =
     (text out : List ℕ) → WalkStands image w text out →
     (given : List ℕ) × Consumes known known' given × WalkStands image w' (text ++ given) out × CutOff image ((text ++ given) ++ held') out Truncated
 
--- What a turn leaves that goes over what is held. Few bytes stay where it waits.
+-- The effect of a turn over the buffered bytes. Few bytes stay if it needs more.
 pub record HeldTurn (image : SizedImage) (w w' : WalkView) (known : Reading) (held' : List ℕ) (answer : Result Bool Fault) : Type 0 where
   pub row : answer ≡ Ok true → ReadsWalk image w w' known.old known.new w'.carried.held.current
   pub done : answer ≡ Ok false → ReadsWalk image w w' known.old known.new [] × IsOver w'.stage
@@ -74,7 +74,7 @@ pub record SameSource (old new : SourceView) : Type 0 where
   pub unfailed : new.failures ≡ old.failures
   pub same_source : new.source ≡ old.source
 
--- What a turn leaves that reads on where what is held ends.
+-- The effect of a turn that reads on at the end of the buffered bytes.
 pub record ReadTurn (image : SizedImage) (w w' : WalkView) (old new : SourceView) (answer : Result Bool Fault) : Type 0 where
   pub row : answer ≡ Ok true → ReadsWalk image w w' old.known new.known w'.carried.held.current
   pub done : answer ≡ Ok false → ReadsWalk image w w' old.known new.known [] × IsOver w'.stage
@@ -88,7 +88,7 @@ pub record RowsTurn (image : SizedImage) (w w' : WalkView) (old new : SourceView
   pub err : IfErr answer (λ f. BreaksWalk image w old.known new.known f)
   pub reads : SomeStands image w → ReadsOn old new answer
 
--- So many rows were decoded and written, and a walk stands behind them.
+-- This many rows were decoded and written, and a walk is behind them.
 pub record ImageSoFar (image : SizedImage) (w : WalkView) (p : Passage) (row : ℕ) : Type 0 where
   pub bytes : List ℕ
   pub out : List ℕ

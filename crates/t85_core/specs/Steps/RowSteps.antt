@@ -132,7 +132,7 @@ pub record StripesEnded (image : Image) (rows : List (List Bool)) (v : RowView) 
 
 -- ---- the steps of a call, in any stripe
 
--- A stripe is in progress now, where one was to begin or was in progress.
+-- A stripe is in progress now, and either it was before or it just began.
 abbrev pub StandsToRun : RowView → RowView → Option (List ℕ) → Option (List ℕ) → Type 0
 StandsToRun v v' old new =
     (image : Image) (rows : List (List Bool)) (before : Held) (origin : Origin) → Stands image rows v before origin old →

@@ -1,4 +1,4 @@
--- What was written of a stream after some rows, and the stripes of it whose rows are complete.
+-- The output for a stream after some rows, and the stripes of it whose rows are complete.
 use Rattle.std.specs.Prelude.{ℕ, ◌*◌, ◌≡◌, ◌≤◌, ◌<◌, Bool, List, length, Option}
 use Rattle.std.specs.List.{AllByRecursion}
 use Rattle.raster_core.specs.Raster.{Raster, height}
@@ -9,7 +9,7 @@ use Rattle.t85_core.specs.Steps.Written.{EncoderStart}
 use Rattle.t85_core.specs.Steps.Looked.{CourseAt}
 use Rattle.t85_core.specs.Steps.Sent.{Origin, Sends}
 
--- What was written is a beginning of the stream of each raster that may still come.
+-- The output is a prefix of the stream of each raster that is still possible.
 pub record StreamCut (image : Image) (rows : List (List Bool)) (origin : Origin) (text : Option (List ℕ)) : Type 0 where
   pub bytes : List ℕ
   pub sent : Sends origin text bytes

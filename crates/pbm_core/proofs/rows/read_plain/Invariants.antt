@@ -4,7 +4,7 @@ use Rattle.pbm_core.specs.Steps.{byte_at}
 use Rattle.pbm_core.proofs.Reading.{Passes}
 use Rattle.pbm_core.proofs.rows.read_plain.Given as goal
 
--- the pixels so far were passed, and stand in the bytes so far
+-- the pixels so far were passed, and are in the bytes so far
 abbrev pub invariant-loop-i : goal.invariant-loop-i
 invariant-loop-i g l = record {
   given : List ℕ;

@@ -2,7 +2,7 @@ use Rattle.std.proofs.Common.{◌-◌, length}
 use Rattle.t85_core.specs.Parts.{Passed, IsBehind}
 use Rattle.t85.proofs.facts.stream_len.Given as goal
 
--- the walk stands somewhere in the stream
+-- the walk is at some position in the stream
 abbrev pub invariant-parts : goal.invariant-parts
 invariant-parts l = (passed : Passed) × IsBehind l.bytes l.walk passed
 
