@@ -2,9 +2,10 @@
 
 ghost use Rattle.std.specs.Prelude.{◌≡◌, ◌+◌, ◌-◌, ◌*◌, ◌%◌, ◌<◌, ◌≤◌, IfOk, IfErr};
 ghost use Rattle.qm_core.specs.Source.{Pulls};
+ghost use Rattle.qm_core.specs.Decoder.{StopsOnce, decoder_state};
 ghost use Rattle.qm_core.specs.Reads.{ReaderReads};
 ghost use Rattle.raster_core.specs.Machine.Places.{IsPartOf};
-ghost use Rattle.raster_core.specs.Machine.Decoded.{ByteEnds, DecodesRow, RowStops, row_around, row_part};
+ghost use Rattle.raster_core.specs.Machine.Decoded.{ByteEnds, DecodesRow, RowStops, row_around, row_part, row_part_of_state};
 ghost use Rattle.raster_core.specs.Window.{shape_mode};
 ghost use Rattle.raster_core.specs.Machine.Registers.{IsTemplate};
 
@@ -15,7 +16,7 @@ use crate::decode::registers::Registers;
 use crate::decode::runs::skip_filled;
 use crate::place::{RowPlace, around_at, register_at};
 use crate::shape::Shape;
-use qm_core::{CodeBytes, Reader};
+use qm_core::{CodeBytes, Decoder, Learned, Reader};
 
 /// Decodes the rest of a partially decoded byte, and stores it.
 #[inline(never)]
@@ -63,6 +64,7 @@ fn end_byte<S: CodeBytes, const TWO_LINE: bool, const MOVED: bool>(
 }
 
 /// Decodes the pixels of a row, from a byte on.
+#[inline(always)]
 fn decode_bytes<S: CodeBytes, const TWO_LINE: bool, const MOVED: bool>(
     shape: Shape,
     offset: u8,
@@ -141,6 +143,38 @@ fn decode_bytes<S: CodeBytes, const TWO_LINE: bool, const MOVED: bool>(
     Ok(())
 }
 
+/// The same with three references: behind one, each would be loaded again after every write.
+fn decode_from_byte<S: CodeBytes, const TWO_LINE: bool, const MOVED: bool>(
+    shape: Shape,
+    offset: u8,
+    place: RowPlace,
+    current: &mut [u8],
+    above: &[u8],
+    second: &[u8],
+    learned: &mut Learned,
+    decoder: &mut Decoder,
+    source: &mut S,
+) -> Result<(), RowPlace>
+    requires template { IsTemplate TWO_LINE MOVED shape offset }
+    requires whole { place.done % 8 ≡ 0 }
+    requires part { IsPartOf shape place current.old }
+    ensures stop { StopsOnce S.failed decoder.old decoder.new source.old source.new result }
+    ensures inside { IfErr result (λ at. at.done < shape.width) }
+    ensures leaves { DecodesRow (Pulls S.gives S.failed)
+        (row_around (shape_mode shape) offset above.now second.now)
+        (row_part_of_state place current.old (decoder_state source.old decoder.old learned.old))
+        shape.width
+        (row_part_of_state place current.new (decoder_state source.new decoder.new learned.new))
+        result }
+{
+    let mut reader = Reader {
+        learned,
+        decoder,
+        source,
+    };
+    decode_bytes::<_, TWO_LINE, MOVED>(shape, offset, place, current, above, second, &mut reader)
+}
+
 /// Decodes the rest of a row's pixels.
 fn decode_rest<S: CodeBytes, const TWO_LINE: bool, const MOVED: bool>(
     shape: Shape,
@@ -161,8 +195,16 @@ fn decode_rest<S: CodeBytes, const TWO_LINE: bool, const MOVED: bool>(
         (row_part place current.new reader.new) result }
 {
     if place.done % 8 == 0 {
-        return decode_bytes::<_, TWO_LINE, MOVED>(
-            shape, offset, place, current, above, second, reader,
+        return decode_from_byte::<_, TWO_LINE, MOVED>(
+            shape,
+            offset,
+            place,
+            current,
+            above,
+            second,
+            &mut *reader.learned,
+            &mut *reader.decoder,
+            &mut *reader.source,
         );
     }
     let from = end_byte::<_, TWO_LINE, MOVED>(
@@ -171,8 +213,16 @@ fn decode_rest<S: CodeBytes, const TWO_LINE: bool, const MOVED: bool>(
     if from.done == shape.width {
         return Ok(());
     }
-    let rest = decode_bytes::<_, TWO_LINE, MOVED>(
-        shape, offset, from, current, above, second, reader,
+    let rest = decode_from_byte::<_, TWO_LINE, MOVED>(
+        shape,
+        offset,
+        from,
+        current,
+        above,
+        second,
+        &mut *reader.learned,
+        &mut *reader.decoder,
+        &mut *reader.source,
     );
     rest
 }
