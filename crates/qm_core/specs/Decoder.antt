@@ -1,4 +1,4 @@
--- What a decoder stands for.
+-- The meaning of a decoder.
 use Rattle.std.specs.Prelude.{ℕ, ◌≡◌, ◌≢◌, ◌≤◌, ◌↔◌, Bool, List, ◌++◌, length, replicate, Result, IfOk, OnOk, OnErr, IsErr, IsTrue, false}
 use Rattle.qm_core.specs.Counts.{one_more}
 use Rattle.qm_core.specs.Place.{Place, State, Estimate, step}
@@ -16,13 +16,13 @@ use Rattle.qm_core.specs.declared.registers.DecoderRegisters.{DecoderRegisters}
 abbrev pub has_stopped : Decoder → Bool
 has_stopped d = is_stopped d.heard
 
--- A decoder that has stopped does nothing. It stops just where the answer is an error, and as often its source fails.
+-- A decoder that has stopped does nothing. It stops if and only if the result is an error, and then its source failed once.
 abbrev pub StopsOnce : {S T E : Type 0} → (S → ℕ) → Decoder → Decoder → S → S → Result T E → Type 0
 StopsOnce failed d d' from to result =
     (IsTrue (has_stopped d) → IsErr result × (d' ≡ d) × (to ≡ from)) × (IsTrue (has_stopped d') ↔ IsErr result)
     × OnOk result (failed to ≡ failed from) × (has_stopped d ≡ false → OnErr result (failed to ≡ one_more (failed from)))
 
--- A decoder that has not stopped took pixels in one step, or nothing was done.
+-- A decoder that has not stopped decoded pixels in one step, or nothing changed.
 abbrev pub SkipsOrStays : Bool → Decoder → Decoder → Type 0
 SkipsOrStays skipped d d' = (has_stopped d' ≡ has_stopped d) × (IsTrue skipped → has_stopped d ≡ false) × (skipped ≡ false → d' ≡ d)
 
@@ -30,13 +30,13 @@ SkipsOrStays skipped d d' = (has_stopped d' ≡ has_stopped d) × (IsTrue skippe
 abbrev pub decoder_registers : Decoder → DecoderRegisters
 decoder_registers d = record { code = d.code; span = d.span; bits = d.bits; has_ended = is_ended d.heard }
 
--- the decoder is at the place, and its source has answered so
+-- the decoder is at the place, and its source has returned these answers
 pub record DecoderIsAt (d : Decoder) (p : Place) (answers : List Pulled) : Type 0 where
   pub heard : d.heard ≡ heard_of answers
   pub closed : IsClosed answers
   pub bytes : IsBytes (bytes_of answers)
   pub few : length answers ≤ wanted_bytes p.doublings
-  -- the zeros that were taken after the end
+  -- the zeros that were used after the end
   pub zeros : ℕ
   pub no_zeros : heard_of answers ≢ Ended → zeros ≡ 0
   pub registers : Registers d.code d.span d.bits p (bytes_of answers ++ replicate zeros 0)
@@ -45,7 +45,7 @@ pub record DecoderIsAt (d : Decoder) (p : Place) (answers : List Pulled) : Type 
 abbrev pub source_of : {S : Type 0} → Ghosts S → S → List Pulled → SourceAt S
 source_of source from answers = source_at (Pulls source.gives source.failed) from answers
 
--- A decoder at work: what its source is, its registers, and what its contexts have learned.
+-- A working decoder: its source, its registers, and its context states.
 pub record DecoderState (S : Type 0) : Type 0 where
   pub source : S
   pub decoder : Decoder
@@ -54,20 +54,20 @@ pub record DecoderState (S : Type 0) : Type 0 where
 abbrev pub decoder_state : {S : Type 0} → S → Decoder → List Estimate → DecoderState S
 decoder_state source decoder learned = record { source = source; decoder = decoder; learned = learned }
 
--- what a wish for 16 bits leaves
+-- the effect of a request for 16 bits
 pub record Fills {S : Type 0} (old : SourceAt S) (p : Place) (to : S) (d : Decoder) (result : Result (Unit {0}) Stop) : Type 0 where
   pub more : List Pulled
   pub gives : Gives old.pull old.from more to
   pub stands : DecoderIsAt d p (old.answers ++ more)
   pub stop : IsErr result ↔ (heard_of (old.answers ++ more) ≡ Stopped)
 
--- what a call of `next` leaves, for a decoder at a state whose source has answered so
+-- the effect of a call of `next`, for a decoder at a state whose source has returned these answers
 pub record Next {S : Type 0} (old : SourceAt S) (s : State) (cx : ℕ) (new : DecoderState S) (result : Result Bool Stop) : Type 0 where
-  -- what the source answered in this call
+  -- the source's answers in this call
   pub more : List Pulled
   pub gives : Gives old.pull old.from more new.source
   pub asked : HasAsked (old.answers ++ more) s.place.doublings
-  -- the pixel is the one that keeps the code inside, however it goes on
+  -- the pixel is the one that keeps the code inside the interval, however the code continues
   pub inside : IfOk result (λ pixel. (c : List ℕ) → Agrees (old.answers ++ more) c → Lies c s.place × Lies c (step s cx pixel).place)
   pub stands : IfOk result (λ pixel. DecoderIsAt new.decoder (step s cx pixel).place (old.answers ++ more))
   pub taught : IfOk result (λ pixel. new.learned ≡ (step s cx pixel).learned)

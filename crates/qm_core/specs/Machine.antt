@@ -1,10 +1,10 @@
--- What the registers, the bytes that are held back and the cells of the code stand for.
+-- The meaning of the registers, the held bytes and the packed context states.
 use Rattle.std.specs.Prelude.{ℕ, ◌+◌, ◌-◌, ◌*◌, ◌^◌, ◌≡◌, ◌≤◌, ◌<◌, List, length, Option, Some, None, [], ◌∷◌, ◌++◌, replicate, ◌/◌, ◌%◌, nat_eq, if◌then◌else◌}
 use Rattle.qm_core.specs.Place.{Place, Estimate}
 use Rattle.qm_core.specs.Code.{number}
 
--- The registers of a decoder that has these bytes at a place: the size times 128, the bits beyond the doublings,
--- and 128 times the distance of the bytes' value from the place's low end.
+-- The registers of a decoder with these bytes at a place: the size times 128, the bits beyond the doublings, and 128 times the
+-- distance of the bytes' value from the place's low end.
 pub record Registers (code span bits : ℕ) (p : Place) (b : List ℕ) : Type 0 where
   pub size : span ≡ 128 * p.size
   pub count : bits + p.doublings ≡ 8 * length b
@@ -14,34 +14,35 @@ abbrev pub option_bytes : Option ℕ → List ℕ
 option_bytes None = []
 option_bytes (Some b) = b ∷ []
 
--- zero bytes, a byte where there is one, and bytes 255
+-- zero bytes, a byte if there is one, and bytes 255
 abbrev pub run_bytes : ℕ → Option ℕ → ℕ → List ℕ
 run_bytes zeros byte ones = replicate zeros 0 ++ (option_bytes byte ++ replicate ones 255)
 
--- The registers of an encoder whose code has these digits so far: `low` is what the place's low end, times 128, has
--- beyond them.
+-- The registers of an encoder whose code has these digits so far: `low` is the place's low end, times 128, without those
+-- digits.
 pub record Digits (low span bits : ℕ) (p : Place) (digits : List ℕ) : Type 0 where
   pub size : span ≡ 128 * p.size
   pub count : 8 * length digits + bits ≡ 16 + p.doublings
   pub value : 128 * p.low ≡ number digits * 2 ^ (bits + 7) + low
 
--- a size, times 128, that is large enough; and one that is to be doubled
+-- a size, times 128, that is large enough; and one that must be doubled
 abbrev pub IsLargeEnough : ℕ → Type 0
 IsLargeEnough span = (4194304 ≤ span) × (span ≤ 8388608) × (span % 128 ≡ 0)
 
 abbrev pub IsTooSmall : ℕ → Type 0
 IsTooSmall span = (128 ≤ span) × (span < 4194304) × (span % 128 ≡ 0)
 
--- A place is below the number that so many bits and a byte make; where no byte is held back that a carry may change, below its half.
+-- A place is below the number that has this many bits and a byte; if no byte is held back that a carry may change, it is below
+-- half of that.
 abbrev pub FitsIn : ℕ → ℕ → ℕ → Option ℕ → Type 0
 FitsIn low span bits held = (low + span ≤ 2 ^ (bits + 8)) × (held ≡ None → low + span ≤ 2 ^ (bits + 7))
 
--- the digits after a byte, which may be above 255 by a carry
+-- the digits after a byte, which a carry may bring above 255
 pub record Appends (old new : List ℕ) (byte : ℕ) : Type 0 where
   pub value : number new ≡ number old * 256 + byte
   pub longer : length new ≡ length old + 1
 
--- twice the row, and one more where black is favoured
+-- twice the row, plus one if black is favoured
 abbrev pub estimate : ℕ → Estimate
 estimate cell = record { row = cell / 2; pixel = nat_eq (cell % 2) 1 }
 

@@ -1,4 +1,4 @@
--- What putting events in turn leaves of an encoder.
+-- The effect of successive events on an encoder.
 use Rattle.std.specs.Prelude.{ℕ, ◌+◌, ◌≡◌, ◌≤◌, ◌^◌, ◌++◌, Bool, false, IsTrue, IsErr, List, [], ◌∷◌, length, replicate, Result, Ok, Err, OnOk, OnErr, is_err}
 use Rattle.qm_core.specs.Counts.{one_more}
 use Rattle.qm_core.specs.Place.{Place, State, Event, after}
@@ -15,43 +15,43 @@ use Rattle.qm_core.specs.declared.sink.CodeSink.{Ghosts}
 abbrev pub event_of : Context → Bool → Event
 event_of cx pixel = record { context = cx.number; pixel = pixel }
 
--- From a state at which these bytes were pushed, an encoder has put these events, and the sink took what it pushed.
+-- From a state at which these bytes were pushed, an encoder has put these events, and the sink accepted the bytes pushed.
 pub record Encodes {S : Type 0} (old : SinkAt S) (s : State) (events : List Event) (new : EncoderState S) : Type 0 where
   pub more : List ℕ
   pub taken : Took old.sink.took old.from more new.out
   pub codes : EncoderIsAt new.encoder (after s events).place (old.pushed ++ more)
   pub taught : new.learned ≡ (after s events).learned
 
--- At the last of these events the sink refused a byte: what it has is a beginning of a stuffed front of their place.
+-- At the last of these events the sink rejected a byte: it has received a prefix of a stuffed front of their place.
 pub record Fails {S : Type 0} (old : SinkAt S) (s : State) (events : List Event) (to : S) : Type 0 where
   pub more : List ℕ
   pub cut : Refused old.sink.took old.sink.refused old.from more to
   pub begins : IsStuffedFront (old.pushed ++ more) (after s events).place
 
--- The sink refused a byte at the last of the first events of these.
+-- The sink rejected a byte at the last of some first events of these.
 pub record FailsIn {S : Type 0} (old : SinkAt S) (s : State) (all : List Event) (to : S) : Type 0 where
   pub events : List Event
   pub rest : List Event
   pub all_are : all ≡ events ++ rest
   pub fails : Fails old s events to
 
--- it may take so many events more
+-- this many more events are allowed
 pub record HasRoom {S : Type 0} (count : ℕ) (c : Coder S) : Type 0 where
   pub events : event_count c.encoder.now + count ≤ 2 ^ 56
 
--- the same three are lent
+-- the same three values are borrowed
 pub record IsSameLoan {S : Type 0} (c c' : Coder S) : Type 0 where
   pub learned_is : c'.learned.ghost_name ≡ c.learned.ghost_name
   pub encoder_is : c'.encoder.ghost_name ≡ c.encoder.ghost_name
   pub out_is : c'.out.ghost_name ≡ c.out.ghost_name
 
--- what is lent has the same values
+-- the borrowed values are unchanged
 pub record IsUnchanged {S : Type 0} (c c' : Coder S) : Type 0 where
   pub learned_is : c'.learned.now ≡ c.learned.now
   pub encoder_is : c'.encoder.now ≡ c.encoder.now
   pub out_is : c'.out.now ≡ c.out.now
 
--- what an encoder answers that had failed before
+-- the result of an encoder that had failed before
 abbrev pub failed_answer : List Event → Result (Unit {0}) CoderFault
 failed_answer [] = Ok tt
 failed_answer (e ∷ events) = Err Failed
@@ -60,7 +60,7 @@ failed_answer (e ∷ events) = Err Failed
 abbrev pub state_at : {S : Type 0} → Coder S → Place → State
 state_at c p = record { place = p; learned = c.learned.now }
 
--- what they leave of a coder that had not failed: these events coded, or a beginning of them and one failure more
+-- the effect on a coder that had not failed: these events coded, or a prefix of them and one more failure
 pub record GoesOn {S : Type 0} (sink : Ghosts S) (events : List Event) (c c' : Coder S) (result : Result (Unit {0}) CoderFault) : Type 0 where
   pub fails : has_failed c'.encoder.now ≡ is_err result
   pub fault : IsErr result → result ≡ Err Write
@@ -78,7 +78,7 @@ pub record Puts {S : Type 0} (sink : Ghosts S) (events : List Event) (c c' : Cod
   pub stuck : IsTrue (has_failed c.encoder.now) → (result ≡ failed_answer events) × IsUnchanged c c'
   pub goes : has_failed c.encoder.now ≡ false → GoesOn sink events c c' result
 
--- This event was put so many times in one step, just if the place had room for it without a doubling.
+-- This event was put this many times in one step, if and only if the place had room for it without a doubling.
 pub record Skips {S : Type 0} (sink : Ghosts S) (event : Event) (count : ℕ) (c c' : Coder S) (skipped : Bool) : Type 0 where
   pub lends : IsSameLoan c c'
   pub done : IsTrue skipped → Puts sink (replicate count event) c c' (Ok tt)

@@ -1,4 +1,4 @@
--- What a decoder with everything that it borrows has read.
+-- The effect of reading on a decoder with everything that it borrows.
 use Rattle.std.specs.Prelude.{ℕ, ◌≡◌, Bool, List, Result}
 use Rattle.qm_core.specs.Place.{Place, state_of}
 use Rattle.qm_core.specs.Decoder.{DecoderIsAt, DecoderState, Next, StopsOnce, decoder_state, source_of}
@@ -8,7 +8,7 @@ use Rattle.qm_core.specs.declared.reader.Reader.{Reader}
 use Rattle.qm_core.specs.declared.source.CodeBytes.{Ghosts}
 use Rattle.qm_core.specs.declared.source.Pulled.{Pulled}
 
--- its source, its decoder, and what its contexts have learned
+-- its source, its decoder, and its context states
 abbrev pub reader_state : {S : Type 0} → Reader S → DecoderState S
 reader_state r = decoder_state r.source.now r.decoder.now r.learned.now
 
@@ -20,7 +20,7 @@ SameReader r r' = (r'.learned.ghost_name ≡ r.learned.ghost_name) × (r'.decode
 abbrev pub ReaderReads : {S T E : Type 0} → (S → ℕ) → Reader S → Reader S → Result T E → Type 0
 ReaderReads failed r r' result = StopsOnce failed r.decoder.now r'.decoder.now r.source.now r'.source.now result × SameReader r r'
 
--- what a call of `next` leaves of it, in a context, from every place and all answers of the source at which it is
+-- the effect of a call of `next`, in a context, from every place and all answers of the source at which it is
 abbrev pub ReadsPixel : {S : Type 0} → Ghosts S → Context → Reader S → Reader S → Result Bool Stop → Type 0
 ReadsPixel source cx r r' result =
     (p : Place) (answers : List Pulled) → DecoderIsAt r.decoder.now p answers →

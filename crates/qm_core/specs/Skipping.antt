@@ -1,4 +1,4 @@
--- Several events at once, which are all the favoured pixel of one context.
+-- Several events at once, each of which is the favoured pixel of one context.
 use Rattle.std.specs.Prelude.{ℕ, ◌≡◌, ◌≤◌, ◌+◌, ◌*◌, Bool, not, nat_lt, ◌&&◌, IsTrue, List, length, replicate}
 use Rattle.qm_core.specs.Table.{row_at}
 use Rattle.qm_core.specs.Place.{State, Event, Estimate, estimate_of, same, after}
@@ -9,8 +9,7 @@ use Rattle.qm_core.specs.declared.source.Heard.{Heard}
 use Rattle.qm_core.specs.declared.source.Heard.TheVariants.{More, Ended, Stopped}
 use Rattle.qm_core.specs.declared.decoder.Decoder.{Decoder}
 
--- as many events more as `count`, all this one: each of them begins after as many doublings as the first, and nothing
--- is learned
+-- this event `count` more times: each begins after as many doublings as the first, and no context state changes
 pub record IsRun (s : State) (event : Event) (count : ℕ) : Type 0 where
   pub quiet : (k : ℕ) → k ≤ count → (after s (replicate k event)).place.doublings ≡ s.place.doublings
   pub taught : (after s (replicate count event)).learned ≡ s.learned
@@ -25,14 +24,15 @@ has_room s event count =
     same event.pixel (estimate_of s.learned event.context).pixel
     && not (nat_lt s.place.size (0x8000 + count * upper_size s.learned event.context))
 
--- An event after n doublings wants no pull: while the source goes on, the bytes that it gave are enough; after its end
--- 16 bits are there, zeros among them.
+-- An event after n doublings needs no pull: while the source continues, the bytes so far are enough; after its end 16 bits are
+-- present, including zeros.
 abbrev pub WantsNone : Heard → ℕ → ℕ → ℕ → Type 0
 WantsNone More bits n held = wanted_bytes n ≤ held
 WantsNone Ended bits n held = 16 ≤ bits
 WantsNone Stopped bits n held = ⊥
 
--- `count` such events can be decoded at once: the place has room, nothing is to be pulled, and the bytes lie after them
+-- `count` such events can be decoded at once: the place has room, nothing needs to be pulled, and the bytes lie in the place
+-- after them
 pub record CanSkip (d : Decoder) (s : State) (answers : List Pulled) (event : Event) (count : ℕ) : Type 0 where
   pub room : IsTrue (has_room s event count)
   pub ready : WantsNone (heard_of answers) d.bits s.place.doublings (length (bytes_of answers))

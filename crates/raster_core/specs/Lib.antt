@@ -1,13 +1,13 @@
--- The standard: pixels, contexts, what is coded for a row, the choice of the offset.
+-- The standard: pixels, contexts, the events of a row, the choice of the offset.
 pub mod Raster
 pub mod Lines
 pub mod Offset
 pub mod Enough
--- What public calls promise.
+-- The effects of public calls.
 pub mod Packed
 pub mod Window
 pub mod Tally
 pub mod Events
 pub mod Row
--- How it is proved.
+-- Definitions that only serve the proofs.
 pub mod Machine

@@ -1,4 +1,4 @@
--- How rows are coded: what registers, words and bytes stand for on the way.
+-- How rows are coded: the meaning of registers, words and bytes.
 pub mod Registers
 pub mod Words
 pub mod Lanes

@@ -1,4 +1,4 @@
--- What a row leaves that was encoded or decoded.
+-- The effect of encoding or decoding a row.
 use Rattle.std.specs.Prelude.{ℕ, ◌≡◌, ◌/◌, ◌%◌, ◌^◌, List, ◌++◌, Result, OnOk, OnErr, ◌↔◌, Bool, true, false, [], ◌∷◌, length, replicate, ◌≤◌, IsErr, IsTrue, if◌then◌else◌}
 use Rattle.qm_core.specs.Place.{State, Event, Estimate, Place, IsPlace, after}
 use Rattle.qm_core.specs.Encoder.{EncoderState}
@@ -24,11 +24,12 @@ use Rattle.raster_core.specs.Machine.Decoded.{PixelsHeld, PixelsSoFar, PlainRow,
 use Rattle.raster_core.specs.declared.place.RowPlace.{RowPlace}
 use Rattle.raster_core.specs.declared.place.RowPlaceNumbers.{RowPlaceNumbers}
 
--- a row is typical wherever it may be
+-- a row is typical if it may be
 abbrev pub canonical_events : Shape → Kept → Lines → List Event
 canonical_events shape kept lines = row_events (shape_mode shape) lines kept.offset kept.previous_typical (may_be_typical (shape_mode shape) lines)
 
--- What a row is coded or decoded with: its shape, what is kept from the row before it, the state before it, and the lines.
+-- The parameters of coding or decoding a row: its shape, the state carried from the row before it, the coder's state before it,
+-- and the lines.
 pub record RowTask : Type 0 where
   pub shape : Shape
   pub kept : Kept
@@ -44,16 +45,16 @@ pub record RowCoded {S : Type 0} (old : SinkAt S) (task : RowTask) (kept' : Kept
   pub offset_is : kept'.offset ≡ task.kept.offset
   pub flag_is : kept'.previous_typical ≡ may_be_typical (shape_mode task.shape) task.lines
 
--- What a call of `encode_row` leaves, for an encoder at a state with these bytes pushed, and a window with these lines.
+-- The effect of a call of `encode_row`, for an encoder at a state with these bytes pushed, and a window with these lines.
 pub record RowEncoded {S : Type 0} (old : SinkAt S) (task : RowTask) (kept' : Kept) (new : EncoderState S) (result : Result (Unit {0}) CoderFault) : Type 0 where
   pub ok : OnOk result (RowCoded old task kept' new)
   pub err : OnErr result (FailsIn old task.state (canonical_events task.shape task.kept task.lines) new.out)
 
--- what is coded before a row's pixels
+-- the events before a row's pixels
 abbrev pub first_events : Mode → Bool → Bool → List Event
 first_events mode previous flag = if mode.typical then pseudo_event mode previous flag ∷ [] else []
 
--- what comes before a row's pixels was decoded
+-- the events before a row's pixels were decoded
 pub record FirstDecoded {S : Type 0} (old : SourceAt S) (mode : Mode) (previous flag : Bool) (s : State) (new : DecoderState S) : Type 0 where
   pub more : List Pulled
   pub decodes : Decodes old s more (first_events mode previous flag) new
@@ -64,11 +65,11 @@ pub record FirstStopped {S : Type 0} (old : SourceAt S) (mode : Mode) (s : State
   pub stops : Stops old s more [] new
   pub typical : IsTrue mode.typical
 
--- what a row's events are, for a coder that keeps this
+-- a row's events, for a coder with this carried state
 abbrev pub events_after : Shape → Kept → Lines → Bool → List Event
 events_after shape kept lines flag = row_events (shape_mode shape) lines kept.offset kept.previous_typical flag
 
--- What a decoded row leaves: what is kept for the row after it, and the rows of the window.
+-- The effect of decoding a row: the state carried to the row after it, and the rows of the window.
 pub record RowLeft : Type 0 where
   pub kept : Kept
   pub window : Held
@@ -76,11 +77,11 @@ pub record RowLeft : Type 0 where
 abbrev pub row_left : Kept → Held → RowLeft
 row_left kept window = record { kept = kept; window = window }
 
--- what a row's events are, with these pixels and this flag
+-- a row's events, with these pixels and this flag
 abbrev pub task_events : RowTask → List Bool → Bool → List Event
 task_events task row flag = events_after task.shape task.kept (with_row task.lines row) flag
 
--- The row is decoded: with a legal flag its events keep the code inside, however the code goes on.
+-- The row is decoded: with a legal flag its events keep the code inside, however the code continues.
 pub record RowIs (task : RowTask) (answers : List Pulled) (left : RowLeft) (learned : List Estimate) (d : Decoder) : Type 0 where
   pub row : List Bool
   pub flag : Bool
@@ -92,10 +93,10 @@ pub record RowIs (task : RowTask) (answers : List Pulled) (left : RowLeft) (lear
   pub flag_is : left.kept.previous_typical ≡ flag
   pub stands : DecoderIsAt d (after task.state (task_events task row flag)).place answers
   pub taught : learned ≡ (after task.state (task_events task row flag)).learned
-  -- where the code still goes on, the bytes that came were enough for each of the row's events
+  -- if the code continues, the bytes so far were enough for each of the row's events
   pub enough : heard_of answers ≡ More → AreEnough (length (bytes_of answers)) task.state (task_events task row flag)
 
--- no row's events are all decided by the bytes that came
+-- the bytes so far determine no row's events completely
 abbrev pub IsRowUndecided : Shape → Kept → State → List Pulled → Lines → Type 0
 IsRowUndecided shape kept s answers lines =
     (row : List Bool) (flag : Bool) → length row ≡ shape.width → IsLegalFlag (shape_mode shape) (with_row lines row) flag →
@@ -106,24 +107,25 @@ IsRowUndecided shape kept s answers lines =
 abbrev pub StaysStopped : Decoder → List Pulled → Type 0
 StaysStopped d answers = (p : Place) × DecoderIsAt d p answers
 
--- What a call of `decode_row` leaves, for a decoder at a state whose source has answered so, in a window with these lines.
+-- The effect of a call of `decode_row`, for a decoder at a state whose source has returned these answers, in a window with
+-- these lines.
 pub record RowDecoded {S : Type 0} (old : SourceAt S) (task : RowTask) (left : RowLeft) (new : DecoderState S) (result : Result (Unit {0}) Stop) : Type 0 where
-  -- what the source answered in this call
+  -- the source's answers in this call
   pub more : List Pulled
   pub gives : Gives old.pull old.from more new.source
   pub ok : OnOk result (RowIs task (old.answers ++ more) left new.learned new.decoder)
-  -- it stops where the source has
+  -- it stops if and only if the source has
   pub stop : IsErr result ↔ (heard_of (old.answers ++ more) ≡ Stopped)
   pub undecided : OnErr result (IsPlace task.state.place → IsRowUndecided task.shape task.kept task.state (old.answers ++ more) task.lines)
   pub stays : OnErr result (StaysStopped new.decoder (old.answers ++ more))
 
 -- ---- typical rows, several at once
 
--- what is coded for a typical row after another
+-- the event of a typical row after another
 abbrev pub again_event : Shape → Event
 again_event shape = pseudo_event (shape_mode shape) true true
 
--- As many typical rows as `count` were decoded at once, after another: nothing was learned or pulled.
+-- `count` typical rows were decoded at once, after another: no state changed and nothing was pulled.
 pub record RowsSkipped (shape : Shape) (kept : Kept) (s : State) (answers : List Pulled) (count : ℕ) (d : Decoder) : Type 0 where
   pub typical : shape.typical ≡ true
   pub previous : kept.previous_typical ≡ true
@@ -131,13 +133,13 @@ pub record RowsSkipped (shape : Shape) (kept : Kept) (s : State) (answers : List
   pub stands : DecoderIsAt d (after s (replicate count (again_event shape))).place answers
   pub enough : heard_of answers ≡ More → wanted_bytes s.place.doublings ≤ length (bytes_of answers)
 
--- as many typical rows as `count` can be decoded at once, after another
+-- `count` typical rows can be decoded at once, after another
 pub record CanSkipRows (shape : Shape) (kept : Kept) (d : Decoder) (s : State) (answers : List Pulled) (count : ℕ) : Type 0 where
   pub typical : shape.typical ≡ true
   pub previous : kept.previous_typical ≡ true
   pub skips : CanSkip d s answers (again_event shape) count
 
--- ---- a row whose code comes in parts
+-- ---- a row whose code arrives in parts
 
 -- before a row
 pub record IsRowStart (place : RowPlace) : Type 0 where
@@ -154,14 +156,14 @@ row_place_numbers place = record {
   past_low = place.past % 2 ^ 64;
 }
 
--- a window holds the two rows above a row
+-- a window contains the two rows above a row
 pub record HasAbove (w : Held) (lines : Lines) : Type 0 where
   pub above_is : w.above ≡ packed_row lines.above
   pub second_is : w.second ≡ packed_row lines.second
   pub above_wide : length lines.above ≡ w.width
   pub second_wide : length lines.second ≡ w.width
 
--- what is coded for a plain row of which these are the first pixels
+-- the events of a plain row that begins with these pixels
 abbrev pub plain_events_of : Shape → Kept → Lines → List Bool → List Event
 plain_events_of shape kept lines done =
     first_events (shape_mode shape) kept.previous_typical false ++ pixel_events (shape_mode shape) (with_row lines done) kept.offset
@@ -171,8 +173,8 @@ abbrev pub plain_row_of : RowTask → PlainRow
 plain_row_of task =
     plain_row (shape_mode task.shape) task.kept.offset (first_events (shape_mode task.shape) task.kept.previous_typical false) task.state task.lines
 
--- Pixels of a plain row are decoded, for a decoder that was at this state before the row: its source has answered so
--- since its code began, and that was enough for them.
+-- Pixels of a plain row are decoded, for a decoder that was at this state before the row: the source's answers since the start
+-- of its code were enough for them.
 pub record StandsInPixels (task : RowTask) (place : RowPlace) (answers : List Pulled) (window : Held) (learned : List Estimate) (d : Decoder) : Type 0 where
   pub done : List Bool
   pub held : PixelsHeld task.kept.offset place window.current done
@@ -186,38 +188,38 @@ pub record StandsBeforeRow (place : RowPlace) (s : State) (answers : List Pulled
   pub stands : DecoderIsAt d s.place answers
   pub taught : learned ≡ s.learned
 
--- A row has come as far as its place says.
+-- A row is decoded as far as its place says.
 pub record StandsInRow (task : RowTask) (place : RowPlace) (answers : List Pulled) (window : Held) (learned : List Estimate) (d : Decoder) : Type 0 where
   pub above : HasAbove window task.lines
   pub before_it : place.is_begun ≡ false → StandsBeforeRow place task.state answers learned d
   pub in_it : place.is_begun ≡ true → StandsInPixels task place answers window learned d
 
--- What a step leaves of a row that has come as far as its place says, from whatever state and code it was decoded.
+-- The effect of a step on a row that is decoded as far as its place says, from any state and code.
 abbrev pub FromRowPlace : {S : Type 0} (pull : S → Pulled → S → Type 0) (shape : Shape) (kept : Kept) (place : RowPlace) (old : DecoderState S) (Leaves : SourceAt S → RowTask → Held → Type 0) → Type 0
 FromRowPlace {S} pull shape kept place old Leaves =
     (s : State) (answers : List Pulled) (lines : Lines) (window : Held) → StandsInRow (row_task shape kept s lines) place answers window old.learned old.decoder →
     Leaves (source_at pull old.source answers) (row_task shape kept s lines) window
 
--- What comes before a row's pixels is decoded, of a row that had come as far as its place says.
+-- The events before a row's pixels are decoded, for a row that was decoded as far as its place says.
 pub record RowBegins {S : Type 0} (old : SourceAt S) (task : RowTask) (place : RowPlace) (window : Held) (flag : Bool) (new : DecoderState S) : Type 0 where
   pub plain : flag ≡ false → (done : List Bool) × PixelsHeld task.kept.offset place window.current done
       × PixelsSoFar old (plain_row_of task) done place.past new
   pub typical : flag ≡ true → (task.shape.typical ≡ true) × FirstDecoded old (shape_mode task.shape) task.kept.previous_typical true task.state new
 
--- What going on with a row leaves, of which the source has stopped for good or not.
+-- The effect of continuing a row, whether or not the source has stopped for good.
 pub record RowGoesOn {S : Type 0} (old : SourceAt S) (task : RowTask) (left : RowLeft) (place : RowPlace) (new : DecoderState S) (result : Result (Unit {0}) Stop) : Type 0 where
   pub decoded : RowDecoded old task left new result
   pub waits : OnErr result (StandsInRow task place (old.answers ++ decoded.more) left.window new.learned new.decoder)
 
--- What a call of `go_on_row` leaves, for a row that had come so far while the source answered so.
+-- The effect of a call of `go_on_row`, for a row that was decoded this far while the source returned these answers.
 pub record RowPasses {S : Type 0} (old : SourceAt S) (task : RowTask) (left : RowLeft) (place : RowPlace) (new : DecoderState S) (result : Result (Unit {0}) Stop) : Type 0 where
-  -- what the source answered in this call
+  -- the source's answers in this call
   pub more : List Pulled
   pub gives : Gives old.pull old.from more new.source
   pub ok : OnOk result (RowIs task (old.answers ++ more) left new.learned new.decoder)
-  -- it stops where the source has
+  -- it stops if and only if the source has
   pub stop : IsErr result ↔ (heard_of (old.answers ++ more) ≡ Stopped)
   pub undecided : OnErr result (IsPlace task.state.place → IsRowUndecided task.shape task.kept task.state (old.answers ++ more) task.lines)
   pub closed : OnErr result (IsClosed (old.answers ++ more) × IsBytes (bytes_of (old.answers ++ more)))
-  -- the row has come further, and waits for what follows
+  -- the row is decoded further, and waits for more bytes
   pub waits : OnErr result (StandsInRow task place (before_fault (old.answers ++ more)) left.window new.learned new.decoder)

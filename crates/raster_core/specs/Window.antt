@@ -1,4 +1,4 @@
--- What a window holds, and how a shape codes.
+-- The contents of a window, and the mode of a shape.
 use Rattle.std.specs.Prelude.{ℕ}
 use Rattle.std.specs.Borrow.{GName}
 use Rattle.raster_core.specs.Packed.{Held, rows_at}
@@ -6,15 +6,15 @@ use Rattle.raster_core.specs.declared.window.Window.{Window}
 use Rattle.raster_core.specs.Lines.{Mode}
 use Rattle.raster_core.specs.declared.shape.Shape.{Shape}
 
--- how many pixels its rows have
+-- the width of its rows
 abbrev pub width_of : Window → ℕ
 width_of w = w.width
 
--- at which place of its memory the current row is
+-- the place of the current row in its memory
 abbrev pub current_place : Window → ℕ
 current_place w = w.place
 
--- which lent slice its memory is
+-- the identity of the caller's slice
 abbrev pub memory_of : Window → GName
 memory_of w = w.rows.ghost_name
 
@@ -22,11 +22,11 @@ memory_of w = w.rows.ghost_name
 abbrev pub held : Window → Held
 held w = rows_at w.place w.width w.rows.now
 
--- a row down, the current row is above, and the row that was second above is to be written again
+-- one row further: the current row becomes the row above, and the second row above is to be overwritten
 abbrev pub turned : Held → Held
 turned w = record { width = w.width; current = w.second; above = w.current; second = w.above }
 
--- a row down, to one that equals the current one
+-- one row further, to a row that equals the current one
 abbrev pub repeated : Held → Held
 repeated w = record { width = w.width; current = w.current; above = w.current; second = w.above }
 

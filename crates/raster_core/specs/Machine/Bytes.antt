@@ -1,4 +1,4 @@
--- The pixels that a byte is coded with, and its events.
+-- The context of a byte's pixels, and its events.
 use Rattle.std.specs.Prelude.{ℕ, zero, suc, ◌+◌, ◌*◌, ◌/◌, ◌%◌, ◌^◌, ◌≡◌, Bool, false, List, [], ◌∷◌, ◌++◌, map, nat_eq}
 use Rattle.qm_core.specs.Place.{Event}
 use Rattle.raster_core.specs.Raster.{pixel_at}
@@ -18,7 +18,7 @@ unfoldable pub events_from : Template → Lines → ℕ → ℕ → List Event
 events_from template lines x n =
     map (λ y. record { context = context_at (record { two_line = template.two_line; typical = false }) lines template.offset y; pixel = pixel_at lines.row y }) (numbers_from x n)
 
--- The lines that a byte is read from: it begins at 128 there, and what it does not read of them is white.
+-- The lines from which a byte is read: it begins at 128 there, and the parts that it does not read are white.
 unfoldable pub byte_lines : RowByte → Lines
 byte_lines b = record {
   row = bits 136 (b.around.past * 256 + b.byte);
@@ -30,7 +30,7 @@ byte_lines b = record {
 abbrev pub byte_events : RowByte → ℕ → List Event
 byte_events b n = events_from b.around.template (byte_lines b) 128 n
 
--- it is of this colour, and so is all that its contexts read
+-- it has this colour, and so has everything that its contexts read
 pub record IsAllOf (b : RowByte) (colour : Bool) : Type 0 where
   pub byte_is : b.byte ≡ bit colour * 255
   pub around_is : AreAllOf b.around.second b.around.above b.around.past b.around.template.offset colour
@@ -43,7 +43,7 @@ abbrev pub lane_events : ℕ → ℕ → List Event
 lane_events lanes zero = []
 lane_events lanes (suc n) = lane_event lanes ∷ lane_events (lanes / 2 ^ 16) n
 
--- the code is made for this template
+-- the code was generated for this template
 pub record IsMadeFor (two_line moved : Bool) (template : Template) : Type 0 where
   pub two_line_is : two_line ≡ template.two_line
   pub moved_is : moved ≡ is_moved template.offset

@@ -26,17 +26,17 @@ pub record RowProgress (S : Type 0) : Type 0 where
 abbrev pub row_progress : {S : Type 0} → Kept → RowPlace → Held → Reader S → RowProgress S
 row_progress kept place rows reader = record { kept = kept; place = place; rows = rows; reader = reader }
 
--- what continuing a row leaves, for every row and code of which so much is decoded
+-- the effect of continuing a row, for every row and code that is decoded this far
 abbrev pub RowContinues : {S : Type 0} → Ghosts S → Shape → RowProgress S → RowProgress S → Result (Unit {0}) Stop → Type 0
 RowContinues source shape old new result =
     (s : State) (answers : List Pulled) (lines : Lines) →
     StandsInRow (row_task shape old.kept s lines) old.place answers old.rows old.reader.learned.now old.reader.decoder.now →
     RowGoesOn (source_of source old.reader.source.now answers) (row_task shape old.kept s lines) (row_left new.kept new.rows) new.place (reader_state new.reader) result
 
--- from this position of a row, what precedes its pixels was decoded
+-- from this position of a row, the events before its pixels were decoded
 abbrev pub BeginsRow : {S : Type 0} → RowPlace → Bool → Reader S → SourceAt S → RowTask → Held → Type 0
 BeginsRow place flag r from task window = RowBegins from task place window flag (reader_state r)
 
--- from the beginning of a row, the source stopped in what precedes its pixels
+-- from the beginning of a row, the source stopped in the events before its pixels
 abbrev pub StopsBeforeRow : {S : Type 0} → RowPlace → Reader S → SourceAt S → RowTask → Held → Type 0
 StopsBeforeRow place r from task window = IsRowStart place × FirstStopped from (shape_mode task.shape) task.state (reader_state r)

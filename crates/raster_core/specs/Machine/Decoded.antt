@@ -1,4 +1,4 @@
--- What decoding the pixels of a row leaves, on the way.
+-- The effects of the steps that decode the pixels of a row.
 use Rattle.std.specs.Prelude.{ℕ, ◌+◌, ◌*◌, ◌%◌, ◌≡◌, ◌≤◌, ◌<◌, Bool, true, false, List, ◌++◌, length, replicate, slice_index, Result, IfOk, IfErr, OnOk}
 use Rattle.std.specs.Int.{div_ceil}
 use Rattle.qm_core.specs.Place.{Place, State, Event, Estimate, after}
@@ -26,7 +26,7 @@ use Rattle.raster_core.specs.Machine.Uniform.{uniform_event, StaysUniform, AreFi
 abbrev pub with_row : Lines → List Bool → Lines
 with_row lines row = record { row = row; above = lines.above; second = lines.second }
 
--- A plain row that is decoded: mode and adaptive pixel, what comes before its pixels, the state before that, the lines.
+-- A plain row to be decoded: mode and adaptive pixel, the events before its pixels, the state before those, the lines.
 pub record PlainRow : Type 0 where
   pub mode : Mode
   pub offset : ℕ
@@ -37,23 +37,23 @@ pub record PlainRow : Type 0 where
 abbrev pub plain_row : Mode → ℕ → List Event → State → Lines → PlainRow
 plain_row mode offset first state lines = record { mode = mode; offset = offset; first = first; state = state; lines = lines }
 
--- what is decoded up to these pixels of it
+-- the events up to these pixels of it
 abbrev pub events_up_to : PlainRow → List Bool → List Event
 events_up_to row done = row.first ++ pixel_events row.mode (with_row row.lines done) row.offset
 
--- After the first events the pixels `done` of a row are decoded; `past` are the last of them.
+-- After the first events, the pixels `done` of a row are decoded; `past` are the last of them.
 pub record PixelsSoFar {S : Type 0} (old : SourceAt S) (row : PlainRow) (done : List Bool) (past : ℕ) (new : DecoderState S) : Type 0 where
   pub past_is : past ≡ before done (length done) (past_bits row.offset)
   pub more : List Pulled
   pub decodes : Decodes old row.state more (events_up_to row done) new
 
--- the same for n pixels more
+-- the same for n more pixels
 pub record MorePixels {S : Type 0} (old : SourceAt S) (row : PlainRow) (done : List Bool) (n past : ℕ) (new : DecoderState S) : Type 0 where
   pub pixels : List Bool
   pub count : length pixels ≡ n
   pub so_far : PixelsSoFar old row (done ++ pixels) past new
 
--- The source stopped at one of the n pixels after these, behind so many of them.
+-- The source stopped at one of the n pixels after these, after this many of them.
 pub record PixelsStop {S : Type 0} (old : SourceAt S) (row : PlainRow) (done : List Bool) (n : ℕ) (pause : Pause) (new : DecoderState S) : Type 0 where
   pub few : pause.count < n
   pub pixels : List Bool
@@ -62,7 +62,7 @@ pub record PixelsStop {S : Type 0} (old : SourceAt S) (row : PlainRow) (done : L
   pub more : List Pulled
   pub stops : Stops old row.state more (events_up_to row (done ++ pixels)) new
 
--- What the pixels of a byte are decoded with: mode, adaptive pixel, the registers of the rows above, the last pixels.
+-- The context of a byte's pixels: mode, adaptive pixel, the registers of the rows above, the last pixels.
 pub record ByteAround : Type 0 where
   pub mode : Mode
   pub offset : ℕ
@@ -76,7 +76,7 @@ byte_around mode offset second above past = record { mode = mode; offset = offse
 abbrev pub around_of : Registers → ByteAround
 around_of r = byte_around (shape_mode r.shape) r.offset r.second r.above r.past
 
--- n pixels more were decoded of a byte, and these are then the last of the row
+-- n more pixels of a byte were decoded, and these are then the last of the row
 pub record Along {S : Type 0} (pull : S → Pulled → S → Type 0) (b : ByteAround) (old : DecoderState S) (n past' : ℕ) (new : DecoderState S) : Type 0 where
   pub any : (from : S) (first : List Event) (s : State) (answers : List Pulled) (lines : Lines) (done : List Bool) →
       PixelsSoFar (source_at pull from answers) (plain_row b.mode b.offset first s lines) done b.past old →
@@ -90,13 +90,13 @@ pub record StopsAlong {S : Type 0} (pull : S → Pulled → S → Type 0) (b : B
       b.second ≡ before lines.second (length done + 16) 24 → b.above ≡ before lines.above (length done + 16) 24 →
       PixelsStop (source_at pull from answers) (plain_row b.mode b.offset first s lines) done n pause new
 
--- What decoding n pixels of a byte leaves: they were decoded, or the source stopped at one of them.
+-- The effect of decoding n pixels of a byte: they were decoded, or the source stopped at one of them.
 abbrev pub DecodesPixels : {S : Type 0} (source : Ghosts S) (b : ByteAround) (n : ℕ) (r r' : Reader S) (result : Result ℕ Pause) → Type 0
 DecodesPixels source b n r r' result =
     IfOk result (λ past. Along (Pulls source.gives source.failed) b (reader_state r) n past (reader_state r'))
     × IfErr result (λ pause. (pause.count < n) × StopsAlong (Pulls source.gives source.failed) b (reader_state r) n pause (reader_state r'))
 
--- A byte of one colour was decoded in one step, with no byte asked for: each of its pixels is in the context of that colour.
+-- A byte of one colour was decoded in one step, without a pull: each of its pixels is in the context of that colour.
 pub record SkipsAlong (b : ByteAround) (byte : ℕ) (d : Decoder) (learned : List Estimate) (d' : Decoder) : Type 0 where
   pub colour : Bool
   pub byte_is : byte ≡ bit colour * 255
@@ -108,7 +108,7 @@ pub record SkipsAlong (b : ByteAround) (byte : ℕ) (d : Decoder) (learned : Lis
       × DecoderIsAt d' (after (record { place = p; learned = learned }) (replicate 8 (uniform_event colour))).place answers
       × (heard_of answers ≡ More → wanted_bytes p.doublings ≤ length (bytes_of answers))
 
--- so many bytes of a colour, from a first one on
+-- this many bytes of a colour, from a first one on
 pub record FilledRun : Type 0 where
   pub colour : Bool
   pub first : ℕ
@@ -117,7 +117,7 @@ pub record FilledRun : Type 0 where
 abbrev pub filled_run : Bool → (first count : ℕ) → FilledRun
 filled_run colour first count = record { colour = colour; first = first; count = count }
 
--- A run of bytes of a colour, below bytes of it up to the one after them, was decoded in one step, with no byte asked for.
+-- A run of bytes of a colour, below bytes of the same colour up to the one after them, was decoded in one step, without a pull.
 pub record SkipsFilledAlong (run : FilledRun) (above second : List ℕ) (d : Decoder) (learned : List Estimate) (d' : Decoder) : Type 0 where
   pub above_filled : AreFilled run.colour above (run.first + 1) run.count
   pub second_filled : AreFilled run.colour second (run.first + 1) run.count
@@ -127,7 +127,7 @@ pub record SkipsFilledAlong (run : FilledRun) (above second : List ℕ) (d : Dec
       × DecoderIsAt d' (after (record { place = p; learned = learned }) (replicate (8 * run.count) (uniform_event run.colour))).place answers
       × (1 ≤ run.count → heard_of answers ≡ More → wanted_bytes p.doublings ≤ length (bytes_of answers))
 
--- Where the decoding of a row's bytes is: pixels left, the next byte, the registers above, the last pixels, its bytes.
+-- The position in the bytes of a row: pixels left, the next byte, the registers above, the last pixels, its bytes.
 pub record BytesAt : Type 0 where
   pub left : ℕ
   pub i : ℕ
@@ -139,7 +139,7 @@ pub record BytesAt : Type 0 where
 abbrev pub bytes_at : (left i second above past : ℕ) → List ℕ → BytesAt
 bytes_at left i second above past current = record { left = left; i = i; second = second; above = above; past = past; current = current }
 
--- What the pixels of a row are decoded with: the mode, the adaptive pixel, and the bytes of the two rows above.
+-- The context of a row's pixels: the mode, the adaptive pixel, and the bytes of the two rows above.
 pub record RowAround : Type 0 where
   pub mode : Mode
   pub offset : ℕ
@@ -149,7 +149,7 @@ pub record RowAround : Type 0 where
 abbrev pub row_around : Mode → ℕ → (above second : List ℕ) → RowAround
 row_around mode offset above second = record { mode = mode; offset = offset; above = above; second = second }
 
--- what the pixels of the next byte are decoded with
+-- the context of the next byte's pixels
 abbrev pub next_around : RowAround → BytesAt → ByteAround
 next_around a b = byte_around a.mode a.offset (b.second % 65536 * 256 + slice_index a.second (b.i + 1)) (b.above % 65536 * 256 + slice_index a.above (b.i + 1)) b.past
 
@@ -162,7 +162,7 @@ pub record BytesSoFar {S : Type 0} (old : SourceAt S) (row : PlainRow) (width : 
   pub second_is : b.second ≡ before row.lines.second (8 * b.i + 8) 24
   pub above_is : b.above ≡ before row.lines.above (8 * b.i + 8) 24
 
--- Pixels of a row that are decoded, as its place says, and written where they fill bytes.
+-- Pixels of a row that are decoded, as its place says, and written if they fill bytes.
 pub record PixelsHeld (offset : ℕ) (place : RowPlace) (current : List ℕ) (done : List Bool) : Type 0 where
   pub count : place.done ≡ length done
   pub past_is : place.past ≡ before done (length done) (past_bits offset)
@@ -180,7 +180,7 @@ row_part_of_state place current state = record { place = place; current = curren
 abbrev pub row_part : {S : Type 0} → RowPlace → List ℕ → Reader S → RowPart S
 row_part place current r = row_part_of_state place current (reader_state r)
 
--- What a step leaves of a row, whichever pixels of it were decoded before.
+-- The effect of a step on a row, whichever pixels of it were decoded before.
 pub record FromPixels {S : Type 0} (pull : S → Pulled → S → Type 0) (a : RowAround) (part : RowPart S) (Leaves : SourceAt S → PlainRow → Type 0) : Type 0 where
   pub any : (from : S) (first : List Event) (s : State) (answers : List Pulled) (lines : Lines) (done : List Bool) → PixelsHeld a.offset part.place part.current done →
       PixelsSoFar (source_at pull from answers) (plain_row a.mode a.offset first s lines) done part.place.past part.state →
@@ -216,11 +216,11 @@ pub record RowPaused {S : Type 0} (old : SourceAt S) (row : PlainRow) (width : �
 abbrev pub RowStops : {S : Type 0} (pull : S → Pulled → S → Type 0) (a : RowAround) (part : RowPart S) (width : ℕ) (part' : RowPart S) → Type 0
 RowStops pull a part width part' = FromPixels pull a part (λ old row. RowPaused old row width part')
 
--- What decoding the rest of a row leaves: it was decoded, or the source stopped in it, at the place of the result.
+-- The effect of decoding the rest of a row: it was decoded, or the source stopped in it, at the place of the result.
 abbrev pub DecodesRow : {S T : Type 0} (pull : S → Pulled → S → Type 0) (a : RowAround) (part : RowPart S) (width : ℕ) (part' : RowPart S) → Result T RowPlace → Type 0
 DecodesRow pull a part width part' result = OnOk result (RowAlong pull a part width part'.current part'.state) × IfErr result (λ at. RowStops pull a part width (record { place = at; current = part'.current; state = part'.state }))
 
--- What is left of a byte was decoded and written, up to its last pixel or the row's.
+-- The rest of a byte was decoded and written, up to its last pixel or the row's.
 pub record ByteEnded {S : Type 0} (old : SourceAt S) (row : PlainRow) (part : RowPart S) : Type 0 where
   pub done : List Bool
   pub count : part.place.done ≡ length done

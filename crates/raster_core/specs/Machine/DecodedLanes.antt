@@ -1,4 +1,4 @@
--- What decoding pixels by lanes leaves, on the way.
+-- The effects of decoding pixels by lanes.
 use Rattle.std.specs.Prelude.{ℕ, ◌+◌, ◌≡◌, ◌≤◌, ◌<◌, false, Result, IfOk, IfErr}
 use Rattle.qm_core.specs.Source.{Pulls}
 use Rattle.qm_core.specs.Decoder.{DecoderState}
@@ -14,7 +14,7 @@ use Rattle.raster_core.specs.declared.place.Pause.{Pause}
 abbrev pub later : ℕ → Pause → Pause
 later n pause = record { count = n + pause.count; past = pause.past }
 
--- What pixels with three lines and a nominal adaptive pixel are decoded with: the lanes of the rows above, the last pixels.
+-- The context of pixels with three lines and the nominal adaptive pixel: the lanes of the rows above, the last pixels.
 pub record LanesAround : Type 0 where
   pub lanes : ℕ
   pub past : ℕ
@@ -29,7 +29,7 @@ pub record AreLanesOf (lanes : ℕ) (b : ByteAround) (n count : ℕ) : Type 0 wh
   pub within : n + count ≤ 8
   pub around_is : HasAround lanes b.second b.above n count
 
--- Pixels more were decoded of a byte, with these lanes.
+-- More pixels of a byte were decoded, with these lanes.
 pub record AlongMore {S : Type 0} (pull : S → Pulled → S → Type 0) (a : LanesAround) (mid : DecoderState S) (count past' : ℕ) (new : DecoderState S) : Type 0 where
   pub any : (b : ByteAround) (old : DecoderState S) (n : ℕ) → AreLanesOf a.lanes b n count → Along pull b old n a.past mid → Along pull b old (n + count) past' new
 
@@ -37,7 +37,7 @@ pub record AlongMore {S : Type 0} (pull : S → Pulled → S → Type 0) (a : La
 pub record StopsMore {S : Type 0} (pull : S → Pulled → S → Type 0) (a : LanesAround) (mid : DecoderState S) (count : ℕ) (pause : Pause) (new : DecoderState S) : Type 0 where
   pub any : (b : ByteAround) (old : DecoderState S) (n : ℕ) → AreLanesOf a.lanes b n count → Along pull b old n a.past mid → StopsAlong pull b old 8 (later n pause) new
 
--- What decoding pixels with these lanes leaves.
+-- The effect of decoding pixels with these lanes.
 abbrev pub DecodesLanes : {S : Type 0} (source : Ghosts S) (a : LanesAround) (count : ℕ) (r r' : Reader S) (result : Result ℕ Pause) → Type 0
 DecodesLanes source a count r r' result =
     IfOk result (λ past. AlongMore (Pulls source.gives source.failed) a (reader_state r) count past (reader_state r'))

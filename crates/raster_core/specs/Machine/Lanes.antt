@@ -8,7 +8,7 @@ use Rattle.raster_core.specs.Machine.Registers.{bit, before, past_bits, ByteAt}
 abbrev pub lane : ℕ → ℕ → ℕ
 lane lanes j = lanes / 2 ^ (16 * j) % 2 ^ 16
 
--- What the rows above give to the context of pixel j of a byte, the adaptive pixel in its nominal place. The registers
+-- The part of the context of pixel j of a byte that the rows above determine, with the nominal adaptive pixel. The registers
 -- are those of decoding.
 abbrev pub around : ℕ → ℕ → ℕ → ℕ
 around second above j = second / 2 ^ 7 * 2 ^ j / 2 ^ 7 % 8 * 128 + above / 2 ^ 6 * 2 ^ j / 2 ^ 7 % 32 * 4
@@ -19,12 +19,12 @@ HasFar far offset past byte =
     (row : List Bool) (x j : ℕ) → past ≡ before row x 128 → byte ≡ before row (x + 8) 8 → j < 8 →
     far * 2 ^ j / 2 ^ 7 % 2 ≡ bit (pixel_left row (x + j) offset)
 
--- what the rows above and these adaptive pixels give to the context of pixel j
+-- the part of the context of pixel j from the rows above and these adaptive pixels
 abbrev pub moved_around : ℕ → ℕ → ℕ → ℕ → ℕ
 moved_around second above far j =
     second / 2 ^ 7 * 2 ^ j / 2 ^ 7 % 8 * 128 + above / 2 ^ 6 * 2 ^ j / 2 ^ 8 % 16 * 8 + far * 2 ^ j / 2 ^ 7 % 2 * 4
 
--- what the context of pixel j has beside the two pixels before it, the adaptive pixel moved or not
+-- the context of pixel j without the two pixels before it, whether or not the adaptive pixel is moved
 abbrev pub near : Bool → ℕ → ℕ → ℕ → ℕ → ℕ
 near false second above far j = around second above j
 near true second above far j = moved_around second above far j
@@ -33,7 +33,7 @@ near true second above far j = moved_around second above far j
 abbrev pub own : ℕ → ℕ → ℕ
 own row j = row * 2 ^ j / 2 ^ 7 % 8
 
--- what lane j has of a window: of six pixels of the row two above, of eight of the row above, of six of the row
+-- lane j of a window: six pixels of the row two above, eight of the row above, six of the row
 abbrev pub second_lane : ℕ → ℕ → ℕ
 second_lane window j = window * 2 ^ j / 8 % 8 * 128
 
@@ -43,24 +43,24 @@ above_lane window j = window * 2 ^ j / 8 % 32 * 4
 abbrev pub row_lane : ℕ → ℕ → ℕ
 row_lane window j = window * 2 ^ j / 8 % 8
 
--- with a moved adaptive pixel: of seven pixels of the row above, of four adaptive pixels
+-- with a moved adaptive pixel: seven pixels of the row above, four adaptive pixels
 abbrev pub moved_above_lane : ℕ → ℕ → ℕ
 moved_above_lane window j = window * 2 ^ j / 8 % 16 * 8
 
 abbrev pub far_lane : ℕ → ℕ → ℕ
 far_lane window j = window * 2 ^ j / 8 % 2 * 4
 
--- `count` lanes have what the rows above give to the contexts of the pixels from `from` on
+-- `count` lanes have the parts from the rows above of the contexts of the pixels from `from` on
 abbrev pub HasAround : ℕ → ℕ → ℕ → ℕ → ℕ → Type 0
 HasAround lanes second above from count =
     (j : ℕ) → j < count → lane lanes j ≡ around second above (from + j)
 
--- `count` lanes have twice the contexts of the pixels from `from` on, which have `beside` near them, and the pixels
+-- `count` lanes have twice the contexts of the pixels from `from` on, with `beside` near them, plus the pixels
 abbrev pub HasPixels : ℕ → (ℕ → ℕ) → ℕ → ℕ → ℕ → Type 0
 HasPixels lanes beside row from count =
     (j : ℕ) → j < count → lane lanes j ≡ 2 * beside (from + j) + own row (from + j)
 
--- with three lines, what the contexts of a byte's pixels have beside the two pixels before each
+-- with three lines, the contexts of a byte's pixels without the two pixels before each
 pub record AreBeside (beside : ℕ → ℕ) (offset second above byte past : ℕ) : Type 0 where
   pub small : (j : ℕ) → beside j ≤ 1020
   pub contexts : (typical : Bool) (lines : Lines) (x j : ℕ) → j < 8 → ByteAt lines second above byte x → past ≡ before lines.row x (past_bits offset) →

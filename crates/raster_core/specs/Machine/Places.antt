@@ -1,4 +1,4 @@
--- What the steps of decoding a row ask for, and what they leave of its place and of the decoder.
+-- The preconditions of the steps that decode a row, and their effects on its place and on the decoder.
 use Rattle.std.specs.Prelude.{ℕ, ◌≡◌, ◌≤◌, ◌<◌, true, false, List, length, Result, OnOk, OnErr}
 use Rattle.std.specs.Int.{div_ceil}
 use Rattle.qm_core.specs.Decoder.{has_stopped}
@@ -22,18 +22,18 @@ MayGoOnRow shape kept place window d = (kept.offset ≤ 127) × (width_of window
 abbrev pub MayGoOnIn : Shape → Kept → RowPlace → Decoder → Type 0
 MayGoOnIn shape kept place d = (kept.offset ≤ 127) × (place.done < shape.width) × (place.is_begun ≡ true → has_stopped d ≡ false)
 
--- it was, or has come to a place further on
+-- it was, or is at a later place
 abbrev pub LeavesPlace : {T E : Type 0} → Shape → Kept → Kept → RowPlace → Result T E → Type 0
 LeavesPlace shape kept kept' place' result = OnOk result (kept'.offset ≡ kept.offset) × OnErr result (kept' ≡ kept) × OnErr result (place'.done < shape.width)
 
--- pixels are left of a row that these bytes have room for
+-- pixels are left of a row for which these bytes have room
 abbrev pub IsPartOf : Shape → RowPlace → List ℕ → Type 0
 IsPartOf shape place current = (place.done < shape.width) × (length current ≡ div_ceil shape.width 8)
 
--- but for its current row a window is as before
+-- except for its current row, a window is as before
 abbrev pub DecodesCurrent : Window → Window → Type 0
 DecodesCurrent old new = SameAbove (held old) (held new) × (current_place new ≡ current_place old) × (memory_of new ≡ memory_of old)
 
--- A decoder that has not stopped took so many runs of pixels in one step, or nothing was done.
+-- A decoder that has not stopped decoded this many runs of pixels in one step, or nothing changed.
 abbrev pub SkipsSoMany : ℕ → Decoder → Decoder → Type 0
 SkipsSoMany count d d' = (has_stopped d' ≡ has_stopped d) × (1 ≤ count → has_stopped d ≡ false) × (count ≡ 0 → d' ≡ d)

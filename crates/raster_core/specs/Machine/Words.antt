@@ -16,11 +16,11 @@ word p first (suc n) = word p first n * 2 + bit (p (first + n))
 abbrev pub led : List Bool → ℕ → Bool
 led row i = if nat_lt i 128 then false else pixel_at row (i - 128)
 
--- which places are left of this width
+-- the positions left of this width
 abbrev pub is_within : ℕ → ℕ → Bool
 is_within width x = nat_lt x width
 
--- the pixels of a row, counted from a place of it
+-- the pixels of a row, counted from a position
 pub record PixelsFrom : Type 0 where
   pub pixels : ℕ → Bool
   pub first : ℕ
@@ -28,11 +28,11 @@ pub record PixelsFrom : Type 0 where
 abbrev pub pixels_from : (ℕ → Bool) → ℕ → PixelsFrom
 pixels_from pixels first = record { pixels = pixels; first = first }
 
--- at how many of n places, each counted from its own, p and q have the same pixel where m holds
+-- the number of n positions, each counted from its own start, at which p and q have the same pixel and m holds
 unfoldable pub agreed_from : (p q m : PixelsFrom) → (n : ℕ) → ℕ
 agreed_from p q m n = count_by (λ i. m.pixels (m.first + i) && same (p.pixels (p.first + i)) (q.pixels (q.first + i))) (numbers_from 0 n)
 
--- at how many of n places from `first` on, left of `width`, the row has the pixel of the adaptive pixel
+-- the number of n positions from `first` on, left of `width`, at which the row equals the adaptive pixel
 unfoldable pub part_agreement : Lines → (width offset first n : ℕ) → ℕ
 part_agreement lines width offset first n =
     count_by (λ x. is_within width x && same (pixel_at lines.row x) (adaptive lines offset x)) (numbers_from first n)
@@ -43,7 +43,7 @@ AgreesAt bytes width least most counts =
     (lines : Lines) → bytes ≡ packed_row lines.row → (lag : ℕ) → least ≤ lag → lag ≤ most →
     slice_index counts lag ≡ part_agreement lines width lag 0 (64 * div_ceil width 64)
 
--- the number is that of the row in these bytes at the nominal place, where the row above has the same bytes
+-- the number is that of the row in these bytes at the nominal position, if the row above has the same bytes
 abbrev pub AgreesBelowItself : List ℕ → ℕ → ℕ → Type 0
 AgreesBelowItself bytes width number =
     (lines : Lines) → bytes ≡ packed_row lines.row → bytes ≡ packed_row lines.above →
