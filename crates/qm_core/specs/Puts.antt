@@ -1,4 +1,4 @@
--- The effect of successive events on an encoder.
+-- The effect of encoding several events, one after another.
 use Rattle.std.specs.Prelude.{ℕ, ◌+◌, ◌≡◌, ◌≤◌, ◌^◌, ◌++◌, Bool, false, IsTrue, IsErr, List, [], ◌∷◌, length, replicate, Result, Ok, Err, OnOk, OnErr, is_err}
 use Rattle.qm_core.specs.Counts.{one_more}
 use Rattle.qm_core.specs.Place.{Place, State, Event, after}
@@ -15,43 +15,43 @@ use Rattle.qm_core.specs.declared.sink.CodeSink.{Ghosts}
 abbrev pub event_of : Context → Bool → Event
 event_of cx pixel = record { context = cx.number; pixel = pixel }
 
--- From a state at which these bytes were pushed, an encoder has put these events, and the sink accepted the bytes pushed.
+-- From a state after `old.pushed` was written, an encoder encoded these events, and the sink accepted all bytes.
 pub record Encodes {S : Type 0} (old : SinkAt S) (s : State) (events : List Event) (new : EncoderState S) : Type 0 where
   pub more : List ℕ
   pub taken : Took old.sink.took old.from more new.out
   pub codes : EncoderIsAt new.encoder (after s events).place (old.pushed ++ more)
   pub taught : new.learned ≡ (after s events).learned
 
--- At the last of these events the sink rejected a byte: it has received a prefix of a stuffed front of their place.
+-- At the last of these events the sink refused a byte: it has some first bytes of a stuffed front of the place after them.
 pub record Fails {S : Type 0} (old : SinkAt S) (s : State) (events : List Event) (to : S) : Type 0 where
   pub more : List ℕ
   pub cut : Refused old.sink.took old.sink.refused old.from more to
   pub begins : IsStuffedFront (old.pushed ++ more) (after s events).place
 
--- The sink rejected a byte at the last of some first events of these.
+-- The sink refused a byte at one of these events: the last of `events`.
 pub record FailsIn {S : Type 0} (old : SinkAt S) (s : State) (all : List Event) (to : S) : Type 0 where
   pub events : List Event
   pub rest : List Event
   pub all_are : all ≡ events ++ rest
   pub fails : Fails old s events to
 
--- this many more events are allowed
+-- the encoder has room for `count` more events
 pub record HasRoom {S : Type 0} (count : ℕ) (c : Coder S) : Type 0 where
   pub events : event_count c.encoder.now + count ≤ 2 ^ 56
 
--- the same three values are borrowed
+-- both have borrowed the same three values
 pub record IsSameLoan {S : Type 0} (c c' : Coder S) : Type 0 where
   pub learned_is : c'.learned.ghost_name ≡ c.learned.ghost_name
   pub encoder_is : c'.encoder.ghost_name ≡ c.encoder.ghost_name
   pub out_is : c'.out.ghost_name ≡ c.out.ghost_name
 
--- the borrowed values are unchanged
+-- the three borrowed values are unchanged
 pub record IsUnchanged {S : Type 0} (c c' : Coder S) : Type 0 where
   pub learned_is : c'.learned.now ≡ c.learned.now
   pub encoder_is : c'.encoder.now ≡ c.encoder.now
   pub out_is : c'.out.now ≡ c.out.now
 
--- the result of an encoder that had failed before
+-- the result of an encoder that had already failed
 abbrev pub failed_answer : List Event → Result (Unit {0}) CoderFault
 failed_answer [] = Ok tt
 failed_answer (e ∷ events) = Err Failed
@@ -60,7 +60,7 @@ failed_answer (e ∷ events) = Err Failed
 abbrev pub state_at : {S : Type 0} → Coder S → Place → State
 state_at c p = record { place = p; learned = c.learned.now }
 
--- the effect on a coder that had not failed: these events coded, or a prefix of them and one more failure
+-- the effect on a coder that had not failed: these events are encoded, or some of them and then the sink failed once
 pub record GoesOn {S : Type 0} (sink : Ghosts S) (events : List Event) (c c' : Coder S) (result : Result (Unit {0}) CoderFault) : Type 0 where
   pub fails : has_failed c'.encoder.now ≡ is_err result
   pub fault : IsErr result → result ≡ Err Write
@@ -70,7 +70,7 @@ pub record GoesOn {S : Type 0} (sink : Ghosts S) (events : List Event) (c c' : C
   pub err : OnErr result ((p : Place) (pushed : List ℕ) → EncoderIsAt c.encoder.now p pushed →
       FailsIn (sink_at sink c.out.now pushed) (state_at c p) events c'.out.now)
 
--- These events were put in turn, up to a failure.
+-- These events were encoded one after another, up to a failure.
 pub record Puts {S : Type 0} (sink : Ghosts S) (events : List Event) (c c' : Coder S) (result : Result (Unit {0}) CoderFault) : Type 0 where
   pub lends : IsSameLoan c c'
   pub count : OnOk result (event_count c'.encoder.now ≡ event_count c.encoder.now + length events)
@@ -78,7 +78,7 @@ pub record Puts {S : Type 0} (sink : Ghosts S) (events : List Event) (c c' : Cod
   pub stuck : IsTrue (has_failed c.encoder.now) → (result ≡ failed_answer events) × IsUnchanged c c'
   pub goes : has_failed c.encoder.now ≡ false → GoesOn sink events c c' result
 
--- This event was put this many times in one step, if and only if the place had room for it without a doubling.
+-- This event was encoded `count` times in one step, if and only if the interval had room for it without a doubling.
 pub record Skips {S : Type 0} (sink : Ghosts S) (event : Event) (count : ℕ) (c c' : Coder S) (skipped : Bool) : Type 0 where
   pub lends : IsSameLoan c c'
   pub done : IsTrue skipped → Puts sink (replicate count event) c c' (Ok tt)

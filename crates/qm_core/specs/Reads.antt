@@ -16,7 +16,7 @@ reader_state r = decoder_state r.source.now r.decoder.now r.learned.now
 abbrev pub SameReader : {S : Type 0} → Reader S → Reader S → Type 0
 SameReader r r' = (r'.learned.ghost_name ≡ r.learned.ghost_name) × (r'.decoder.ghost_name ≡ r.decoder.ghost_name) × (r'.source.ghost_name ≡ r.source.ghost_name)
 
--- A reader that has stopped does nothing. It stops if and only if the result is an error; then its source failed once.
+-- The decoder stops as `StopsOnce` says, and the reader has borrowed the same three values as before.
 abbrev pub ReaderReads : {S T E : Type 0} → (S → ℕ) → Reader S → Reader S → Result T E → Type 0
 ReaderReads failed r r' result = StopsOnce failed r.decoder.now r'.decoder.now r.source.now r'.source.now result × SameReader r r'
 

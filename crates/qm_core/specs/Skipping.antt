@@ -1,4 +1,4 @@
--- Several events at once, each of which is the favoured pixel of one context.
+-- Several events in one step, all of them the more probable symbol of one context.
 use Rattle.std.specs.Prelude.{ℕ, ◌≡◌, ◌≤◌, ◌+◌, ◌*◌, Bool, not, nat_lt, ◌&&◌, IsTrue, List, length, replicate}
 use Rattle.qm_core.specs.Table.{row_at}
 use Rattle.qm_core.specs.Place.{State, Event, Estimate, estimate_of, same, after}
@@ -9,30 +9,30 @@ use Rattle.qm_core.specs.declared.source.Heard.{Heard}
 use Rattle.qm_core.specs.declared.source.Heard.TheVariants.{More, Ended, Stopped}
 use Rattle.qm_core.specs.declared.decoder.Decoder.{Decoder}
 
--- this event `count` more times: each begins after as many doublings as the first, and no context state changes
+-- this event `count` times: none of them involves a doubling, and the context states after them are those
+-- before them
 pub record IsRun (s : State) (event : Event) (count : ℕ) : Type 0 where
   pub quiet : (k : ℕ) → k ≤ count → (after s (replicate k event)).place.doublings ≡ s.place.doublings
   pub taught : (after s (replicate count event)).learned ≡ s.learned
 
--- the size of the less probable part in a context
+-- the size of the subinterval of the less probable symbol in a context
 abbrev pub upper_size : List Estimate → ℕ → ℕ
 upper_size learned cx = (row_at (estimate_of learned cx).row).size
 
--- whether an event is its context's favoured pixel, and the place has room for it `count` times without a doubling
+-- whether the event is its context's more probable symbol, and the interval has room for it `count` times with no doubling
 abbrev pub has_room : State → Event → ℕ → Bool
 has_room s event count =
     same event.pixel (estimate_of s.learned event.context).pixel
     && not (nat_lt s.place.size (0x8000 + count * upper_size s.learned event.context))
 
--- An event after n doublings needs no pull: while the source continues, the bytes so far are enough; after its end 16 bits are
--- present, including zeros.
+-- An event after n doublings needs no pull: before the end of the source, the bytes read are enough; after it, 16 bits
+-- are available, including substituted zeros.
 abbrev pub WantsNone : Heard → ℕ → ℕ → ℕ → Type 0
 WantsNone More bits n held = wanted_bytes n ≤ held
 WantsNone Ended bits n held = 16 ≤ bits
 WantsNone Stopped bits n held = ⊥
 
--- `count` such events can be decoded at once: the place has room, nothing needs to be pulled, and the bytes lie in the place
--- after them
+-- the event can be decoded `count` times in one step: there is room, no pull is needed, and the bytes are in the interval then
 pub record CanSkip (d : Decoder) (s : State) (answers : List Pulled) (event : Event) (count : ℕ) : Type 0 where
   pub room : IsTrue (has_room s event count)
   pub ready : WantsNone (heard_of answers) d.bits s.place.doublings (length (bytes_of answers))

@@ -1,4 +1,4 @@
--- The number of bytes that determine the events of a row.
+-- How many bytes determine the events of a row.
 use Rattle.std.specs.Prelude.{ℕ, ◌≤◌, List, [], ◌∷◌}
 use Rattle.std.specs.List.{AllByRecursion}
 use Rattle.qm_core.specs.Place.{State, Event, step}

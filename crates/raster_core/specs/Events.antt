@@ -8,7 +8,7 @@ use Rattle.qm_core.specs.declared.source.Pulled.{Pulled}
 use Rattle.qm_core.specs.declared.source.Heard.TheVariants.{More, Stopped}
 use Rattle.raster_core.specs.Enough.{AreEnough}
 
--- From a state at which the source had returned these answers, a decoder has decoded these events; the source returned more.
+-- From a state after `old.answers`, a decoder decoded these events; the answers of its source were `more`.
 pub record Decodes {S : Type 0} (old : SourceAt S) (s : State) (more : List Pulled) (events : List Event) (new : DecoderState S) : Type 0 where
   pub gives : Gives old.pull old.from more new.source
   pub stands : DecoderIsAt new.decoder (after s events).place (old.answers ++ more)
@@ -16,7 +16,7 @@ pub record Decodes {S : Type 0} (old : SourceAt S) (s : State) (more : List Pull
   pub enough : heard_of (old.answers ++ more) ≡ More → AreEnough (length (bytes_of (old.answers ++ more))) s events
   pub going : heard_of (old.answers ++ more) ≡ Stopped → events ≡ []
 
--- It has decoded these events, and the source stopped at a byte that the next one needs.
+-- It decoded these events, and its source stopped at a byte that the next event needs.
 pub record Stops {S : Type 0} (old : SourceAt S) (s : State) (more : List Pulled) (events : List Event) (new : DecoderState S) : Type 0 where
   pub gives : Gives old.pull old.from more new.source
   pub stopped : heard_of (old.answers ++ more) ≡ Stopped

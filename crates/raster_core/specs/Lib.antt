@@ -3,11 +3,11 @@ pub mod Raster
 pub mod Lines
 pub mod Offset
 pub mod Enough
--- The effects of public calls.
+-- The contracts of public functions.
 pub mod Packed
 pub mod Window
 pub mod Tally
 pub mod Events
 pub mod Row
--- Definitions that only serve the proofs.
+-- The representation in registers, words and bytes.
 pub mod Machine

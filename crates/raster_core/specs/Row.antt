@@ -24,12 +24,11 @@ use Rattle.raster_core.specs.Machine.Decoded.{PixelsHeld, PixelsSoFar, PlainRow,
 use Rattle.raster_core.specs.declared.place.RowPlace.{RowPlace}
 use Rattle.raster_core.specs.declared.place.RowPlaceNumbers.{RowPlaceNumbers}
 
--- a row is typical if it may be
+-- the events of a row that is coded as typical if it may be
 abbrev pub canonical_events : Shape → Kept → Lines → List Event
 canonical_events shape kept lines = row_events (shape_mode shape) lines kept.offset kept.previous_typical (may_be_typical (shape_mode shape) lines)
 
--- The parameters of coding or decoding a row: its shape, the state carried from the row before it, the coder's state before it,
--- and the lines.
+-- The inputs for coding a row: its shape, the values kept from the row before it, the state before it, and the lines.
 pub record RowTask : Type 0 where
   pub shape : Shape
   pub kept : Kept
@@ -39,13 +38,13 @@ pub record RowTask : Type 0 where
 abbrev pub row_task : Shape → Kept → State → Lines → RowTask
 row_task shape kept state lines = record { shape = shape; kept = kept; state = state; lines = lines }
 
--- A row was coded.
+-- A row was encoded.
 pub record RowCoded {S : Type 0} (old : SinkAt S) (task : RowTask) (kept' : Kept) (new : EncoderState S) : Type 0 where
   pub encodes : Encodes old task.state (canonical_events task.shape task.kept task.lines) new
   pub offset_is : kept'.offset ≡ task.kept.offset
   pub flag_is : kept'.previous_typical ≡ may_be_typical (shape_mode task.shape) task.lines
 
--- The effect of a call of `encode_row`, for an encoder at a state with these bytes pushed, and a window with these lines.
+-- The effect of a call of `encode_row` on an encoder at a state, after `old.pushed` was written, and a window with these lines.
 pub record RowEncoded {S : Type 0} (old : SinkAt S) (task : RowTask) (kept' : Kept) (new : EncoderState S) (result : Result (Unit {0}) CoderFault) : Type 0 where
   pub ok : OnOk result (RowCoded old task kept' new)
   pub err : OnErr result (FailsIn old task.state (canonical_events task.shape task.kept task.lines) new.out)
@@ -65,11 +64,11 @@ pub record FirstStopped {S : Type 0} (old : SourceAt S) (mode : Mode) (s : State
   pub stops : Stops old s more [] new
   pub typical : IsTrue mode.typical
 
--- a row's events, for a coder with this carried state
+-- the events of a row, after a row that left these values
 abbrev pub events_after : Shape → Kept → Lines → Bool → List Event
 events_after shape kept lines flag = row_events (shape_mode shape) lines kept.offset kept.previous_typical flag
 
--- The effect of decoding a row: the state carried to the row after it, and the rows of the window.
+-- The results of decoding a row: the values kept for the row after it, and the rows of the window.
 pub record RowLeft : Type 0 where
   pub kept : Kept
   pub window : Held
@@ -77,11 +76,11 @@ pub record RowLeft : Type 0 where
 abbrev pub row_left : Kept → Held → RowLeft
 row_left kept window = record { kept = kept; window = window }
 
--- a row's events, with these pixels and this flag
+-- the events of a row with these pixels and this flag
 abbrev pub task_events : RowTask → List Bool → Bool → List Event
 task_events task row flag = events_after task.shape task.kept (with_row task.lines row) flag
 
--- The row is decoded: with a legal flag its events keep the code inside, however the code continues.
+-- The row is decoded: it has a legal flag, and the interval after its events contains every continuation of the code.
 pub record RowIs (task : RowTask) (answers : List Pulled) (left : RowLeft) (learned : List Estimate) (d : Decoder) : Type 0 where
   pub row : List Bool
   pub flag : Bool
@@ -93,10 +92,10 @@ pub record RowIs (task : RowTask) (answers : List Pulled) (left : RowLeft) (lear
   pub flag_is : left.kept.previous_typical ≡ flag
   pub stands : DecoderIsAt d (after task.state (task_events task row flag)).place answers
   pub taught : learned ≡ (after task.state (task_events task row flag)).learned
-  -- if the code continues, the bytes so far were enough for each of the row's events
+  -- if the source has not ended, the bytes read were enough for each of the row's events
   pub enough : heard_of answers ≡ More → AreEnough (length (bytes_of answers)) task.state (task_events task row flag)
 
--- the bytes so far determine no row's events completely
+-- the bytes read do not determine all events of any row
 abbrev pub IsRowUndecided : Shape → Kept → State → List Pulled → Lines → Type 0
 IsRowUndecided shape kept s answers lines =
     (row : List Bool) (flag : Bool) → length row ≡ shape.width → IsLegalFlag (shape_mode shape) (with_row lines row) flag →
@@ -107,10 +106,9 @@ IsRowUndecided shape kept s answers lines =
 abbrev pub StaysStopped : Decoder → List Pulled → Type 0
 StaysStopped d answers = (p : Place) × DecoderIsAt d p answers
 
--- The effect of a call of `decode_row`, for a decoder at a state whose source has returned these answers, in a window with
--- these lines.
+-- The effect of a call of `decode_row` on a decoder at a state, after `old.answers`, and a window with these lines.
 pub record RowDecoded {S : Type 0} (old : SourceAt S) (task : RowTask) (left : RowLeft) (new : DecoderState S) (result : Result (Unit {0}) Stop) : Type 0 where
-  -- the source's answers in this call
+  -- the answers of the source in this call
   pub more : List Pulled
   pub gives : Gives old.pull old.from more new.source
   pub ok : OnOk result (RowIs task (old.answers ++ more) left new.learned new.decoder)
@@ -121,11 +119,11 @@ pub record RowDecoded {S : Type 0} (old : SourceAt S) (task : RowTask) (left : R
 
 -- ---- typical rows, several at once
 
--- the event of a typical row after another
+-- the event of a typical row after a typical row
 abbrev pub again_event : Shape → Event
 again_event shape = pseudo_event (shape_mode shape) true true
 
--- `count` typical rows were decoded at once, after another: no state changed and nothing was pulled.
+-- After a typical row, `count` typical rows were decoded in one step, with no context adapted and no byte pulled.
 pub record RowsSkipped (shape : Shape) (kept : Kept) (s : State) (answers : List Pulled) (count : ℕ) (d : Decoder) : Type 0 where
   pub typical : shape.typical ≡ true
   pub previous : kept.previous_typical ≡ true
@@ -133,7 +131,7 @@ pub record RowsSkipped (shape : Shape) (kept : Kept) (s : State) (answers : List
   pub stands : DecoderIsAt d (after s (replicate count (again_event shape))).place answers
   pub enough : heard_of answers ≡ More → wanted_bytes s.place.doublings ≤ length (bytes_of answers)
 
--- `count` typical rows can be decoded at once, after another
+-- after a typical row, `count` typical rows can be decoded in one step
 pub record CanSkipRows (shape : Shape) (kept : Kept) (d : Decoder) (s : State) (answers : List Pulled) (count : ℕ) : Type 0 where
   pub typical : shape.typical ≡ true
   pub previous : kept.previous_typical ≡ true
@@ -141,13 +139,13 @@ pub record CanSkipRows (shape : Shape) (kept : Kept) (d : Decoder) (s : State) (
 
 -- ---- a row whose code arrives in parts
 
--- before a row
+-- the beginning of a row
 pub record IsRowStart (place : RowPlace) : Type 0 where
   pub is_begun : place.is_begun ≡ false
   pub done : place.done ≡ 0
   pub past : place.past ≡ 0
 
--- the numbers of a place in a row
+-- a position in a row as numbers
 abbrev pub row_place_numbers : RowPlace → RowPlaceNumbers
 row_place_numbers place = record {
   is_begun = place.is_begun;
@@ -163,7 +161,7 @@ pub record HasAbove (w : Held) (lines : Lines) : Type 0 where
   pub above_wide : length lines.above ≡ w.width
   pub second_wide : length lines.second ≡ w.width
 
--- the events of a plain row that begins with these pixels
+-- the first events of a plain row, up to these pixels
 abbrev pub plain_events_of : Shape → Kept → Lines → List Bool → List Event
 plain_events_of shape kept lines done =
     first_events (shape_mode shape) kept.previous_typical false ++ pixel_events (shape_mode shape) (with_row lines done) kept.offset
@@ -173,8 +171,8 @@ abbrev pub plain_row_of : RowTask → PlainRow
 plain_row_of task =
     plain_row (shape_mode task.shape) task.kept.offset (first_events (shape_mode task.shape) task.kept.previous_typical false) task.state task.lines
 
--- Pixels of a plain row are decoded, for a decoder that was at this state before the row: the source's answers since the start
--- of its code were enough for them.
+-- Pixels of a plain row are decoded, from the state of the task before the row. The answers are those of the source since
+-- the beginning of the code, and they were enough for these pixels.
 pub record StandsInPixels (task : RowTask) (place : RowPlace) (answers : List Pulled) (window : Held) (learned : List Estimate) (d : Decoder) : Type 0 where
   pub done : List Bool
   pub held : PixelsHeld task.kept.offset place window.current done
@@ -188,32 +186,32 @@ pub record StandsBeforeRow (place : RowPlace) (s : State) (answers : List Pulled
   pub stands : DecoderIsAt d s.place answers
   pub taught : learned ≡ s.learned
 
--- A row is decoded as far as its place says.
+-- A row is decoded as far as its position says.
 pub record StandsInRow (task : RowTask) (place : RowPlace) (answers : List Pulled) (window : Held) (learned : List Estimate) (d : Decoder) : Type 0 where
   pub above : HasAbove window task.lines
   pub before_it : place.is_begun ≡ false → StandsBeforeRow place task.state answers learned d
   pub in_it : place.is_begun ≡ true → StandsInPixels task place answers window learned d
 
--- The effect of a step on a row that is decoded as far as its place says, from any state and code.
+-- The effect of a step on a row that is decoded as far as its position says, for every earlier state and code.
 abbrev pub FromRowPlace : {S : Type 0} (pull : S → Pulled → S → Type 0) (shape : Shape) (kept : Kept) (place : RowPlace) (old : DecoderState S) (Leaves : SourceAt S → RowTask → Held → Type 0) → Type 0
 FromRowPlace {S} pull shape kept place old Leaves =
     (s : State) (answers : List Pulled) (lines : Lines) (window : Held) → StandsInRow (row_task shape kept s lines) place answers window old.learned old.decoder →
     Leaves (source_at pull old.source answers) (row_task shape kept s lines) window
 
--- The events before a row's pixels are decoded, for a row that was decoded as far as its place says.
+-- The events before a row's pixels are decoded, for a row that was decoded as far as its position says.
 pub record RowBegins {S : Type 0} (old : SourceAt S) (task : RowTask) (place : RowPlace) (window : Held) (flag : Bool) (new : DecoderState S) : Type 0 where
   pub plain : flag ≡ false → (done : List Bool) × PixelsHeld task.kept.offset place window.current done
       × PixelsSoFar old (plain_row_of task) done place.past new
   pub typical : flag ≡ true → (task.shape.typical ≡ true) × FirstDecoded old (shape_mode task.shape) task.kept.previous_typical true task.state new
 
--- The effect of continuing a row, whether or not the source has stopped for good.
+-- The effect of continuing a row, after which a stopped decoder remains stopped.
 pub record RowGoesOn {S : Type 0} (old : SourceAt S) (task : RowTask) (left : RowLeft) (place : RowPlace) (new : DecoderState S) (result : Result (Unit {0}) Stop) : Type 0 where
   pub decoded : RowDecoded old task left new result
   pub waits : OnErr result (StandsInRow task place (old.answers ++ decoded.more) left.window new.learned new.decoder)
 
--- The effect of a call of `go_on_row`, for a row that was decoded this far while the source returned these answers.
+-- The effect of a call of `go_on_row` on a row that was decoded so far with `old.answers`.
 pub record RowPasses {S : Type 0} (old : SourceAt S) (task : RowTask) (left : RowLeft) (place : RowPlace) (new : DecoderState S) (result : Result (Unit {0}) Stop) : Type 0 where
-  -- the source's answers in this call
+  -- the answers of the source in this call
   pub more : List Pulled
   pub gives : Gives old.pull old.from more new.source
   pub ok : OnOk result (RowIs task (old.answers ++ more) left new.learned new.decoder)
@@ -221,5 +219,5 @@ pub record RowPasses {S : Type 0} (old : SourceAt S) (task : RowTask) (left : Ro
   pub stop : IsErr result ↔ (heard_of (old.answers ++ more) ≡ Stopped)
   pub undecided : OnErr result (IsPlace task.state.place → IsRowUndecided task.shape task.kept task.state (old.answers ++ more) task.lines)
   pub closed : OnErr result (IsClosed (old.answers ++ more) × IsBytes (bytes_of (old.answers ++ more)))
-  -- the row is decoded further, and waits for more bytes
+  -- more of the row is decoded, and the decoder waits for the bytes that follow
   pub waits : OnErr result (StandsInRow task place (before_fault (old.answers ++ more)) left.window new.learned new.decoder)

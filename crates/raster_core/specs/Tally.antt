@@ -1,4 +1,4 @@
--- The rows that a tally represents.
+-- The rows that a tally has counted.
 use Rattle.std.specs.Prelude.{ℕ, ◌+◌, ◌*◌, ◌%◌, ◌^◌, ◌≡◌, ◌≤◌, ◌<◌, min, max, Bool, List, length, slice_index, take, ◌==◌, if◌then◌else◌}
 use Rattle.std.specs.List.{AllByRecursion}
 use Rattle.raster_core.specs.Lines.{Lines}
@@ -22,15 +22,15 @@ row_count t = t.rows
 abbrev pub least_lag : Bool → ℕ
 least_lag two_line = if two_line then 5 else 3
 
--- the last offset that is counted: beyond the width, no pixel has one that far to its left, and all offsets agree equally
+-- the last offset that is counted: beyond the width, every adaptive pixel is white, and all offsets agree equally
 abbrev pub last_lag : Bool → ℕ → ℕ → ℕ
 last_lag two_line most width = min most (max width (least_lag two_line))
 
--- the count at a lag, modulo 2 ^ 64: that of the last row as often as it was repeated since its counts were added
+-- the count at a lag, modulo 2 ^ 64, including the last row as often as it was added since its counts were
 abbrev pub counted_at : Tally → ℕ → ℕ
 counted_at t lag = (slice_index t.counts lag + t.times * slice_index t.last.agreed lag) % 2 ^ 64
 
--- the same tally except for the form of its counts, at these lags
+-- both tallies have the same counts at these lags, and differ only in how they store them
 pub record CountsAlike (low high : ℕ) (old new : Tally) : Type 0 where
   pub counted : (lag : ℕ) → low ≤ lag → lag ≤ high → counted_at new lag ≡ counted_at old lag
   pub held : new.held ≡ old.held
@@ -42,14 +42,12 @@ pub record CountsAlike (low high : ℕ) (old new : Tally) : Type 0 where
 abbrev pub CountsRow : Counted → List ℕ → Type 0
 CountsRow c bytes = AgreesAt bytes c.width c.least c.most c.agreed
 
--- The stored numbers are those of the stored row, if there is one: its counts, and the number below itself, if that was
--- counted.
+-- The stored numbers are those of the stored row, if there is one: its counts, and the count below itself, if that was made.
 pub record KeepsCounts (c : Counted) : Type 0 where
   pub counts : c.len ≤ 2048 → CountsRow c (take c.len c.row)
   pub below : c.len ≤ 2048 → c.below_itself ≤ 2 ^ 32 → AgreesBelowItself (take c.len c.row) c.width c.below_itself
 
--- The tally is that of these rows, at this width and offset. Its data about the last row are right, so that the row can be
--- added again.
+-- The tally has counted these rows, at this width and offset. It stores the right numbers for the last row, for adding it again.
 pub record CountsLines (t : Tally) (width current : ℕ) (rows : List Lines) : Type 0 where
   pub number : t.rows ≡ length rows
   pub width_is : 0 < length rows → t.width ≡ width

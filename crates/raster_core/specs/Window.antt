@@ -6,15 +6,15 @@ use Rattle.raster_core.specs.declared.window.Window.{Window}
 use Rattle.raster_core.specs.Lines.{Mode}
 use Rattle.raster_core.specs.declared.shape.Shape.{Shape}
 
--- the width of its rows
+-- the width of its rows in pixels
 abbrev pub width_of : Window → ℕ
 width_of w = w.width
 
--- the place of the current row in its memory
+-- the position of the current row in its memory
 abbrev pub current_place : Window → ℕ
 current_place w = w.place
 
--- the identity of the caller's slice
+-- the borrowed slice that is its memory
 abbrev pub memory_of : Window → GName
 memory_of w = w.rows.ghost_name
 
@@ -22,11 +22,11 @@ memory_of w = w.rows.ghost_name
 abbrev pub held : Window → Held
 held w = rows_at w.place w.width w.rows.now
 
--- one row further: the current row becomes the row above, and the second row above is to be overwritten
+-- moved down by a row: the current row becomes the row above, and the second row above is to be overwritten
 abbrev pub turned : Held → Held
 turned w = record { width = w.width; current = w.second; above = w.current; second = w.above }
 
--- one row further, to a row that equals the current one
+-- moved down by a row, to one that equals the current row
 abbrev pub repeated : Held → Held
 repeated w = record { width = w.width; current = w.current; above = w.current; second = w.above }
 

@@ -1,4 +1,4 @@
--- The effects of the steps that decode the pixels of a row.
+-- The effect of decoding some of the pixels of a row.
 use Rattle.std.specs.Prelude.{ℕ, ◌+◌, ◌*◌, ◌%◌, ◌≡◌, ◌≤◌, ◌<◌, Bool, true, false, List, ◌++◌, length, replicate, slice_index, Result, IfOk, IfErr, OnOk}
 use Rattle.std.specs.Int.{div_ceil}
 use Rattle.qm_core.specs.Place.{Place, State, Event, Estimate, after}
@@ -26,7 +26,7 @@ use Rattle.raster_core.specs.Machine.Uniform.{uniform_event, StaysUniform, AreFi
 abbrev pub with_row : Lines → List Bool → Lines
 with_row lines row = record { row = row; above = lines.above; second = lines.second }
 
--- A plain row to be decoded: mode and adaptive pixel, the events before its pixels, the state before those, the lines.
+-- A plain row: mode, position of the adaptive pixel, the events before its pixels, the state before those, and the lines.
 pub record PlainRow : Type 0 where
   pub mode : Mode
   pub offset : ℕ
@@ -37,23 +37,23 @@ pub record PlainRow : Type 0 where
 abbrev pub plain_row : Mode → ℕ → List Event → State → Lines → PlainRow
 plain_row mode offset first state lines = record { mode = mode; offset = offset; first = first; state = state; lines = lines }
 
--- the events up to these pixels of it
+-- its events up to these pixels
 abbrev pub events_up_to : PlainRow → List Bool → List Event
 events_up_to row done = row.first ++ pixel_events row.mode (with_row row.lines done) row.offset
 
--- After the first events, the pixels `done` of a row are decoded; `past` are the last of them.
+-- After the first events the pixels `done` of a row are decoded; `past` are the last of them.
 pub record PixelsSoFar {S : Type 0} (old : SourceAt S) (row : PlainRow) (done : List Bool) (past : ℕ) (new : DecoderState S) : Type 0 where
   pub past_is : past ≡ before done (length done) (past_bits row.offset)
   pub more : List Pulled
   pub decodes : Decodes old row.state more (events_up_to row done) new
 
--- the same for n more pixels
+-- the same, after n more pixels
 pub record MorePixels {S : Type 0} (old : SourceAt S) (row : PlainRow) (done : List Bool) (n past : ℕ) (new : DecoderState S) : Type 0 where
   pub pixels : List Bool
   pub count : length pixels ≡ n
   pub so_far : PixelsSoFar old row (done ++ pixels) past new
 
--- The source stopped at one of the n pixels after these, after this many of them.
+-- The source stopped at one of the n pixels after these; `pause.count` of them were decoded.
 pub record PixelsStop {S : Type 0} (old : SourceAt S) (row : PlainRow) (done : List Bool) (n : ℕ) (pause : Pause) (new : DecoderState S) : Type 0 where
   pub few : pause.count < n
   pub pixels : List Bool
@@ -62,7 +62,7 @@ pub record PixelsStop {S : Type 0} (old : SourceAt S) (row : PlainRow) (done : L
   pub more : List Pulled
   pub stops : Stops old row.state more (events_up_to row (done ++ pixels)) new
 
--- The context of a byte's pixels: mode, adaptive pixel, the registers of the rows above, the last pixels.
+-- The inputs for decoding a byte: mode, position of the adaptive pixel, registers of the rows above, the last pixels.
 pub record ByteAround : Type 0 where
   pub mode : Mode
   pub offset : ℕ
@@ -76,7 +76,7 @@ byte_around mode offset second above past = record { mode = mode; offset = offse
 abbrev pub around_of : Registers → ByteAround
 around_of r = byte_around (shape_mode r.shape) r.offset r.second r.above r.past
 
--- n more pixels of a byte were decoded, and these are then the last of the row
+-- n more pixels of a byte were decoded; past' contains the last pixels of the row
 pub record Along {S : Type 0} (pull : S → Pulled → S → Type 0) (b : ByteAround) (old : DecoderState S) (n past' : ℕ) (new : DecoderState S) : Type 0 where
   pub any : (from : S) (first : List Event) (s : State) (answers : List Pulled) (lines : Lines) (done : List Bool) →
       PixelsSoFar (source_at pull from answers) (plain_row b.mode b.offset first s lines) done b.past old →
@@ -96,7 +96,7 @@ DecodesPixels source b n r r' result =
     IfOk result (λ past. Along (Pulls source.gives source.failed) b (reader_state r) n past (reader_state r'))
     × IfErr result (λ pause. (pause.count < n) × StopsAlong (Pulls source.gives source.failed) b (reader_state r) n pause (reader_state r'))
 
--- A byte of one colour was decoded in one step, without a pull: each of its pixels is in the context of that colour.
+-- A byte of one colour was decoded in one step, without a pull: all pixels of its contexts have that colour.
 pub record SkipsAlong (b : ByteAround) (byte : ℕ) (d : Decoder) (learned : List Estimate) (d' : Decoder) : Type 0 where
   pub colour : Bool
   pub byte_is : byte ≡ bit colour * 255
@@ -108,7 +108,7 @@ pub record SkipsAlong (b : ByteAround) (byte : ℕ) (d : Decoder) (learned : Lis
       × DecoderIsAt d' (after (record { place = p; learned = learned }) (replicate 8 (uniform_event colour))).place answers
       × (heard_of answers ≡ More → wanted_bytes p.doublings ≤ length (bytes_of answers))
 
--- this many bytes of a colour, from a first one on
+-- `count` bytes of a colour, from byte `first` on
 pub record FilledRun : Type 0 where
   pub colour : Bool
   pub first : ℕ
@@ -117,7 +117,7 @@ pub record FilledRun : Type 0 where
 abbrev pub filled_run : Bool → (first count : ℕ) → FilledRun
 filled_run colour first count = record { colour = colour; first = first; count = count }
 
--- A run of bytes of a colour, below bytes of the same colour up to the one after them, was decoded in one step, without a pull.
+-- A run of bytes of a colour was decoded in one step, without a pull; above, its second byte to the one after it have the colour.
 pub record SkipsFilledAlong (run : FilledRun) (above second : List ℕ) (d : Decoder) (learned : List Estimate) (d' : Decoder) : Type 0 where
   pub above_filled : AreFilled run.colour above (run.first + 1) run.count
   pub second_filled : AreFilled run.colour second (run.first + 1) run.count
@@ -127,7 +127,7 @@ pub record SkipsFilledAlong (run : FilledRun) (above second : List ℕ) (d : Dec
       × DecoderIsAt d' (after (record { place = p; learned = learned }) (replicate (8 * run.count) (uniform_event run.colour))).place answers
       × (1 ≤ run.count → heard_of answers ≡ More → wanted_bytes p.doublings ≤ length (bytes_of answers))
 
--- The position in the bytes of a row: pixels left, the next byte, the registers above, the last pixels, its bytes.
+-- The progress in a row: pixels left, the next byte, the registers of the rows above, the last pixels, the row's bytes.
 pub record BytesAt : Type 0 where
   pub left : ℕ
   pub i : ℕ
@@ -139,7 +139,7 @@ pub record BytesAt : Type 0 where
 abbrev pub bytes_at : (left i second above past : ℕ) → List ℕ → BytesAt
 bytes_at left i second above past current = record { left = left; i = i; second = second; above = above; past = past; current = current }
 
--- The context of a row's pixels: the mode, the adaptive pixel, and the bytes of the two rows above.
+-- The inputs for decoding a row: mode, position of the adaptive pixel, and the bytes of the two rows above.
 pub record RowAround : Type 0 where
   pub mode : Mode
   pub offset : ℕ
@@ -149,7 +149,7 @@ pub record RowAround : Type 0 where
 abbrev pub row_around : Mode → ℕ → (above second : List ℕ) → RowAround
 row_around mode offset above second = record { mode = mode; offset = offset; above = above; second = second }
 
--- the context of the next byte's pixels
+-- the inputs for decoding the next byte
 abbrev pub next_around : RowAround → BytesAt → ByteAround
 next_around a b = byte_around a.mode a.offset (b.second % 65536 * 256 + slice_index a.second (b.i + 1)) (b.above % 65536 * 256 + slice_index a.above (b.i + 1)) b.past
 
@@ -162,13 +162,13 @@ pub record BytesSoFar {S : Type 0} (old : SourceAt S) (row : PlainRow) (width : 
   pub second_is : b.second ≡ before row.lines.second (8 * b.i + 8) 24
   pub above_is : b.above ≡ before row.lines.above (8 * b.i + 8) 24
 
--- Pixels of a row that are decoded, as its place says, and written if they fill bytes.
+-- These pixels of a row are decoded, as many as its place says, and complete bytes of them are stored.
 pub record PixelsHeld (offset : ℕ) (place : RowPlace) (current : List ℕ) (done : List Bool) : Type 0 where
   pub count : place.done ≡ length done
   pub past_is : place.past ≡ before done (length done) (past_bits offset)
   pub bytes : (k : ℕ) → 8 * k + 8 ≤ length done → slice_index current k ≡ before done (8 * k + 8) 8
 
--- How far a row is decoded: its place, its bytes, and the decoder.
+-- How far a row is decoded: its position, its bytes, and the state of the decoder.
 pub record RowPart (S : Type 0) : Type 0 where
   pub place : RowPlace
   pub current : List ℕ
@@ -180,14 +180,14 @@ row_part_of_state place current state = record { place = place; current = curren
 abbrev pub row_part : {S : Type 0} → RowPlace → List ℕ → Reader S → RowPart S
 row_part place current r = row_part_of_state place current (reader_state r)
 
--- The effect of a step on a row, whichever pixels of it were decoded before.
+-- The effect of a step on a row, for all pixels of it that were decoded before.
 pub record FromPixels {S : Type 0} (pull : S → Pulled → S → Type 0) (a : RowAround) (part : RowPart S) (Leaves : SourceAt S → PlainRow → Type 0) : Type 0 where
   pub any : (from : S) (first : List Event) (s : State) (answers : List Pulled) (lines : Lines) (done : List Bool) → PixelsHeld a.offset part.place part.current done →
       PixelsSoFar (source_at pull from answers) (plain_row a.mode a.offset first s lines) done part.place.past part.state →
       a.above ≡ packed_row lines.above → a.second ≡ packed_row lines.second →
       Leaves (source_at pull from answers) (plain_row a.mode a.offset first s lines)
 
--- bytes of it were decoded
+-- some bytes of the row were decoded
 abbrev pub BytesAlong : {S : Type 0} (pull : S → Pulled → S → Type 0) (a : RowAround) (part : RowPart S) (width : ℕ) (b : BytesAt) (new : DecoderState S) → Type 0
 BytesAlong pull a part width b new = FromPixels pull a part (λ old row. BytesSoFar old row width b new)
 
@@ -199,7 +199,7 @@ pub record RowPixels {S : Type 0} (old : SourceAt S) (task : PlainRow) (width : 
   pub more : List Pulled
   pub decodes : Decodes old task.state more (events_up_to task row) new
 
--- the rest of it was decoded
+-- the rest of the row was decoded
 abbrev pub RowAlong : {S : Type 0} (pull : S → Pulled → S → Type 0) (a : RowAround) (part : RowPart S) (width : ℕ) (current' : List ℕ) (new : DecoderState S) → Type 0
 RowAlong pull a part width current' new = FromPixels pull a part (λ old row. RowPixels old row width current' new)
 
@@ -212,15 +212,15 @@ pub record RowPaused {S : Type 0} (old : SourceAt S) (row : PlainRow) (width : �
   pub more : List Pulled
   pub stops : Stops old row.state more (events_up_to row done) part.state
 
--- the source stopped in the rest of it
+-- the source stopped in the rest of the row
 abbrev pub RowStops : {S : Type 0} (pull : S → Pulled → S → Type 0) (a : RowAround) (part : RowPart S) (width : ℕ) (part' : RowPart S) → Type 0
 RowStops pull a part width part' = FromPixels pull a part (λ old row. RowPaused old row width part')
 
--- The effect of decoding the rest of a row: it was decoded, or the source stopped in it, at the place of the result.
+-- The effect of decoding the rest of a row: it was decoded, or the source stopped in it, at the position in the result.
 abbrev pub DecodesRow : {S T : Type 0} (pull : S → Pulled → S → Type 0) (a : RowAround) (part : RowPart S) (width : ℕ) (part' : RowPart S) → Result T RowPlace → Type 0
 DecodesRow pull a part width part' result = OnOk result (RowAlong pull a part width part'.current part'.state) × IfErr result (λ at. RowStops pull a part width (record { place = at; current = part'.current; state = part'.state }))
 
--- The rest of a byte was decoded and written, up to its last pixel or the row's.
+-- The rest of a byte was decoded and stored, up to its last pixel or the last pixel of the row.
 pub record ByteEnded {S : Type 0} (old : SourceAt S) (row : PlainRow) (part : RowPart S) : Type 0 where
   pub done : List Bool
   pub count : part.place.done ≡ length done

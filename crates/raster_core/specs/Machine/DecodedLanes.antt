@@ -1,4 +1,4 @@
--- The effects of decoding pixels by lanes.
+-- The effect of decoding pixels whose contexts were computed four at a time, in lanes.
 use Rattle.std.specs.Prelude.{ℕ, ◌+◌, ◌≡◌, ◌≤◌, ◌<◌, false, Result, IfOk, IfErr}
 use Rattle.qm_core.specs.Source.{Pulls}
 use Rattle.qm_core.specs.Decoder.{DecoderState}
@@ -10,11 +10,11 @@ use Rattle.raster_core.specs.Machine.Decoded.{Along, ByteAround, StopsAlong}
 use Rattle.raster_core.specs.Machine.Lanes.{HasAround}
 use Rattle.raster_core.specs.declared.place.Pause.{Pause}
 
--- the same, counted from n pixels before
+-- the same, counted from n pixels earlier
 abbrev pub later : ℕ → Pause → Pause
 later n pause = record { count = n + pause.count; past = pause.past }
 
--- The context of pixels with three lines and the nominal adaptive pixel: the lanes of the rows above, the last pixels.
+-- The inputs of the three-line template with a nominal adaptive pixel: the lanes of the rows above, the last pixels.
 pub record LanesAround : Type 0 where
   pub lanes : ℕ
   pub past : ℕ
@@ -22,14 +22,14 @@ pub record LanesAround : Type 0 where
 abbrev pub lanes_around : (lanes past : ℕ) → LanesAround
 lanes_around lanes past = record { lanes = lanes; past = past }
 
--- these lanes are those of some pixels of a byte, from pixel n on
+-- these lanes are those of `count` pixels of a byte, from pixel n on
 pub record AreLanesOf (lanes : ℕ) (b : ByteAround) (n count : ℕ) : Type 0 where
   pub three_line : b.mode.two_line ≡ false
   pub nominal : b.offset ≡ 0
   pub within : n + count ≤ 8
   pub around_is : HasAround lanes b.second b.above n count
 
--- More pixels of a byte were decoded, with these lanes.
+-- `count` more pixels of a byte were decoded, with these lanes.
 pub record AlongMore {S : Type 0} (pull : S → Pulled → S → Type 0) (a : LanesAround) (mid : DecoderState S) (count past' : ℕ) (new : DecoderState S) : Type 0 where
   pub any : (b : ByteAround) (old : DecoderState S) (n : ℕ) → AreLanesOf a.lanes b n count → Along pull b old n a.past mid → Along pull b old (n + count) past' new
 

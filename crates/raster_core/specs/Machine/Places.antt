@@ -1,4 +1,4 @@
--- The preconditions of the steps that decode a row, and their effects on its place and on the decoder.
+-- The preconditions of the steps of decoding a row, and their effect on its position and on the decoder.
 use Rattle.std.specs.Prelude.{ℕ, ◌≡◌, ◌≤◌, ◌<◌, true, false, List, length, Result, OnOk, OnErr}
 use Rattle.std.specs.Int.{div_ceil}
 use Rattle.qm_core.specs.Decoder.{has_stopped}
@@ -14,26 +14,26 @@ use Rattle.raster_core.specs.declared.window.Window.{Window}
 abbrev pub MayCodeRow : Shape → Kept → Window → Type 0
 MayCodeRow shape kept window = (kept.offset ≤ 127) × (width_of window ≡ shape.width) × (1 ≤ shape.width)
 
--- it may be decoded from its place on
+-- it may be decoded from its position on
 abbrev pub MayGoOnRow : Shape → Kept → RowPlace → Window → Decoder → Type 0
 MayGoOnRow shape kept place window d = (kept.offset ≤ 127) × (width_of window ≡ shape.width) × (place.done < shape.width) × (has_stopped d ≡ false)
 
--- A row may be decoded from its place on: in one that has begun the decoder has not stopped.
+-- A row may be decoded from its position on: if its pixels have begun, the decoder has not stopped.
 abbrev pub MayGoOnIn : Shape → Kept → RowPlace → Decoder → Type 0
 MayGoOnIn shape kept place d = (kept.offset ≤ 127) × (place.done < shape.width) × (place.is_begun ≡ true → has_stopped d ≡ false)
 
--- it was, or is at a later place
+-- it was decoded with the same offset, or an error left `kept` unchanged and a position inside the row
 abbrev pub LeavesPlace : {T E : Type 0} → Shape → Kept → Kept → RowPlace → Result T E → Type 0
 LeavesPlace shape kept kept' place' result = OnOk result (kept'.offset ≡ kept.offset) × OnErr result (kept' ≡ kept) × OnErr result (place'.done < shape.width)
 
--- pixels are left of a row for which these bytes have room
+-- some pixels of a row are left, and these bytes have room for the row
 abbrev pub IsPartOf : Shape → RowPlace → List ℕ → Type 0
 IsPartOf shape place current = (place.done < shape.width) × (length current ≡ div_ceil shape.width 8)
 
--- except for its current row, a window is as before
+-- everything in a window except the current row is unchanged
 abbrev pub DecodesCurrent : Window → Window → Type 0
 DecodesCurrent old new = SameAbove (held old) (held new) × (current_place new ≡ current_place old) × (memory_of new ≡ memory_of old)
 
--- A decoder that has not stopped decoded this many runs of pixels in one step, or nothing changed.
+-- Either a decoder that has not stopped decoded `count` runs of pixels, or nothing was done.
 abbrev pub SkipsSoMany : ℕ → Decoder → Decoder → Type 0
 SkipsSoMany count d d' = (has_stopped d' ≡ has_stopped d) × (1 ≤ count → has_stopped d ≡ false) × (count ≡ 0 → d' ≡ d)
