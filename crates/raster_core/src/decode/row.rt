@@ -144,6 +144,7 @@ fn decode_bytes<S: CodeBytes, const TWO_LINE: bool, const MOVED: bool>(
 }
 
 /// The same with three references: behind one, each would be loaded again after every write.
+#[inline(always)]
 fn decode_from_byte<S: CodeBytes, const TWO_LINE: bool, const MOVED: bool>(
     shape: Shape,
     offset: u8,
