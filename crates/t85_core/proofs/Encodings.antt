@@ -19,6 +19,8 @@ pub mod RowCalls
 pub mod RowNames
 pub mod RowNumbers
 pub mod FewAppended
+pub mod Trials
+pub mod BestOffsets
 pub mod ImageByRow
 pub mod BufferEncoded
 pub mod RowsHeld

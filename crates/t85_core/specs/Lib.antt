@@ -24,6 +24,7 @@ pub mod Feeds
 pub mod Numbers
 pub mod RowNumbers
 pub mod RowImage
+pub mod BestOffset
 pub mod ToPbm
 pub mod Encode
 pub mod ToJbg

@@ -28,5 +28,6 @@ pub mod RowLaws
 pub mod MostBytes
 pub mod RowSteps
 pub mod RowCalls
+pub mod Trial
 pub mod EncodeRows
 pub mod EncodeStripes

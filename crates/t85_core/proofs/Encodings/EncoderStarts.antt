@@ -11,7 +11,7 @@ use Rattle.raster_core.specs.Raster.{Raster, height, row_above, white_row}
 use Rattle.raster_core.specs.Lines.{Lines, numbers_from}
 use Rattle.raster_core.specs.Offset.{chosen_offset}
 use Rattle.t85_core.specs.Grammar.{Segment, Stripe, stripe_bytes, stripe_count}
-use Rattle.t85_core.specs.Coding.{Coding, fresh_stripe, lines_of, moved_at, last_or, events_of_row, events_of, learned_at, place_of, begun}
+use Rattle.t85_core.specs.Coding.{Coding, fresh_stripe, rows_of, lines_of, moved_at, last_or, events_of_row, events_of, learned_at, place_of, begun}
 use Rattle.t85_core.specs.Steps.State.{RowStart, first_row_start, next_stripe_start}
 use Rattle.t85_core.specs.Jbg.{Settings, cut, coding_of, named_for, moved_to, first_choice, choice_after, current_offset, move_before, move_segments, coded_stripe, stripes_up_to}
 use Rattle.t85_core.specs.Steps.Written.{after_rows, lines_down, EncoderStart, first_encoder_start, next_move, row_start_in, next_stripe, next_encoder_start}
@@ -91,6 +91,7 @@ course_begins s raster = record {
 -- a stripe is written as the stream has it, and the next is reached
 pub record CourseGoes (s : Settings) (raster : Raster) (i : ℕ) (at : EncoderStart) (rows : List (List Bool)) : Type 0 where
   pub stripe : next_stripe s raster.width at rows ≡ coded_stripe (coding_of s raster) i
+  pub lines : lines_down at.carry.above at.carry.second rows ≡ map (lines_of (cut s raster)) (rows_of (cut s raster) i)
   pub next : i + 1 < stripe_count (height raster) s.stripe_rows → CourseAt s raster (i + 1) (next_encoder_start s raster.width at rows)
 
 -- a stripe begins within the image
@@ -186,6 +187,7 @@ module _ (s : Settings) (raster : Raster) (i : ℕ) (at : EncoderStart) (rows : 
   pub course_step : CourseGoes s raster i at rows
   course_step = record {
     stripe = stripe_is;
+    lines = down.lines ∙ ap (λ n. map (lines_of (cut s raster)) (numbers_from (i * s.stripe_rows) n)) many;
     next = λ more.
         let on : suc i ≡ i + 1 = omega arith in
         let long : (i + 1) * s.stripe_rows < height raster = stripe_within (height raster) s.stripe_rows (i + 1) some more in

@@ -1,27 +1,24 @@
 -- An offset is named for the stripe that begins.
-use Rattle.std.proofs.Common.{◌≡◌, ℕ, zero, suc, ◌+◌, ◌*◌, ◌/◌, ◌%◌, ◌<◌, ◌≤◌, Bool, true, false, ◌&&◌, ◌==◌, List, [], ◌∷◌, length, refl, sym, ◌∙◌, ap, subst, arith, inl, Option, None, Some}
+use Rattle.std.proofs.Common.{◌≡◌, ℕ, zero, suc, ◌+◌, ◌*◌, ◌/◌, ◌%◌, ◌≤◌, Bool, true, false, ◌&&◌, ◌==◌, List, [], ◌∷◌, length, refl, sym, ◌∙◌, ap, subst, arith, inl, Option, None, Some}
 use Rattle.std.specs.Prelude.{slice_index_or}
 use Rattle.std.proofs.lemmas.List.{get_or_past}
 use Rattle.std.proofs.lemmas.Bool.Decides.{nat_tests}
 use Rattle.raster_core.specs.Packed.{Held}
-use Rattle.t85_core.specs.Jbg.{Settings, named_for}
 use Rattle.t85_core.specs.RowImage.{Image, naming, with_name, named_after, SameNames}
-use Rattle.t85_core.specs.Steps.EncodeRows.{IsShape}
-use Rattle.t85_core.specs.Steps.EncodeStripes.{IsTallied}
 use Rattle.t85_core.specs.Steps.Sent.{Origin}
-use Rattle.t85_core.specs.Steps.ByRow.{RowView, RowPlan, IsPlan, IsStart, Stands, Waits}
+use Rattle.t85_core.specs.Steps.ByRow.{RowView, RowPlan, IsPlan, Stands}
 use Rattle.t85_core.proofs.Encodings.RowStream.{stands_anew}
 use Rattle.t85_core.proofs.Theorems.Joined.{stripe_at}
 use Rattle.t85_core.proofs.Encodings.RowSteps.{stands_waiting}
 
 -- ---- names
 
-name_at : (t i : ℕ) (names : List (Option ℕ)) → slice_index_or (with_name t i names) i None ≡ Some t
+pub name_at : (t i : ℕ) (names : List (Option ℕ)) → slice_index_or (with_name t i names) i None ≡ Some t
 name_at t zero names = refl
 name_at t (suc i) [] = name_at t i []
 name_at t (suc i) (name ∷ names) = name_at t i names
 
-names_before : (t i : ℕ) (names : List (Option ℕ)) → SameNames i names (with_name t i names)
+pub names_before : (t i : ℕ) (names : List (Option ℕ)) → SameNames i names (with_name t i names)
 names_before t zero names j lt = absurd (omega (arith, lt))
 names_before t (suc i) [] zero lt = refl
 names_before t (suc i) [] (suc j) lt = get_or_past [] (suc j) None (omega arith) ∙ sym (get_or_past [] j None (omega arith)) ∙ names_before t i [] j (omega (arith, lt))
@@ -53,7 +50,7 @@ plan_named image names p is = record {
 }
 
 -- where whole stripes came
-whole_rows : (n l i : ℕ) → 1 ≤ l → n ≡ i * l → (n / l ≡ i) × (n % l ≡ 0)
+pub whole_rows : (n l i : ℕ) → 1 ≤ l → n ≡ i * l → (n / l ≡ i) × (n % l ≡ 0)
 whole_rows n l i some is =
     let sum : n ≡ i * l + 0 = omega (arith, is) in
     (ap (λ z. z / l) sum ∙ stripe_at l i 0 (omega (arith, some)), ap (λ z. z % l) is ∙ Rattle.std.proofs.Math.Nat.mul-mod_left i l)

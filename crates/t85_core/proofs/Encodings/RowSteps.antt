@@ -48,7 +48,7 @@ pub held_by_carried : {b : RowStart} {kept : Kept} {learned : List Estimate} {wi
 held_by_carried h = record { at_top = tt; offset_is = h.offset_is; previous_is = h.previous_is; learned_is = h.learned_is; third = h.third; lines_are = h.lines_are }
 
 -- the move was made at the first row
-moved_before : (move : Option (ℕ × ℕ)) (r offset : ℕ) → IfSome move (λ m. m.0 ≡ 0) → offset ≡ offset_at move (suc r) offset
+pub moved_before : (move : Option (ℕ × ℕ)) (r offset : ℕ) → IfSome move (λ m. m.0 ≡ 0) → offset ≡ offset_at move (suc r) offset
 moved_before None r offset h = refl
 moved_before (Some move) r offset h = ap (λ b. if b then move.1 else offset) (sym other) where
   other : (move.0 == suc r) ≡ false
@@ -140,7 +140,7 @@ module _ (image : Image) (rows : List (List Bool)) (v : RowView) (before : Held)
 
 -- ---- a row is coded
 
-length-lines_down : (above second : List Bool) (rows : List (List Bool)) → length (lines_down above second rows) ≡ length rows
+pub length-lines_down : (above second : List Bool) (rows : List (List Bool)) → length (lines_down above second rows) ≡ length rows
 length-lines_down above second [] = refl
 length-lines_down above second (row ∷ rows) = ap suc (length-lines_down row above rows)
 

@@ -85,7 +85,7 @@ module _ (events_double : EventsDouble) (code_is_short : CodeIsShort) where
         let events = events_short c proper i in
         omega (arith, code, doubled, events)
 
-    stripe_short : (i : ℕ) → length (stripe_bytes (coded_stripe c i)) ≤ 14 + 4 * (rows_in c proper i * (c.raster.width + 1))
+    pub stripe_short : (i : ℕ) → length (stripe_bytes (coded_stripe c i)) ≤ 14 + 4 * (rows_in c proper i * (c.raster.width + 1))
     stripe_short i =
         let s = coded_stripe c i in
         let code = code_short i in

@@ -7,11 +7,9 @@ use Rattle.qm_core.specs.Place.{Estimate, Place, State, start, fresh}
 use Rattle.qm_core.specs.Encoder.{EncoderIsAt, EncoderState, IsStuffedFront}
 use Rattle.qm_core.specs.Code.{stuffed, IsCode}
 use Rattle.qm_core.specs.Place as place
-use Rattle.qm_core.specs.Sink.{Took, Refused, SinkAt}
 use Rattle.qm_core.specs.declared.encoder.CoderFault.{CoderFault}
 use Rattle.raster_core.specs.Packed.{Held, HasLines, white_lines}
-use Rattle.raster_core.specs.Row.{RowCoded, RowTask, canonical_events}
-use Rattle.qm_core.specs.Puts.{FailsIn}
+use Rattle.raster_core.specs.Row.{RowTask, canonical_events}
 use Rattle.raster_core.specs.Window.{shape_mode}
 use Rattle.raster_core.specs.Lines.{may_be_typical}
 use Rattle.raster_core.specs.Tally.{CountsLines, is_two_line, most_of}

@@ -1,7 +1,9 @@
 //! Encodes an image row by row.
 
+mod best_offset;
 pub mod numbers;
 mod stripes;
+mod trial;
 
 use crate::encoding::learning::Learning;
 use crate::encoding::rows::{clear_padding, start_held, take_row};

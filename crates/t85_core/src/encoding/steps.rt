@@ -166,6 +166,7 @@ pub fn count_row(counted: Option<u8>, width: u32, window: &Window<'_>, tally: &m
     ensures counts { (lines : List Lines) (l : Lines) → length lines < 2 ^ 32 - 1 →
         HasLines (held window.now) l → IsCountedTo width counted tally.old lines →
         IsCountedTo width counted tally.new (lines ++ l ∷ []) }
+    ensures none { counted ≡ None → tally.new ≡ tally.old }
     ensures two_line { is_two_line tally.new ≡ is_two_line tally.old }
     ensures most { most_of tally.new ≡ most_of tally.old }
 {
