@@ -1,5 +1,5 @@
 -- The offset that is found for a stripe is the best one.
-use Rattle.std.proofs.Common.{◌≡◌, ◌⊎◌, inl, inr, ℕ, ◌+◌, ◌-◌, ◌*◌, ◌/◌, ◌%◌, ◌^◌, ◌<◌, ◌≤◌, Bool, true, false, not, ◌&&◌, List, [], ◌∷◌, ◌++◌, length, refl, sym, ◌∙◌, ap, subst, arith, length-append, Option, None, Some, IfSome, ◌==◌, option_map, option_to_list, Contains}
+use Rattle.std.proofs.Common.{◌≡◌, ◌⊎◌, inl, inr, ℕ, ◌+◌, ◌-◌, ◌*◌, ◌/◌, ◌%◌, ◌^◌, ◌<◌, ◌≤◌, Bool, true, false, not, ◌&&◌, ◌||◌, List, [], ◌∷◌, ◌++◌, length, refl, sym, ◌∙◌, ap, subst, arith, length-append, Option, None, Some, IfSome, ◌==◌, option_map, option_to_list, Contains}
 use Rattle.std.specs.Prelude.{flat_map, if◌then◌else◌, min, nat_le, slice_index_or}
 use Rattle.std.proofs.lemmas.Bool.Decides.{nat_tests}
 use Rattle.std.proofs.Math.Nat.{mul-le-mul_right}
@@ -142,8 +142,10 @@ is_some_row n h = grind (arith, nat_tests)
 -- where the call applies no stripe runs, and there is a row
 pub rows_held : (e : RowEncoder) (n : ℕ) → are_stripe_rows e n ≡ true → (e.in_stripe ≡ 0) × (1 ≤ n / bytes_of_row e.size.width)
 rows_held e n is =
-    let h = holds (not e.is_closed) (e.in_stripe == 0) (n % bytes_of_row e.size.width == 0) (nat_le 1 (n / bytes_of_row e.size.width)) (nat_le (n / bytes_of_row e.size.width) (min e.stripe_rows (e.size.height - e.rows))) is in
-    (is_zero e.in_stripe h.0, is_some_row (n / bytes_of_row e.size.width) h.1)
+    let count = n / bytes_of_row e.size.width in
+    let most = min e.stripe_rows (e.size.height - e.rows) in
+    let h = holds (not e.is_closed) (e.in_stripe == 0) (n % bytes_of_row e.size.width == 0) (nat_le 1 count) ((count == most) || (e.may_end && nat_le count most)) is in
+    (is_zero e.in_stripe h.0, is_some_row count h.1)
 
 module _ (double : EventsDouble) (short : CodeIsShort) (image : Image) (rows part : List (List Bool)) (e : RowEncoder) (learning : Learning) (window : Held) (origin : Origin) (text : Option (List ℕ)) (raster : Raster)
     (w : Waits image rows (view_of e learning) window origin text) (m : MayCome image (rows ++ part) raster) (enough : length part ≡ min image.settings.stripe_rows (height raster - length rows)) (some_part : 1 ≤ length part) where

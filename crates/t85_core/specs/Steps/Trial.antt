@@ -1,5 +1,5 @@
 -- How a stripe is encoded without output, to count its bytes.
-use Rattle.std.specs.Prelude.{ℕ, ◌+◌, ◌*◌, ◌/◌, ◌%◌, ◌-◌, ◌^◌, ◌≡◌, ◌≤◌, ◌<◌, ◌⊎◌, ◌==◌, ◌&&◌, not, nat_le, true, false, min, Bool, List, ◌∷◌, [], ◌++◌, length, map, flat_map, Option, Some, None, IfSome, option_map, slice_range}
+use Rattle.std.specs.Prelude.{ℕ, ◌+◌, ◌*◌, ◌/◌, ◌%◌, ◌-◌, ◌^◌, ◌≡◌, ◌≤◌, ◌<◌, ◌⊎◌, ◌==◌, ◌&&◌, ◌||◌, not, nat_le, true, false, min, Bool, List, ◌∷◌, [], ◌++◌, length, map, flat_map, Option, Some, None, IfSome, option_map, slice_range}
 use Rattle.pbm_core.specs.Image.{pixels_of}
 use Rattle.pbm_core.specs.Pbm.{bytes_of_row}
 use Rattle.qm_core.specs.Code.{code_of, stuffed}
@@ -12,6 +12,7 @@ use Rattle.raster_core.specs.Packed.{Held}
 use Rattle.raster_core.specs.Tally.{CountsLines, is_two_line, most_of}
 use Rattle.raster_core.specs.Window.{shape_mode}
 use Rattle.raster_core.specs.declared.shape.Shape.{Shape}
+use Rattle.raster_core.specs.declared.tally.Tally.{Tally}
 use Rattle.raster_core.specs.declared.window.Window.{Window}
 use Rattle.raster_core.specs.Machine.Places.{MayCodeRow}
 use Rattle.t85_core.specs.declared.encoding.by_row.RowEncoder.{RowEncoder}
@@ -26,7 +27,7 @@ use Rattle.t85_core.specs.Steps.Written.{after_rows, lines_down}
 use Rattle.t85_core.specs.Steps.Sent.{Origin}
 use Rattle.t85_core.specs.Steps.ByRow.{RowView, IsHeldBy, IsBelow, Stands}
 
--- The rows in these bytes.
+-- The first rows in these bytes, this many.
 abbrev pub packed_rows : ℕ → List ℕ → ℕ → List (List Bool)
 packed_rows width bytes count =
     map (λ k. pixels_of width (slice_range bytes (k * bytes_of_row width) (k * bytes_of_row width + bytes_of_row width))) (numbers_from 0 count)
@@ -35,10 +36,15 @@ packed_rows width bytes count =
 abbrev pub all_rows_in : ℕ → List ℕ → List (List Bool)
 all_rows_in width bytes = packed_rows width bytes (length bytes / bytes_of_row width)
 
--- The bytes are rows of the stripe that begins next: at least one, and no more than a stripe or the image may still have.
+-- A stripe with this many rows may come next: as many as a stripe has or the image has left; or fewer, but one at least,
+-- if the image may end early.
+abbrev pub may_come_next : RowEncoder → ℕ → Bool
+may_come_next e count = (let most = min e.stripe_rows (e.size.height - e.rows) in nat_le 1 count && ((count == most) || (e.may_end && nat_le count most)))
+
+-- So many bytes may be the rows of the stripe that begins next.
 abbrev pub are_stripe_rows : RowEncoder → ℕ → Bool
 are_stripe_rows e count =
-    not e.is_closed && ((e.in_stripe == 0) && ((count % bytes_of_row e.size.width == 0) && (nat_le 1 (count / bytes_of_row e.size.width) && nat_le (count / bytes_of_row e.size.width) (min e.stripe_rows (e.size.height - e.rows)))))
+    not e.is_closed && ((e.in_stripe == 0) && ((count % bytes_of_row e.size.width == 0) && may_come_next e (count / bytes_of_row e.size.width)))
 
 -- The move before a stripe for which offset t is named, if this one is in use.
 abbrev pub named_move : ℕ → ℕ → Option (ℕ × ℕ)
@@ -83,6 +89,10 @@ tried_length t part = (length (tried_code t part) + (length (flat_map segment_by
 -- The lag that its rows choose.
 abbrev pub tried_lag : TrialOf → List (List Bool) → Option ℕ
 tried_lag t part = best_offset (plain_down t part) (candidates t.mode.two_line t.most)
+
+-- A tally counts the same lags.
+abbrev pub CountsAsBefore : Tally → Tally → Type 0
+CountsAsBefore old new = (is_two_line new ≡ is_two_line old) × (most_of new ≡ most_of old)
 
 -- A row may be encoded.
 pub record MayTry (shape : Shape) (trial : Trial) (window : Window) (events : ℕ) : Type 0 where

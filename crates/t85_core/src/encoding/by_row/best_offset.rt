@@ -36,22 +36,24 @@ impl Choice {
 }
 
 impl RowEncoder {
-    ghost use Rattle.std.specs.Prelude.{ℕ, ◌≡◌, ◌≤◌, ◌<◌, ◌+◌, ◌*◌, length, true, IfSome, is_some, ◌==◌, if◌then◌else◌};
+    ghost use Rattle.std.specs.Prelude.{ℕ, ◌≡◌, ◌≤◌, ◌<◌, ◌+◌, ◌*◌, ◌⊎◌, length, true, IfSome, is_some, ◌==◌, if◌then◌else◌};
     ghost use Rattle.std.specs.Int.{div_ceil};
     ghost use Rattle.raster_core.specs.Window.{held, width_of};
+    ghost use Rattle.t85_core.specs.RowImage.{may_name};
     ghost use Rattle.t85_core.specs.Steps.ByRow.{MayGoOn, view_of};
+    ghost use Rattle.t85_core.specs.Steps.RowCalls.{takes_name};
     ghost use Rattle.t85_core.specs.Steps.RowSteps.{IsGoing};
     ghost use Rattle.t85_core.specs.Steps.State.{StripeStart};
-    ghost use Rattle.t85_core.specs.Steps.Trial.{Chooses, FindsOffset, IsCarriedTo, all_rows_in, are_stripe_rows, trial_from, trial_length, tried_lag};
+    ghost use Rattle.t85_core.specs.Steps.Trial.{Chooses, FindsOffset, IsCarriedTo, all_rows_in, are_stripe_rows, may_come_next, trial_from, trial_length, tried_lag};
 
     /// For the stripe that begins with the next row: the offset of the adaptive pixel that gives it the fewest bytes,
     /// of the offset in use, the nominal one, and the lag at which the most pixels of its rows that are not typical
     /// equal the pixel so far to their left. If several give as few bytes, it returns the least of them.
     ///
-    /// `rows` are all rows of the stripe, packed, one after the other; of the last stripe of the image there may be
-    /// fewer. It returns `None` within a stripe, after the end or a failed write, if there are no rows, and if `rows`
-    /// are not whole rows or more than the stripe may have. The encoder and its memory stay the same; `scratch` has the
-    /// size of the window's memory, and is overwritten.
+    /// `rows` are all rows of the stripe, packed, one after the other. It returns `None` within a stripe, after the end
+    /// or a failed write, and if `rows` are not whole rows or not as many as the stripe has; if the image may end early,
+    /// there may be fewer. The encoder and its memory stay the same. `scratch` has the size of the window's memory, and
+    /// is overwritten.
     pub fn best_offset(
         &self,
         rows: &[u8],
@@ -64,6 +66,8 @@ impl RowEncoder {
         requires room { length scratch.old ≡ 3 * div_ceil self.now.size.width 8 }
         ensures best { FindsOffset (all_rows_in self.now.size.width rows.now)
             (view_of self.now learning.now) (held window.now) result }
+        ensures named { takes_name self.now self.now.kept.offset ≡ true →
+            IfSome result (λ offset. takes_name self.now offset ≡ true) }
         ensures applies { is_some result ≡ are_stripe_rows self.now (length rows.now) }
     {
         if !self.are_stripe_rows(rows.len()) {
@@ -94,8 +98,16 @@ impl RowEncoder {
         !self.is_closed
             && self.in_stripe == 0
             && count % long == 0
-            && 1 <= count / long
-            && count / long <= self.stripe_rows.min(self.left()) as usize
+            && self.may_come_next(count / long)
+    }
+
+    /// Whether a stripe with this number of rows may come next.
+    fn may_come_next(&self, count: usize) -> bool
+        requires within { self.now.rows ≤ self.now.size.height }
+        ensures { result ≡ may_come_next self.now count }
+    {
+        let most = self.stripe_rows.min(self.left()) as usize;
+        1 <= count && (count == most || (self.may_end && count <= most))
     }
 
     /// The better one of an offset that was tried and this one.
@@ -117,6 +129,7 @@ impl RowEncoder {
             (held window.now) carry → best.bytes ≡ trial_length self.now carry (all_rows_in
             self.now.size.width rows.now) best.offset → Chooses (trial_length self.now carry
             (all_rows_in self.now.size.width rows.now)) best.offset offset result }
+        ensures one { (result.offset ≡ best.offset) ⊎ (result.offset ≡ offset) }
     {
         if offset == best.offset {
             return best;
@@ -149,7 +162,8 @@ impl RowEncoder {
         ensures lag { (carry : StripeStart) → IsCarriedTo self.now learning.now.learned
             (held window.now) carry → is_counted ≡ true → result.lag ≡ tried_lag
             (trial_from self.now carry offset) (all_rows_in self.now.size.width rows.now) }
-        ensures small { IfSome result.lag (λ lag. lag ≤ 127) }
+        ensures range { IfSome result.lag (λ lag. may_name self.now.shape.two_line
+            self.now.most_offset lag ≡ true) }
     {
         scratch.copy_from_slice(&*window.rows);
         let mut copy = Window::resume(scratch, self.size.width, window.place());

@@ -59,9 +59,11 @@ impl Trial {
     ghost use Rattle.qm_core.specs.Encoder.{has_failed};
     ghost use Rattle.raster_core.specs.Packed.{Held};
     ghost use Rattle.raster_core.specs.Window.{held};
+    ghost use Rattle.raster_core.specs.Tally.{is_two_line, most_of};
+    ghost use Rattle.t85_core.specs.RowImage.{may_name};
     ghost use Rattle.t85_core.specs.Steps.ByRow.{IsLined};
     ghost use Rattle.t85_core.specs.Steps.RowCalls.{HasRows};
-    ghost use Rattle.t85_core.specs.Steps.Trial.{IsTried, MayTry, TrialOf, TriesRow, TriesRows, all_rows_in, tried_code, tried_lag};
+    ghost use Rattle.t85_core.specs.Steps.Trial.{CountsAsBefore, IsTried, MayTry, TrialOf, TriesRow, TriesRows, all_rows_in, tried_code, tried_lag};
 
     /// Encodes the window's current row, and counts it unless it is typical.
     fn code(&mut self, shape: Shape, window: &Window<'_>)
@@ -71,6 +73,7 @@ impl Trial {
         ensures going { (events : ℕ) → MayTry shape self.old window.now events →
             MayTry shape self.new window.now (events + (shape.width + 1)) }
         ensures offset { self.new.kept.offset ≡ self.old.kept.offset }
+        ensures tally { CountsAsBefore self.old.tally self.new.tally }
         ensures is_counted { self.new.is_counted ≡ self.old.is_counted }
     {
         // The sink accepts every byte.
@@ -109,6 +112,7 @@ impl Trial {
         ensures rows { TriesRows shape (all_rows_in size.width rows.now) (held window.old)
             (held window.new) self.old self.new }
         ensures going { has_failed self.new.encoder ≡ false }
+        ensures tally { CountsAsBefore self.old.tally self.new.tally }
         ensures is_counted { self.new.is_counted ≡ self.old.is_counted }
     {
         let long = row_bytes(size.width);
@@ -128,7 +132,8 @@ impl Trial {
         ensures lag { (t : TrialOf) (part : List (List Bool)) (width : ℕ) (window : Held) →
             IsTried t part width self window → self.is_counted ≡ true →
             result.lag ≡ tried_lag t part }
-        ensures small { IfSome result.lag (λ lag. lag ≤ 127) }
+        ensures range { IfSome result.lag (λ lag. may_name (is_two_line self.tally)
+            (most_of self.tally) lag ≡ true) }
     {
         // The proof uses these laws of the coder.
         writing_laws();

@@ -49,6 +49,7 @@ loop-k-preserved c =
           (c.code.ensures.row most carry offset (packed_rows w rows k) _ (held c.loop-k.window) few below (c.loop-k.invariant.tries most carry offset start));
       ready = record { row = after.row; going = after.going; few = omega (arith, events, sum) };
       lined = ((_, below lined.0.0 lined.0.1), c.take_row.ensures.window.0.0 ∙ lined.1);
+      tally = (c.code.ensures.tally.0 ∙ c.loop-k.invariant.tally.0, c.code.ensures.tally.1 ∙ c.loop-k.invariant.tally.1);
       to = omega (arith, c.loop-k-test.true);
       is_counted = c.code.ensures.is_counted ∙ c.loop-k.invariant.is_counted;
     }
