@@ -148,6 +148,7 @@ static void faults(char **words)
     rows = rows_of(image, &width, &height);
     rows = copied(rows.bytes, rows.len);
     encoder_faults(rows, width, height);
+    offsets(rows, width, height);
     decoder_faults(rows, width, height);
     far_rows(rows, width, height);
     messages();

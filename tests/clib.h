@@ -43,6 +43,9 @@ void encode(char **words);
 void missing(char **words);
 void encoder_faults(buffer rows, uint32_t width, uint32_t height);
 
+/* clib_offset.c */
+void offsets(buffer rows, uint32_t width, uint32_t height);
+
 /* clib_decode.c */
 void decode(char **words);
 void rooms(char **words);

@@ -1,0 +1,123 @@
+/* Tests the choice of the adaptive pixel's offset by the caller. */
+#include "clib.h"
+
+#include <string.h>
+
+/* An encoder with its window, and the stream that it has written. */
+typedef struct {
+    t85_encoder encoder;
+    buffer window, stream;
+    size_t len;
+} writer;
+
+/* A choice of offsets: the one for the stripe that begins with row y. */
+typedef uint8_t (*chooser)(uint32_t y, const t85_options *options);
+
+static uint8_t nominal(uint32_t y, const t85_options *options)
+{
+    (void)y;
+    (void)options;
+    return 0;
+}
+
+/* The least and the greatest offset in turn, and 0 between them. */
+static uint8_t in_turn(uint32_t y, const t85_options *options)
+{
+    uint8_t least = options->options & T85_TWO_LINES ? 5 : 3;
+    uint32_t stripe = y / options->stripe_rows % 3;
+    return stripe == 0 ? least : stripe == 1 ? (uint8_t)options->most_offset : 0;
+}
+
+static writer begun(uint32_t width, uint32_t height, const t85_options *options)
+{
+    writer by;
+    by.window = lend(t85_window_bytes(width));
+    /* t85_encode_bound counts a move for each stripe. Each call needs t85_encode_room besides. */
+    by.stream = lend((size_t)t85_encode_bound(width, height, options, 0) + 8 * (size_t)width + 100);
+    if (t85_encode_start(&by.encoder, sizeof by.encoder, width, height, options, NULL, 0,
+                         by.window.bytes, by.window.len, by.stream.bytes, by.stream.len, &by.len))
+        fail("t85_encode_start");
+    return by;
+}
+
+/* Checks that an offset is rejected, with nothing changed. */
+static void rejected(uint8_t wanted, writer *by, unsigned offset)
+{
+    t85_encoder kept = by->encoder;
+    uint8_t status = t85_encode_offset(&by->encoder, (uint8_t)offset);
+    if (status != wanted || memcmp(&kept, &by->encoder, sizeof kept))
+        fail("t85_encode_offset: %u has status %d, expected %d", offset, status, wanted);
+}
+
+/* Checks all 256 offsets where a stripe begins. */
+static void allowed_only(writer *by, const t85_options *options)
+{
+    unsigned least = options->options & T85_TWO_LINES ? 5 : 3, offset;
+    for (offset = 1; offset < 256; offset++)
+        if (offset < least || offset > options->most_offset)
+            rejected(T85_OFFSET_LARGE, by, offset);
+}
+
+static void put(writer *by, const uint8_t *row, size_t row_len)
+{
+    size_t written = 0;
+    uint8_t status =
+        row ? t85_encode_row(&by->encoder, row, row_len, by->window.bytes, by->window.len,
+                             by->stream.bytes + by->len, by->stream.len - by->len, &written)
+            : t85_encode_end(&by->encoder, by->window.bytes, by->window.len,
+                             by->stream.bytes + by->len, by->stream.len - by->len, &written);
+    if (status)
+        fail("t85_encode_row: status %d", status);
+    by->len += written;
+}
+
+/* Encodes an image with these offsets; the stream must decode to the image. */
+static size_t encode_with(chooser choose, uint32_t width, uint32_t height, buffer rows,
+                          const t85_options *options)
+{
+    size_t row = t85_row_bytes(width), len;
+    writer by = begun(width, height, options);
+    buffer again = filled(rows.len);
+    uint32_t y, count = 0;
+    for (y = 0; y < height; y++) {
+        if (y % options->stripe_rows)
+            rejected(T85_IN_STRIPE, &by, 0);
+        else {
+            allowed_only(&by, options);
+            if (t85_encode_offset(&by.encoder, choose(y, options)))
+                fail("t85_encode_offset: %u is not accepted", choose(y, options));
+        }
+        put(&by, rows.bytes + y * row, row);
+    }
+    rejected(T85_NO_MORE_ROWS, &by, 0);
+    put(&by, NULL, 0);
+    rejected(T85_NO_MORE_ROWS, &by, 0);
+    if (t85_decode_rows(by.stream.bytes, by.len, height, row, by.window.bytes, by.window.len,
+                        again.bytes, again.len, &count) ||
+        count != height || memcmp(again.bytes, rows.bytes, rows.len))
+        fail("t85_decode_rows: another image than was encoded");
+    len = by.len;
+    give_back(again);
+    give_back(by.stream);
+    give_back(by.window);
+    return len;
+}
+
+void offsets(buffer rows, uint32_t width, uint32_t height)
+{
+    static const uint32_t kinds[] = {0, T85_TYPICAL, T85_TYPICAL | T85_TWO_LINES};
+    t85_options options = T85_OPTIONS;
+    writer zeros;
+    unsigned kind, reset;
+    memset(&zeros, 0, sizeof zeros);
+    rejected(T85_NOT_BEGUN, &zeros, 0);
+    options.most_offset = 60;
+    for (kind = 0; kind < 3; kind++)
+        for (reset = 0; reset < 2; reset++) {
+            options.options = kinds[kind];
+            options.reset = reset;
+            options.stripe_rows = height / 5 + 1;
+            encode_with(nominal, width, height, rows, &options);
+            encode_with(in_turn, width, height, rows, &options);
+        }
+}
