@@ -1,10 +1,10 @@
--- A row encoder, as plain numbers.
+-- A row encoder as plain numbers.
 use Rattle.std.specs.Prelude.{ℕ, ◌+◌, ◌*◌, ◌≤◌, ◌<◌, IfSome}
 use Rattle.qm_core.specs.Encoder.{encoder_registers}
 use Rattle.t85_core.specs.declared.encoding.by_row.RowEncoder.{RowEncoder}
 use Rattle.t85_core.specs.declared.encoding.by_row.numbers.RowNumbers.{RowNumbers}
 
--- the numbers of an encoder, without whether it is closed
+-- The numbers of an encoder, except whether it is closed.
 abbrev pub row_numbers : RowEncoder → RowNumbers
 row_numbers e = record {
   rows = e.rows;
@@ -16,7 +16,7 @@ row_numbers e = record {
   encoder = encoder_registers e.encoder;
 }
 
--- a state that an encoder of an image of this size and with this many rows per stripe may have
+-- An encoder of an image of this size, with this number of rows per stripe, may have these numbers.
 pub record AreWithin (width limit stripe_rows : ℕ) (n : RowNumbers) : Type 0 where
   pub offset : n.offset ≤ 127
   pub named : IfSome n.named (λ t. t ≤ 127)

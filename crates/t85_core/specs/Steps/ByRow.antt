@@ -24,7 +24,7 @@ use Rattle.t85_core.specs.Steps.EncodeRows.{IsShape, IsCountedTo}
 use Rattle.t85_core.specs.Steps.EncodeStripes.{IsTallied}
 use Rattle.t85_core.specs.Steps.Sent.{Origin, Sends, SendsBeginning}
 
--- what was chosen for a stream
+-- The parameters of a stream.
 pub record RowPlan : Type 0 where
   pub width : ℕ
   pub limit : ℕ
@@ -36,7 +36,7 @@ pub record RowPlan : Type 0 where
   pub reset : Bool
   pub most_offset : ℕ
 
--- the state of a row encoder, without whether it is closed, and the context states and counts that it borrows
+-- The fields of a row encoder except whether it is closed, with the context states and counts that a call borrows.
 pub record RowView : Type 0 where
   pub plan : RowPlan
   pub kept : Kept
@@ -74,15 +74,15 @@ view_of e l = record {
   named = e.named;
 }
 
--- the encoder is at some place
+-- The coder's registers are those of some coding interval.
 abbrev pub IsSomewhere : Encoder → Type 0
 IsSomewhere e = (p : Place) × (pushed : List ℕ) × EncoderIsAt e p pushed
 
--- a window has some lines
+-- The window contains some lines.
 abbrev pub IsLined : Held → Type 0
 IsLined window = (lines : Lines) × HasLines window lines
 
--- what a call asks for that is to code a row
+-- The precondition of a call that encodes a row.
 pub record IsAble (e : RowEncoder) : Type 0 where
   pub wide : e.shape.width ≡ e.size.width
   pub offset : e.kept.offset ≤ 127
@@ -96,12 +96,12 @@ pub record IsAble (e : RowEncoder) : Type 0 where
   pub going : has_failed e.encoder ≡ false
   pub somewhere : IsSomewhere e.encoder
 
--- between two calls, whatever was learned
+-- The state between two calls, for any context states and counts.
 pub record MayGoOn (e : RowEncoder) : Type 0 where
   pub able : IsAble e
   pub fewer : e.in_stripe < e.stripe_rows
 
--- the plan is that of these settings
+-- The parameters are those of these settings.
 pub record IsPlan (image : Image) (p : RowPlan) : Type 0 where
   pub width_is : p.width ≡ image.width
   pub limit_is : p.limit ≡ image.limit
@@ -117,7 +117,7 @@ pub record IsPlan (image : Image) (p : RowPlan) : Type 0 where
   pub width_to : image.width ≤ 1048576
   pub limit_to : image.limit < 2 ^ 32
 
--- what is held before row r of a stripe, whose move is made
+-- The state before row r of a stripe, after the stripe's move.
 pub record IsHeldBy (move : Option (ℕ × ℕ)) (r : ℕ) (b : RowStart) (kept : Kept) (learned : List Estimate) (window : Held) : Type 0 where
   pub at_top : IfSome move (λ m. m.0 ≡ 0)
   pub offset_is : kept.offset ≡ offset_at move r b.offset
@@ -126,19 +126,19 @@ pub record IsHeldBy (move : Option (ℕ × ℕ)) (r : ℕ) (b : RowStart) (kept 
   pub third : List Bool
   pub lines_are : HasLines window (record { row = b.above; above = b.second; second = third })
 
--- the offset with which the rows of a stripe are compared, if they are counted
+-- The offset with which the rows of the stripe are compared, if they are counted.
 abbrev pub counted_of : RowView → Option ℕ
 counted_of v = if v.is_counted then Some (if v.plan.reset then 0 else v.kept.offset) else None
 
--- the bytes of the next stripe's move
+-- The bytes of the next stripe's move.
 abbrev pub move_bytes : Settings → ℕ → EncoderStart → List ℕ
 move_bytes s width at = flat_map segment_bytes (move_segments (next_move s width at))
 
--- whether a stripe begins, and there are offsets to choose from for the one after it
+-- The rows of the current stripe are counted if another stripe follows and there are offsets to choose from.
 abbrev pub CountsForNext : Settings → ℕ → ℕ → RowView → Type 0
 CountsForNext s limit i v = (i + 1) * s.stripe_rows < limit → 0 < length (candidates (mode_of s.options).two_line s.most_offset) → v.is_counted ≡ true
 
--- These rows of a stripe came, and the stripe's move and the code that is sure were written.
+-- These rows of the stripe were encoded. Its move and the final bytes of its code were written.
 pub record IsRunning (image : Image) (at : EncoderStart) (part : List (List Bool)) (v : RowView) (window : Held) (pushed : List ℕ) : Type 0 where
   pub codes : EncoderIsAt v.encoder (row_start_in image.settings image.width at part).state.place pushed
   pub is_held : IsHeldBy (next_move image.settings image.width at) (length part) (row_start_in image.settings image.width at part) v.kept v.learned window
@@ -146,7 +146,7 @@ pub record IsRunning (image : Image) (at : EncoderStart) (part : List (List Bool
   pub most : most_of v.tally ≡ image.settings.most_offset
   pub tallied : IsCountedTo image.width (counted_of v) v.tally (lines_down at.carry.above at.carry.second part)
 
--- A stripe runs, after some that are whole.
+-- A stripe is in progress, after complete stripes.
 pub record Runs (image : Image) (rows : List (List Bool)) (v : RowView) (window : Held) (origin : Origin) (text : Option (List ℕ)) : Type 0 where
   pub plan_is : IsPlan image v.plan
   pub come : HaveCome image.width image.limit rows v.rows
@@ -166,13 +166,13 @@ pub record Runs (image : Image) (rows : List (List Bool)) (v : RowView) (window 
   pub counts : CountsForNext image.settings image.limit i v
   pub sent : Sends origin text (front ++ (move_bytes image.settings image.width at ++ pushed))
 
--- what is held where a stripe begins
+-- The state at the beginning of a stripe.
 pub record IsStart (s : Settings) (width : ℕ) (at : EncoderStart) (v : RowView) (window : Held) : Type 0 where
   pub is_held : IsHeldBy None 0 (first_row_start at.carry) v.kept v.learned window
   pub is_tallied : IsTallied s width at v.tally
   pub named_is : v.named ≡ named_for s at.stripe
 
--- No stripe runs: some are whole.
+-- No stripe is in progress.
 pub record Waits (image : Image) (rows : List (List Bool)) (v : RowView) (window : Held) (origin : Origin) (text : Option (List ℕ)) : Type 0 where
   pub plan_is : IsPlan image v.plan
   pub come : HaveCome image.width image.limit rows v.rows
@@ -186,16 +186,16 @@ pub record Waits (image : Image) (rows : List (List Bool)) (v : RowView) (window
   pub on_course : i * image.settings.stripe_rows < image.limit → IsStart image.settings image.width at v window
   pub sent : Sends origin text front
 
--- After these rows of an image of this width, and of this height or, where a height is announced, at most this one.
+-- The state after these rows of an image of this width, and of this height or, if a height is announced, at most this height.
 abbrev pub Stands : Image → List (List Bool) → RowView → Held → Origin → Option (List ℕ) → Type 0
 Stands image rows v window origin text =
     Waits image rows v window origin text ⊎ (Runs image rows v window origin text × (0 < v.in_stripe) × (v.in_stripe < v.plan.stripe_rows))
 
--- this row is below the lines that the window had
+-- This row is the current row, below the two lower lines of the old window.
 abbrev pub IsBelow : List Bool → Held → Held → Type 0
 IsBelow row old new = (lines : Lines) → HasLines old lines → HasLines new (record { row = row; above = lines.row; second = lines.above })
 
--- An encoder between two steps: its state, the window that it borrows, and the output.
+-- An encoder between two steps: its fields, the borrowed window, and the bytes written.
 pub record EncoderAt : Type 0 where
   pub view : RowView
   pub window : Held
@@ -204,29 +204,29 @@ pub record EncoderAt : Type 0 where
 abbrev pub encoder_at : RowView → Held → Option (List ℕ) → EncoderAt
 encoder_at view window text = record { view = view; window = window; text = text }
 
--- with the borrowed memory
+-- The same, from an encoder and what it borrows.
 abbrev pub lent_to : RowEncoder → Learning → Held → Option (List ℕ) → EncoderAt
 lent_to e learning window text = encoder_at (view_of e learning) window text
 
--- A row is taken, in whatever stream: what stood then stands with this row, too.
+-- A row is encoded. For any stream, the state after the old rows becomes the state after these and the new row.
 abbrev pub TakesNextRow : List Bool → EncoderAt → EncoderAt → Type 0
 TakesNextRow row e e' =
     (image : Image) (rows : List (List Bool)) (origin : Origin) → Stands image rows e.view e.window origin e.text →
     Stands image (rows ++ row ∷ []) e'.view e'.window origin e'.text
 
--- The offset is named for the stripe that begins, in whatever stream, and the stripes before it stay.
+-- An offset is named for the next stripe. For any stream, the stripes before it do not change.
 abbrev pub NamesOffset : ℕ → RowView → RowView → Type 0
 NamesOffset t v v' =
     (image : Image) (rows : List (List Bool)) (window : Held) (origin : Origin) (text : Option (List ℕ)) → Stands image rows v window origin text →
     (length rows % image.settings.stripe_rows ≡ 0) × Stands (named_after t (length rows) image) rows v' window origin text
 
--- no more than a beginning was written
+-- A prefix of the stream was written.
 abbrev pub CutsRow : List Bool → RowView → Held → Option (List ℕ) → Option (List ℕ) → Type 0
 CutsRow row v window old new =
     (image : Image) (rows : List (List Bool)) (origin : Origin) → Stands image rows v window origin old →
     StreamCut image (rows ++ row ∷ []) origin new
 
--- an image ends, in whatever stream
+-- The image ends. For any stream, the whole stream was written.
 abbrev pub EndsImage : RowView → Held → Option (List ℕ) → Option (List ℕ) → Type 0
 EndsImage v window old new =
     (image : Image) (rows : List (List Bool)) (origin : Origin) → Stands image rows v window origin old →

@@ -1,4 +1,4 @@
--- The laws of the coder on which those of streams rest.
+-- The laws of the coder that the laws of streams use.
 use Rattle.qm_core.specs.Laws.{OnePixelAlways, OnlyPixel, FirstBytesDecide, PixelKeepsPlace, EventsKeepPlace, EventsStayInside, AnswersLie, OneCode, CodeLies, CodeLiesInAll, PushedIsFront, StuffedAppend, FewPushed, FewInFront, FewToEnd}
 use Rattle.qm_core.specs.Place.{start, IsPlace}
 

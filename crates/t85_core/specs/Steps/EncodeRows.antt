@@ -1,4 +1,4 @@
--- Rows that an encoder reads.
+-- The rows that an encoder reads.
 use Rattle.std.specs.Prelude.{ℕ, ◌≡◌, Bool, List, [], ◌∷◌, Option, Some, None}
 use Rattle.std.specs.Io.KnownBytes.{Consumes, IsAtEnd}
 use Rattle.pbm_core.specs.Image.{RowFault, AreRows}
@@ -15,31 +15,31 @@ use Rattle.raster_core.specs.declared.tally.Tally.{Tally}
 use Rattle.t85_core.specs.Coding.{mode_of}
 use Rattle.t85_core.specs.Jbg.{Settings}
 
--- rows of an image were read
+-- Rows of an image were read.
 pub record ReadsRows (form : Form) (width : ℕ) (old new : Option (List ℕ)) (rows : List (List Bool)) : Type 0 where
   pub given : List ℕ
   pub taken : Consumes old new given
   pub are_rows : AreRows form width given rows
 
--- less than a row was read, and then the end, a failed read or a byte that is not a digit
+-- The input ended, a read failed, or a byte is no digit, before the row was complete.
 pub record EndsInRow (form : Form) (width : ℕ) (old new : Option (List ℕ)) (fault : PbmFault) : Type 0 where
   pub given : List ℕ
   pub taken : Consumes old new given
   pub has_fault : RowFault form width given (fault_of_given fault)
   pub at_end : fault ≡ pbm.Truncated → IsAtEnd new
 
--- a row was read, below those that the window had
+-- A row was read. It is below the lines of the old window.
 pub record RowTaken (form : Form) (width : ℕ) (known known' : Option (List ℕ)) (old new : Held) : Type 0 where
   pub row : List Bool
   pub read : ReadsRows form width known known' (row ∷ [])
   pub below : (lines : Lines) → HasLines old lines → HasLines new (record { row = row; above = lines.row; second = lines.above })
 
--- the shape of the rows
+-- The parameters of the rows are those of these settings.
 pub record IsShape (s : Settings) (width : ℕ) (shape : Shape) : Type 0 where
   pub width_is : shape.width ≡ width
   pub mode_is : shape_mode shape ≡ mode_of s.options
 
--- these lines were counted, or none if lines are not counted
+-- The tally counts these lines; if lines are not counted, it counts none.
 abbrev pub IsCountedTo : ℕ → Option ℕ → Tally → List Lines → Type 0
 IsCountedTo width None tally lines = (current : ℕ) → CountsLines tally width current []
 IsCountedTo width (Some current) tally lines = CountsLines tally width current lines

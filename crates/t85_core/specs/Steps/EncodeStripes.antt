@@ -1,4 +1,4 @@
--- The effect of an encoder of an image.
+-- The results of an encoder of whole images.
 use Rattle.std.specs.Prelude.{ℕ, ◌/◌, ◌≡◌, ◌≤◌, ◌<◌, Bool, List, length, Option}
 use Rattle.std.specs.Io.KnownBytes.{Appends, Consumes}
 use Rattle.pbm_core.specs.Image.{RowFault}
@@ -15,7 +15,7 @@ use Rattle.t85_core.specs.Steps.Passage.{Passage}
 use Rattle.t85_core.specs.Steps.Written.{EncoderStart}
 use Rattle.t85_core.specs.Steps.EncodeRows.{ReadsRows, EndsInRow}
 
--- The rows in a tally where a stripe begins: those of the previous stripe, if there are offsets to choose from.
+-- The counts at the beginning of a stripe: those of the stripe before, if there are offsets to choose from.
 pub record IsTallied (s : Settings) (width : ℕ) (at : EncoderStart) (tally : Tally) : Type 0 where
   pub two_line : is_two_line tally ≡ (mode_of s.options).two_line
   pub most : most_of tally ≡ s.most_offset
@@ -30,8 +30,8 @@ pub record ImageCoded (layout : Layout) (whole : Raster → List ℕ) (passage :
   pub read : ReadsRows layout.form layout.width passage.input passage.input_after rows
   pub appended : Appends passage.output passage.output_after (whole (raster_of layout.width rows))
 
--- Not all rows were read: for each image that begins with those that were, the output is a prefix of this text, and contains
--- the text of the stripes whose rows were all read.
+-- Some rows are missing. For each image that begins with the rows read, the bytes written are a prefix of this text and
+-- include the stripes whose rows are complete.
 pub record ImageShort (s : Settings) (layout : Layout) (up_to : Raster → ℕ → List ℕ) (whole : Raster → List ℕ) (passage : Passage) (fault : PbmFault) : Type 0 where
   pub rows : List (List Bool)
   pub few : length rows < layout.height
@@ -43,12 +43,12 @@ pub record ImageShort (s : Settings) (layout : Layout) (up_to : Raster → ℕ �
   pub begins : (raster : Raster) → BeginsWith layout.width layout.height rows raster → IsBeginning bytes (whole raster)
   pub appended : Appends passage.output passage.output_after bytes
 
--- the same for the whole stream
+-- The same for the whole stream.
 abbrev pub JbgShort : Settings → Layout → Passage → PbmFault → Type 0
 JbgShort s layout = ImageShort s layout (jbg_up_to s) (jbg s)
 
--- The rows of an image that were read, and nothing more: for each image that begins with them, the output is a prefix of this
--- text.
+-- Only the rows of an image were read. For each image that begins with them, the bytes written are a prefix
+-- of this text.
 pub record ImageRefused (layout : Layout) (whole : Raster → List ℕ) (passage : Passage) : Type 0 where
   pub rows : List (List Bool)
   pub few : length rows ≤ layout.height
@@ -57,7 +57,7 @@ pub record ImageRefused (layout : Layout) (whole : Raster → List ℕ) (passage
   pub begins : (raster : Raster) → BeginsWith layout.width layout.height rows raster → IsBeginning bytes (whole raster)
   pub appended : Appends passage.output passage.output_after bytes
 
--- The same, but bytes that end within a row may have been read after them.
+-- The same if bytes that end within a row may have been read after them.
 pub record ImageFront (layout : Layout) (whole : Raster → List ℕ) (passage : Passage) : Type 0 where
   pub rows : List (List Bool)
   pub few : length rows ≤ layout.height

@@ -14,54 +14,54 @@ use Rattle.t85_core.specs.declared.fault.Fault.TheVariants.{Write}
 use Rattle.t85_core.specs.declared.encoding.by_row.RowEncoder.{RowEncoder}
 use Rattle.t85_core.specs.Steps.ByRow.{IsLined, MayGoOn}
 
--- a window has rows of this width
+-- The window has rows of this width.
 abbrev pub HasRows : ℕ → Window → Type 0
 HasRows width window = IsLined (held window) × (width_of window ≡ width)
 
--- another row is accepted
+-- The encoder accepts another row.
 abbrev pub MayTakeRow : RowEncoder → Type 0
 MayTakeRow e = (e.rows < e.size.height) × MayGoOn e
 
--- the image may end here
+-- The image may end here.
 abbrev pub MayEnd : RowEncoder → Type 0
 MayEnd e = (0 < e.rows) × (e.may_end ≡ false → e.rows ≡ e.size.height)
 
--- whether an offset may be chosen now
+-- The encoder accepts this offset as a name now.
 abbrev pub takes_name : RowEncoder → ℕ → Bool
 takes_name e t = not e.is_closed && ((e.in_stripe == 0) && may_name e.shape.two_line e.most_offset t)
 
--- The window's row may be coded in this shape.
+-- The window's current row can be encoded with these parameters.
 abbrev pub MayCode : Shape → Kept → Window → Encoder → Type 0
 MayCode shape kept window e = MayCodeRow shape kept window × (event_count e + shape.width + 1 ≤ 2 ^ 56) × (has_failed e ≡ false)
 
--- It was coded: the encoder may continue, and had at most the row's events.
+-- The row was encoded: the encoder has not failed, and it encoded at most one binary decision more than the row has pixels.
 abbrev pub HasCoded : Shape → Kept → Kept → Encoder → Encoder → Type 0
 HasCoded shape kept kept' e e' = (has_failed e' ≡ false) × (event_count e' ≤ event_count e + shape.width + 1) × (kept'.offset ≡ kept.offset)
 
--- no row of an image of this size was received
+-- No row of an image of this size has been encoded.
 abbrev pub HasNoRows : Size → RowEncoder → Type 0
 HasNoRows size e = MayGoOn e × (e.is_closed ≡ false) × (e.rows ≡ 0) × (e.size ≡ size)
 
--- the settings of the image are unchanged, and whether the encoder is closed
+-- The parameters of the image do not change, nor does it change whether the encoder is closed.
 abbrev pub KeepsPlan : RowEncoder → RowEncoder → Type 0
 KeepsPlan e e' = (e'.size ≡ e.size) × (e'.stripe_rows ≡ e.stripe_rows) × (e'.is_closed ≡ e.is_closed)
 
--- and no row was received
+-- Nor does the number of rows.
 abbrev pub KeepsRows : RowEncoder → RowEncoder → Type 0
 KeepsRows e e' = KeepsPlan e e' × (e'.rows ≡ e.rows)
 
--- nor was anything coded
+-- Nor do the rows of the current stripe and the coder.
 abbrev pub CodesNothing : RowEncoder → RowEncoder → Type 0
 CodesNothing e e' = KeepsRows e e' × (e'.in_stripe ≡ e.in_stripe) × (e'.encoder ≡ e.encoder)
 
--- a row was received
+-- One row was added.
 abbrev pub AddsRow : RowEncoder → RowEncoder → Type 0
 AddsRow e e' = KeepsPlan e e' × (e'.rows ≡ e.rows + 1) × (e'.in_stripe ≡ e.in_stripe + 1)
 
--- An encoder has received a row and may continue; or a write failed, and it is closed.
+-- Either the row was encoded and the encoder continues, or a write failed and the encoder is closed.
 abbrev pub TakesRow : {T : Type 0} → RowEncoder → RowEncoder → Result T Fault → Type 0
 TakesRow e e' result = (e'.is_closed ≡ is_err result) × OnOk result (MayGoOn e') × OnOk result (e'.rows ≡ e.rows + 1) × (e'.size ≡ e.size) × IfErr result (λ f. f ≡ Write)
 
--- It has ended its stream, or a write failed.
+-- The encoder is closed: its stream was ended, or a write failed.
 abbrev pub LeavesClosed : {T : Type 0} → RowEncoder → RowEncoder → Result T Fault → Type 0
 LeavesClosed e e' result = (e'.is_closed ≡ true) × (e'.size ≡ e.size) × IfErr result (λ f. f ≡ Write)

@@ -8,8 +8,8 @@ use Rattle.t85_core.specs.Header.{Fields}
 use Rattle.t85_core.specs.Grammar.{Segment, Stripe, IsBegun}
 use Rattle.t85_core.specs.Coding.{FlaggedRows, flagged, mode_of, move_of}
 
--- Between two rows: the coder's state, the adaptive pixel's offset, whether the previous row was typical, and the two rows
--- above the next one.
+-- The state between two rows: the coder state, the offset of the adaptive pixel, whether the row before was typical, and
+-- the two rows above the next row.
 pub record RowStart : Type 0 where
   pub state : State
   pub offset : ℕ
@@ -17,16 +17,16 @@ pub record RowStart : Type 0 where
   pub above : List Bool
   pub second : List Bool
 
--- a move takes effect at its row of the stripe
+-- A move takes effect at its row of the stripe.
 abbrev pub offset_at : Option (ℕ × ℕ) → ℕ → ℕ → ℕ
 offset_at None r offset = offset
 offset_at (Some move) r offset = if move.0 == r then move.1 else offset
 
--- the next row with those above it
+-- The next row with the two rows above it.
 abbrev pub lines_with : RowStart → List Bool → Lines
 lines_with b row = record { row = row; above = b.above; second = b.second }
 
--- after row r of a stripe
+-- The state after row r of a stripe.
 abbrev pub after_row : Mode → Option (ℕ × ℕ) → ℕ → RowStart → List Bool → Bool → RowStart
 after_row mode move r b row flag = record {
   state = after b.state (row_events mode (lines_with b row) (offset_at move r b.offset) b.previous flag);
@@ -36,12 +36,12 @@ after_row mode move r b row flag = record {
   second = b.above;
 }
 
--- a row of this width with a legal flag
+-- The row has this width, and the flag is legal.
 pub record IsNextRow (width : ℕ) (mode : Mode) (b : RowStart) (row : List Bool) (flag : Bool) : Type 0 where
   pub wide : length row ≡ width
   pub legal : IsLegalFlag mode (lines_with b row) flag
 
--- How the rows of a stripe are coded: their width, their mode, and the move of the adaptive pixel.
+-- The parameters of the rows of a stripe: width, mode, and the move of the adaptive pixel.
 pub record RowCoding : Type 0 where
   pub width : ℕ
   pub mode : Mode
@@ -50,11 +50,11 @@ pub record RowCoding : Type 0 where
 abbrev pub row_coding : ℕ → Mode → Option (ℕ × ℕ) → RowCoding
 row_coding width mode move = record { width = width; mode = mode; move = move }
 
--- in a stripe with these segments
+-- The parameters of a stripe with these segments.
 abbrev pub stripe_coding : Fields → List Segment → RowCoding
 stripe_coding h segments = row_coding h.xd (mode_of h.options) (move_of segments)
 
--- rows of a stripe, from row r on
+-- These rows of a stripe, from row r on, lead to this state.
 abbrev pub Run : RowCoding → ℕ → RowStart → List (List Bool) → List Bool → RowStart → Type 0
 Run coding r b [] [] last = b ≡ last
 Run coding r b [] (flag ∷ flags) last = ⊥
@@ -62,7 +62,7 @@ Run coding r b (row ∷ rows) [] last = ⊥
 Run coding r b (row ∷ rows) (flag ∷ flags) last =
     IsNextRow coding.width coding.mode b row flag × Run coding (r + 1) (after_row coding.mode coding.move r b row flag) rows flags last
 
--- between two stripes: the context states, and the rest of the carried state
+-- The state between two stripes: the context states, and the rest.
 pub record StripeStart : Type 0 where
   pub learned : List Estimate
   pub offset : ℕ
@@ -70,20 +70,20 @@ pub record StripeStart : Type 0 where
   pub above : List Bool
   pub second : List Bool
 
--- at the top of the image, and after a reset
+-- The state at the top of the image, and after a reset.
 abbrev pub image_start : ℕ → StripeStart
 image_start width = record { learned = fresh; offset = 0; previous = false; above = white_row width; second = white_row width }
 
--- a stripe starts a new code
+-- Each stripe begins a new code.
 abbrev pub first_row_start : StripeStart → RowStart
 first_row_start c = record { state = record { place = start; learned = c.learned }; offset = c.offset; previous = c.previous; above = c.above; second = c.second }
 
--- a stripe ends in SDRST, or in SDNORM
+-- The stripe ends in SDRST (true) or in SDNORM.
 abbrev pub next_stripe_start : ℕ → Bool → RowStart → StripeStart
 next_stripe_start width true b = image_start width
 next_stripe_start width false b = record { learned = b.state.learned; offset = b.offset; previous = b.previous; above = b.above; second = b.second }
 
--- A whole stripe of this many rows: its code lies in the place to which its rows lead.
+-- A complete stripe of this many rows: its code lies in the interval that its rows lead to.
 pub record StripeRun (h : Fields) (count : ℕ) (c : StripeStart) (s : Stripe) (coded : FlaggedRows) (next : StripeStart) : Type 0 where
   pub whole : IsBegun h s.segments s.code
   pub last : RowStart
@@ -92,7 +92,7 @@ pub record StripeRun (h : Fields) (count : ℕ) (c : StripeStart) (s : Stripe) (
   pub lies : Lies s.code last.state.place
   pub next_is : next ≡ next_stripe_start h.xd s.reset last
 
--- Successive stripes, with this many rows left.
+-- Consecutive stripes, with this number of rows left.
 abbrev pub StripesRun : Fields → ℕ → StripeStart → List Stripe → FlaggedRows → StripeStart → Type 0
 StripesRun h left c [] coded next = (coded.rows ≡ []) × (coded.flags ≡ []) × (c ≡ next)
 StripesRun h left c (s ∷ stripes) coded next =
