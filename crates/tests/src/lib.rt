@@ -4,6 +4,8 @@
 #[cfg(test)]
 mod ahead;
 #[cfg(test)]
+mod best_offset;
+#[cfg(test)]
 mod by_row;
 #[cfg(test)]
 mod coding;
