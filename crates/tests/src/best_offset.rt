@@ -122,7 +122,7 @@ static CASES: [Case; 8] = [
     },
 ];
 
-/// What a case gives.
+/// The result of a case.
 #[derive(Clone, Copy, PartialEq, Eq, Debug)]
 enum Answer {
     /// A call before failed.
