@@ -1,5 +1,5 @@
 -- A decoder that a C caller holds.
-use Rattle.std.proofs.Common.{◌≡◌, ◌≤◌, ◌<◌, ◌+◌, ◌*◌, ◌⊎◌, inl, inr, ℕ, suc, ◌==◌, Bool, true, false, not, List, [], ◌++◌, length, take, drop, None, Some, refl, sym, ap, subst, ◌∙◌, arith, append_assoc, append-nil, length-take, take_all, take-append-drop, true≢false}
+use Rattle.std.proofs.Common.{◌≡◌, ◌≤◌, ◌<◌, ◌+◌, ◌*◌, ◌⊎◌, inl, inr, ℕ, suc, ◌==◌, Bool, true, false, not, List, [], ◌++◌, length, take, drop, None, Some, refl, sym, ap, subst, ◌∙◌, arith, append_assoc, append-nil, length-append, length-take, take_all, take-append-drop, true≢false}
 use Rattle.std.specs.Prelude.{◌&&◌}
 use Rattle.std.proofs.lemmas.Bool.Decides.{nat_tests}
 use Rattle.std.proofs.lemmas.List.{length-drop, length-take-le, take-append-le}
@@ -27,7 +27,7 @@ use Rattle.t85_core.specs.Feeds.{HasFed, IsFeed}
 use Rattle.t85_core.specs.Pieces.{HasDecoded, HandsOut, HoldsImage}
 use Rattle.t85_core.specs.Pieces.{call_of as piece_call}
 use Rattle.t85.specs.Decoded.{window_bytes}
-use Rattle.t85.specs.Decoder.{AnnouncesMore, Answers, BehindHeader, BreaksBehindHeader, BytesCall, GivesRowAt, HasRead, Hold, InHeader, InRows, IsBrokenStream, IsImageOf, IsShort, StandAt, TellsAnswer, bytes_of_call, bytes_call, bytes_held_by, hold_of, is_waiting, numbers_of_decoder}
+use Rattle.t85.specs.Decoder.{AnnouncesMore, Answers, BehindHeader, BreaksBehindHeader, BytesCall, GivesRowAt, HasRead, Hold, InHeader, InRows, IsBrokenStream, IsImageOf, IsShort, LacksWindow, ReadsHeader, StandAt, TellsAnswer, bytes_of_call, bytes_call, bytes_held_by, hold_of, is_waiting, numbers_of_decoder}
 use Rattle.t85.specs.DecoderSteps.{IsAwaited, IsFilled, IsJudged, IsOfEngine, IsToldOf}
 use Rattle.t85.specs.declared.decoder.T85Decoder.{T85Decoder}
 use Rattle.t85.specs.declared.decoder.Told.{Told}
@@ -107,6 +107,17 @@ header_waits d mid new bytes window count is_all (answer.Broken fault) version n
 }
 header_waits d mid new bytes window count is_all what version next fill few none = absurd none
 
+-- then no header is complete
+pub header_cut : (d mid : T85Decoder) (bytes window : List ℕ) (count : ℕ) → IsFilled d mid bytes count → mid.header_len < 20 → ReadsHeader (hold_of d window) bytes → ⊥
+header_cut d mid bytes window count fill few reads =
+    let was = in_header (hold_of d window) reads.stream reads.out reads.next_is reads.read in
+    let short : length reads.stream ≤ d.header_len = subst (λ s. length s ≤ d.header_len) (sym was.stream_is) (subst (λ n. n ≤ d.header_len) (sym (length-take d.header_len d.header)) (omega arith)) in
+    let whole = reads.header_of.whole in
+    let sum = length-append reads.stream bytes in
+    let a = fill.count_is in
+    let b = fill.len_is in
+    omega (arith, whole, sum, short, few, a, b)
+
 -- what was filled is the stream so far
 module _ (laws : HeaderLaws) (d mid new : T85Decoder) (bytes window : List ℕ) (count : ℕ) (is_all : Bool) (version : d.version ≡ 1) (next : d.next ≡ 0) (few : d.header_len < 20) (fill : IsFilled d mid bytes count) (full : 20 ≤ mid.header_len) where
   stream_is : (stream out : List ℕ) → HasRead (hold_of d window) stream out → stream ++ take count bytes ≡ mid.header
@@ -121,6 +132,9 @@ module _ (laws : HeaderLaws) (d mid new : T85Decoder) (bytes window : List ℕ) 
   goes_on stream out rest has =
       ap (λ b. (stream ++ b) ++ rest) (sym (take-append-drop count bytes)) ∙ ap (λ s. s ++ rest) (sym (append_assoc stream (take count bytes) (drop count bytes)))
       ∙ ap (λ s. (s ++ drop count bytes) ++ rest) (stream_is stream out has) ∙ append_assoc mid.header (drop count bytes) rest
+
+  all_of_stream : (reads : ReadsHeader (hold_of d window) bytes) → reads.stream ++ bytes ≡ mid.header ++ drop count bytes
+  all_of_stream reads = sym (append-nil (reads.stream ++ bytes)) ∙ goes_on reads.stream reads.out [] reads.read ∙ ap (λ r. mid.header ++ r) (append-nil (drop count bytes))
 
   -- and it is judged
   pub header_judged : (what : Answer) → IsJudged mid new what → Answers (HasRead (hold_of d window)) (hold_of d window) (hold_of new window) (bytes_call bytes is_all count 0) what
@@ -142,6 +156,19 @@ module _ (laws : HeaderLaws) (d mid new : T85Decoder) (bytes window : List ℕ) 
     );
   }
   header_judged what is = absurd is
+
+  -- a header that is accepted, and within the limit, is reported
+  pub header_reads : (what : Answer) → IsJudged mid new what → new.max_rows ≡ d.max_rows → ReadsHeader (hold_of d window) bytes → what ≡ answer.Header
+  header_reads answer.Header is limit reads = refl
+  header_reads answer.TooManyRows is limit reads =
+      let all : reads.stream ++ bytes ≡ mid.header ++ drop count bytes = all_of_stream reads in
+      let same = laws.one (mid.header ++ drop count bytes) is.1.header reads.header (laws.stands mid.header (drop count bytes) is.1.header is.1.header_of) (subst (λ s. HeaderOf s reads.header) all reads.header_of) in
+      let high : new.max_rows < reads.header.yd = subst (λ h. new.max_rows < h.yd) same is.1.more in
+      let low = reads.within in
+      absurd (omega (arith, high, low, limit))
+  header_reads (answer.Broken fault) is limit reads =
+      absurd (not_some fault (sym (laws.not_refused (reads.stream ++ bytes) reads.header reads.header_of) ∙ ap header_fault (all_of_stream reads) ∙ laws.refusal_stands mid.header (drop count bytes) (omega (arith, fill.long)) ∙ is.1))
+  header_reads what is limit reads = absurd is
 
 -- ---- the rows
 
@@ -401,3 +428,25 @@ module _ (laws : HeaderLaws) (d d' : T85Decoder) (window memory' rest : List ℕ
   window_cut call answer.Done of a = record { bound = a.bound; tells = (a.tells.0, λ s o r h m. a.tells.1 s o r (lent s o h) m) }
   window_cut call (answer.Broken fault) of a = record { bound = a.bound; tells = (a.tells.0, λ s o r h m. a.tells.1 s o r (lent s o h) m) }
   window_cut call what of a = absurd of
+
+-- ---- when a call answers that the window is short
+
+short_same : HeaderLaws → (hold : Hold) (header : Header) → HeaderOf hold.decoder.header (fields_of header) → (lacks : LacksWindow hold) → length hold.window < window_bytes header.xd
+short_same laws hold header header_of lacks =
+    subst (λ h. length hold.window < window_bytes h.xd) (laws.one lacks.stream lacks.short.header (fields_of header) lacks.short.header_of (here lacks.next_is)) lacks.short.short
+  where
+    here : (hold.decoder.next ≡ 1) ⊎ (hold.decoder.next ≡ 2) → HeaderOf lacks.stream (fields_of header)
+    here (inl e) = subst (λ s. HeaderOf s (fields_of header)) (sym (behind_header hold lacks.stream lacks.out e lacks.read).stream_is) header_of
+    here (inr e) = let k = in_rows hold lacks.stream lacks.out e lacks.read in subst (λ s. HeaderOf s (fields_of header)) (sym k.stream_is) (laws.stands hold.decoder.header k.text (fields_of header) header_of)
+
+pub long_enough : HeaderLaws → (hold : Hold) (header : Header) → HeaderOf hold.decoder.header (fields_of header) → window_bytes header.xd ≤ length hold.window → LacksWindow hold → ⊥
+long_enough laws hold header header_of long lacks = (let less = short_same laws hold header header_of lacks in omega (arith, less, long))
+
+pub no_place : (hold : Hold) → hold.decoder.next ≡ 2 → 3 ≤ hold.decoder.place → LacksWindow hold → ⊥
+no_place hold next far lacks = (let small = (in_rows hold lacks.stream lacks.out next lacks.read).place_to in omega (arith, small, far))
+
+pub lacks_later : (hold : Hold) → (hold.decoder.next ≡ 1 → ⊥) → (hold.decoder.next ≡ 2 → ⊥) → LacksWindow hold → ⊥
+lacks_later hold a b lacks = either lacks.next_is where
+  either : (hold.decoder.next ≡ 1) ⊎ (hold.decoder.next ≡ 2) → ⊥
+  either (inl e) = a e
+  either (inr e) = b e

@@ -202,6 +202,24 @@ pub record Answers (Has : List ℕ → List ℕ → Type 0) (old new : Hold) (ca
 abbrev pub DecoderIsNotBegun : T85Decoder → Type 0
 DecoderIsNotBegun d = (d.version ≢ 1) ⊎ (3 < d.next)
 
+-- The window is too short for the next rows.
+pub record LacksWindow (old : Hold) : Type 0 where
+  pub next_is : (old.decoder.next ≡ 1) ⊎ (old.decoder.next ≡ 2)
+  pub stream : List ℕ
+  pub out : List ℕ
+  pub read : HasRead old stream out
+  pub short : IsShort old.window stream
+
+-- The header is complete with these bytes, and announces no more rows than the limit.
+pub record ReadsHeader (old : Hold) (bytes : List ℕ) : Type 0 where
+  pub next_is : old.decoder.next ≡ 0
+  pub stream : List ℕ
+  pub out : List ℕ
+  pub read : HasRead old stream out
+  pub header : Fields
+  pub header_of : HeaderOf (stream ++ bytes) header
+  pub within : header.yd ≤ old.decoder.max_rows
+
 -- the effect of a call, and its status
 pub record IsAnswered (old new : Hold) (call : BytesCall) (status : ℕ) : Type 0 where
   pub what : Answer
@@ -209,24 +227,13 @@ pub record IsAnswered (old new : Hold) (call : BytesCall) (status : ℕ) : Type 
   pub answers : Answers (HasRead old) old new call what
   pub not_begun : DecoderIsNotBegun old.decoder → what ≡ answer.NotBegun
   pub ended : old.decoder.version ≡ 1 → old.decoder.next ≡ 3 → what ≡ answer.Ended old.decoder.status
+  -- the caller's limit is unchanged
+  pub limit : new.decoder.max_rows ≡ old.decoder.max_rows
+  -- the header is reported by the call with its last byte, and by no other
+  pub once : what ≡ answer.Header → old.decoder.next ≡ 0
+  pub header : ReadsHeader old call.bytes → what ≡ answer.Header
+  pub short : LacksWindow old → what ≡ answer.ShortWindow
 
 -- This many rows are certain: no height that can still arrive is lower, and one is equal.
 abbrev pub TellsCertain : T85Decoder → ℕ → Type 0
 TellsCertain d rows = (window stream out : List ℕ) (k : InRows (hold_of d window) stream out) → IsLeastHeight (fields_of k.decoder.header) k.has.decoded rows
-
--- ---- the start
-
--- Nothing has been consumed.
-pub record BeginsDecoder (max_rows : ℕ) (new : T85Decoder) (status : ℕ) : Type 0 where
-  pub status_is : status ≡ 0
-  pub limit_is : new.max_rows ≡ max_rows
-  pub none : InHeader new [] []
-
--- The caller's struct is of another size.
-pub record IsOfAnotherSize (size : ℕ) (old new : T85Decoder) (status : ℕ) : Type 0 where
-  pub other : size ≢ 1280
-  pub status_is : status ≡ 50
-  pub kept : new ≡ old
-
-abbrev pub IsDecoderBegun : ℕ → ℕ → T85Decoder → T85Decoder → ℕ → Type 0
-IsDecoderBegun size max_rows old new status = ((size ≡ 1280) × BeginsDecoder max_rows new status) ⊎ IsOfAnotherSize size old new status

@@ -6,6 +6,7 @@ pub mod Summary
 pub mod Decoded
 pub mod DecodedRows
 pub mod Decoder
+pub mod DecoderStart
 pub mod Encoded
 pub mod Encoder
 pub mod Bound

@@ -1,12 +1,13 @@
 //! A decoder for a stream in pieces, in a struct that a C caller owns.
 
-ghost use Rattle.std.specs.Prelude.{◌≡◌, ◌<◌, ◌*◌, ◌⊎◌, List, ℕ, length, [], false, true};
+ghost use Rattle.std.specs.Prelude.{◌≡◌, ◌≢◌, ◌<◌, ◌*◌, ◌⊎◌, List, ℕ, length, [], false, true};
 ghost use Rattle.t85_core.specs.Lent.{decoder_over};
 ghost use Rattle.t85_core.specs.Feeds.{IsFeed, held_bytes};
 ghost use Rattle.t85_core.specs.Pieces.{call_of as piece_call};
 ghost use Rattle.raster_core.specs.Window.{memory_of, width_of};
 ghost use Rattle.t85.specs.Decoded.{window_bytes as window_of};
-ghost use Rattle.t85.specs.Decoder.{Answers, BeginsDecoder, HasEnded, HasRead, InRows, IsAnswered, IsDecoderBegun, DecoderIsNotBegun, TellsCertain, bytes_call, height_of_decoder, bytes_held_by, hold_of, numbers_of_decoder, status_told};
+ghost use Rattle.t85.specs.Decoder.{Answers, HasEnded, HasRead, InRows, IsAnswered, DecoderIsNotBegun, LacksWindow, ReadsHeader, TellsCertain, bytes_call, height_of_decoder, bytes_held_by, hold_of, numbers_of_decoder, status_told};
+ghost use Rattle.t85.specs.DecoderStart.{BeginsDecoder, IsDecoderBegun};
 ghost use Rattle.t85.specs.declared.decoder.Answer.TheVariants as answer;
 ghost use Rattle.t85.specs.DecoderSteps.{IsAwaited, IsFilled, IsJudged, IsOfEngine, IsToldOf, KeepsRest, MayEnterRows, MayTakeRows};
 
@@ -416,6 +417,12 @@ impl T85Decoder {
         ensures not_begun { DecoderIsNotBegun self.old → result.answer ≡ answer.NotBegun }
         ensures ended { self.old.version ≡ 1 → self.old.next ≡ 3 →
             result.answer ≡ answer.Ended self.old.status }
+        ensures limit { self.new.max_rows ≡ self.old.max_rows }
+        ensures once { result.answer ≡ answer.Header → self.old.next ≡ 0 }
+        ensures header { ReadsHeader (hold_of self.old window.old) bytes.now →
+            result.answer ≡ answer.Header }
+        ensures short { LacksWindow (hold_of self.old window.old) →
+            result.answer ≡ answer.ShortWindow }
     {
         if self.version != VERSION {
             return Answer::NotBegun.alone();
@@ -433,9 +440,12 @@ impl T85Decoder {
     fn take_header(&mut self, bytes: &[u8], is_all: bool) -> Told
         requires version { self.old.version ≡ 1 }
         requires next { self.old.next ≡ 0 }
-        ensures { (window : List ℕ) → Answers (HasRead (hold_of self.old window))
+        ensures answers { (window : List ℕ) → Answers (HasRead (hold_of self.old window))
             (hold_of self.old window) (hold_of self.new window)
             (bytes_call bytes.now is_all result.taken result.row) result.answer }
+        ensures limit { self.new.max_rows ≡ self.old.max_rows }
+        ensures header { (window : List ℕ) → ReadsHeader (hold_of self.old window) bytes.now →
+            result.answer ≡ answer.Header }
     {
         // The proof uses these laws about headers.
         headers();
@@ -478,7 +488,8 @@ impl T85Decoder {
     /// Checks the header, which is complete.
     fn judge_header(&mut self) -> Answer
         requires version { self.old.version ≡ 1 }
-        ensures { IsJudged self.old self.new result }
+        ensures judged { IsJudged self.old self.new result }
+        ensures limit { self.new.max_rows ≡ self.old.max_rows }
     {
         match read_header(&self.header) {
             Ok(header) => {
@@ -500,7 +511,8 @@ impl T85Decoder {
     /// Waits for the rest of the header, unless no more bytes follow.
     fn wait_for_header(&mut self, is_all: bool) -> Answer
         requires version { self.old.version ≡ 1 }
-        ensures { IsAwaited self.old self.new is_all result }
+        ensures awaited { IsAwaited self.old self.new is_all result }
+        ensures limit { self.new.max_rows ≡ self.old.max_rows }
     {
         if is_all {
             let fault = Fault::ShortHeader;
@@ -515,9 +527,13 @@ impl T85Decoder {
     fn take_rows(&mut self, bytes: &[u8], window: &mut [u8], is_all: bool) -> Told
         requires version { self.old.version ≡ 1 }
         requires next { (self.old.next ≡ 1) ⊎ (self.old.next ≡ 2) }
-        ensures { Answers (HasRead (hold_of self.old window.old)) (hold_of self.old window.old)
-            (hold_of self.new window.new) (bytes_call bytes.now is_all result.taken result.row)
-            result.answer }
+        ensures answers { Answers (HasRead (hold_of self.old window.old))
+            (hold_of self.old window.old) (hold_of self.new window.new)
+            (bytes_call bytes.now is_all result.taken result.row) result.answer }
+        ensures limit { self.new.max_rows ≡ self.old.max_rows }
+        ensures no_header { result.answer ≢ answer.Header }
+        ensures short { LacksWindow (hold_of self.old window.old) →
+            result.answer ≡ answer.ShortWindow }
     {
         // The proof uses these laws about headers.
         headers();
@@ -550,6 +566,8 @@ impl T85Decoder {
             (bytes_call bytes.now is_all result.taken result.row) result.answer }
         ensures engine { IsOfEngine result.answer }
         ensures same_header { self.new.header ≡ self.old.header }
+        ensures limit { self.new.max_rows ≡ self.old.max_rows }
+        ensures no_header { result.answer ≢ answer.Header }
     {
         if self.next != FIRST_ROW {
             return self.take_row(header, memory, bytes, is_all);
@@ -567,6 +585,7 @@ impl T85Decoder {
         ensures has { (stream out : List ℕ) → HasRead (hold_of self.old memory.old) stream out →
             InRows (hold_of self.new memory.new) stream out }
         ensures same_header { self.new.header ≡ self.old.header }
+        ensures limit { self.new.max_rows ≡ self.old.max_rows }
     {
         let mut window = Window::over(memory, header.xd);
         let decoder = PieceDecoder::start(*header, &mut window, &mut self.learned);
@@ -584,6 +603,8 @@ impl T85Decoder {
             (bytes_call bytes.now is_all result.taken result.row) result.answer }
         ensures engine { IsOfEngine result.answer }
         ensures same_header { self.new.header ≡ self.old.header }
+        ensures limit { self.new.max_rows ≡ self.old.max_rows }
+        ensures no_header { result.answer ≢ answer.Header }
     {
         // The proof uses these laws about headers.
         headers();
@@ -610,6 +631,8 @@ impl T85Decoder {
         ensures taken { result.taken ≡ progress.taken }
         ensures told { IsToldOf progress.outcome header.now self.old self.new result }
         ensures same_header { self.new.header ≡ self.old.header }
+        ensures limit { self.new.max_rows ≡ self.old.max_rows }
+        ensures no_header { result.answer ≢ answer.Header }
     {
         let answer = match progress.outcome {
             Outcome::Row => Answer::Row,

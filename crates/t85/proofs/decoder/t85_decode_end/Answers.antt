@@ -11,4 +11,8 @@ returns c =
       answers = subst (λ n. Answers (HasRead (hold_of c.args.decoder.now c.args.window.now)) (hold_of c.args.decoder.now c.args.window.now) (hold_of c.go_on-told.new.self c.go_on-told.new.window) (bytes_call [] true n c.go_on-told.result.row) c.go_on-told.result.answer) none c.go_on-told.ensures.answers;
       not_begun = c.go_on-told.ensures.not_begun;
       ended = c.go_on-told.ensures.ended;
+      limit = c.go_on-told.ensures.limit;
+      once = c.go_on-told.ensures.once;
+      header = c.go_on-told.ensures.header;
+      short = c.go_on-told.ensures.short;
     }
