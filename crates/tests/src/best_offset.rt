@@ -43,7 +43,7 @@ impl Page {
     }
 }
 
-/// A page, and where an offset is asked for.
+/// A page, and the call for its first stripe.
 #[derive(Drop)]
 struct Case {
     name: &'static str,
