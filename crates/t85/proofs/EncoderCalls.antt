@@ -417,7 +417,7 @@ stream_begun law o size d memory room stream n window low long wide first is sam
 -- ---- the calls
 
 -- another window with the same three rows
-other_window : (image : Image) (d : T85Encoder) (window window' : List ℕ) (rows : List (List Bool)) (sent : List ℕ) → take (window_bytes image.width) window ≡ take (window_bytes image.width) window' → HasCome image (encoder_hold d window) rows sent → HasCome image (encoder_hold d window') rows sent
+pub other_window : (image : Image) (d : T85Encoder) (window window' : List ℕ) (rows : List (List Bool)) (sent : List ℕ) → take (window_bytes image.width) window ≡ take (window_bytes image.width) window' → HasCome image (encoder_hold d window) rows sent → HasCome image (encoder_hold d window') rows sent
 other_window image d window window' rows sent same k = record {
   version_is = k.version_is;
   next_is = k.next_is;
@@ -435,14 +435,14 @@ other_window image d window window' rows sent same k = record {
   stands = λ text. subst (λ m. Stands image rows (view_of k.engine d.learning) (rows_at d.place image.width m) (behind sent text) text) same (k.stands text);
 }
 
-take_twice : (n m : ℕ) (xs : List ℕ) → n ≡ m → take n (take m xs) ≡ take n xs
+pub take_twice : (n m : ℕ) (xs : List ℕ) → n ≡ m → take n (take m xs) ≡ take n xs
 take_twice n m xs same = subst (λ k. take n (take k xs) ≡ take n xs) same (take_all n (take n xs) (subst (λ k. k ≤ n) (sym (length-take n xs)) (omega arith)))
 
-ready_begun : (d : T85Encoder) (e : RowEncoder) → AwaitsCall d e → EncoderIsNotBegun d → ⊥
+pub ready_begun : (d : T85Encoder) (e : RowEncoder) → AwaitsCall d e → EncoderIsNotBegun d → ⊥
 ready_begun d e r (inl other) = other r.version_is
 ready_begun d e r (inr other) = other.0 r.next_is
 
-ready_ended : (d : T85Encoder) (e : RowEncoder) → AwaitsCall d e → HasBeenEnded d → ⊥
+pub ready_ended : (d : T85Encoder) (e : RowEncoder) → AwaitsCall d e → HasBeenEnded d → ⊥
 ready_ended d e r h = (let next = h.next_is in let was = r.next_is in omega (arith, next, was))
 
 pub row_refused : (d : T85Encoder) (window stream row : List ℕ) (status : ℕ) → RefusesCall d (row_refusal d (length row) (length window) (length stream)) status → PutsRow (encoder_hold d window) (encoder_hold d window) row (lending stream stream 0 status)

@@ -1,5 +1,6 @@
 pub mod DecoderCalls
 pub mod EncoderCalls
+pub mod BestCalls
 pub mod Bytes
 pub mod Delivery
 pub mod Digits

@@ -9,6 +9,7 @@ pub mod Decoder
 pub mod DecoderStart
 pub mod Encoded
 pub mod Encoder
+pub mod BestOffset
 pub mod Bound
 pub mod Message
 pub mod Parts

@@ -1,5 +1,7 @@
 //! An encoder for an image row by row, in a struct that a C caller owns.
 
+pub mod best;
+
 ghost use Rattle.std.specs.Prelude.{ℕ, List, ◌≡◌, ◌≢◌, ◌≤◌, ◌<◌, ◌⊎◌, length, take, false, true, Some, None, [], MatchOption, MatchResult, IfOk};
 ghost use Rattle.std.specs.Int.{div_ceil};
 ghost use Rattle.raster_core.specs.Window.{held as rows_of, width_of};

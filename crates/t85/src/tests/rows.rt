@@ -2,8 +2,8 @@
 
 use crate::tests::{CODED, Coded, PLAIN};
 use crate::{
-    T85Encoder, T85Options, t85_encode_end, t85_encode_offset, t85_encode_room, t85_encode_row,
-    t85_encode_rows_left, t85_encode_start,
+    T85Encoder, T85Options, t85_best_offset, t85_encode_end, t85_encode_offset, t85_encode_room,
+    t85_encode_row, t85_encode_rows_left, t85_encode_start,
 };
 use t85_core::Learning;
 
@@ -348,4 +348,45 @@ fn offsets_are_chosen_between_stripes(rt: HostRuntime) {
     assert!(rt; t85_encode_offset(&mut encoder, 0) == 56);
     encoder.next = 0;
     assert!(rt; t85_encode_offset(&mut encoder, 0) == 53);
+}
+
+/// The status and the offset for the next stripe, with this many bytes of scratch memory. The offset is 77 if none is
+/// found.
+fn best_of(encoder: &T85Encoder, rows: &[u8], window: &mut [u8], len: usize) -> (u8, u8) {
+    let mut scratch = [0x55; 24];
+    let mut offset = 77;
+    let status = t85_best_offset(
+        encoder,
+        rows,
+        window,
+        &mut scratch[..len.min(24)],
+        &mut offset,
+    );
+    (status, offset)
+}
+
+#[test]
+fn best_offsets_are_found_between_stripes(rt: HostRuntime) {
+    let mut window = [0xaa; 24];
+    assert!(rt; best_of(&zeros(), b"\xff", &mut window, 24) == (53, 77));
+    let (mut encoder, mut sent) = begun(&TWO_BLACK, &mut window, 20);
+    go_on(&mut encoder, Some(b"\xff"), &mut window, 0, &mut sent);
+    assert!(rt; best_of(&encoder, b"\xff", &mut window, 3) == (0, 0));
+    assert!(rt; best_of(&encoder, b"\xff\x55", &mut window, 24) == (0, 0));
+    assert!(rt; best_of(&encoder, b"", &mut window, 24) == (36, 77));
+    assert!(rt; best_of(&encoder, b"\xff", &mut window, 2) == (19, 77));
+    assert!(rt; best_of(&encoder, b"\xff", &mut window[..2], 24) == (19, 77));
+    go_on(&mut encoder, Some(b"\xff"), &mut window, 0, &mut sent);
+    assert!(rt; best_of(&encoder, b"\xff", &mut window, 24) == (54, 77));
+}
+
+#[test]
+fn best_offsets_need_the_rows_of_a_stripe(rt: HostRuntime) {
+    let mut window = [0xaa; 24];
+    let (mut encoder, mut sent) = begun(&TWO_BLACK, &mut window, 20);
+    encoder.stripe_rows = 2;
+    assert!(rt; best_of(&encoder, b"\xff", &mut window, 24) == (36, 77));
+    assert!(rt; best_of(&encoder, b"\xff\xff", &mut window, 24) == (0, 0));
+    go_on(&mut encoder, Some(b"\xff"), &mut window, 0, &mut sent);
+    assert!(rt; best_of(&encoder, b"\xff", &mut window, 24) == (56, 77));
 }
