@@ -237,6 +237,7 @@ bench:
 	bench/pieces
 	bench/calls bin
 	bench/formats bin $$(find bin/charts -name '*.pbm' 2> /dev/null | sort)
+	bench/sizes bin
 	bench/broken bin
 	bench/many bin
 

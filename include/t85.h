@@ -414,6 +414,30 @@ uint8_t t85_encode_row(t85_encoder *encoder, const uint8_t *row, size_t row_len,
 T85_NO_NULL((1))
 uint8_t t85_encode_offset(t85_encoder *encoder, uint8_t offset);
 
+/* Finds the offset with which the next stripe takes the fewest bytes, for a caller that has its rows
+   in memory. `rows` are the rows from the next one on, packed and without gaps; a part of a row at
+   the end, and rows behind the stripe, are ignored.
+
+   The call encodes the stripe without output with up to three offsets: the current one; 0; and, if
+   most_offset allows any, the one at which the most pixels equal the pixel that far to their left,
+   counted over the rows of the stripe that are not typical (the least of several). It sets *offset
+   to the one that takes the fewest bytes, including the 8 bytes of a move, or to the least of
+   several. Pass it to t85_encode_offset before the stripe's first row.
+
+   `scratch` is memory of t85_window_bytes(width) bytes, whose contents are unspecified afterwards.
+   Encoder and window are not changed.
+
+   Returns one of:
+   0: *offset is set.
+   Any other status: nothing is changed. The checks are made in this order: 53; 54 if all rows were
+     passed, or the stream was ended; T85_IN_STRIPE if only some rows of a stripe were passed;
+     T85_ROWS_MISSING if `rows` has no whole row, or not all rows of the stripe and no height was
+     announced; 19 if window_len or scratch_len is less than t85_window_bytes(width). */
+T85_NO_NULL((1, 8))
+uint8_t t85_best_offset(const t85_encoder *encoder, const uint8_t *rows, size_t rows_len,
+                        uint8_t *window, size_t window_len, uint8_t *scratch, size_t scratch_len,
+                        uint8_t *offset);
+
 /* Ends the stream, with a new height if fewer rows were passed than announced.
 
    Returns one of:
@@ -487,6 +511,10 @@ size_t t85_message(uint8_t status, uint8_t *text, size_t room);
 #define t85_encode_row(encoder, row, row_len, window, window_len, stream, stream_room, written) \
     t85_encode_row(encoder, t85_bytes_or_nothing(row), row_len, t85_room_or_nothing(window),    \
                    window_len, t85_room_or_nothing(stream), stream_room, written)
+
+#define t85_best_offset(encoder, rows, rows_len, window, window_len, scratch, scratch_len, offset) \
+    t85_best_offset(encoder, t85_bytes_or_nothing(rows), rows_len, t85_room_or_nothing(window),    \
+                    window_len, t85_room_or_nothing(scratch), scratch_len, offset)
 
 #define t85_encode_end(encoder, window, window_len, stream, stream_room, written) \
     t85_encode_end(encoder, t85_room_or_nothing(window), window_len,              \

@@ -80,6 +80,15 @@ static uint8_t see_encode_row(t85_encoder *encoder, const uint8_t *row, size_t r
     return in_order ? see(row, window, stream, NULL) : 255;
 }
 
+static uint8_t see_best_offset(const t85_encoder *encoder, const uint8_t *rows, size_t rows_len,
+                               uint8_t *window, size_t window_len, uint8_t *scratch,
+                               size_t scratch_len, uint8_t *offset)
+{
+    bool in_order =
+        encoder && rows_len == 1 && window_len == 2 && scratch_len == 3 && *offset == 7;
+    return in_order ? see(rows, window, scratch, NULL) : 255;
+}
+
 static uint8_t see_encode_end(t85_encoder *encoder, uint8_t *window, size_t window_len,
                               uint8_t *stream, size_t stream_room, size_t *written)
 {
@@ -107,6 +116,8 @@ typedef struct {
                                 size_t *);
     uint8_t (*t85_encode_row)(t85_encoder *, const uint8_t *, size_t, uint8_t *, size_t, uint8_t *,
                               size_t, size_t *);
+    uint8_t (*t85_best_offset)(const t85_encoder *, const uint8_t *, size_t, uint8_t *, size_t,
+                               uint8_t *, size_t, uint8_t *);
     uint8_t (*t85_encode_end)(t85_encoder *, uint8_t *, size_t, uint8_t *, size_t, size_t *);
 } calls;
 
@@ -124,7 +135,8 @@ static void passed(uint8_t *a)
 {
     static const calls seen = {see_header,       see_info,        see_encode,
                                see_decode,       see_decode_rows, see_message,
-                               see_encode_start, see_encode_row,  see_encode_end};
+                               see_encode_start, see_encode_row,  see_best_offset,
+                               see_encode_end};
     uint8_t *b = a ? a + 1 : NULL, *c = a ? a + 2 : NULL, *d = a ? a + 3 : NULL;
     t85_header_fields fields = {8, 0, 0, 0, 0};
     t85_summary summary = {8, 0, 0, 0, 0, 0, 0, 0, 0};
@@ -132,6 +144,7 @@ static void passed(uint8_t *a)
     t85_encoder encoder;
     size_t written = 8;
     uint32_t rows_written = 6;
+    uint8_t offset = 7;
     options.version = 9;
     have_come("t85_header", seen.t85_header(a, 8, &fields), 1, a);
     have_come("t85_info", seen.t85_info(a, 8, &summary), 1, a);
@@ -146,6 +159,7 @@ static void passed(uint8_t *a)
     have_come("t85_encode_start",
               seen.t85_encode_start(&encoder, 1, 2, 3, &options, a, 4, b, 5, c, 6, &written), 3, a);
     have_come("t85_encode_row", seen.t85_encode_row(&encoder, a, 1, b, 2, c, 3, &written), 3, a);
+    have_come("t85_best_offset", seen.t85_best_offset(&encoder, a, 1, b, 2, c, 3, &offset), 3, a);
     have_come("t85_encode_end", seen.t85_encode_end(&encoder, a, 1, b, 2, &written), 2, a);
 }
 
@@ -290,7 +304,7 @@ static void write_row_null(void)
     buffer window = filled(3), row = filled(1);
     t85_options options = T85_OPTIONS;
     t85_encoder encoder;
-    uint8_t code[2][200];
+    uint8_t code[2][200], offset = 77;
     size_t front = 77, more = 77, last = 77, whole = 77;
     options.has_comment = true;
     if (t85_encode_start(&encoder, sizeof encoder, 8, 1, &options, NULL, 0, NULL, 0, NULL, 0,
@@ -306,6 +320,12 @@ static void write_row_null(void)
                          code[0], 26, &front) != T85_OK ||
         front != 26)
         fail("t85_encode_start with an empty comment");
+    if (t85_best_offset(&encoder, NULL, 0, NULL, 0, NULL, 0, &offset) != T85_ROWS_MISSING ||
+        t85_best_offset(&encoder, row.bytes, 1, NULL, 0, code[1], 3, &offset) != T85_SHORT_WINDOW ||
+        t85_best_offset(&encoder, row.bytes, 1, window.bytes, 3, NULL, 0, &offset) !=
+            T85_SHORT_WINDOW ||
+        offset != 77)
+        fail("t85_best_offset with no rows, no window or no scratch memory");
     if (t85_encode_row(&encoder, NULL, 0, NULL, 0, NULL, 0, &more) != T85_SHORT_ROW || more != 0)
         fail("t85_encode_row with no row");
     more = 77;
@@ -342,13 +362,15 @@ static void by_address(buffer stream)
 {
     static const calls table = {&t85_header,       &t85_info,        &t85_encode,
                                 &t85_decode,       &t85_decode_rows, &t85_message,
-                                &t85_encode_start, &t85_encode_row,  &t85_encode_end};
+                                &t85_encode_start, &t85_encode_row,  &t85_best_offset,
+                                &t85_encode_end};
     t85_options options = T85_OPTIONS;
     t85_encoder encoder;
     t85_header_fields fields, same;
     t85_summary summary;
     size_t written = 77;
     uint32_t rows = 77;
+    uint8_t offset = 77;
     if (table.t85_header != (t85_header) || table.t85_message != t85_message)
         fail("a function has two addresses");
     if ((t85_header)(stream.bytes, stream.len, &fields) != T85_OK ||
@@ -372,8 +394,10 @@ static void by_address(buffer stream)
                            T85_NOTHING, 0, &written) != T85_SHORT_WINDOW ||
         (*table.t85_encode_row)(&encoder, T85_NOTHING, 0, T85_NOTHING, 0, T85_NOTHING, 0,
                                 &written) != T85_NOT_BEGUN ||
+        (t85_best_offset)(&encoder, T85_NOTHING, 0, T85_NOTHING, 0, T85_NOTHING, 0, &offset) !=
+            T85_NOT_BEGUN ||
         (t85_encode_end)(&encoder, T85_NOTHING, 0, T85_NOTHING, 0, &written) != T85_NOT_BEGUN)
-        fail("t85_encode_start, t85_encode_row or t85_encode_end in parentheses");
+        fail("t85_encode_start, t85_encode_row, t85_best_offset or t85_encode_end in parentheses");
     if ((t85_message)(T85_OK, T85_NOTHING, 0) != 4)
         fail("t85_message in parentheses");
 }

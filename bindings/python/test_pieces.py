@@ -196,6 +196,45 @@ class RowByRow(unittest.TestCase):
             with self.assertRaises(OverflowError):
                 encoder.offset(wrong)
 
+    def test_best_offset(self):
+        # A move costs 8 bytes, so the best offset for a black row is the nominal one.
+        encoder = t85.Encoder(8, 3, typical=False, stripe_rows=1, most_offset=3)
+        self.assertEqual(encoder.best_offset(b"\xff\xff"), 0)
+        self.refused(36, encoder.best_offset, b"")
+        with self.assertRaises(TypeError):
+            encoder.best_offset("text")
+        found = encoder.row(b"\xff")
+        encoder.offset(encoder.best_offset(b"\xff"))
+        found += encoder.row(b"\xff")
+        self.assertEqual(found, head(8, 3, 1, 3, 0) + b"\xf0\xff\x02\xf4\xff\x02")
+        encoder.row(b"\xff")
+        self.refused(54, encoder.best_offset, b"\xff")
+        encoder = t85.Encoder(8, 4, stripe_rows=2, most_offset=127)
+        self.refused(36, encoder.best_offset, b"\xff")
+        encoder.row(b"\xff")
+        self.refused(56, encoder.best_offset, b"\xff\xff")
+        self.assertEqual(t85.Encoder(8, 4, stripe_rows=2, announced_height=4).best_offset(b"\xff"), 0)
+
+    def test_best_encoded(self):
+        rows = [ROWS[at : at + 52] for at in range(0, len(ROWS), 52)]
+        for names in ({}, dict(two_lines=True), dict(reset=True, stripe_rows=20), dict(announced_height=200, comment=b"said")):
+            with self.subTest(**names):
+                best = t85.encode(ROWS, 416, 160, most_offset=127, best_offset=True, **names)
+                self.assertEqual(t85.decode_rows(best).data, ROWS)
+                self.assertLessEqual(len(best), len(t85.encode(ROWS, 416, 160, **names)))
+                wide = b"".join(row + b"gap" for row in rows)
+                again = t85.encode(wide, 416, 160, stride=55, most_offset=127, best_offset=True, **names)
+                self.assertEqual(again, best)
+        with self.assertRaises(t85.Error) as caught:
+            t85.encode(ROWS[: 52 * 50 + 9], 416, 160, stripe_rows=20, most_offset=127, best_offset=True)
+        whole = t85.encode(ROWS, 416, 160, stripe_rows=20, most_offset=127, best_offset=True)
+        self.assertEqual(caught.exception.number, 36)
+        self.assertTrue(whole.startswith(caught.exception.partial))
+        self.assertEqual(caught.exception.partial.count(b"\xff\x02"), 2)
+        for wrong in (dict(stride=1), dict(stripe_rows=0), dict(most_offset=128)):
+            with self.assertRaises(t85.Error):
+                t85.encode(ROWS, 416, 160, best_offset=True, **wrong)
+
     def test_refused(self):
         numbers = {
             33: dict(width=0), 34: dict(width=(1 << 20) + 1), 21: dict(stripe_rows=0), 22: dict(most_offset=128),

@@ -193,6 +193,7 @@ def _load() -> ctypes.CDLL:
         "t85_encode_start": (c_uint8, [POINTER(_Encoder), size, word, word, *chosen, *write, *write, POINTER(size)]),
         "t85_encode_row": (c_uint8, [POINTER(_Encoder), *read, *write, *write, POINTER(size)]),
         "t85_encode_offset": (c_uint8, [POINTER(_Encoder), c_uint8]),
+        "t85_best_offset": (c_uint8, [POINTER(_Encoder), *read, *write, *write, write[0]]),
         "t85_encode_end": (c_uint8, [POINTER(_Encoder), *write, *write, POINTER(size)]),
         "t85_encode_rows_left": (word, [POINTER(_Encoder)]),
         "t85_encode_room": (c_uint64, [POINTER(_Encoder)]),
@@ -563,11 +564,12 @@ class Encoder:
     actual number.
 
     offset chooses the offset of the adaptive template pixel for the stripe that begins with the next row. Without it, the
-    encoder chooses one from the rows of the previous stripe.
+    encoder chooses one from the rows of the previous stripe. best_offset returns the offset that gives a stripe the fewest
+    bytes, if you have all its rows.
 
     An Error is raised, and the encoder is unchanged, if a row or an offset follows the last row or the end (number 54), if a
-    row is too short (55), if an offset is chosen within a stripe (56) or is not allowed (22), or if end is called before all
-    rows or, with announced_height, before the first row (36).
+    row is too short (55), if an offset is chosen within a stripe (56) or is not allowed (22), if rows of the stripe are
+    missing in best_offset (36), or if end is called before all rows or, with announced_height, before the first row (36).
 
     rows_left  how many more rows are accepted
     is_done    whether the stream is complete
@@ -624,6 +626,20 @@ class Encoder:
         if status:
             raise Error(status)
 
+    def best_offset(self, rows: Buffer) -> int:
+        """Returns the offset that gives the next stripe the fewest bytes.
+
+        The rows are packed, without gaps; bytes after the stripe are ignored. The stripe is encoded without output with up
+        to three offsets: the current one, 0, and the one at which the most pixels equal the pixel that far to their left.
+        """
+        _refuse_pixels(rows, self.width, max(_size(rows) // max(_row_bytes(self.width), 1), 1), None)
+        scratch, offset = _window(min(self.width, 1 << 20)), ctypes.create_string_buffer(1)
+        lent = self._window, len(self._window), scratch, len(scratch), offset
+        status = _LIBRARY.t85_best_offset(byref(self._state), _bytes(rows), _size(rows), *lent)
+        if status:
+            raise Error(status)
+        return offset.raw[0]
+
     def end(self) -> bytes:
         """Returns the last bytes of the stream, with the height if fewer rows were passed than announced."""
         last = self._taken(_LIBRARY.t85_encode_end)
@@ -658,6 +674,7 @@ def encode(
     announced_height: Optional[int] = None,
     reset: bool = False,
     comment: Optional[Buffer] = None,
+    best_offset: bool = False,
 ) -> bytes:
     """Encodes an image of packed rows. An array with one item per pixel is rejected: see pack.
 
@@ -670,6 +687,8 @@ def encode(
     announced_height  height in the header; a lower actual height is written after the last row
     reset             code each stripe independently of the ones before it
     comment           the bytes of a comment
+    best_offset       for each stripe, use the offset that gives the fewest bytes (Encoder.best_offset), instead of the one that
+                      the rows of the previous stripe choose; it takes up to four times as long
 
     If rows are missing, the Error contains the stream of the complete stripes, and a prefix of the next one.
     """
@@ -681,6 +700,12 @@ def encode(
     window = _window(min(_word("width", width), 1 << 20))
     step = _row_bytes(width) if stride is None else _length("stride", stride)
     _word("height", height)
+    if best_offset and step >= _row_bytes(width):
+        encoder = Encoder(
+            width, height, stripe_rows=stripe_rows, most_offset=most_offset, two_lines=two_lines, typical=typical,
+            variable_height=variable_height, announced_height=announced_height, reset=reset, comment=comment,
+        )
+        return _encode_best(encoder, memoryview(rows).cast("B"), height, step, stripe_rows)
     written = c_size_t()
 
     def write(stream: _Memory, room: int) -> int:
@@ -694,6 +719,20 @@ def encode(
     if status:
         raise Error(status, found)
     return found
+
+
+def _encode_best(encoder: Encoder, rows: memoryview, height: int, step: int, stripe_rows: int) -> bytes:
+    """Encodes rows at a stride, each stripe with its best offset."""
+    length, pieces = _row_bytes(encoder.width), []
+    present = min(height, (len(rows) - length) // step + 1)
+    for first in range(0, present, stripe_rows):
+        stripe = [rows[y * step : y * step + length] for y in range(first, min(first + stripe_rows, height, present))]
+        if len(stripe) == min(stripe_rows, height - first):
+            encoder.offset(encoder.best_offset(b"".join(stripe)))
+        pieces += map(encoder.row, stripe)
+    if present < height:
+        raise Error(_ROWS_MISSING, b"".join(pieces))
+    return b"".join([*pieces, encoder.end()])
 
 
 def decode(stream: Buffer, *, max_rows: Optional[int] = None, max_bytes: Optional[int] = MAX_BYTES) -> bytes:

@@ -88,6 +88,7 @@ def _parser() -> argparse.ArgumentParser:
 def _add_options(command: argparse.ArgumentParser) -> None:
     command.add_argument("-s", "--stripe-rows", type=int, default=128, metavar="N", help="rows of a stripe (128)")
     command.add_argument("-m", "--most-offset", type=int, default=0, metavar="N", help="greatest offset (0)")
+    command.add_argument("--best", dest="best_offset", action="store_true", help="the best offset for each stripe; slower")
     command.add_argument("--two-lines", action="store_true", help="the template of two lines")
     command.add_argument("--no-typical", dest="typical", action="store_false", help="no typical prediction")
     command.add_argument("-r", "--reset", action="store_true", help="each stripe begins afresh")
@@ -102,7 +103,7 @@ def _count(text: str) -> int:
 
 
 def _job(words: argparse.Namespace) -> Job:
-    names = ("stripe_rows", "most_offset", "two_lines", "typical", "reset", "comment")
+    names = ("stripe_rows", "most_offset", "best_offset", "two_lines", "typical", "reset", "comment")
     options = {name: getattr(words, name) for name in names if hasattr(words, name)}
     given = {name: getattr(words, name) for name in ("folder", "again", "max_bytes") if hasattr(words, name)}
     return Job(words.command, options=options, **given)

@@ -31,6 +31,7 @@ _OPTIONS = (
     "announced_height",
     "reset",
     "comment",
+    "best_offset",
 )
 
 
