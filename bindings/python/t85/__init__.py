@@ -688,7 +688,7 @@ def encode(
     reset             code each stripe independently of the ones before it
     comment           the bytes of a comment
     best_offset       for each stripe, use the offset that gives the fewest bytes (Encoder.best_offset), instead of the one that
-                      the rows of the previous stripe choose; it takes up to four times as long
+                      the rows of the previous stripe choose; it takes several times as long
 
     If rows are missing, the Error contains the stream of the complete stripes, and a prefix of the next one.
     """
