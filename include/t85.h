@@ -72,7 +72,8 @@ static inline uint8_t *t85_room_or_nothing(uint8_t *room)
 }
 
 /* Status codes. 0 is success; the others are errors, except T85_NO_MORE_PARTS and those from 60 on.
-   If a stream has several errors, the one nearest to its beginning is reported. */
+   If a stream has several errors, the one nearest to its beginning is reported; in its header, the
+   one with the least number. */
 enum {
     T85_OK = 0,
 
@@ -109,7 +110,7 @@ enum {
     T85_COMMENT_LONG = 26,  /* comment has 2^32 bytes or more */
     T85_NO_PIXELS = 33,     /* width or height is 0 */
     T85_IMAGE_WIDE = 34,    /* wider than T85_MOST_WIDTH */
-    T85_ROWS_MISSING = 36,  /* rows_len is too short for the image */
+    T85_ROWS_MISSING = 36,  /* rows of the image are missing */
     T85_OTHER_VERSION = 50, /* struct has another version or size */
 
     /* Parts of a stream. */
@@ -165,7 +166,7 @@ typedef struct {
     uint32_t image_height; /* the actual height */
     uint32_t entities;     /* number of stripe data entities, one per stripe */
     uint64_t moves;        /* moves of the adaptive template pixel (ATMOVE) */
-    uint64_t comments;     /* number of comments, at most UINT64_MAX */
+    uint64_t comments;     /* number of comments, counted up to UINT64_MAX */
 } t85_summary;
 
 #define T85_FACTS_VERSION 1
@@ -207,8 +208,8 @@ typedef struct {
 #define T85_DECODER_BYTES 1280
 
 /* The state of a decoder for a stream in pieces. It may be on the stack or on the heap, and may be
-   moved between calls. Calls are memory-safe whatever bytes it contains; for a decoder of all zeros
-   they return T85_NOT_BEGUN. */
+   moved between calls. Calls are memory-safe whatever bytes it contains. For a decoder of all
+   zeros, t85_decode_bytes and t85_decode_end return T85_NOT_BEGUN. */
 typedef struct {
     uint64_t opaque[T85_DECODER_BYTES / 8];
 } t85_decoder;
@@ -216,8 +217,8 @@ typedef struct {
 #define T85_ENCODER_BYTES 5360
 
 /* The state of an encoder for an image row by row. It may be on the stack or on the heap, and may
-   be moved between calls. Calls are memory-safe whatever bytes it contains; for an encoder of all
-   zeros they return T85_NOT_BEGUN. */
+   be moved between calls. Calls are memory-safe whatever bytes it contains. For an encoder of all
+   zeros, t85_encode_row, t85_encode_offset and t85_encode_end return T85_NOT_BEGUN. */
 typedef struct {
     uint64_t opaque[T85_ENCODER_BYTES / 8];
 } t85_encoder;
@@ -400,11 +401,11 @@ T85_NO_NULL((1, 8))
 uint8_t t85_encode_row(t85_encoder *encoder, const uint8_t *row, size_t row_len, uint8_t *window,
                        size_t window_len, uint8_t *stream, size_t stream_room, size_t *written);
 
-/* Chooses the offset of the adaptive template pixel for the stripe that begins with the next row: 0,
-   or one from 3 (5 with the two-line template) to most_offset. It may be called before the first row,
-   and after each whole stripe. The last call before a stripe counts. Without it, the encoder chooses
-   the offset from the rows of the previous stripe. The stream denotes the same image whatever the
-   choice; a good choice makes it shorter.
+/* Chooses the offset of the adaptive template pixel for the stripe that begins with the next row:
+   0, or one from 3 (5 with the two-line template) to most_offset. It may be called before the first
+   row, and after each whole stripe. The last call before a stripe counts. Without it, the encoder
+   chooses the offset from the rows of the previous stripe. The stream denotes the same image
+   whatever the choice; a good choice makes it shorter.
 
    Returns one of:
    0: the stripe will be encoded with this offset.

@@ -558,10 +558,10 @@ class Encoder:
         ...     send(encoder.row(row))
         >>> send(encoder.end())
 
-    row and end return the bytes of the stream that have become certain, which may be none. Their concatenated results are
-    the stream that encode returns for the whole image. The first row's result includes the header and the comment. The
-    options are those of encode. With announced_height, the height is the greatest number of rows, and end writes the
-    actual number.
+    row and end return the bytes of the stream that have become certain, which may be none. Unless offset is called, their
+    concatenated results are the stream that encode returns for the whole image. The first row's result includes the header
+    and the comment. The options are those of encode. With announced_height, the height is the greatest number of rows, and
+    end writes the actual number.
 
     offset chooses the offset of the adaptive template pixel for the stripe that begins with the next row. Without it, the
     encoder chooses one from the rows of the previous stripe. best_offset returns the offset that gives a stripe the fewest
