@@ -567,9 +567,10 @@ class Encoder:
     encoder chooses one from the rows of the previous stripe. best_offset returns the offset that gives a stripe the fewest
     bytes, if you have all its rows.
 
-    An Error is raised, and the encoder is unchanged, if a row or an offset follows the last row or the end (number 54), if a
-    row is too short (55), if an offset is chosen within a stripe (56) or is not allowed (22), if rows of the stripe are
-    missing in best_offset (36), or if end is called before all rows or, with announced_height, before the first row (36).
+    An Error is raised, and the encoder is unchanged, if a row or an offset follows the last row or the end, or end is called
+    again (number 54), if a row is too short (55), if an offset is chosen within a stripe (56) or is not allowed (22), if rows
+    of the stripe are missing in best_offset (36), or if end is called before all rows or, with announced_height, before the
+    first row (36).
 
     rows_left  how many more rows are accepted
     is_done    whether the stream is complete
