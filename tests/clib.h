@@ -39,6 +39,8 @@ void is_beginning(const char *call, buffer room, size_t written, buffer whole);
 size_t next_room(size_t room, size_t whole);
 
 /* clib_encode.c */
+/* Checks that a buffer was not written. */
+void is_filled(const char *call, buffer lent);
 void encode(char **words);
 void missing(char **words);
 void encoder_faults(buffer rows, uint32_t width, uint32_t height);

@@ -345,6 +345,26 @@ static void decoder_states(void)
     if (t85_decode_start(&decoder, sizeof decoder, 1) ||
         t85_decode_end(&decoder, NULL, 0, &row) != T85_SHORT_HEADER)
         fail("no bytes have a header");
+    if (t85_decode_height(&decoder) || t85_decode_certain(&decoder))
+        fail("t85_decode_height: %u without a header", t85_decode_height(&decoder));
+}
+
+/* Checks that a header with an error, or above the limit of rows, leaves no height. */
+static void no_height(uint8_t wanted, const uint8_t header[20], uint32_t max_rows)
+{
+    t85_decoder decoder;
+    size_t taken = 77, row = 0;
+    if (t85_decode_start(&decoder, sizeof decoder, max_rows) ||
+        t85_decode_bytes(&decoder, header, 20, NULL, 0, &taken, &row) != wanted ||
+        t85_decode_height(&decoder) || t85_decode_certain(&decoder))
+        fail("t85_decode_height: %u after status %d", t85_decode_height(&decoder), wanted);
+}
+
+static void heights_of_headers(void)
+{
+    static const uint8_t zeros[20] = {0}, two[20] = {0, 0, 1, 0, 0, 0, 0, 1, 0, 0, 0, 2, 0, 0, 0, 1};
+    no_height(T85_PLANES, zeros, 2);
+    no_height(T85_TOO_MANY_ROWS, two, 1);
 }
 
 void decoder_faults(buffer rows, uint32_t width, uint32_t height)
@@ -365,4 +385,5 @@ void decoder_faults(buffer rows, uint32_t width, uint32_t height)
         unread(T85_SHORT_STRIDE, stream, UINT32_MAX, stride, three);
     give_back(stream);
     decoder_states();
+    heights_of_headers();
 }

@@ -269,7 +269,7 @@ static void bounds(void)
         fail("t85_encode_bound of no stripes");
 }
 
-static void is_filled(const char *call, buffer lent)
+void is_filled(const char *call, buffer lent)
 {
     size_t i;
     for (i = 0; i < lent.len; i++)

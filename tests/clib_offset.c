@@ -71,7 +71,29 @@ static void put(writer *by, const uint8_t *row, size_t row_len)
     by->len += written;
 }
 
-/* Encodes an image with these offsets; the stream must decode to the image. */
+/* Returns the best offset for the next stripe. Neither the encoder nor its window may change. */
+static uint8_t best(writer *by, const uint8_t *rows, size_t rows_len, uint8_t wanted)
+{
+    t85_encoder kept = by->encoder;
+    buffer lines = copied(by->window.bytes, by->window.len), scratch = filled(by->window.len);
+    uint8_t offset = 77;
+    uint8_t status = t85_best_offset(&by->encoder, rows, rows_len, by->window.bytes, by->window.len,
+                                     scratch.bytes, scratch.len, &offset);
+    if (status != wanted || memcmp(&kept, &by->encoder, sizeof kept) ||
+        memcmp(lines.bytes, by->window.bytes, lines.len))
+        fail("t85_best_offset: status %d, expected %d, or the encoder has changed", status, wanted);
+    if (status) {
+        if (offset != 77)
+            fail("t85_best_offset: an offset with status %d", status);
+        is_filled("t85_best_offset", scratch);
+    }
+    give_back(scratch);
+    give_back(lines);
+    return offset;
+}
+
+/* Encodes an image with these offsets, or with the best ones; the stream must decode to the image.
+ */
 static size_t encode_with(chooser choose, uint32_t width, uint32_t height, buffer rows,
                           const t85_options *options)
 {
@@ -80,16 +102,23 @@ static size_t encode_with(chooser choose, uint32_t width, uint32_t height, buffe
     buffer again = filled(rows.len);
     uint32_t y, count = 0;
     for (y = 0; y < height; y++) {
-        if (y % options->stripe_rows)
+        const uint8_t *next = rows.bytes + y * row;
+        size_t left = rows.len - y * row;
+        uint8_t offset;
+        if (y % options->stripe_rows) {
             rejected(T85_IN_STRIPE, &by, 0);
-        else {
+            best(&by, next, left, T85_IN_STRIPE);
+        } else {
             allowed_only(&by, options);
-            if (t85_encode_offset(&by.encoder, choose(y, options)))
-                fail("t85_encode_offset: %u is not accepted", choose(y, options));
+            best(&by, next, row - 1, T85_ROWS_MISSING);
+            offset = choose ? choose(y, options) : best(&by, next, left, T85_OK);
+            if (t85_encode_offset(&by.encoder, offset))
+                fail("t85_encode_offset: %u is not accepted", offset);
         }
-        put(&by, rows.bytes + y * row, row);
+        put(&by, next, row);
     }
     rejected(T85_NO_MORE_ROWS, &by, 0);
+    best(&by, rows.bytes, rows.len, T85_NO_MORE_ROWS);
     put(&by, NULL, 0);
     rejected(T85_NO_MORE_ROWS, &by, 0);
     if (t85_decode_rows(by.stream.bytes, by.len, height, row, by.window.bytes, by.window.len,
@@ -119,5 +148,6 @@ void offsets(buffer rows, uint32_t width, uint32_t height)
             options.stripe_rows = height / 5 + 1;
             encode_with(nominal, width, height, rows, &options);
             encode_with(in_turn, width, height, rows, &options);
+            encode_with(NULL, width, height, rows, &options);
         }
 }
