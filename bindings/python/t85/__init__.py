@@ -503,11 +503,11 @@ class Decoder:
 
     def feed(self, data: Buffer) -> list[bytes]:
         """Returns the rows that these bytes complete."""
-        return self._told(list(self._fed(bytes(memoryview(data)))))
+        return self._rows_or_error(list(self._fed(bytes(memoryview(data)))))
 
     def end(self) -> list[bytes]:
         """Signals the end of the stream, and returns the remaining rows."""
-        return self._told(list(self._ended()))
+        return self._rows_or_error(list(self._ended()))
 
     def _fed(self, piece: bytes) -> Iterator[bytes]:
         """Yields the rows that a piece completes. At the end, the status is that of the last call."""
@@ -543,7 +543,8 @@ class Decoder:
         assert self.header is not None
         return self._window.raw[place : place + _row_bytes(self.header.width)]
 
-    def _told(self, rows: list[bytes]) -> list[bytes]:
+    def _rows_or_error(self, rows: list[bytes]) -> list[bytes]:
+        """Returns the rows, or raises the stream's error with them."""
         if self._status in (0, _MORE):
             return rows
         width = self.header.width if self.header else 0
@@ -601,7 +602,7 @@ class Encoder:
         # The header and the comment, which are returned with the first row.
         self._output = ctypes.create_string_buffer(26 + _size(said))
         self._head = b""
-        self._head = self._taken(
+        self._head = self._written(
             _LIBRARY.t85_encode_start, ctypes.sizeof(self._state), width, _word("height", height), byref(chosen),
             _bytes(said), _size(said),
         )
@@ -619,7 +620,7 @@ class Encoder:
     def row(self, data: Buffer) -> bytes:
         """Encodes the next packed row, and returns bytes that became certain. Bytes after the row are ignored."""
         _refuse_pixels(data, self.width, 1, None)
-        return self._taken(_LIBRARY.t85_encode_row, _bytes(data), _size(data))
+        return self._written(_LIBRARY.t85_encode_row, _bytes(data), _size(data))
 
     def offset(self, offset: int) -> None:
         """Chooses the adaptive pixel's offset for the next stripe: 0, or 3 (5 with two_lines) to most_offset."""
@@ -643,11 +644,11 @@ class Encoder:
 
     def end(self) -> bytes:
         """Returns the last bytes of the stream, with the height if fewer rows were passed than announced."""
-        last = self._taken(_LIBRARY.t85_encode_end)
+        last = self._written(_LIBRARY.t85_encode_end)
         self.is_done = True
         return last
 
-    def _taken(self, call: Callable[..., int], *words: Any) -> bytes:
+    def _written(self, call: Callable[..., int], *words: Any) -> bytes:
         """The bytes not returned yet, followed by those that a call writes."""
         room = int(_LIBRARY.t85_encode_room(byref(self._state)))
         if len(self._output) < room:

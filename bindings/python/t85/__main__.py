@@ -176,8 +176,8 @@ def _work(job: Job, names: Sequence[str], words: argparse.Namespace) -> int:
         total.seconds = time.monotonic() - begin
         if not words.quiet:
             print(*total.lines(), sep="\n", file=sys.stderr)
-        is_told = not words.json or _write_json(words.json, total, kept)
-    return 0 if is_told and not total.failed else 1
+        is_reported = not words.json or _write_json(words.json, total, kept)
+    return 0 if is_reported and not total.failed else 1
 
 
 def _show(words: argparse.Namespace) -> int:
