@@ -22,7 +22,7 @@ import sys
 import t85
 from t85 import many
 
-stream: bytes = t85.encode(b"", 8, 0, comment=bytearray(b"said"), stride=1)
+stream: bytes = t85.encode(b"", 8, 0, comment=bytearray(b"said"), stride=1, best_offset=True)
 image: bytes = t85.decode(memoryview(stream), max_rows=9, max_bytes=None)
 rows: t85.Rows = t85.decode_rows(mmap.mmap(-1, 100), max_bytes=2 * t85.MAX_BYTES)
 width: int = t85.header(stream).width + t85.info(stream).image_height + rows.count
@@ -33,6 +33,7 @@ bits = t85.unpack(page, black=True), t85.to_array(page)
 job = many.Job("encode", folder="streams", options={"most_offset": 127})
 states: list[str] = [outcome.state for outcome in many.run(job, ["a.pbm"], workers=2)]
 with t85.Encoder(8, 2, announced_height=2, comment=b"said") as encoder:
+    encoder.offset(encoder.best_offset(bytearray(2)))
     pieces: list[bytes] = [encoder.row(bytearray(1)), encoder.end()]
     left: int = encoder.rows_left
 length: int = t85.encode_file(pathlib.Path("a.pbm"), sys.stdout.buffer, most_offset=127)

@@ -725,7 +725,8 @@ def encode(
 
 def _encode_best(encoder: Encoder, rows: memoryview, height: int, step: int, stripe_rows: int) -> bytes:
     """Encodes rows at a stride, each stripe with its best offset."""
-    length, pieces = _row_bytes(encoder.width), []
+    length = _row_bytes(encoder.width)
+    pieces: list[bytes] = []
     present = min(height, (len(rows) - length) // step + 1)
     for first in range(0, present, stripe_rows):
         stripe = [rows[y * step : y * step + length] for y in range(first, min(first + stripe_rows, height, present))]
