@@ -126,7 +126,7 @@ class _Picture:
         y, x = self._at(self.height) + 24, _MARGIN
         marks = [("stripe", _BOUND), ("adaptive pixel moves", _MOVE), ("bytes of a stripe", _BAR)]
         if self.rows.count < self.height:
-            marks.append(("not to be had", _BROKEN))
+            marks.append(("lost", _BROKEN))
         for label, colour in marks:
             self.draw.rectangle((x, y + 4, x + 14, y + 16), fill=colour)
             self._text(x + 22, y, label)
