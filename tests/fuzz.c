@@ -1,7 +1,8 @@
 /* Calls the library with streams that libFuzzer generates, and stops if a call breaks its
    promise, or if JBIG-KIT's library decodes another image than t85_decode from a stream that
-   both accept. The image is encoded again, by both, and by an encoder that receives its rows one
-   by one. The buffers of the calls adjoin inaccessible pages, at their end or at their front. */
+   both accept. The image is encoded again, by both, by an encoder that receives its rows one by
+   one, and by one that also receives offsets. The buffers of the calls adjoin inaccessible pages,
+   at their end or at their front. */
 #define _GNU_SOURCE
 #include "t85.h"
 
@@ -283,6 +284,52 @@ static void encoder_of_any_bytes(uint32_t width, uint32_t height, const t85_opti
     }
 }
 
+/* Chooses the offset before row y, at random or by t85_best_offset, or neither. */
+static void choose(t85_encoder *encoder, uint32_t y, uint32_t height, const t85_options *options)
+{
+    size_t row = lines.len / 3;
+    uint32_t least = options->options & T85_TWO_LINES ? 5 : 3, offset = roll(2) ? roll(256) : 0;
+    bool allowed = offset == 0 || (offset >= least && offset <= options->most_offset);
+    uint8_t wanted = y == height ? T85_NO_MORE_ROWS : y % options->stripe_rows ? T85_IN_STRIPE : T85_OK, best = 200;
+    if (roll(3) == 0)
+        CHECK(t85_encode_offset(encoder, (uint8_t)offset) == (wanted || allowed ? wanted : T85_OFFSET_LARGE));
+    if (roll(3) == 0) {
+        lend(&again, lines.len);
+        CHECK(t85_best_offset(encoder, rows.bytes + y * row, rows.len - y * row, lines.bytes, lines.len, again.bytes,
+                              again.len, &best) == wanted);
+        CHECK(wanted ? best == 200 : t85_encode_offset(encoder, best) == T85_OK);
+    }
+}
+
+/* Encodes the same image with offsets that the caller chooses; it is decoded again. */
+static void by_choice(uint32_t width, uint32_t height, const t85_options *options)
+{
+    static uint8_t chosen[2 * PLACE];
+    size_t row = t85_row_bytes(width), at, more;
+    t85_encoder *encoder;
+    uint32_t y;
+    lend(&state, sizeof *encoder);
+    encoder = (t85_encoder *)state.bytes;
+    lend(&lines, 3 * row);
+    CHECK(t85_encode_start(encoder, sizeof *encoder, width, height, options, comment.bytes, comment.len, lines.bytes,
+                           lines.len, chosen, sizeof chosen, &at) == T85_OK);
+    for (y = 0; y <= height; y++) {
+        choose(encoder, y, height, options);
+        CHECK(put_row(encoder, y < height ? rows.bytes + y * row : NULL, row, (size_t)t85_encode_room(encoder), &more) ==
+              T85_OK);
+        CHECK(more <= sizeof chosen - at);
+        memcpy(chosen + at, again.bytes, more);
+        at += more;
+    }
+    CHECK(at <= t85_encode_bound(width, height, options, comment.len));
+    lend(&stream, at);
+    memcpy(stream.bytes, chosen, at);
+    lend(&image, 22 + row * height);
+    CHECK(decode(&image, UINT32_MAX, &more) == T85_OK);
+    CHECK(!memcmp(image.bytes + more - row * height, rows.bytes, row * height));
+    as_theirs(rows.bytes, width, height);
+}
+
 /* Encodes an image with any options, in a buffer that is large enough, and in one that is too
    small. Decodes it again, also with JBIG-KIT's decoder. */
 static void encode_again(const uint8_t *packed, uint32_t width, uint32_t height)
@@ -317,6 +364,7 @@ static void encode_again(const uint8_t *packed, uint32_t width, uint32_t height)
     as_theirs(rows.bytes, width, height);
     if (!options.reset && !options.announces_height && !options.has_comment)
         theirs_again(width, height, &options, written);
+    by_choice(width, height, &options);
 }
 
 /* libFuzzer keeps an input that sets a counter for the first time, as if it reached a new line
