@@ -360,8 +360,9 @@ uint8_t t85_decode_end(t85_decoder *decoder, uint8_t *window, size_t window_len,
 T85_NO_NULL((1))
 uint32_t t85_decode_certain(const t85_decoder *decoder);
 
-/* Returns the current height: that of the header until another has arrived, and 0 before the header
-   has been read. If the header has T85_VARIABLE_HEIGHT, it may decrease until the end. */
+/* Returns the current height: that of the header until another has arrived, and 0 until
+   T85_HEADER_READ has been returned, also if the header was rejected. If the header has
+   T85_VARIABLE_HEIGHT, it may decrease until the end. */
 T85_NO_NULL((1))
 uint32_t t85_decode_height(const t85_decoder *decoder);
 

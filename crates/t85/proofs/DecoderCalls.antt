@@ -1,6 +1,6 @@
 -- A decoder that a C caller holds.
-use Rattle.std.proofs.Common.{◌≡◌, ◌≤◌, ◌<◌, ◌+◌, ◌*◌, ◌⊎◌, inl, inr, ℕ, suc, ◌==◌, Bool, true, false, not, List, [], ◌++◌, length, take, drop, None, Some, refl, sym, ap, subst, ◌∙◌, arith, append_assoc, append-nil, length-append, length-take, take_all, take-append-drop, true≢false}
-use Rattle.std.specs.Prelude.{◌&&◌}
+use Rattle.std.proofs.Common.{cond, ◌≡◌, ◌≤◌, ◌<◌, ◌+◌, ◌*◌, ◌⊎◌, inl, inr, ℕ, suc, ◌==◌, Bool, true, false, not, List, [], ◌++◌, length, take, drop, None, Some, refl, sym, ap, subst, ◌∙◌, arith, append_assoc, append-nil, length-append, length-take, take_all, take-append-drop, true≢false}
+use Rattle.std.specs.Prelude.{◌&&◌, ◌||◌}
 use Rattle.std.proofs.lemmas.Bool.Decides.{nat_tests}
 use Rattle.std.proofs.lemmas.List.{length-drop, length-take-le, take-append-le}
 use Rattle.std.proofs.Math.Nat.{mul-le-mul_right, suc-mul}
@@ -21,13 +21,16 @@ use Rattle.t85_core.specs.declared.pieces.Progress.{Progress}
 use Rattle.t85_core.specs.Header.{HeaderOf, header_fault}
 use Rattle.t85_core.specs.Laws.{HeaderLaws}
 use Rattle.t85_core.specs.Lent.{decoder_over, decoder_view}
-use Rattle.t85_core.specs.Numbers.{piece_numbers}
+use Rattle.t85_core.specs.Numbers.{piece_numbers, stage_number}
+use Rattle.t85_core.specs.Steps.PieceStands.{entities_behind}
+use Rattle.t85_core.specs.declared.pieces.walk.Stage.{Stage}
+use Rattle.t85_core.specs.declared.pieces.walk.Stage.TheVariants as stage
 use Rattle.t85_core.specs.Options.{fields_of}
 use Rattle.t85_core.specs.Feeds.{HasFed, IsFeed}
-use Rattle.t85_core.specs.Pieces.{HasDecoded, HandsOut, HoldsImage}
+use Rattle.t85_core.specs.Pieces.{AwaitsHeight, HasDecoded, HandsOut, HoldsImage, stripes_ended}
 use Rattle.t85_core.specs.Pieces.{call_of as piece_call}
 use Rattle.t85.specs.Decoded.{window_bytes}
-use Rattle.t85.specs.Decoder.{AnnouncesMore, Answers, BehindHeader, BreaksBehindHeader, BytesCall, GivesRowAt, HasRead, Hold, InHeader, InRows, IsBrokenStream, IsImageOf, IsShort, LacksWindow, ReadsHeader, StandAt, TellsAnswer, bytes_of_call, bytes_call, bytes_held_by, hold_of, is_waiting, numbers_of_decoder}
+use Rattle.t85.specs.Decoder.{AnnouncesMore, Answers, AwaitsBehindHeader, BehindHeader, BreaksBehindHeader, BytesCall, GivesRowAt, HasRead, Hold, InHeader, InRows, IsBrokenStream, IsImageOf, IsShort, LacksWindow, ReadsHeader, StandAt, TellsAnswer, bytes_of_call, bytes_call, bytes_held_by, hold_of, is_waiting, numbers_of_decoder, stripes_ended_by}
 use Rattle.t85.specs.DecoderSteps.{IsAwaited, IsFilled, IsJudged, IsOfEngine, IsToldOf}
 use Rattle.t85.specs.declared.decoder.T85Decoder.{T85Decoder}
 use Rattle.t85.specs.declared.decoder.Told.{Told}
@@ -38,6 +41,16 @@ use Rattle.t85.specs.declared.decoder.Answer.TheVariants as answer
 pub flag : (byte : ℕ) (b : Bool) → byte ≡ from_bool b → not (byte == 0) ≡ b
 flag byte true e = subst (λ n. not (n == 0) ≡ true) (sym e) refl
 flag byte false e = subst (λ n. not (n == 0) ≡ false) (sym e) refl
+
+-- the stripes that a decoder's numbers show as ended
+ended_same : (s : Stage) (d : T85Decoder) (entities : ℕ) → d.stage ≡ stage_number s → d.entities ≡ entities → stripes_ended_by d ≡ entities_behind s entities
+ended_same s d entities stage_is entities_is = ap (λ n. cond {A = ℕ} ((n == 2) || (n == 3)) (d.entities + 1) d.entities) stage_is ∙ ap (λ n. cond {A = ℕ} ((stage_number s == 2) || (stage_number s == 3)) (n + 1) n) entities_is ∙ by s where
+  by : (s : Stage) → cond {A = ℕ} ((stage_number s == 2) || (stage_number s == 3)) (entities + 1) entities ≡ entities_behind s entities
+  by stage.Head = refl
+  by stage.Comment = refl
+  by stage.Code = refl
+  by stage.Row = refl
+  by stage.Done = refl
 
 pub not_some : (fault : Fault) → None ≡ Some fault → ⊥
 not_some fault e = cc
@@ -59,7 +72,7 @@ in_rows hold stream out e (inr (inr h)) = h
 
 pub answers_from : {Has Has' : List ℕ → List ℕ → Type 0} (old mid new : Hold) (call : BytesCall) (what : Answer) → ((stream out : List ℕ) → Has stream out → Has' stream out) → IsOfEngine what → Answers Has' mid new call what → Answers Has old new call what
 answers_from old mid new call answer.Row k of a = record { bound = a.bound; tells = λ s o h. a.tells s o (k s o h) }
-answers_from old mid new call answer.More k of a = record { bound = a.bound; tells = (a.tells.0, (λ s o h. a.tells.1 s o (k s o h)), a.tells.2, (λ n w s o h. a.tells.3 n w s o (k s o h))) }
+answers_from old mid new call answer.More k of a = record { bound = a.bound; tells = (a.tells.0, (λ s o h. a.tells.1 s o (k s o h)), a.tells.2, (λ n w s o h. a.tells.3 n w s o (k s o h)), (λ n w s o h. a.tells.4 n w s o (k s o h))) }
 answers_from old mid new call answer.Done k of a = record { bound = a.bound; tells = (a.tells.0, λ s o r h m. a.tells.1 s o r (k s o h) m) }
 answers_from old mid new call (answer.Broken fault) k of a = record { bound = a.bound; tells = (a.tells.0, λ s o r h m. a.tells.1 s o r (k s o h) m) }
 answers_from old mid new call what k of a = absurd of
@@ -86,14 +99,16 @@ header_waits d mid new bytes window count is_all answer.More version next fill f
           version_is = fill.version_is ∙ version;
           next_is = fill.next_is ∙ next;
           few = few;
+          height_is = fill.height_is ∙ was.height_is;
           stream_is = ap (λ s. s ++ take count bytes) was.stream_is ∙ sym fill.filled;
           out_is = was.out_is;
         }))),
     (λ a. true≢false (sym a ∙ all)),
     (λ n. absurd (omega (arith, n, ap (λ z. z.next) same, fill.next_is, next))),
+    (λ n. absurd (omega (arith, n, ap (λ z. z.next) same, fill.next_is, next))),
   );
 }
-header_waits d mid new bytes window count is_all (answer.Broken fault) version next fill few (all, is, ended) = record {
+header_waits d mid new bytes window count is_all (answer.Broken fault) version next fill few (all, is, ended, kept) = record {
   bound = omega (arith, fill.count_is);
   tells = (
     ended,
@@ -102,7 +117,7 @@ header_waits d mid new bytes window count is_all (answer.Broken fault) version n
         let none : rest ≡ [] = follows all in
         let whole : take count bytes ≡ bytes = take_all count bytes (omega (arith, fill.count_is, fill.len_is, few)) in
         let is_short : length (stream ++ bytes) < 20 = subst (λ s. length s < 20) (fill.filled ∙ ap (λ s. s ++ take count bytes) (sym was.stream_is) ∙ ap (λ b. stream ++ b) whole) (take_few mid.header_len mid.header few) in
-        inl (ap header_fault (ap (λ r. (stream ++ bytes) ++ r) none ∙ append-nil (stream ++ bytes)) ∙ short_fault (stream ++ bytes) is_short ∙ ap Some (sym is), was.out_is),
+        inl (ap header_fault (ap (λ r. (stream ++ bytes) ++ r) none ∙ append-nil (stream ++ bytes)) ∙ short_fault (stream ++ bytes) is_short ∙ ap Some (sym is), was.out_is, kept ∙ fill.height_is ∙ was.height_is),
   );
 }
 header_waits d mid new bytes window count is_all what version next fill few none = absurd none
@@ -128,6 +143,9 @@ module _ (laws : HeaderLaws) (d mid new : T85Decoder) (bytes window : List ℕ) 
   out_is : (stream out : List ℕ) → HasRead (hold_of d window) stream out → out ≡ []
   out_is stream out has = (in_header (hold_of d window) stream out next has).out_is
 
+  height_is : (stream out : List ℕ) → HasRead (hold_of d window) stream out → mid.height ≡ 0
+  height_is stream out has = fill.height_is ∙ (in_header (hold_of d window) stream out next has).height_is
+
   goes_on : (stream out rest : List ℕ) → HasRead (hold_of d window) stream out → (stream ++ bytes) ++ rest ≡ mid.header ++ (drop count bytes ++ rest)
   goes_on stream out rest has =
       ap (λ b. (stream ++ b) ++ rest) (sym (take-append-drop count bytes)) ∙ ap (λ s. s ++ rest) (sym (append_assoc stream (take count bytes) (drop count bytes)))
@@ -145,14 +163,14 @@ module _ (laws : HeaderLaws) (d mid new : T85Decoder) (bytes window : List ℕ) 
   }
   header_judged answer.TooManyRows is = record {
     bound = omega (arith, fill.count_is);
-    tells = (is.0, λ stream out has. subst (λ s. AnnouncesMore s new.max_rows) (sym (stream_is stream out has)) is.1);
+    tells = (is.0, λ stream out has. (subst (λ s. AnnouncesMore s new.max_rows) (sym (stream_is stream out has)) is.1, is.2 ∙ height_is stream out has));
   }
   header_judged (answer.Broken fault) is = record {
     bound = omega (arith, fill.count_is);
     tells = (
       is.0,
       λ stream out rest has follows.
-          inl (ap header_fault (goes_on stream out rest has) ∙ laws.refusal_stands mid.header (drop count bytes ++ rest) (omega (arith, fill.long)) ∙ is.1, out_is stream out has),
+          inl (ap header_fault (goes_on stream out rest has) ∙ laws.refusal_stands mid.header (drop count bytes ++ rest) (omega (arith, fill.long)) ∙ is.1, out_is stream out has, is.2 ∙ height_is stream out has),
     );
   }
   header_judged what is = absurd is
@@ -332,6 +350,16 @@ module _ (laws : HeaderLaws) (old kept new : T85Decoder) (memory memory' : List 
                   (subst (λ n. HandsOut (fields_of header) (k.text ++ bytes) n Truncated out) high
                   (subst (λ h. HandsOut (fields_of h) (k.text ++ bytes) e'.height Truncated out) header_is ((call.fed.more e1 k.text out (has_of stream out k)).1 quiet)));
             })),
+        (λ n w stream out k.
+            let ended : stripes_ended (decoder_view e' (rows_at kept.place header.xd memory') learned') ≡ stripes_ended_by new = sym (ap stripes_ended_by same ∙ ended_same e'.walk.stage kept e'.walk.entities (ap (λ z. z.stage) numbers) (ap (λ z. z.entities) numbers)) in
+            let late : (e'.is_open && e'.waits) ≡ true = sym (ap (λ z. z.is_open && z.waits) numbers) ∙ (sym (ap is_waiting same) ∙ w) in
+            subst (λ s. AwaitsBehindHeader s (stripes_ended_by new)) (sym (ap (λ s. s ++ bytes) k.stream_is ∙ append_assoc old.header k.text bytes)) (
+              fields_of header,
+              laws.stands old.header (k.text ++ bytes) (fields_of header) header_of,
+              subst (λ b. AwaitsHeight (fields_of header) b (stripes_ended_by new)) (sym (behind (k.text ++ bytes)))
+                  (subst (AwaitsHeight (fields_of header) (k.text ++ bytes)) ended
+                  (subst (λ h. AwaitsHeight (fields_of h) (k.text ++ bytes) (stripes_ended (decoder_view e' (rows_at kept.place header.xd memory') learned'))) header_is ((call.fed.more e1 k.text out (has_of stream out k)).2 late))),
+            )),
       )
   row_told (outcome.Done height) e1 (is, ended, same) =
       told_as answer.Done is tt (
@@ -424,7 +452,7 @@ module _ (laws : HeaderLaws) (d d' : T85Decoder) (window memory' rest : List ℕ
 
   pub window_cut : (call : BytesCall) (what : Answer) → IsOfEngine what → Answers (HasRead (hold_of d (take needed window))) (hold_of d (take needed window)) (hold_of d' memory') call what → Answers (HasRead (hold_of d window)) (hold_of d window) (hold_of d' (memory' ++ rest)) call what
   window_cut call answer.Row of a = record { bound = a.bound; tells = λ s o h. row_back call (s ++ bytes_of_call call) o (a.tells s o (lent s o h)) }
-  window_cut call answer.More of a = record { bound = a.bound; tells = (a.tells.0, (λ s o h. read_with d' memory' (memory' ++ rest) same_back (s ++ bytes_of_call call) o (a.tells.1 s o (lent s o h))), a.tells.2, (λ n w s o h. a.tells.3 n w s o (lent s o h))) }
+  window_cut call answer.More of a = record { bound = a.bound; tells = (a.tells.0, (λ s o h. read_with d' memory' (memory' ++ rest) same_back (s ++ bytes_of_call call) o (a.tells.1 s o (lent s o h))), a.tells.2, (λ n w s o h. a.tells.3 n w s o (lent s o h)), (λ n w s o h. a.tells.4 n w s o (lent s o h))) }
   window_cut call answer.Done of a = record { bound = a.bound; tells = (a.tells.0, λ s o r h m. a.tells.1 s o r (lent s o h) m) }
   window_cut call (answer.Broken fault) of a = record { bound = a.bound; tells = (a.tells.0, λ s o r h m. a.tells.1 s o r (lent s o h) m) }
   window_cut call what of a = absurd of

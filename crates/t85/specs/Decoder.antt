@@ -1,5 +1,5 @@
 -- A decoder in a C caller's struct, and the effect of its calls.
-use Rattle.std.specs.Prelude.{ℕ, ◌≡◌, ◌≢◌, ◌≤◌, ◌<◌, ◌⊎◌, ◌==◌, ◌||◌, ◌&&◌, not, if◌then◌else◌, Bool, true, false, List, [], ◌++◌, length, take, drop, Some}
+use Rattle.std.specs.Prelude.{ℕ, ◌+◌, ◌≡◌, ◌≢◌, ◌≤◌, ◌<◌, ◌⊎◌, ◌==◌, ◌||◌, ◌&&◌, not, if◌then◌else◌, Bool, true, false, List, [], ◌++◌, length, take, drop, Some}
 use Rattle.std.specs.Int.{div_ceil}
 use Rattle.raster_core.specs.Packed.{rows_at}
 use Rattle.t85_core.specs.declared.fault.Fault.{Fault}
@@ -12,7 +12,7 @@ use Rattle.t85_core.specs.Lent.{decoder_view}
 use Rattle.t85_core.specs.Numbers.{piece_numbers}
 use Rattle.t85_core.specs.Options.{fields_of}
 use Rattle.t85_core.specs.Feeds.{HasFed}
-use Rattle.t85_core.specs.Pieces.{HandsOut, HoldsImage, IsLeastHeight, MayFollow}
+use Rattle.t85_core.specs.Pieces.{AwaitsHeight, HandsOut, HoldsImage, IsLeastHeight, MayFollow}
 use Rattle.t85.specs.Decoded.{window_bytes}
 use Rattle.t85.specs.declared.decoder.T85Decoder.{T85Decoder}
 use Rattle.t85.specs.declared.decoder.Answer.{Answer}
@@ -78,6 +78,7 @@ pub record InHeader (d : T85Decoder) (stream out : List ℕ) : Type 0 where
   pub version_is : d.version ≡ 1
   pub next_is : d.next ≡ 0
   pub few : d.header_len < 20
+  pub height_is : d.height ≡ 0
   pub stream_is : stream ≡ take d.header_len d.header
   pub out_is : out ≡ []
 
@@ -148,7 +149,11 @@ pub record BreaksBehindHeader (stream : List ℕ) (height : ℕ) (fault : Fault)
   pub hands : HandsOut header (drop 20 stream) height fault out
 
 abbrev pub IsBrokenStream : List ℕ → ℕ → Fault → List ℕ → Type 0
-IsBrokenStream stream height fault out = ((header_fault stream ≡ Some fault) × (out ≡ [])) ⊎ BreaksBehindHeader stream height fault out
+IsBrokenStream stream height fault out = ((header_fault stream ≡ Some fault) × (out ≡ []) × (height ≡ 0)) ⊎ BreaksBehindHeader stream height fault out
+
+-- It is not known yet whether a height follows the end marker of this many stripes, or precedes the first.
+abbrev pub AwaitsBehindHeader : List ℕ → ℕ → Type 0
+AwaitsBehindHeader stream stripes = (header : Fields) × HeaderOf stream header × AwaitsHeight header (drop 20 stream) stripes
 
 -- a stream's header announces more rows than the limit
 pub record AnnouncesMore (stream : List ℕ) (rows : ℕ) : Type 0 where
@@ -177,6 +182,10 @@ status_told (answer.Ended status) = status
 abbrev pub is_waiting : T85Decoder → Bool
 is_waiting d = not (d.is_open == 0) && not (d.waits == 0)
 
+-- the number of stripes whose end marker a waiting decoder has read
+abbrev pub stripes_ended_by : T85Decoder → ℕ
+stripes_ended_by d = if (d.stage == 2) || (d.stage == 3) then d.entities + 1 else d.entities
+
 -- The meaning of a result, where `Has` holds for each stream that the decoder may have consumed, and the rows that it returned.
 abbrev pub TellsAnswer : (Has : List ℕ → List ℕ → Type 0) → Hold → Hold → BytesCall → Answer → Type 0
 TellsAnswer Has old new call answer.Header = (stream out : List ℕ) → Has stream out → BehindHeader new.decoder (stream ++ bytes_of_call call) out
@@ -184,11 +193,12 @@ TellsAnswer Has old new call answer.Row = (stream out : List ℕ) → Has stream
 TellsAnswer Has old new call answer.More =
     (call.taken ≡ length call.bytes) × ((stream out : List ℕ) → Has stream out → HasRead new (stream ++ bytes_of_call call) out) × (call.is_all ≡ true → ⊥)
     × (new.decoder.next ≡ 2 → is_waiting new.decoder ≡ false → (stream out : List ℕ) → Has stream out → BreaksBehindHeader (stream ++ call.bytes) new.decoder.height Truncated out)
+    × (new.decoder.next ≡ 2 → is_waiting new.decoder ≡ true → (stream out : List ℕ) → Has stream out → AwaitsBehindHeader (stream ++ call.bytes) (stripes_ended_by new.decoder))
 TellsAnswer Has old new call answer.Done =
     HasEnded new.decoder 0 × ((stream out rest : List ℕ) → Has stream out → MayFollow call.is_all rest → IsImageOf ((stream ++ call.bytes) ++ rest) new.decoder.height out)
 TellsAnswer Has old new call (answer.Broken fault) =
     HasEnded new.decoder (fault_number fault) × ((stream out rest : List ℕ) → Has stream out → MayFollow call.is_all rest → IsBrokenStream ((stream ++ call.bytes) ++ rest) new.decoder.height fault out)
-TellsAnswer Has old new call answer.TooManyRows = HasEnded new.decoder 24 × ((stream out : List ℕ) → Has stream out → AnnouncesMore (stream ++ bytes_of_call call) new.decoder.max_rows)
+TellsAnswer Has old new call answer.TooManyRows = HasEnded new.decoder 24 × ((stream out : List ℕ) → Has stream out → AnnouncesMore (stream ++ bytes_of_call call) new.decoder.max_rows × (new.decoder.height ≡ 0))
 TellsAnswer Has old new call answer.ShortWindow = KeepsHold old new call × ((stream out : List ℕ) → Has stream out → IsShort old.window stream)
 TellsAnswer Has old new call answer.NotBegun = KeepsHold old new call × ((stream out : List ℕ) → Has stream out → ⊥)
 TellsAnswer Has old new call (answer.Ended status) = KeepsHold old new call × HasEnded old.decoder status

@@ -22,11 +22,11 @@ pub record KeepsRest (d d' : T85Decoder) : Type 0 where
   pub header : d'.header ≡ d.header
   pub learned : d'.learned ≡ d.learned
 
--- The result of parsing twenty bytes as a header.
+-- The result of parsing twenty bytes as a header. A header that is rejected leaves the height as it is.
 abbrev pub IsJudged : T85Decoder → T85Decoder → Answer → Type 0
 IsJudged d d' answer.Header = BehindHeader d' d.header []
-IsJudged d d' answer.TooManyRows = HasEnded d' 24 × AnnouncesMore d.header d'.max_rows
-IsJudged d d' (answer.Broken fault) = HasEnded d' (fault_number fault) × (header_fault d.header ≡ Some fault)
+IsJudged d d' answer.TooManyRows = HasEnded d' 24 × AnnouncesMore d.header d'.max_rows × (d'.height ≡ d.height)
+IsJudged d d' (answer.Broken fault) = HasEnded d' (fault_number fault) × (header_fault d.header ≡ Some fault) × (d'.height ≡ d.height)
 IsJudged d d' answer.Row = ⊥
 IsJudged d d' answer.More = ⊥
 IsJudged d d' answer.Done = ⊥
@@ -50,7 +50,7 @@ pub record MayEnterRows (header : Header) (d : T85Decoder) : Type 0 where
 -- The header is incomplete.
 abbrev pub IsAwaited : T85Decoder → T85Decoder → Bool → Answer → Type 0
 IsAwaited d d' is_all answer.More = (is_all ≡ false) × (d' ≡ d)
-IsAwaited d d' is_all (answer.Broken fault) = (is_all ≡ true) × (fault ≡ ShortHeader) × HasEnded d' (fault_number fault)
+IsAwaited d d' is_all (answer.Broken fault) = (is_all ≡ true) × (fault ≡ ShortHeader) × HasEnded d' (fault_number fault) × (d'.height ≡ d.height)
 IsAwaited d d' is_all answer.Header = ⊥
 IsAwaited d d' is_all answer.Row = ⊥
 IsAwaited d d' is_all answer.Done = ⊥
@@ -71,6 +71,7 @@ pub record IsFilled (d d' : T85Decoder) (bytes : List ℕ) (count : ℕ) : Type 
   pub version_is : d'.version ≡ d.version
   pub next_is : d'.next ≡ d.next
   pub limit_is : d'.max_rows ≡ d.max_rows
+  pub height_is : d'.height ≡ d.height
   pub count_is : count ≡ min (length bytes) (20 - d.header_len)
   pub len_is : d'.header_len ≡ d.header_len + count
   pub long : length d'.header ≡ 20

@@ -168,7 +168,8 @@ pub extern "C" fn t85_decode_end(decoder: &mut T85Decoder, window: &mut [u8], ro
     told.answer.status()
 }
 
-/// Returns the current height: the header's until another has arrived, and 0 before the header has been read.
+/// Returns the current height: the header's until another has arrived, and 0 before the header has been read, or if it
+/// was rejected.
 #[unsafe(no_mangle)]
 pub extern "C" fn t85_decode_height(decoder: &T85Decoder) -> u32
     ensures { result ≡ height_of_decoder decoder.now }

@@ -35,5 +35,6 @@ pub mod PieceNumbers
 pub mod PieceLook
 pub mod PieceCertain
 pub mod PieceBelow
+pub mod PieceOpen
 pub mod WalkDecoded
 pub mod WalkRead

@@ -10,12 +10,12 @@ use Rattle.t85_core.specs.declared.pieces.Progress.{Progress}
 use Rattle.t85_core.specs.declared.pieces.Outcome.TheVariants as outcome
 use Rattle.t85_core.specs.Header.{Fields}
 use Rattle.t85_core.specs.Options.{fields_of}
-use Rattle.t85_core.specs.Height.{IsHeight}
+use Rattle.t85_core.specs.Height.{IsHeight, IsOpen}
 use Rattle.t85_core.specs.Denotes.{DenotesAt}
 use Rattle.t85_core.specs.Fixed.{Fixes}
 use Rattle.t85_core.specs.Outcomes.{end_told}
 use Rattle.t85_core.specs.Steps.Pieces.{HasMarker}
-use Rattle.t85_core.specs.Steps.PieceStands.{DecoderStands}
+use Rattle.t85_core.specs.Steps.PieceStands.{DecoderStands, entities_behind}
 
 -- the header of the stream that a decoder decodes
 abbrev pub stream_of : PieceView → Fields
@@ -61,6 +61,17 @@ pub record HoldsImage (h : Fields) (body : List ℕ) (height : ℕ) (out : List 
   pub denotes : DenotesAt h height body (record { width = h.xd; rows = take height rows })
   pub out_is : out ≡ flat_map packed_row rows
 
+-- The bytes end behind the end marker of this many stripes, or before the first one, in marker segments: it is not known yet
+-- whether a height is among these.
+pub record AwaitsHeight (h : Fields) (body : List ℕ) (stripes : ℕ) : Type 0 where
+  pub unknown : IsOpen h body
+  pub many : length unknown.stripes ≡ stripes
+  pub no_code : unknown.code ≡ []
+
+-- the number of stripes whose end marker a waiting decoder has read
+abbrev pub stripes_ended : PieceView → ℕ
+stripes_ended d = entities_behind d.walk.stage d.walk.entities
+
 -- the bytes that may follow a piece: none after the last
 abbrev pub MayFollow : Bool → List ℕ → Type 0
 MayFollow is_all rest = is_all ≡ true → rest ≡ []
@@ -98,11 +109,12 @@ RowsWait Before old call =
     rows_given call.new ≤ height
 
 -- No row is returned. If no row waits, and nothing follows the piece, the stream ends too early, and fixes exactly the returned
--- rows.
+-- rows. A row waits only as long as it is not known whether a height follows the end marker of its stripe.
 abbrev pub WantsMore : (Before After : List ℕ → List ℕ → Type 0) → PieceView → Call → Type 0
 WantsMore Before After old call =
     call.answer ≡ outcome.More → (text out : List ℕ) → Before text out →
     After (text ++ take call.taken call.piece) out × (waits_behind call.new ≡ false → HandsOut (stream_of old) (text ++ call.piece) call.new.height Truncated out)
+    × (waits_behind call.new ≡ true → AwaitsHeight (stream_of old) (text ++ call.piece) (stripes_ended call.new))
 
 -- the image is whole at this height, whatever follows the piece
 abbrev pub IsWhole : (Before : List ℕ → List ℕ → Type 0) → PieceView → Call → Type 0
@@ -188,6 +200,11 @@ abbrev pub PiecesMore : Type 0
 PiecesMore =
     (d : PieceView) (calls : List Call) (last : Call) → HasDecoded d [] [] → AreCalls d calls → IsCall (decoder_after d calls) last → last.answer ≡ outcome.More → waits_behind last.new ≡ false →
     HandsOut (stream_of d) (flat_map bytes_taken calls ++ last.piece) last.new.height Truncated (flat_map row_given calls)
+
+abbrev pub PiecesAwait : Type 0
+PiecesAwait =
+    (d : PieceView) (calls : List Call) (last : Call) → HasDecoded d [] [] → AreCalls d calls → IsCall (decoder_after d calls) last → last.answer ≡ outcome.More → waits_behind last.new ≡ true →
+    AwaitsHeight (stream_of d) (flat_map bytes_taken calls ++ last.piece) (stripes_ended last.new)
 
 abbrev pub PiecesWait : Type 0
 PiecesWait =

@@ -481,19 +481,31 @@ static ANSWERS: [(usize, Outcome, u32); 9] = [
     (0, Outcome::Done(2), 2),
 ];
 
-#[test]
-fn rows_wait_for_a_height(rt: HostRuntime) -> Result<(), Fail> {
-    let stream = Hex(
-        "00000100 00000001 00000009 00000001 00 0000 20 C0 FF02 C0 FF02 FF05 00000002",
-    ).to_vec(rt.alloc())?;
-    let mut input = Pieces::new(&stream, 4096, None);
+/// The same for rows of eight pixels. Three code bytes determine the first row (T.82, 6.8), so it does not wait for the
+/// bytes behind the end marker that comes with them.
+static DETERMINED: [(usize, Outcome, u32); 3] = [
+    (5, Outcome::Row, 1),
+    (0, Outcome::More, 1),
+    // The code of the second stripe begins.
+    (1, Outcome::More, 2),
+];
+
+/// Asserts the results of calls, each with this many more bytes of the stream, and the number of certain rows.
+fn assert_answers(
+    rt: &impl Abort,
+    alloc: Global,
+    stream: &[u8],
+    answers: &[(usize, Outcome, u32)],
+    height: u32,
+) -> Result<(), Fail> {
+    let mut input = Pieces::new(stream, 4096, None);
     let header = Header::read(&mut input)?;
-    let mut lent = Vec::from_elem(rt.alloc(), 0u8, window_bytes(header.xd))?;
+    let mut lent = Vec::from_elem(alloc, 0u8, window_bytes(header.xd))?;
     let mut window = Window::over(lent.as_mut_slice(), header.xd);
     let mut learned = Learned::new();
     let mut decoder = PieceDecoder::start(header, &mut window, &mut learned);
     let mut feed = Feed::new(input.rest);
-    'calls: for &(count, answer, certain) in &ANSWERS {
+    'calls: for &(count, answer, certain) in answers {
         feed.come(count);
         let told = call(
             &mut decoder,
@@ -506,8 +518,24 @@ fn rows_wait_for_a_height(rt: HostRuntime) -> Result<(), Fail> {
         assert_eq!(rt; told, answer);
         assert_eq!(rt; decoder.certain(), certain);
     }
-    assert_eq!(rt; decoder.height(), 2);
+    assert_eq!(rt; decoder.height(), height);
     Ok(())
+}
+
+#[test]
+fn rows_wait_for_a_height(rt: HostRuntime) -> Result<(), Fail> {
+    let stream = Hex(
+        "00000100 00000001 00000009 00000001 00 0000 20 C0 FF02 C0 FF02 FF05 00000002",
+    ).to_vec(rt.alloc())?;
+    assert_answers(&rt, rt.alloc(), &stream, &ANSWERS, 2)
+}
+
+#[test]
+fn determined_rows_do_not_wait(rt: HostRuntime) -> Result<(), Fail> {
+    let stream = Hex("00000100 00000008 00000009 00000001 00 0000 20 F00000 FF02 F0").to_vec(
+        rt.alloc(),
+    )?;
+    assert_answers(&rt, rt.alloc(), &stream, &DETERMINED, 9)
 }
 
 /// Streams whose height is the header's.

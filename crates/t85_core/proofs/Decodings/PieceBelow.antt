@@ -50,7 +50,7 @@ module _ {h : Fields} {count : ℕ} {text : List ℕ} (ok : IsAccepted h) (s : S
   none_passed = nil_of (lengths p.segments) (let e = p.given_is in omega (arith, e))
 
   -- the next one begins with these segments
-  next_begins : count < stripe_count h.yd h.l0 → CodeBegins h count (text ++ front)
+  pub next_begins : count < stripe_count h.yd h.l0 → CodeBegins h count (text ++ front)
   next_begins fewer = record {
     stripes = s.stripes;
     segments = p.segments;
@@ -62,6 +62,10 @@ module _ {h : Fields} {count : ℕ} {text : List ℕ} (ok : IsAccepted h) (s : S
     none_here = none_passed;
     fewer = fewer;
   }
+
+  pub next_with : (fewer : count < stripe_count h.yd h.l0) → (next_begins fewer).segments ≡ p.segments
+  unfolding next_begins
+  next_with fewer = refl
 
   -- its code comes
   code_above : count < stripe_count h.yd h.l0 → (c : code_type.Code) → IsByteOrMarker c → (rest : List ℕ) (n : ℕ) → IsHeight h ((text ++ front) ++ (code_bytes c ++ rest)) n → count * h.l0 < n
@@ -95,6 +99,23 @@ module _ {h : Fields} {count : ℕ} {text : List ℕ} (ok : IsAccepted h) (s : S
     went (inl more) = after_more h n count (length g.stripes) g.valid more
     went (inr few) = absurd (never (omega (arith, le, few)))
 
+-- ---- the stripes up to an end marker
+
+pub stripes_came : (h : Fields) → IsAccepted h → (w : WalkView) (text out : List ℕ) → IsInCode w.stage → HasMarker w → w.given ≡ false → WalkStands (sized h h.yd) w text out → StripesCame h (w.entities + 1) text
+stripes_came h ok w text out in_code marked ungiven walk = by in_code where
+  whole : (before code : List ℕ) → CodeBegins h w.entities before → IsWholeCode code → text ≡ before ++ code → StripesCame h (w.entities + 1) text
+  whole before code begins (bytes, reset, small, is) text_is = subst (StripesCame h (w.entities + 1)) (ap (λ z. before ++ z) (sym is) ∙ sym text_is) (whole_stripe ok begins bytes reset small)
+
+  by : IsInCode w.stage → StripesCame h (w.entities + 1) text
+  by (inl e) =
+      let k : CodeStands (sized h h.yd) (head_place w.entities false w.at w.carried) (code_place w.row w.first w.marker w.decoder) text out =
+      subst (λ g. CodeStands (sized h h.yd) (head_place w.entities g w.at w.carried) (code_place w.row w.first w.marker w.decoder) text out) ungiven (at_stage e walk) in
+      whole k.before k.code (code_begins k.head) (entity_closed w.first w.marker k.read.answers k.extra k.code k.code_is marked) k.text_is
+  by (inr e) =
+      let k : InRowStands (sized h h.yd) (head_place w.entities false w.at w.carried) (code_place w.row w.first w.marker w.decoder) w.place text out =
+      subst (λ g. InRowStands (sized h h.yd) (head_place w.entities g w.at w.carried) (code_place w.row w.first w.marker w.decoder) w.place text out) ungiven (at_stage e walk) in
+      whole k.before k.code (code_begins k.head) (entity_closed w.first w.marker (k.begun.read.answers ++ k.begun.since) [] k.code k.code_is marked) k.text_is
+
 -- ---- a decoder that gave a row which waited
 
 module _ (d d' : PieceView) (late : d.is_open ≡ true) (waits : d.waits ≡ true) (limit : ℕ) (gave : GivesBelow d d' limit) where
@@ -116,23 +137,7 @@ module _ (d d' : PieceView) (late : d.is_open ≡ true) (waits : d.waits ≡ tru
     w = waits_of d text out late waits s
 
     came : StripesCame H (d.walk.entities + 1) w.done
-    came = by gave.code where
-      marked : HasMarker d.walk
-      marked = marker_of d.walk w.at gave.code
-
-      whole : (before code : List ℕ) → CodeBegins H d.walk.entities before → IsWholeCode code → w.done ≡ before ++ code → StripesCame H (d.walk.entities + 1) w.done
-      whole before code begins (bytes, reset, small, is) done_is =
-          subst (StripesCame H (d.walk.entities + 1)) (ap (λ z. before ++ z) (sym is) ∙ sym done_is) (whole_stripe ok begins bytes reset small)
-
-      by : IsInCode d.walk.stage → StripesCame H (d.walk.entities + 1) w.done
-      by (inl e) =
-          let k : CodeStands (sized H d.header.yd) (head_place d.walk.entities false d.walk.at d.walk.carried) (code_place d.walk.row d.walk.first d.walk.marker d.walk.decoder) w.done out =
-          subst (λ g. CodeStands (sized H d.header.yd) (head_place d.walk.entities g d.walk.at d.walk.carried) (code_place d.walk.row d.walk.first d.walk.marker d.walk.decoder) w.done out) w.ungiven (at_stage e w.walk) in
-          whole k.before k.code (code_begins k.head) (entity_closed d.walk.first d.walk.marker k.read.answers k.extra k.code k.code_is marked) k.text_is
-      by (inr e) =
-          let k : InRowStands (sized H d.header.yd) (head_place d.walk.entities false d.walk.at d.walk.carried) (code_place d.walk.row d.walk.first d.walk.marker d.walk.decoder) d.walk.place w.done out =
-          subst (λ g. InRowStands (sized H d.header.yd) (head_place d.walk.entities g d.walk.at d.walk.carried) (code_place d.walk.row d.walk.first d.walk.marker d.walk.decoder) d.walk.place w.done out) w.ungiven (at_stage e w.walk) in
-          whole k.before k.code (code_begins k.head) (entity_closed d.walk.first d.walk.marker (k.begun.read.answers ++ k.begun.since) [] k.code k.code_is marked) k.text_is
+    came = stripes_came H ok d.walk w.done out gave.code (marker_of d.walk w.at gave.code) w.ungiven w.walk
 
     place_is : place_behind H d.walk.stage d.walk.entities ≡ record { height = d.header.yd; entities = d.walk.entities + 1; given = false }
     place_is = ap place_of (in_code_entities d.walk.stage d.walk.entities gave.code) where

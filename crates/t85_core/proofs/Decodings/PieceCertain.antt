@@ -122,6 +122,10 @@ code_begins {h} {entities} {at} {carried} {text} {out} s = record {
   fewer = s.fewer;
 }
 
+pub begins_with : {h : Fields} {entities : ℕ} {at : Option move.Move} {carried : Carried} {text out : List ℕ} (s : HeadStands (sized h h.yd) (head_place entities false at carried) text out) → (code_begins s).segments ≡ s.passed.segments
+unfolding code_begins
+begins_with s = refl
+
 -- ---- heights that can still come
 
 -- a height after as many data entities, and one more

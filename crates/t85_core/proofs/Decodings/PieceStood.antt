@@ -33,12 +33,12 @@ use Rattle.t85_core.specs.Header.{Fields, is_variable}
 use Rattle.t85_core.specs.Options.{fields_of}
 use Rattle.t85_core.specs.Height.{GivesHeight, IsHeight}
 use Rattle.t85_core.specs.Laws.{IsInUse}
-use Rattle.t85_core.specs.Pieces.{HasDecoded, HasHeight, HandsOut, HoldsImage, row_held}
+use Rattle.t85_core.specs.Pieces.{AwaitsHeight, HasDecoded, HasHeight, HandsOut, HoldsImage, row_held, stripes_ended}
 use Rattle.t85_core.specs.Steps.Behind.{BehindStands, BreaksBehind, StopsBehind, behind_at}
 use Rattle.t85_core.specs.Steps.Pieces.{HeadStands, CommentStands, InRowStands, IsFirstWalk, WalkStands, CutOff, SomeStands, StepsOn, StepsOff, Step, RowStep, RowLeaves, StripesOn, StageStands, KeepsPlace, HasMarker, IsInCode, head_place, code_place}
 use Rattle.t85_core.specs.Steps.SizedImage.{sized}
 use Rattle.t85_core.specs.Steps.PieceStands.{DecoderStands, HeightKnown, StandsAs, CodeWalks, WalkWaits, IsAtMarker, entities_behind, is_last, place_behind, last_behind}
-use Rattle.t85_core.specs.Steps.PieceSteps.{SomeStand, DecoderOn, EndsWhole, EndsBroken, NoHeightBelow, StepLeaves, KeepsDecoder, StripeLeft, StripeClosed, HeadEntered, RowsAreGiven, head_stage, steps_left}
+use Rattle.t85_core.specs.Steps.PieceSteps.{SomeStand, DecoderOn, EndsWhole, EndsBroken, NoHeightBelow, StaysOpen, StepLeaves, KeepsDecoder, StripeLeft, StripeClosed, HeadEntered, RowsAreGiven, head_stage, steps_left}
 use Rattle.t85_core.specs.Steps.Passage.{passage}
 use Rattle.t85_core.proofs.Decodings.ImagePut.{in_use}
 use Rattle.t85_core.proofs.Decodings.PieceBehind.{behind_first, front_is, part_of}
@@ -111,7 +111,7 @@ none_some e = cc
 abbrev AnswerLeaves : Bool → PieceView → PieceView → List ℕ → List ℕ → Option Outcome → Type 0
 AnswerLeaves is_all d d' p p' None = DecoderOn d d' p p' []
 AnswerLeaves is_all d d' p p' (Some outcome.Row) = DecoderOn d d' p p' (row_held d') × NoHeightBelow is_all d d' p
-AnswerLeaves is_all d d' p p' (Some outcome.More) = (is_all ≡ false) × DecoderOn d d' p p' [] × (waits_behind d' ≡ false → EndsBroken true d p d'.height Truncated) × (length p' ≤ 7)
+AnswerLeaves is_all d d' p p' (Some outcome.More) = (is_all ≡ false) × DecoderOn d d' p p' [] × (waits_behind d' ≡ false → EndsBroken true d p d'.height Truncated) × (length p' ≤ 7) × (waits_behind d' ≡ true → StaysOpen d d' p)
 AnswerLeaves is_all d d' p p' (Some (outcome.Done n)) = (d'.height ≡ n) × EndsWhole is_all d p n
 AnswerLeaves is_all d d' p p' (Some (outcome.Broken f)) = EndsBroken is_all d p d'.height f
 
@@ -145,15 +145,15 @@ pub record Comes (fault : Fault) (is_all : Bool) (r : Outcome) : Type 0 where
 some_is : {r s : Outcome} → Some r ≡ Some s → r ≡ s
 some_is e = cc
 
-pub leaves_stop : (is_all : Bool) (d d' : PieceView) (p p' : List ℕ) (fault : Fault) (r : Outcome) → Comes fault is_all r → d'.header ≡ d.header → d'.end ≡ d.end → (fault ≡ Truncated → DecoderOn d d' p p' [] × (length p' ≤ 7)) →
+pub leaves_stop : (is_all : Bool) (d d' : PieceView) (p p' : List ℕ) (fault : Fault) (r : Outcome) → Comes fault is_all r → d'.header ≡ d.header → d'.end ≡ d.end → waits_behind d' ≡ false → (fault ≡ Truncated → DecoderOn d d' p p' [] × (length p' ≤ 7)) →
     ((is_all : Bool) → (fault ≡ Truncated → is_all ≡ true) → EndsBroken is_all d p d'.height fault) → StepLeaves is_all d d' p p' (Some r)
-leaves_stop is_all d d' p p' fault r c header going on broken = record {
+leaves_stop is_all d d' p p' fault r c header going quiet on broken = record {
   header = header;
   going = going;
   on = λ e. absurd (none_some (sym e));
   row = λ e. absurd (c.row (some_is e));
   waits = λ e. absurd (c.row (some_is e));
-  more = λ e. let k = c.more (some_is e) in (k.1, (on k.0).0, (λ _. subst (EndsBroken true d p d'.height) k.0 (broken true (λ _. refl))), (on k.0).1);
+  more = λ e. let k = c.more (some_is e) in (k.1, (on k.0).0, (λ _. subst (EndsBroken true d p d'.height) k.0 (broken true (λ _. refl))), (on k.0).1, (λ w. absurd (true≢false (sym w ∙ quiet))));
   done = λ n e. absurd (c.done n (some_is e));
   broken = λ f e. let k = c.broken f (some_is e) in subst (EndsBroken is_all d p d'.height) (sym k.0) (broken is_all (λ t. k.1 (k.0 ∙ t)));
 }
@@ -315,6 +315,12 @@ module _ (is_all : Bool) (d e d' : PieceView) (p p1 p' : List ℕ) (header : e.h
       let a = on text out s in
       waits late marked (text ++ a.0) (out ++ []) rest n a.2 follows (subst (λ k. IsHeight (fields_of k) (((text ++ a.0) ++ p1) ++ rest) n) (sym header) (subst (λ z. IsHeight (fields_of d.header) z n) (sym (all_text text a.0 rest a.1)) i))
 
+  open_after : StaysOpen e d' p1 → StaysOpen d d' p
+  open_after waits text out s =
+      let a = on text out s in
+      subst (λ k. AwaitsHeight (fields_of k) (text ++ p) (stripes_ended d')) header
+      (subst (λ z. AwaitsHeight (fields_of e.header) z (stripes_ended d')) (append_assoc text a.0 p1 ∙ ap (λ z. text ++ z) (sym a.1)) (waits (text ++ a.0) (out ++ []) a.2))
+
   pub leaves_after : (r : Option Outcome) → StepLeaves is_all e d' p1 p' r → StepLeaves is_all d d' p p' r
   leaves_after r k = record {
     header = k.header ∙ header;
@@ -322,7 +328,7 @@ module _ (is_all : Bool) (d e d' : PieceView) (p p1 p' : List ℕ) (header : e.h
     on = λ is. on_compose d e d' p p1 p' [] on (k.on is);
     row = λ is. on_compose d e d' p p1 p' (row_held d') on (k.row is);
     waits = λ is. waits_after (k.waits is);
-    more = λ is. let m = k.more is in (m.0, on_compose d e d' p p1 p' [] on m.1, (λ w. broken_after true d'.height Truncated (m.2 w)), m.3);
+    more = λ is. let m = k.more is in (m.0, on_compose d e d' p p1 p' [] on m.1, (λ w. broken_after true d'.height Truncated (m.2 w)), m.3, (λ w. open_after (m.4 w)));
     done = λ n is. let m = k.done n is in (m.0, whole_after n m.1);
     broken = λ f is. broken_after is_all d'.height f (k.broken f is);
   }
@@ -435,8 +441,11 @@ module _ (h : Fields) (w : WalkView) (b : Behind) (place : Place) (done back out
   bare : HeadStands (sized h h.yd) (head_place w.entities false None w.carried) done out
   bare = subst (λ a. HeadStands (sized h h.yd) (head_place w.entities false a w.carried) done out) none (subst (λ g. HeadStands (sized h h.yd) (head_place w.entities g w.at w.carried) done out) ungiven (at_stage is s))
 
+  pub head_segments : HeadStands (sized h h.yd) (head_place w.entities false b.at w.carried) (done ++ bs.front) out
+  head_segments = head_behind entities bare bs.passed
+
   full : HeadStands (sized h h.yd) (head_place w.entities w.given b.at w.carried) (done ++ bs.front) out
-  full = subst (λ g. HeadStands (sized h h.yd) (head_place w.entities g b.at w.carried) (done ++ bs.front) out) (sym ungiven) (head_behind entities bare bs.passed)
+  full = subst (λ g. HeadStands (sized h h.yd) (head_place w.entities g b.at w.carried) (done ++ bs.front) out) (sym ungiven) head_segments
 
   pub head_walk : b.comment ≡ None → WalkStands (sized h h.yd) (record w { at = b.at }) (done ++ back) out
   head_walk between = walk_at s bs.at_is s.code_is s.behind (put_stage _ _ _ _ _ _ is (subst (λ z. HeadStands (sized h h.yd) (head_place w.entities w.given b.at w.carried) (done ++ z) out) (sym (front_is bs between)) full))
@@ -578,8 +587,8 @@ module _ (d : PieceView) (known : d.is_open ≡ false) where
       cut_hands (fields_of d.header) d.height (text ++ p) out rest f (subst (λ z. HasHeight (fields_of d.header) z d.height) (sym (append_assoc text p rest)) (known_of text (p ++ rest) s.height)) (λ t. follows (all t)) (off text out (walks_of d text out known s))
 
 -- more bytes are needed behind a marker
-pub leaves_more : (is_all : Bool) (d d' : PieceView) (p p' : List ℕ) → d'.header ≡ d.header → d'.end ≡ d.end → is_all ≡ false → d'.is_open ≡ true → d'.waits ≡ true → DecoderOn d d' p p' [] → length p' ≤ 7 → StepLeaves is_all d d' p p' (Some outcome.More)
-leaves_more is_all d d' p p' header going open_ late waits on few = leaves_as is_all d d' p p' (Some outcome.More) header going (open_, on, (λ w. absurd (true≢false (sym (subst (λ b. (b && d'.waits) ≡ true) (sym late) waits) ∙ w))), few)
+pub leaves_more : (is_all : Bool) (d d' : PieceView) (p p' : List ℕ) → d'.header ≡ d.header → d'.end ≡ d.end → is_all ≡ false → d'.is_open ≡ true → d'.waits ≡ true → DecoderOn d d' p p' [] → length p' ≤ 7 → StaysOpen d d' p → StepLeaves is_all d d' p p' (Some outcome.More)
+leaves_more is_all d d' p p' header going open_ late waits on few stays = leaves_as is_all d d' p p' (Some outcome.More) header going (open_, on, (λ w. absurd (true≢false (sym (subst (λ b. (b && d'.waits) ≡ true) (sym late) waits) ∙ w))), few, (λ _. stays))
 
 pub fewer_after : (old mid new : Bool) (p p1 p' : List ℕ) → mid ≡ old → length p1 ≤ length p → steps_left new p' < steps_left mid p1 → steps_left new p' < steps_left old p
 fewer_after old mid new p p1 p' same le less = let k : steps_left new p' < 2 * length p1 + cond {A = ℕ} old 0 1 = subst (λ b. steps_left new p' < 2 * length p1 + cond {A = ℕ} b 0 1) same less in omega (arith, k, le)
@@ -653,7 +662,7 @@ module _ (is_all : Bool) (d d' : PieceView) (p p' : List ℕ) (header : d'.heade
     on = λ e text out s. (there (text, out, s)).on e text out s;
     row = λ e text out s. (there (text, out, s)).row e text out s;
     waits = λ e late marked text out rest n s. (there (text, out, s)).waits e late marked text out rest n s;
-    more = λ e. ((cut e).0, (λ text out s. ((there (text, out, s)).more e).1 text out s), (λ w text out rest s. ((there (text, out, s)).more e).2 w text out rest s), (cut e).1);
+    more = λ e. ((cut e).0, (λ text out s. ((there (text, out, s)).more e).1 text out s), (λ w text out rest s. ((there (text, out, s)).more e).2 w text out rest s), (cut e).1, (λ w text out s. ((there (text, out, s)).more e).4 w text out s));
     done = λ n e. (done n e, (λ text out rest s. ((there (text, out, s)).done n e).1 text out rest s));
     broken = λ f e text out rest s. (there (text, out, s)).broken f e text out rest s;
   }

@@ -6,7 +6,7 @@ use Rattle.t85_core.specs.Lent.{PieceView}
 use Rattle.t85_core.specs.declared.pieces.Outcome.{Outcome}
 use Rattle.t85_core.specs.declared.pieces.Outcome.TheVariants as outcome
 use Rattle.t85_core.specs.Height.{IsHeight}
-use Rattle.t85_core.specs.Pieces.{stream_of, row_held, HasDecoded, HandsOut, HoldsImage, PiecesTaken, PiecesWait, PiecesMore, PiecesWhole, PiecesBroken, Call, IsCallBy, StreamGoesOn, bytes_taken, given_with, row_given, AreCalls, decoder_after}
+use Rattle.t85_core.specs.Pieces.{AwaitsHeight, PiecesAwait, stripes_ended, stream_of, row_held, HasDecoded, HandsOut, HoldsImage, PiecesTaken, PiecesWait, PiecesMore, PiecesWhole, PiecesBroken, Call, IsCallBy, StreamGoesOn, bytes_taken, given_with, row_given, AreCalls, decoder_after}
 use Rattle.t85_core.specs.Feeds.{HasFed, Feed, AreFeeds, FeedsTaken, decoder_fed, held_after}
 
 -- a call more
@@ -58,6 +58,11 @@ pub more_at : PiecesMore
 more_at d calls last s are is e waits =
     subst (λ z. HandsOut z (flat_map bytes_taken calls ++ last.piece) last.new.height Truncated (flat_map row_given calls)) (stream_after d calls are)
     ((is.more e (flat_map bytes_taken calls) (flat_map row_given calls) (taken_at d calls s are)).1 waits)
+
+pub await_at : PiecesAwait
+await_at d calls last s are is e waits =
+    subst (λ z. AwaitsHeight z (flat_map bytes_taken calls ++ last.piece) (stripes_ended last.new)) (stream_after d calls are)
+    ((is.more e (flat_map bytes_taken calls) (flat_map row_given calls) (taken_at d calls s are)).2 waits)
 
 pub whole_at : PiecesWhole
 whole_at d calls last height rest s are is e follows =

@@ -19,7 +19,7 @@ use Rattle.t85_core.specs.Steps.HeightWalk.{LookEnds}
 use Rattle.t85_core.specs.Steps.Behind.{BehindStands, behind_at}
 use Rattle.t85_core.specs.Steps.Pieces.{WalkStands, IsInCode, HasMarker}
 use Rattle.t85_core.specs.Steps.SizedImage.{sized}
-use Rattle.t85_core.specs.Pieces.{HandsOut, HoldsImage, MayFollow, row_held, rows_given, stream_of}
+use Rattle.t85_core.specs.Pieces.{AwaitsHeight, HandsOut, HoldsImage, MayFollow, row_held, rows_given, stream_of, stripes_ended}
 use Rattle.t85_core.specs.Steps.Passage.{passage}
 
 -- a decoder with late heights that looks for one
@@ -50,6 +50,10 @@ abbrev pub NoHeightBelow : Bool → PieceView → PieceView → List ℕ → Typ
 NoHeightBelow is_all d d' piece =
     d'.is_open ≡ true → HasMarker d'.walk → (text out rest : List ℕ) (n : ℕ) → DecoderStands d text out → MayFollow is_all rest → IsHeight (stream_of d) ((text ++ piece) ++ rest) n → rows_given d' ≤ n
 
+-- it is not known yet whether a height follows the piece
+abbrev pub StaysOpen : PieceView → PieceView → List ℕ → Type 0
+StaysOpen d d' piece = (text out : List ℕ) → DecoderStands d text out → AwaitsHeight (stream_of d) (text ++ piece) (stripes_ended d')
+
 -- The effect of a step: no result if another step follows.
 pub record StepLeaves (is_all : Bool) (d d' : PieceView) (piece piece' : List ℕ) (answer : Option Outcome) : Type 0 where
   pub header : d'.header ≡ d.header
@@ -57,7 +61,7 @@ pub record StepLeaves (is_all : Bool) (d d' : PieceView) (piece piece' : List �
   pub on : answer ≡ None → DecoderOn d d' piece piece' []
   pub row : answer ≡ Some outcome.Row → DecoderOn d d' piece piece' (row_held d')
   pub waits : answer ≡ Some outcome.Row → NoHeightBelow is_all d d' piece
-  pub more : answer ≡ Some outcome.More → (is_all ≡ false) × DecoderOn d d' piece piece' [] × (waits_behind d' ≡ false → EndsBroken true d piece d'.height Truncated) × (length piece' ≤ 7)
+  pub more : answer ≡ Some outcome.More → (is_all ≡ false) × DecoderOn d d' piece piece' [] × (waits_behind d' ≡ false → EndsBroken true d piece d'.height Truncated) × (length piece' ≤ 7) × (waits_behind d' ≡ true → StaysOpen d d' piece)
   pub done : (n : ℕ) → answer ≡ Some (outcome.Done n) → (d'.height ≡ n) × EndsWhole is_all d piece n
   pub broken : (f : Fault) → answer ≡ Some (outcome.Broken f) → EndsBroken is_all d piece d'.height f
 

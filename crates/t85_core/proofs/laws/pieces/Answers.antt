@@ -1,4 +1,4 @@
-use Rattle.t85_core.proofs.Theorems.InPieces.{taken_at, fed_at, wait_at, more_at, whole_at, broken_at}
+use Rattle.t85_core.proofs.Theorems.InPieces.{taken_at, fed_at, wait_at, more_at, await_at, whole_at, broken_at}
 use Rattle.t85_core.proofs.laws.pieces.Goals as goal
 
 pub returns-clause-taken : goal.returns-clause-taken
@@ -12,6 +12,9 @@ returns-clause-wait c = wait_at
 
 pub returns-clause-more : goal.returns-clause-more
 returns-clause-more c = more_at
+
+pub returns-clause-awaits : goal.returns-clause-awaits
+returns-clause-awaits c = await_at
 
 pub returns-clause-whole : goal.returns-clause-whole
 returns-clause-whole c = whole_at

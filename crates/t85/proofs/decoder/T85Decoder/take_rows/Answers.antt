@@ -1,6 +1,6 @@
 use Rattle.std.proofs.Common.{rules}
 use Rattle.t85.specs.Decoder.{hold_of}
-use Rattle.t85.proofs.DecoderCalls.{long_enough, no_place, none_refused, not_begun, short_of, short_window, window_cut}
+use Rattle.t85.proofs.DecoderCalls.{long_enough, none_refused, not_begun, short_of, short_window, window_cut}
 use Rattle.t85.proofs.decoder.T85Decoder.take_rows.Goals as goal
 
 pub returns-in-Err-clause-answers : goal.returns-in-Err-clause-answers

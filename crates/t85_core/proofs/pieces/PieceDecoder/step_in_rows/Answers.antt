@@ -1,4 +1,5 @@
 use Rattle.std.proofs.Common.{◌≡◌, ◌++◌, ◌∙◌, [], drop, Err, inl, inr, refl, sym, ap, subst, append-nil, arith}
+use Rattle.std.specs.Prelude.{◌&&◌}
 use Rattle.t85_core.specs.Options.{fields_of}
 use Rattle.t85_core.specs.Steps.PieceCode.{EndsInNoEscape, HasNoMarker}
 use Rattle.t85_core.specs.Steps.Pieces.{StepsOff}
@@ -22,7 +23,7 @@ returns-then-front-bytes-clause-leaves c =
     let none : c.split_at.result.1.now ≡ [] = nil_of c.split_at.result.1.now (omega (arith, c.split_at.ensures.front_len, c.split_at.ensures.back_len, c.if-front-bytes.true)) in
     let all : c.split_at.result.0.now ≡ c.args.piece.now.rest.now = sym (append-nil c.split_at.result.0.now) ∙ ap (λ z. c.split_at.result.0.now ++ z) (sym none) ∙ sym (split_is c.args.piece.now.rest.now c.split_at.result.0.now c.split_at.result.1.now c.code_len.result c.split_at.ensures.front c.split_at.ensures.back) in
     leaves_stop c.args.is_all (decoder_lent c.args.self.now c.args.lent.now) _ c.args.piece.now.rest.now c.give_row.new.piece.rest.now c.in-Err.fault c.outcome_of.result
-    (record { more = c.outcome_of.ensures.more; broken = c.outcome_of.ensures.broken; row = c.outcome_of.ensures.row; done = c.outcome_of.ensures.done }) refl refl
+    (record { more = c.outcome_of.ensures.more; broken = c.outcome_of.ensures.broken; row = c.outcome_of.ensures.row; done = c.outcome_of.ensures.done }) refl refl (ap (λ b. b && c.args.self.now.waits) c.requires.in_code.0 ∙ c.requires.in_code.1)
     (λ e. let m = c.in-Err.ensures.step.more (ap Err e) in (
       code_on (decoder_lent c.args.self.now c.args.lent.now) _ c.args.piece.now.rest.now c.split_at.result.0.now c.split_at.result.1.now c.give_row.new.piece.rest.now c.give_row.new.piece.rest.now [] c.requires.in_code.0 c.requires.in_code.1 (record { header = refl; height = refl; is_open = refl; waits = refl; behind = refl; going = refl }) (split_is c.args.piece.now.rest.now c.split_at.result.0.now c.split_at.result.1.now c.code_len.result c.split_at.ensures.front c.split_at.ensures.back)
           (λ _ g is. sym (append-nil c.give_row.new.piece.rest.now) ∙ ap (λ z. c.give_row.new.piece.rest.now ++ z) (sym none))

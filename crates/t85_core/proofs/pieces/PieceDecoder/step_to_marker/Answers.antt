@@ -1,4 +1,5 @@
 use Rattle.std.proofs.Common.{◌∙◌, true, Err, ap, refl, inl, inr}
+use Rattle.std.specs.Prelude.{◌&&◌}
 use Rattle.t85_core.specs.Options.{fields_of}
 use Rattle.t85_core.specs.Lent.{decoder_view, walk_view}
 use Rattle.t85_core.proofs.Decodings.PieceStood.{code_of, put_code, put_waits, waits_first, known_more, some_code, begins_to_wait, leaves_on, leaves_stop, code_broken}
@@ -19,7 +20,7 @@ returns-in-Ok-clause-lowers c = λ _. begins_to_wait c.args.self.now.waits true 
 
 pub returns-in-Err-clause-leaves : goal.returns-in-Err-clause-leaves
 returns-in-Err-clause-leaves c = λ rows learned. leaves_stop c.args.is_all (decoder_view c.args.self.now rows learned) _ c.args.piece.now.rest.now c.find_end.new.piece.rest.now c.in-Err.fault c.outcome_of.result
-    (record { more = c.outcome_of.ensures.more; broken = c.outcome_of.ensures.broken; row = c.outcome_of.ensures.row; done = c.outcome_of.ensures.done }) refl refl
+    (record { more = c.outcome_of.ensures.more; broken = c.outcome_of.ensures.broken; row = c.outcome_of.ensures.row; done = c.outcome_of.ensures.done }) refl refl (ap (λ b. b && c.args.self.now.waits) c.requires.in_code.0 ∙ c.requires.in_code.1)
     (λ e. (
       (λ text out s.
           let w = code_of (decoder_view c.args.self.now rows learned) text out c.requires.in_code.0 c.requires.in_code.1 s in
