@@ -33,7 +33,7 @@ use Rattle.t85.specs.Decoded.{window_bytes}
 use Rattle.t85.specs.Decoder.{AnnouncesMore, Answers, AwaitsBehindHeader, BehindHeader, BreaksBehindHeader, BytesCall, GivesRowAt, HasRead, Hold, InHeader, InRows, IsBrokenStream, IsImageOf, IsShort, LacksWindow, ReadsHeader, StandAt, TellsAnswer, bytes_of_call, bytes_call, bytes_held_by, hold_of, is_waiting, numbers_of_decoder, stripes_ended_by}
 use Rattle.t85.specs.DecoderSteps.{IsAwaited, IsFilled, IsJudged, IsOfEngine, IsToldOf}
 use Rattle.t85.specs.declared.decoder.T85Decoder.{T85Decoder}
-use Rattle.t85.specs.declared.decoder.Told.{Told}
+use Rattle.t85.specs.declared.decoder.Report.{Report}
 use Rattle.t85.specs.declared.decoder.Answer.{Answer}
 use Rattle.t85.specs.declared.decoder.Answer.TheVariants as answer
 
@@ -260,7 +260,7 @@ stands_placed long place at memory small whole is = record {
   place_is = length-take-le (place * long) memory (omega (arith, placed_fits long place memory small whole)) ∙ sym is;
 }
 
-module _ (laws : HeaderLaws) (old kept new : T85Decoder) (memory memory' : List ℕ) (header : Header) (e e' : PieceDecoder) (learned' : List Estimate) (held' bytes : List ℕ) (is_all : Bool) (progress : Progress) (told : Told)
+module _ (laws : HeaderLaws) (old kept new : T85Decoder) (memory memory' : List ℕ) (header : Header) (e e' : PieceDecoder) (learned' : List Estimate) (held' bytes : List ℕ) (is_all : Bool) (progress : Progress) (told : Report)
     (long : length memory ≡ window_bytes header.xd) (long' : length memory' ≡ window_bytes header.xd) (head : length old.header ≡ 20) (header_of : HeaderOf old.header (fields_of header)) (version : old.version ≡ 1) (next : old.next ≡ 2)
     (resumes : (d : PieceDecoder) (rows : Held) (learned : List Estimate) (text out : List ℕ) → HasDecoded (decoder_view d rows learned) text out → fields_of d.header ≡ fields_of header → numbers_of_decoder old ≡ piece_numbers d → HasDecoded (decoder_view e rows learned) text out)
     (header_is : e.header ≡ header) (numbers : numbers_of_decoder kept ≡ piece_numbers e') (small : kept.place < 3) (header_kept : kept.header ≡ old.header) (version_kept : kept.version ≡ old.version) (next_kept : kept.next ≡ old.next) (learned_kept : kept.learned ≡ learned') (held_kept : bytes_held_by kept ≡ held')
@@ -392,12 +392,12 @@ module _ (laws : HeaderLaws) (old kept new : T85Decoder) (memory memory' : List 
 
 -- ---- nothing taken
 
-pub not_begun : (hold : Hold) (bytes : List ℕ) (is_all : Bool) (told : Told) → told.answer ≡ answer.NotBegun → told.taken ≡ 0 → ((stream out : List ℕ) → HasRead hold stream out → ⊥) → Answers (HasRead hold) hold hold (bytes_call bytes is_all told.taken told.row) told.answer
+pub not_begun : (hold : Hold) (bytes : List ℕ) (is_all : Bool) (told : Report) → told.answer ≡ answer.NotBegun → told.taken ≡ 0 → ((stream out : List ℕ) → HasRead hold stream out → ⊥) → Answers (HasRead hold) hold hold (bytes_call bytes is_all told.taken told.row) told.answer
 not_begun hold bytes is_all told is none never =
     subst (λ a. Answers (HasRead hold) hold hold (bytes_call bytes is_all told.taken told.row) a) (sym is)
     (record { bound = omega (arith, none); tells = (record { same = refl; none = none }, never) })
 
-pub short_window : (hold : Hold) (bytes : List ℕ) (is_all : Bool) (told : Told) → told.answer ≡ answer.ShortWindow → told.taken ≡ 0 → ((stream out : List ℕ) → HasRead hold stream out → IsShort hold.window stream) → Answers (HasRead hold) hold hold (bytes_call bytes is_all told.taken told.row) told.answer
+pub short_window : (hold : Hold) (bytes : List ℕ) (is_all : Bool) (told : Report) → told.answer ≡ answer.ShortWindow → told.taken ≡ 0 → ((stream out : List ℕ) → HasRead hold stream out → IsShort hold.window stream) → Answers (HasRead hold) hold hold (bytes_call bytes is_all told.taken told.row) told.answer
 short_window hold bytes is_all told is none short =
     subst (λ a. Answers (HasRead hold) hold hold (bytes_call bytes is_all told.taken told.row) a) (sym is)
     (record { bound = omega (arith, none); tells = (record { same = refl; none = none }, short) })

@@ -11,7 +11,7 @@ use Rattle.t85_core.specs.declared.header.Header.{Header}
 use Rattle.t85.specs.Decoder.{AnnouncesMore, BehindHeader, HasEnded}
 use Rattle.t85.specs.declared.decoder.T85Decoder.{T85Decoder}
 use Rattle.t85.specs.declared.decoder.Answer.{Answer}
-use Rattle.t85.specs.declared.decoder.Told.{Told}
+use Rattle.t85.specs.declared.decoder.Report.{Report}
 use Rattle.t85.specs.declared.decoder.Answer.TheVariants as answer
 
 -- everything but the numbers of the engine, the place of the row, and the stored bytes
@@ -60,7 +60,7 @@ IsAwaited d d' is_all answer.NotBegun = ⊥
 IsAwaited d d' is_all (answer.Ended status) = ⊥
 
 -- The report for a result of the engine. After an end, the height stays.
-abbrev pub IsToldOf : Outcome → Header → T85Decoder → T85Decoder → Told → Type 0
+abbrev pub IsToldOf : Outcome → Header → T85Decoder → T85Decoder → Report → Type 0
 IsToldOf outcome.Row h d d' told = (told.answer ≡ answer.Row) × (d' ≡ d) × (told.row ≡ d.place * div_ceil h.xd 8)
 IsToldOf outcome.More h d d' told = (told.answer ≡ answer.More) × (d' ≡ d)
 IsToldOf (outcome.Done height) h d d' told = (told.answer ≡ answer.Done) × HasEnded d' 0 × (d'.height ≡ d.height)

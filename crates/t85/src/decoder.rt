@@ -111,7 +111,7 @@ pub enum Answer {
 
 /// The result of a call, the number of bytes consumed, and the offset of the row in the window.
 #[derive(Clone, Copy)]
-pub struct Told {
+pub struct Report {
     pub answer: Answer,
     pub taken: usize,
     pub row: usize,
@@ -217,11 +217,11 @@ impl Answer {
     }
 
     /// This result, with nothing consumed.
-    fn alone(self) -> Told
+    fn alone(self) -> Report
         ensures answer { result.answer ≡ self }
         ensures taken { result.taken ≡ 0 }
     {
-        Told {
+        Report {
             answer: self,
             taken: 0,
             row: 0,
@@ -411,7 +411,7 @@ impl T85Decoder {
     }
 
     /// Continues with these bytes; `is_all` says whether they are the last.
-    fn go_on(&mut self, bytes: &[u8], window: &mut [u8], is_all: bool) -> Told
+    fn go_on(&mut self, bytes: &[u8], window: &mut [u8], is_all: bool) -> Report
         ensures answers { Answers (HasRead (hold_of self.old window.old))
             (hold_of self.old window.old) (hold_of self.new window.new)
             (bytes_call bytes.now is_all result.taken result.row) result.answer }
@@ -438,7 +438,7 @@ impl T85Decoder {
     }
 
     /// Consumes bytes of the header.
-    fn take_header(&mut self, bytes: &[u8], is_all: bool) -> Told
+    fn take_header(&mut self, bytes: &[u8], is_all: bool) -> Report
         requires version { self.old.version ≡ 1 }
         requires next { self.old.next ≡ 0 }
         ensures answers { (window : List ℕ) → Answers (HasRead (hold_of self.old window))
@@ -459,7 +459,7 @@ impl T85Decoder {
         } else {
             self.judge_header()
         };
-        Told {
+        Report {
             answer,
             taken,
             row: 0,
@@ -525,7 +525,7 @@ impl T85Decoder {
     }
 
     /// Consumes bytes after the header.
-    fn take_rows(&mut self, bytes: &[u8], window: &mut [u8], is_all: bool) -> Told
+    fn take_rows(&mut self, bytes: &[u8], window: &mut [u8], is_all: bool) -> Report
         requires version { self.old.version ≡ 1 }
         requires next { (self.old.next ≡ 1) ⊎ (self.old.next ≡ 2) }
         ensures answers { Answers (HasRead (hold_of self.old window.old))
@@ -559,7 +559,7 @@ impl T85Decoder {
         memory: &mut [u8],
         bytes: &[u8],
         is_all: bool,
-    ) -> Told
+    ) -> Report
         requires long { length memory.old ≡ window_of header.now.xd }
         requires may { MayEnterRows header.now self.old }
         ensures answers { Answers (HasRead (hold_of self.old memory.old))
@@ -596,7 +596,7 @@ impl T85Decoder {
     }
 
     /// Continues up to the end of the next row, or as far as the bytes allow.
-    fn take_row(&mut self, header: &Header, memory: &mut [u8], bytes: &[u8], is_all: bool) -> Told
+    fn take_row(&mut self, header: &Header, memory: &mut [u8], bytes: &[u8], is_all: bool) -> Report
         requires long { length memory.old ≡ window_of header.now.xd }
         requires may { MayTakeRows header.now self.old }
         ensures answers { Answers (InRows (hold_of self.old memory.old))
@@ -623,11 +623,11 @@ impl T85Decoder {
         );
         self.keep(decoder.numbers(), window.place());
         self.hold(held);
-        self.tell(header, progress)
+        self.report(header, progress)
     }
 
     /// Reports the engine's result.
-    fn tell(&mut self, header: &Header, progress: Progress) -> Told
+    fn report(&mut self, header: &Header, progress: Progress) -> Report
         requires version { self.old.version ≡ 1 }
         ensures taken { result.taken ≡ progress.taken }
         ensures told { IsToldOf progress.outcome header.now self.old self.new result }
@@ -647,7 +647,7 @@ impl T85Decoder {
                 Answer::Broken(fault)
             }
         };
-        Told {
+        Report {
             answer,
             taken: progress.taken,
             row: usize::from(self.place) * row_bytes(header.xd),

@@ -54,7 +54,7 @@ pub extern "C" fn t85_next_part(stream: &[u8], part: &mut T85Part) -> u8
     let mut walk = part.walk();
     let found = walk.next(stream);
     part.keep(walk);
-    part.tell(found)
+    part.report(found)
 }
 
 fn number_of_kind(kind: PartKind) -> u32
@@ -96,7 +96,7 @@ impl T85Part {
     }
 
     /// Stores what was found, and returns the status.
-    fn tell(&mut self, found: Found) -> u8
+    fn report(&mut self, found: Found) -> u8
         ensures told { IsTold found self.new result }
         ensures walk { walk_in self.new ≡ walk_in self.old }
         ensures version { self.new.version ≡ self.old.version }

@@ -17,7 +17,7 @@ ghost use Rattle.t85_core.specs.Steps.Segments.{IsByteOrMarker};
 use crate::fault::Fault;
 use crate::header::Header;
 use crate::input_buffer::{ByteSource, InputBuffer, READ_AHEAD};
-use crate::segments::{Code, Next, Piece, Place, next_piece, read_segments, skip_code};
+use crate::segments::{Code, Element, Next, Place, next_element, read_segments, skip_code};
 use pbm_core::Input;
 
 /// The number of moves and comments skipped. Comments are counted up to 2^64 - 1.
@@ -123,12 +123,12 @@ pub fn look<S: ByteSource>(
         given: false,
     };
     'comments: loop {
-        match next_piece(header, place, true, stream) {
+        match next_element(header, place, true, stream) {
             Ok(piece) => match piece {
-                Piece::Comment => {}
-                Piece::NewLength(height) => return Ok(Some(height)),
-                Piece::Move(_) => return Ok(None),
-                Piece::Code(_) => return Ok(None),
+                Element::Comment => {}
+                Element::NewLength(height) => return Ok(Some(height)),
+                Element::Move(_) => return Ok(None),
+                Element::Code(_) => return Ok(None),
             },
             Err(fault) => match fault {
                 Fault::Read => return Err(Fault::Read),

@@ -14,7 +14,7 @@ use crate::fault::Fault;
 use crate::header::Header;
 use crate::height::skip_rest;
 use crate::pieces::piece::Piece;
-use crate::segments::{self, Place, next_piece};
+use crate::segments::{self, Place, next_element};
 
 /// The kind of a part.
 #[derive(Clone, Copy, Debug, PartialEq, Eq)]
@@ -132,11 +132,11 @@ fn read_part(
     ensures among { IfErr result (λ f. IsWalkFault f × (f ≢ Read)) }
     ensures lowers { OnOk result (length source.new.rest.now < length source.old.rest.now) }
 {
-    match next_piece(header, place, moved, source)? {
-        segments::Piece::NewLength(height) => Ok(Taken::NewHeight(height)),
-        segments::Piece::Move(_) => Ok(Taken::Move),
-        segments::Piece::Comment => Ok(Taken::Comment),
-        segments::Piece::Code(first) => {
+    match next_element(header, place, moved, source)? {
+        segments::Element::NewLength(height) => Ok(Taken::NewHeight(height)),
+        segments::Element::Move(_) => Ok(Taken::Move),
+        segments::Element::Comment => Ok(Taken::Comment),
+        segments::Element::Code(first) => {
             skip_rest(first, source)?;
             Ok(Taken::DataEntity)
         }
@@ -157,12 +157,12 @@ fn read_before_height(header: &Header, entities: u32, source: &mut Piece<'_>) ->
         entities,
         given: false,
     };
-    match next_piece(header, place, true, source) {
+    match next_element(header, place, true, source) {
         Ok(piece) => match piece {
-            segments::Piece::Comment => Some(Taken::Comment),
-            segments::Piece::NewLength(height) => Some(Taken::NewHeight(height)),
-            segments::Piece::Move(_) => None,
-            segments::Piece::Code(_) => None,
+            segments::Element::Comment => Some(Taken::Comment),
+            segments::Element::NewLength(height) => Some(Taken::NewHeight(height)),
+            segments::Element::Move(_) => None,
+            segments::Element::Code(_) => None,
         },
         Err(_) => None,
     }

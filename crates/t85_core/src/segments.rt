@@ -43,9 +43,9 @@ pub enum Code {
     Marker(bool),
 }
 
-/// The items that are allowed at a position before a code.
+/// An element that is allowed at a position before a code.
 #[derive(Clone, Copy)]
-pub enum Piece {
+pub enum Element {
     /// A valid height (NEWLEN).
     NewLength(u32),
     Move(Move),
@@ -54,7 +54,7 @@ pub enum Piece {
     Code(Code),
 }
 
-/// The item behind the marker segments that were read.
+/// The element behind the marker segments that were read.
 #[derive(Clone, Copy)]
 pub enum Next {
     /// A valid height, which is not the current one.
@@ -108,8 +108,8 @@ pub fn read_segments<S: ByteSource>(
     let mut comments = 0u64;
     'pieces: loop {
         let here = Place { given, ..place };
-        match next_piece(header, here, moved, stream)? {
-            Piece::NewLength(height) => {
+        match next_element(header, here, moved, stream)? {
+            Element::NewLength(height) => {
                 if height != place.height {
                     let next = Next::Height(height);
                     return Ok(Segments {
@@ -121,12 +121,12 @@ pub fn read_segments<S: ByteSource>(
                 }
                 given = true;
             }
-            Piece::Move(to) => {
+            Element::Move(to) => {
                 at = Some(to);
                 moved = true;
             }
-            Piece::Comment => comments = comments.saturating_add(1),
-            Piece::Code(code) => {
+            Element::Comment => comments = comments.saturating_add(1),
+            Element::Code(code) => {
                 let next = Next::Code(code);
                 return Ok(Segments {
                     at,
@@ -198,12 +198,12 @@ fn any_code<S: ByteSource>(stream: &mut S) -> Result<Code, Fault>
 }
 
 /// Reads a marker segment, or the first element of the code.
-pub fn next_piece<S: ByteSource>(
+pub fn next_element<S: ByteSource>(
     header: &Header,
     place: Place,
     moved: bool,
     stream: &mut S,
-) -> Result<Piece, Fault>
+) -> Result<Element, Fault>
     ensures ok { IfOk result (Passes (fields_of header.now) place moved (S.view stream.old).known
         (S.view stream.new).known) }
     ensures err { IfErr result (Ends Truncated (S.view stream.old).known (S.view stream.new).known
@@ -213,28 +213,28 @@ pub fn next_piece<S: ByteSource>(
 {
     let first = stream.next()?;
     if first != ESCAPE {
-        return Ok(Piece::Code(Code::Byte(first)));
+        return Ok(Element::Code(Code::Byte(first)));
     }
     let escape = stream.next()?;
     match escape {
-        STUFF => Ok(Piece::Code(Code::Byte(ESCAPE))),
-        SDNORM => Ok(Piece::Code(Code::Marker(false))),
-        SDRST => Ok(Piece::Code(Code::Marker(true))),
+        STUFF => Ok(Element::Code(Code::Byte(ESCAPE))),
+        SDNORM => Ok(Element::Code(Code::Marker(false))),
+        SDRST => Ok(Element::Code(Code::Marker(true))),
         ABORT => Err(Fault::Aborted),
         NEWLEN => {
             let height = read_length(header, place, stream)?;
-            Ok(Piece::NewLength(height))
+            Ok(Element::NewLength(height))
         }
         ATMOVE => {
             if moved {
                 return Err(Fault::SecondMove);
             }
             let to = read_move(header, stream)?;
-            Ok(Piece::Move(to))
+            Ok(Element::Move(to))
         }
         COMMENT => {
             skip_comment(stream)?;
-            Ok(Piece::Comment)
+            Ok(Element::Comment)
         }
         _ => Err(Fault::BadEscape),
     }

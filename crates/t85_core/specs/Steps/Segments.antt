@@ -11,8 +11,8 @@ use Rattle.t85_core.specs.declared.segments.Move as move
 use Rattle.t85_core.specs.declared.segments.Next.{Next}
 use Rattle.t85_core.specs.declared.segments.Next.TheVariants as next
 use Rattle.t85_core.specs.declared.segments.Place.{Place}
-use Rattle.t85_core.specs.declared.segments.Piece.{Piece}
-use Rattle.t85_core.specs.declared.segments.Piece.TheVariants as piece
+use Rattle.t85_core.specs.declared.segments.Element.{Element}
+use Rattle.t85_core.specs.declared.segments.Element.TheVariants as element
 use Rattle.t85_core.specs.Header.{Fields}
 use Rattle.t85_core.specs.Grammar.{Segment, NewLength, Move, Comment, segment_bytes, is_move, is_comment, lengths, GiveOnly, IsLegal, is_valid_length, marker_bytes, IsBegun}
 use Rattle.t85_core.specs.Coding.{move_of}
@@ -68,11 +68,11 @@ abbrev pub LengthFault : Fields → Place → List ℕ → Fault → Type 0
 LengthFault h place bytes fault = (height : ℕ) → length_fault h (record { height = height; entities = place.entities; heights = if place.given then 1 else 0 }) bytes ≡ Some fault
 
 -- the first height, which is valid, the first move of the stripe, a comment, or the start of the code
-abbrev pub Passes : Fields → Place → Bool → Option (List ℕ) → Option (List ℕ) → Piece → Type 0
-Passes h place moved old new (piece.NewLength height) = (place.given ≡ false) × (is_valid_length h place.entities height ≡ true) × PassesSegment h old new (NewLength height)
-Passes h place moved old new (piece.Move to) = (moved ≡ false) × PassesSegment h old new (Move to.row to.offset)
-Passes h place moved old new piece.Comment = (text : List ℕ) × PassesSegment h old new (Comment text)
-Passes h place moved old new (piece.Code c) = IsByteOrMarker c × Consumes old new (code_bytes c)
+abbrev pub Passes : Fields → Place → Bool → Option (List ℕ) → Option (List ℕ) → Element → Type 0
+Passes h place moved old new (element.NewLength height) = (place.given ≡ false) × (is_valid_length h place.entities height ≡ true) × PassesSegment h old new (NewLength height)
+Passes h place moved old new (element.Move to) = (moved ≡ false) × PassesSegment h old new (Move to.row to.offset)
+Passes h place moved old new element.Comment = (text : List ℕ) × PassesSegment h old new (Comment text)
+Passes h place moved old new (element.Code c) = IsByteOrMarker c × Consumes old new (code_bytes c)
 
 -- The segments of a stripe so far: the move among them, whether one was in or before them, whether the height was in or before
 -- them, and the number of comments.

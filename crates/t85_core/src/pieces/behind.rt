@@ -8,7 +8,7 @@ use crate::fault::Fault;
 use crate::header::Header;
 use crate::pieces::piece::Piece;
 use crate::pieces::walk::is_comment;
-use crate::segments::{self, Move, Next, Place, next_piece, number};
+use crate::segments::{self, Move, Next, Place, next_element, number};
 
 /// The marker segments that followed an end marker, or precede the first stripe.
 #[derive(Clone, Copy, Drop)]
@@ -69,19 +69,19 @@ impl Behind {
                 self.enter_comment(header, place, is_last, piece)?;
             } else {
                 let mut ahead = Piece { rest: piece.rest };
-                match next_piece(header, place, self.is_moved(is_last), &mut ahead)? {
-                    segments::Piece::Move(to) => {
+                match next_element(header, place, self.is_moved(is_last), &mut ahead)? {
+                    segments::Element::Move(to) => {
                         self.at = Some(to);
                         piece.rest = ahead.rest;
                     }
-                    segments::Piece::Comment => piece.rest = ahead.rest,
-                    segments::Piece::NewLength(height) => {
+                    segments::Element::Comment => piece.rest = ahead.rest,
+                    segments::Element::NewLength(height) => {
                         return Ok(Coming {
                             next: Next::Height(height),
                             rest: ahead.rest,
                         });
                     }
-                    segments::Piece::Code(code) => {
+                    segments::Element::Code(code) => {
                         return Ok(Coming {
                             next: Next::Code(code),
                             rest: ahead.rest,

@@ -7,7 +7,7 @@ use Rattle.t85_core.proofs.parts.read_before_height.Goals as goal
 pub returns-in-Code-clause-none : goal.returns-in-Code-clause-none
 returns-in-Code-clause-none c = λ _ _.
     let h = rw c.in-Code.is at c.in-Ok.ensures.ok in
-    looked_code (looked_none (fields_of c.args.header.now) (Some c.args.source.now.rest.now)) (Some c.next_piece.new.stream.rest.now) c.args.entities c.in-Code.field-0 h.1
+    looked_code (looked_none (fields_of c.args.header.now) (Some c.args.source.now.rest.now)) (Some c.next_element.new.stream.rest.now) c.args.entities c.in-Code.field-0 h.1
 
 pub returns-in-Err-clause-none : goal.returns-in-Err-clause-none
 returns-in-Err-clause-none c = λ _ variable.

@@ -11,7 +11,7 @@ use crate::header::SizedImage;
 use crate::laws::coder_laws;
 use crate::pieces::piece::Piece;
 use crate::pieces::walk::{Stage, Walk, is_comment};
-use crate::segments::{self, Code, Move, Place, next_piece, number};
+use crate::segments::{self, Code, Move, Place, next_element, number};
 use qm_core::Decoder;
 
 impl Walk {
@@ -149,7 +149,7 @@ impl Walk {
             entities: self.entities,
             given: self.given,
         };
-        let item = match next_piece(&image.header, place, self.at.is_some(), piece) {
+        let item = match next_element(&image.header, place, self.at.is_some(), piece) {
             Ok(item) => item,
             Err(fault) => {
                 piece.rest = bytes;
@@ -157,19 +157,19 @@ impl Walk {
             }
         };
         match item {
-            segments::Piece::NewLength(other) => {
+            segments::Element::NewLength(other) => {
                 if other == image.height {
                     self.given = true;
                     return Ok(());
                 }
                 Err(Fault::Changed)
             }
-            segments::Piece::Move(to) => {
+            segments::Element::Move(to) => {
                 self.at = Some(to);
                 Ok(())
             }
-            segments::Piece::Comment => Ok(()),
-            segments::Piece::Code(code) => {
+            segments::Element::Comment => Ok(()),
+            segments::Element::Code(code) => {
                 self.stage = Stage::Code;
                 self.decoder = Decoder::start();
                 self.row = 0;

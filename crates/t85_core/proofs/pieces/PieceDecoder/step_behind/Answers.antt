@@ -21,7 +21,7 @@ returns-then-is_open_end-clause-leaves c =
     let ended = (c.is_open_end.ensures.yes (search rules)).0 in
     let stops = subst (StopsBehind (fields_of c.args.self.now.header) (behind_at c.place_behind-place.result c.is_last-is_last.result) c.pass.new.self c.pass.new.piece.rest.now) ended c.in-Err.ensures.err in
     let here = subst (λ z. StopsBehind (fields_of c.args.self.now.header) (behind_at z (last_behind (fields_of c.args.self.now.header) c.args.self.now.walk.stage c.args.self.now.walk.left)) c.pass.new.self c.pass.new.piece.rest.now Truncated) c.place_behind-place.ensures
-        (subst (λ l. StopsBehind (fields_of c.args.self.now.header) (behind_at c.place_behind-place.result l) c.pass.new.self c.pass.new.piece.rest.now Truncated) c.is_last-is_last.ensures stops) in
+    (subst (λ l. StopsBehind (fields_of c.args.self.now.header) (behind_at c.place_behind-place.result l) c.pass.new.self c.pass.new.piece.rest.now Truncated) c.is_last-is_last.ensures stops) in
     leaves_after c.args.is_all (decoder_lent c.args.self.now c.args.lent.now) _ _ c.args.piece.now.rest.now c.pass.new.piece.rest.now c.pass.new.piece.rest.now refl refl (passed_on (decoder_lent c.args.self.now c.args.lent.now) _ c.pass.new.self c.args.piece.now.rest.now c.pass.new.piece.rest.now c.requires.looks.0 c.requires.looks.1 refl refl refl refl refl refl (subst (λ z. BehindOn (fields_of c.args.self.now.header) (behind_at z (last_behind (fields_of c.args.self.now.header) c.args.self.now.walk.stage c.args.self.now.walk.left)) c.args.self.now.behind c.pass.new.self c.args.piece.now.rest.now c.pass.new.piece.rest.now) c.place_behind-place.ensures (subst (λ l. BehindOn (fields_of c.args.self.now.header) (behind_at c.place_behind-place.result l) c.args.self.now.behind c.pass.new.self c.args.piece.now.rest.now c.pass.new.piece.rest.now) c.is_last-is_last.ensures c.pass.ensures.on))) (Some outcome.More)
     (leaves_more c.args.is_all _ _ c.pass.new.piece.rest.now c.pass.new.piece.rest.now refl refl (c.is_open_end.ensures.yes (search rules)).1 c.requires.looks.0 c.requires.looks.1 (on_none _ _ c.pass.new.piece.rest.now (λ text out s. s)) (c.in-Err.ensures.err.few ended) (still_open _ c.pass.new.piece.rest.now c.requires.looks.0 c.requires.looks.1 here))
 

@@ -4,7 +4,7 @@ use Rattle.t85_core.specs.declared.fault.Fault.TheVariants.{Aborted, BadEscape, 
 use Rattle.t85_core.proofs.Bytes.Streams.{Consumes-more}
 use Rattle.t85_core.proofs.Bytes.Ends.{exit, Ends-at, Ends-after}
 use Rattle.t85_core.proofs.Walks.Pieces.{escape_taken, unknown_escape}
-use Rattle.t85_core.proofs.segments.next_piece.Goals as goal
+use Rattle.t85_core.proofs.segments.next_element.Goals as goal
 
 pub returns-in-4-clause-err : goal.returns-in-4-clause-err
 returns-in-4-clause-err g c =
